@@ -1,0 +1,160 @@
+-- A start predicate's bytes begin characters.
+use Rattle.std.proofs.Common.{◌≡◌, ℕ, ◌<◌, ◌≤◌, Bool, true, false, not, ◌&&◌, ◌||◌, List, [], ◌∷◌, map, length, take, filter, refl, arith}
+use mathlib.Core.Logic.{◌⊎◌, inl, inr}
+use lib.Utf8.{scalar_cases}
+use Rattle.std.specs.Prelude.{if◌then◌else◌, nat_lt, nat_le, ◌==◌, encode_utf8_all, chars, IsTrue}
+use Rattle.std.specs.Char.{IsScalar}
+use Rattle.std.specs.Str.{is_utf8, all_scalars}
+use Rattle.std.specs.List.{list_all}
+use Rattle.std.specs.Int.{is_in_range}
+use Rattle.std.proofs.lemmas.Slice.Eq.{bytes_eq-Decides}
+use Rattle.regex_meaning.specs.Lists.{contains, numbers_from}
+use Rattle.regex_meaning.specs.Tree.{Intervals, Node, char_set, byte_set, byte_sequence, cat, alt, bracket, capture_group, loop, loop_1_char_body, every, Tree}
+use Rattle.regex_meaning.specs.Text.{is_scalar}
+use Rattle.regex_meaning.specs.WellFormed.{has_text_in_sequence, fits_instructions, IsWellFormed}
+use Rattle.regex_meaning.specs.StartPredicate.{Beginning, open_ended, arbitrary, sequence, one_of, sequence_of, sequence_or, shared_front, first_byte, union, then_of, join, beginning, bytes_where, begun_by, meet, first_bytes, code_points, begins_characters, is_anchored, start_of, start_anchored, start_predicate}
+use Rattle.regex_meaning.proofs.FirstBytes.{and-left, and-right, and-both, or-left, or-right, lt-false, eq-false, in_range-below, in_range-true, true-in_range, true-lt, first_of_char}
+use Rattle.regex_meaning.proofs.Sound.{all-contains}
+
+abbrev begins_one : ℕ → Bool
+begins_one b = not (is_in_range 0x80 0xBF b)
+
+abbrev Clean : Beginning → Type 0
+Clean open_ended = Unit {0}
+Clean arbitrary = Unit {0}
+Clean (sequence bs) = list_all begins_one (take 1 bs) ≡ true
+Clean (one_of members) = list_all begins_one members ≡ true
+
+all-filter : (ok test : ℕ → Bool) (xs : List ℕ) → ((b : ℕ) → test b ≡ true → ok b ≡ true) → list_all ok (filter test xs) ≡ true
+all-filter ok test [] h = refl
+all-filter ok test (x ∷ xs) h = go (test x) refl (all-filter ok test xs h)
+  where
+    go : (b : Bool) → test x ≡ b → list_all ok (filter test xs) ≡ true → list_all ok (if b then x ∷ filter test xs else filter test xs) ≡ true
+    go true e k = and-both _ _ (h x e) k
+    go false e k = k
+
+either : (a b : Bool) → (a || b) ≡ true → (a ≡ true) ⊎ (b ≡ true)
+either true b h = inl refl
+either false b h = inr h
+
+all-union : (ok : ℕ → Bool) (xs ys : List ℕ) → list_all ok xs ≡ true → list_all ok ys ≡ true → list_all ok (union xs ys) ≡ true
+unfolding bytes_where
+all-union ok xs ys h k = all-filter ok (λ b. contains xs b || contains ys b) (numbers_from 0 256) (λ b t. go b (either (contains xs b) (contains ys b) t))
+  where
+    go : (b : ℕ) → (contains xs b ≡ true) ⊎ (contains ys b ≡ true) → ok b ≡ true
+    go b (inl t) = all-contains ok xs b h t
+    go b (inr t) = all-contains ok ys b k t
+
+all-shared : (ok : ℕ → Bool) (xs ys : List ℕ) → list_all ok (take 1 xs) ≡ true → list_all ok (take 1 (shared_front xs ys)) ≡ true
+all-shared ok [] ys h = h
+all-shared ok (x ∷ xs) [] h = refl
+all-shared ok (x ∷ xs) (y ∷ ys) h = go (x == y)
+  where
+    go : (b : Bool) → list_all ok (take 1 (if b then x ∷ shared_front xs ys else [])) ≡ true
+    go true = h
+    go false = refl
+
+clean-sequence_or : (front firsts : List ℕ) → list_all begins_one (take 1 front) ≡ true → list_all begins_one firsts ≡ true → Clean (sequence_or front firsts)
+clean-sequence_or [] firsts h k = k
+clean-sequence_or (b ∷ bs) firsts h k = h
+
+clean-join : (x y : Beginning) → Clean x → Clean y → Clean (join x y)
+clean-join (sequence xs) (sequence ys) h k =
+    clean-sequence_or (shared_front xs ys) (union (first_byte xs) (first_byte ys)) (all-shared begins_one xs ys h) (all-union begins_one (first_byte xs) (first_byte ys) h k)
+clean-join (sequence xs) (one_of ys) h k = all-union begins_one (first_byte xs) ys h k
+clean-join (one_of xs) (sequence ys) h k = all-union begins_one xs (first_byte ys) h k
+clean-join (one_of xs) (one_of ys) h k = all-union begins_one xs ys h k
+clean-join _ _ h k = tt
+
+clean-then : (x y : Beginning) → Clean x → Clean y → Clean (then_of x y)
+clean-then open_ended y h k = k
+clean-then arbitrary y h k = tt
+clean-then (sequence bs) y h k = h
+clean-then (one_of members) y h k = h
+
+clean-if : (c : Bool) (x : Beginning) → Clean x → Clean (if c then x else arbitrary)
+clean-if true x h = h
+clean-if false x h = tt
+
+begun_by-none : (b : ℕ) → 0x80 ≤ b → b ≤ 0xBF → begun_by b ≡ []
+begun_by-none b h k =
+    rw (
+      lt-false b 0x80 h,
+      in_range-below 0xC2 0xDF b (omega arith),
+      eq-false b 0xE0 (omega arith),
+      in_range-below 0xE1 0xEF b (omega arith),
+      eq-false b 0xF0 (omega arith),
+      in_range-below 0xF1 0xF3 b (omega arith),
+      eq-false b 0xF4 (omega arith),
+    )
+
+clean-first_bytes : (ivs : Intervals) → list_all begins_one (first_bytes ivs) ≡ true
+unfolding bytes_where
+clean-first_bytes ivs = all-filter begins_one (λ b. meet (begun_by b) ivs) (numbers_from 0 256) (λ b t. go b (is_in_range 0x80 0xBF b) refl t)
+  where
+    go : (b : ℕ) (c : Bool) → is_in_range 0x80 0xBF b ≡ c → meet (begun_by b) ivs ≡ true → not c ≡ true
+    go b true e t =
+        let r = true-in_range 0x80 0xBF b e in
+        let none = begun_by-none b r.0 r.1 in
+        let no : false ≡ true = rw none at t in no
+    go b false e t = refl
+
+is_scalar-of : (c : ℕ) → IsScalar c → is_scalar c ≡ true
+is_scalar-of c h = go (scalar_cases c h)
+  where
+    go : (c < 55296) ⊎ ((57344 ≤ c) × (c < 1114112)) → is_scalar c ≡ true
+    go (inl l) = or-left _ _ (in_range-true 0 0xD7FF c (omega arith) (omega arith))
+    go (inr l) = or-right (is_in_range 0 0xD7FF c) _ (in_range-true 0xE000 0x10_FFFF c l.0 (let u = l.1 in omega arith))
+
+clean-bytes : (cs bytes : List ℕ) → all_scalars cs ≡ true → encode_utf8_all cs ≡ bytes → list_all begins_one (take 1 bytes) ≡ true
+clean-bytes [] bytes s e = rw (← e) refl
+clean-bytes (c ∷ cs) bytes s e =
+    let f = first_of_char c (is_scalar-of c (and-left _ _ s)) in
+    rw (← e, f.is) (and-both (begins_one f.byte) true (rw f.lead.begins) refl)
+
+clean-sequence_of : (bytes : List ℕ) → list_all begins_one (take 1 bytes) ≡ true → Clean (sequence_of bytes)
+clean-sequence_of [] h = tt
+clean-sequence_of (b ∷ bs) h = h
+
+clean-text : (bytes : List ℕ) → is_utf8 bytes ≡ true → Clean (sequence_of bytes)
+unfolding is_utf8
+clean-text bytes u =
+    clean-sequence_of bytes (clean-bytes (chars bytes) bytes (and-left _ _ u) ((bytes_eq-Decides (encode_utf8_all (chars bytes)) bytes).0 (and-right _ _ u)))
+
+clean-byte_set : (members : List ℕ) → list_all (λ b. nat_lt b 128) members ≡ true → list_all begins_one (bytes_where (contains members)) ≡ true
+unfolding bytes_where
+clean-byte_set members h =
+    all-filter begins_one (contains members) (numbers_from 0 256)
+    (λ b t. let low = true-lt b 128 (all-contains (λ c. nat_lt c 128) members b h t) in rw (in_range-below 0x80 0xBF b low))
+
+clean : (node : Node) → IsTrue (every has_text_in_sequence node) → IsTrue (every fits_instructions node) → Clean (beginning node)
+unfolding beginning
+clean (byte_sequence bytes) h k = clean-text bytes (and-right (nat_lt 0 (length bytes)) _ h)
+clean (byte_set members) h k = clean-byte_set members (and-right (nat_le (length members) 4) _ k)
+clean (char_set members) h k = clean-first_bytes (map (λ c. (c, c)) members)
+clean (bracket contents) h k = clean-first_bytes (code_points contents)
+clean (cat first rest) h k =
+    clean-then (beginning first) (beginning rest) (clean first (and-left _ _ h) (and-left _ _ k)) (clean rest (and-right _ _ h) (and-right _ _ k))
+clean (alt left right) h k =
+    clean-join (beginning left) (beginning right) (clean left (and-left _ _ h) (and-left _ _ k)) (clean right (and-right _ _ h) (and-right _ _ k))
+clean (capture_group id name contents) h k = clean contents h k
+clean (loop q start_group end_group loopee) h k = clean-if (nat_lt 0 q.min) (beginning loopee) (clean loopee h k)
+clean (loop_1_char_body q loopee) h k = clean-if (nat_lt 0 q.min) (beginning loopee) (clean loopee h k)
+clean _ h k = tt
+
+clean-start : (b : Beginning) → Clean b → IsTrue (begins_characters (start_of b))
+clean-start open_ended h = refl
+clean-start arbitrary h = refl
+clean-start (sequence []) h = refl
+clean-start (sequence (b ∷ [])) h = h
+clean-start (sequence (b ∷ c ∷ bs)) h = h
+clean-start (one_of []) h = refl
+clean-start (one_of (b ∷ bs)) h = h
+
+pub predicate-on_characters : (tree : Tree) → IsWellFormed tree.root → IsTrue (begins_characters (start_predicate tree))
+unfolding start_predicate
+predicate-on_characters tree w = go (not tree.flags.multiline && is_anchored tree.root)
+  where
+    go : (b : Bool) → IsTrue (begins_characters (if b then start_anchored else start_of (beginning tree.root)))
+    go true = refl
+    go false = clean-start (beginning tree.root) (clean tree.root w.sequences w.sets)

@@ -1,0 +1,90 @@
+-- What comes after k iterations of a loop, as one equation.
+use Rattle.std.proofs.Common.{◌≡◌, ◌≢◌, ◌⊎◌, ℕ, zero, suc, ◌+◌, ◌-◌, ◌<◌, ◌≤◌, Bool, true, false, not, ◌&&◌, List, [], ◌∷◌, refl, ap, arith, add-one, eq-eqb, nltb→le, filter, flat_map}
+use Rattle.std.specs.Prelude.{if◌then◌else◌, nat_le, nat_lt, ◌==◌}
+use mathlib.Core.Logic.{inl, inr}
+use Rattle.regex_meaning.specs.Text.{Text, Direction, rightwards, leftwards, characters_left}
+use Rattle.regex_meaning.specs.Outcomes.{Groups, Outcome, Repetition, rounds, repeat, counts, preferred}
+use Rattle.regex_meaning.proofs.Each.{Each, Each-map, flat_map-filter_same}
+use Rattle.regex_meaning.proofs.Onward.{IsOnward, BodyOnward}
+
+not_both : (a b : Bool) → not (a && b) ≡ true → (a ≡ false) ⊎ (b ≡ false)
+not_both true true h = grind arith
+not_both true false h = inr refl
+not_both false b h = inl refl
+
+differs : (x y : ℕ) → (x == y) ≡ false → x ≢ y
+differs x y h e = cc (eq-eqb x y e, h)
+
+not_below : (x y : ℕ) → nat_lt x y ≡ false → y ≤ x
+not_below x y h = nltb→le x y (rw h tt)
+
+module _ (text : Text) (d : Direction) where
+  left-onward : (a b : ℕ) → IsOnward text d a b → characters_left text d b ≤ characters_left text d a
+  left-onward a b h = go d h
+    where
+      go : (d : Direction) → IsOnward text d a b → characters_left text d b ≤ characters_left text d a
+      go rightwards h = omega arith
+      go leftwards h = omega arith
+
+  left-moved : (a b : ℕ) → IsOnward text d a b → b ≢ a → characters_left text d b < characters_left text d a
+  left-moved a b h ne = go d h
+    where
+      go : (d : Direction) → IsOnward text d a b → characters_left text d b < characters_left text d a
+      go rightwards h = omega arith
+      go leftwards h = omega arith
+
+  module _ (r : Repetition) (body_on : BodyOnward text d r) where
+    -- the iterations that may still count
+    abbrev missing : (k place : ℕ) → ℕ
+    missing k place = r.least - k + characters_left text d place
+
+    fewer : (k place : ℕ) (o : Outcome) → IsOnward text d place o.end → counts r k place o ≡ true
+        → missing (k + 1) o.end < missing k place
+    fewer k place o on h = go (not_both _ _ h)
+      where
+        go : ((o.end == place) ≡ false) ⊎ (nat_lt r.least (k + 1) ≡ false) → missing (k + 1) o.end < missing k place
+        go (inl e) = let less = left-moved place o.end on (differs o.end place e) in omega arith
+        go (inr e) =
+            let less = left-onward place o.end on in
+            let below = not_below r.least (k + 1) e in omega arith
+
+    -- one turn is the same where the turns behind it are
+    same_turn : (n m k place : ℕ) (groups : Groups)
+        → Each (λ o. counts r k place o ≡ true → rounds r n (k + 1) o.end o.groups ≡ rounds r m (k + 1) o.end o.groups) (r.body place groups)
+        → rounds r (suc n) k place groups ≡ rounds r (suc m) k place groups
+    unfolding rounds
+    same_turn n m k place groups h =
+        ap (λ (again : List Outcome). preferred r.greedy (if nat_lt k r.most then again else []) (if nat_le r.least k then record { end = place; groups = groups } ∷ [] else []))
+        (flat_map-filter_same (counts r k place) (λ o. rounds r n (k + 1) o.end o.groups) (λ o. rounds r m (k + 1) o.end o.groups) (r.body place groups) h)
+
+    -- turns past those that may count change nothing
+    rounds-enough : (n m k place : ℕ) (groups : Groups) → missing k place ≤ n → missing k place ≤ m
+        → rounds r (suc n) k place groups ≡ rounds r (suc m) k place groups
+    rounds-enough zero m k place groups h i =
+        same_turn zero m k place groups (Each-map _ _
+        (λ o on counted. let less = fewer k place o on counted in absurd (omega arith)) (r.body place groups) (body_on place groups))
+    rounds-enough (suc n) zero k place groups h i =
+        same_turn (suc n) zero k place groups (Each-map _ _
+        (λ o on counted. let less = fewer k place o on counted in absurd (omega arith)) (r.body place groups) (body_on place groups))
+    rounds-enough (suc n) (suc m) k place groups h i =
+        same_turn (suc n) (suc m) k place groups (Each-map _ _
+        (λ o on counted.
+        let less = fewer k place o on counted in
+        rounds-enough n m (k + 1) o.end o.groups (omega arith) (omega arith)) (r.body place groups) (body_on place groups))
+
+    enough : (n k place : ℕ) (groups : Groups) → missing k place < n → rounds r n k place groups ≡ repeat text r d k place groups
+    enough zero k place groups h = absurd (omega arith)
+    enough (suc n) k place groups h = rw add-one (rounds-enough n (missing k place) k place groups (omega arith) (omega arith))
+
+    -- after k iterations: `again`, if k is below the maximum, and `leave`, if it is not below the minimum
+    pub repeat-unfolds : (k place : ℕ) (groups : Groups) → repeat text r d k place groups ≡
+        preferred r.greedy
+        (if nat_lt k r.most then flat_map (λ o. repeat text r d (k + 1) o.end o.groups) (filter (counts r k place) (r.body place groups)) else [])
+        (if nat_le r.least k then record { end = place; groups = groups } ∷ [] else [])
+    unfolding rounds
+    repeat-unfolds k place groups = rw add-one
+        (ap (λ (again : List Outcome). preferred r.greedy (if nat_lt k r.most then again else []) (if nat_le r.least k then record { end = place; groups = groups } ∷ [] else []))
+        (flat_map-filter_same (counts r k place)
+        (λ o. rounds r (missing k place) (k + 1) o.end o.groups) (λ o. repeat text r d (k + 1) o.end o.groups) (r.body place groups)
+        (Each-map _ _ (λ o on counted. enough (missing k place) (k + 1) o.end o.groups (fewer k place o on counted))
+        (r.body place groups) (body_on place groups))))

@@ -1,0 +1,5 @@
+use Rattle.regex_meaning.proofs.Matches.{match_list-unfolds}
+use Rattle.regex_meaning.proofs.matches_go_on.Goals as goal
+
+pub returns : goal.returns
+returns c = match_list-unfolds

@@ -1,0 +1,60 @@
+-- Matches in offsets, as a test computes them.
+use Rattle.std.specs.Prelude.{ℕ, List, [], ◌∷◌, map, take, length, ◌+◌, Option, true, false, Bool, not, ◌||◌}
+use Rattle.std.specs.List.{list_all}
+use Rattle.regex_meaning.specs.Lists.{numbers_from}
+use Rattle.std.specs.Str.{chars}
+use Rattle.regex_meaning.specs.Tree.{Intervals, BracketContents, Quantifier, Lookaround, Node, Flags}
+use Rattle.regex_meaning.specs.Text.{Text, rightwards, fold_code_point, expand_code_point}
+use Rattle.regex_meaning.specs.Outcomes.{Outcome, outcomes, rounds, Groups}
+use Rattle.regex_meaning.specs.Find.{Found, no_groups, match_list, first_match_among, matches_from}
+use Rattle.regex_meaning.specs.Names.{Answer, answers_from}
+use Rattle.regex_meaning.specs.StartPredicate.{StartPredicate, start_predicate, beginning, bytes_where, may_start}
+use Rattle.regex_meaning.specs.Ticks.{ticked, ticked_rounds, need, needs}
+use Rattle.std.specs.Char.{encode_utf8 as encode}
+
+abbrev pub found : ℕ → ℕ → Groups → Found
+found start end groups = record { start = start; end = end; groups = groups }
+
+abbrev pub times : ℕ → Option ℕ → Bool → Quantifier
+times min max greedy = record { min = min; max = max; greedy = greedy }
+
+abbrev pub in_brackets : Bool → Intervals → BracketContents
+in_brackets invert intervals = record { invert = invert; intervals = intervals }
+
+abbrev pub look : Bool → Bool → ℕ → ℕ → Lookaround
+look negate backwards start_group end_group =
+    record { negate = negate; backwards = backwards; start_group = start_group; end_group = end_group }
+
+abbrev pub as_found : Answer → Found
+as_found m = record { start = m.range.0; end = m.range.1; groups = m.captures }
+
+unfoldable pub matches : Node → Text → ℕ → List Found
+unfolding answers_from match_list first_match_among matches_from outcomes rounds fold_code_point expand_code_point chars
+matches root text start = map as_found (answers_from root text start)
+
+unfoldable pub first : Node → Text → ℕ → List Found
+unfolding answers_from match_list first_match_among matches_from outcomes rounds fold_code_point expand_code_point chars
+first root text start = map as_found (take 1 (answers_from root text start))
+
+abbrev pub no_flags : Flags
+no_flags = record { icase = false; multiline = false; dot_all = false; no_opt = false; unicode = false; unicode_sets = false }
+
+unfoldable pub needs_of : Node → Text → ℕ → List ℕ
+unfolding needs need ticked ticked_rounds start_predicate beginning bytes_where may_start match_list first_match_among matches_from outcomes rounds fold_code_point expand_code_point chars encode
+needs_of root text place = needs (record { root = root; flags = no_flags }) text place
+
+unfoldable pub start_of_tree : Node → StartPredicate
+unfolding start_predicate beginning bytes_where chars encode
+start_of_tree root = start_predicate (record { root = root; flags = no_flags })
+
+abbrev has_outcome : List Outcome → Bool
+has_outcome [] = false
+has_outcome (o ∷ os) = true
+
+-- wherever the tree has an outcome, its predicate holds
+unfoldable pub sound_on : Node → Text → Bool
+unfolding outcomes rounds fold_code_point expand_code_point chars start_predicate beginning bytes_where may_start encode
+sound_on root text =
+    list_all (λ place. not (has_outcome (outcomes text root rightwards place (no_groups root)))
+    || may_start (start_predicate (record { root = root; flags = no_flags })) text place)
+    (numbers_from 0 (length text.characters + 1))

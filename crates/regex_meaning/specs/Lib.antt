@@ -1,0 +1,15 @@
+pub mod Lists
+pub mod Tree
+pub mod Text
+pub mod Offsets
+pub mod Outcomes
+pub mod Find
+pub mod StartPredicate
+pub mod Ticks
+pub mod WellFormed
+pub mod Layout
+pub mod Laws
+pub mod Names
+pub mod Replace
+pub mod Flags
+pub mod Computing

@@ -1,0 +1,39 @@
+-- Offsets in units, and what is read from them.
+use Rattle.std.specs.Prelude.{◌≡◌, ℕ, zero, suc, ◌+◌, ◌<◌, Bool, IsTrue, List, [], ◌∷◌, length, map, position, nat_eq, slice_index, is_some, option_map, option_and_then, Option, Some, None}
+use Rattle.regex_meaning.specs.Text.{Text, Direction, next_character, moved, last_place}
+
+-- Each number is less than the next.
+abbrev pub Rises : List ℕ → Type 0
+Rises [] = Unit {0}
+Rises (x ∷ []) = Unit {0}
+Rises (x ∷ y ∷ more) = (x < y) × Rises (y ∷ more)
+
+-- The offsets of a text rise from 0, one for each place.
+pub record IsText (text : Text) : Type 0 where
+  pub from_zero : slice_index text.offsets 0 ≡ 0
+  pub rises : Rises text.offsets
+  pub each_place : length text.offsets ≡ length text.characters + 1
+
+module _ (text : Text) where
+  -- the offset of a place, in units
+  abbrev pub offset : (place : ℕ) → ℕ
+  offset place = slice_index text.offsets place
+
+  -- the length in units
+  abbrev pub units : ℕ
+  units = offset (last_place text)
+
+  -- the place of an offset, where a character begins or the text ends
+  abbrev pub place_at : (at : ℕ) → Option ℕ
+  place_at at = position (nat_eq at) text.offsets
+
+  abbrev pub IsBoundary : (at : ℕ) → Type 0
+  IsBoundary at = IsTrue (is_some (place_at at))
+
+  -- the next character in the direction, and the offset past it
+  abbrev pub read_at : Direction → (place : ℕ) → Option (ℕ × ℕ)
+  read_at direction place = option_map (λ c. (c, offset (moved text direction 1 place))) (next_character text direction place)
+
+  -- the same from an offset; nothing where that is no boundary
+  abbrev pub read : Direction → (at : ℕ) → Option (ℕ × ℕ)
+  read direction at = option_and_then (read_at direction) (place_at at)

@@ -1,0 +1,176 @@
+-- Texts as lists of characters, and what stands beside a place.
+use Rattle.std.specs.Prelude.{ℕ, zero, suc, ◌+◌, ◌-◌, ◌*◌, ◌%◌, Bool, true, false, ◌&&◌, ◌||◌, List, [], ◌∷◌, ◌++◌, map, length, Option, None, if◌then◌else◌, nat_le, ◌==◌, slice_get, slice_range, chars}
+use Rattle.std.specs.Char.{len_utf8}
+use Rattle.regex_meaning.specs.Lists.{contains}
+use Rattle.std.specs.Int.{is_in_range}
+
+-- ---- Characters
+
+-- a number that a `char` can hold
+abbrev pub is_scalar : ℕ → Bool
+is_scalar c = is_in_range 0 0xD7FF c || is_in_range 0xE000 0x10_FFFF c
+
+abbrev pub is_lowercase : ℕ → Bool
+is_lowercase c = is_in_range 97 122 c
+
+abbrev pub is_uppercase : ℕ → Bool
+is_uppercase c = is_in_range 65 90 c
+
+abbrev pub to_lowercase : ℕ → ℕ
+to_lowercase c = if is_uppercase c then c + 32 else c
+
+abbrev pub to_uppercase : ℕ → ℕ
+to_uppercase c = if is_lowercase c then c - 32 else c
+
+-- with `unicode` U+017F folds to `s` and U+212A to `k`
+unfoldable pub fold_code_point : (unicode : Bool) → ℕ → ℕ
+fold_code_point true c = if c == 0x017F then 115 else if c == 0x212A then 107 else to_lowercase c
+fold_code_point false c = to_uppercase c
+
+-- the code point beyond ASCII that folds to this letter
+abbrev pub nonascii_with_fold : (unicode : Bool) → ℕ → List ℕ
+nonascii_with_fold false folded = []
+nonascii_with_fold true folded = if folded == 115 then 0x017F ∷ [] else if folded == 107 then 0x212A ∷ [] else []
+
+-- all code points with this fold, rising
+abbrev pub all_with_fold : (unicode : Bool) → ℕ → List ℕ
+all_with_fold unicode folded =
+    let upper = to_uppercase folded in
+    let lower = to_lowercase folded in
+    (if upper == lower then folded ∷ [] else upper ∷ lower ∷ []) ++ nonascii_with_fold unicode folded
+
+-- c alone, or all code points with the fold of c
+unfoldable pub expand_code_point : ℕ → (icase unicode : Bool) → List ℕ
+expand_code_point c false unicode = c ∷ []
+expand_code_point c true unicode = all_with_fold unicode (fold_code_point unicode c)
+
+abbrev pub is_line_terminator : ℕ → Bool
+is_line_terminator c = c == 0x0A || c == 0x0D || c == 0x2028 || c == 0x2029
+
+abbrev pub nonascii_folds_to_ascii_word_char : ℕ → Bool
+nonascii_folds_to_ascii_word_char c = c == 0x017F || c == 0x212A
+
+abbrev pub is_word_char : (unicode_icase : Bool) → ℕ → Bool
+is_word_char unicode_icase c =
+    is_lowercase c || is_uppercase c || is_in_range 48 57 c || c == 95 || (unicode_icase && nonascii_folds_to_ascii_word_char c)
+
+-- ---- Texts
+
+-- The characters, the offset of each place in units, and the fold of the input. A place is a number of
+-- characters from the left.
+pub record Text : Type 0 where
+  pub characters : List ℕ
+  pub offsets : List ℕ
+  pub unicode : Bool
+  pub fold : ℕ → ℕ
+
+-- the offsets of the places, where the characters have these widths
+abbrev pub offsets_from : ℕ → List ℕ → List ℕ
+offsets_from at [] = at ∷ []
+offsets_from at (width ∷ widths) = at ∷ offsets_from (at + width) widths
+
+abbrev pub one_unit : ℕ → ℕ
+one_unit c = 1
+
+-- the front's fold, or the character itself where that is no `char`
+abbrev pub fold_char : (unicode : Bool) → ℕ → ℕ
+fold_char unicode c = let folded = fold_code_point unicode c in if is_scalar folded then folded else c
+
+abbrev pub fold_ascii : (unicode : Bool) → ℕ → ℕ
+fold_ascii true c = to_lowercase c
+fold_ascii false c = to_uppercase c
+
+abbrev pub utf8_text : List ℕ → (unicode : Bool) → Text
+utf8_text bytes unicode = record {
+  characters = chars bytes;
+  offsets = offsets_from 0 (map len_utf8 (chars bytes));
+  unicode = unicode;
+  fold = fold_char unicode;
+}
+
+abbrev pub ascii_text : List ℕ → (unicode : Bool) → Text
+ascii_text bytes unicode = record {
+  characters = bytes;
+  offsets = offsets_from 0 (map one_unit bytes);
+  unicode = unicode;
+  fold = fold_ascii unicode;
+}
+
+abbrev pub is_high_surrogate : ℕ → Bool
+is_high_surrogate u = is_in_range 0xD800 0xDBFF u
+
+abbrev pub is_low_surrogate : ℕ → Bool
+is_low_surrogate u = is_in_range 0xDC00 0xDFFF u
+
+abbrev pub character_of_pair : (high low : ℕ) → ℕ
+character_of_pair high low = 0x1_0000 + ((high % 0x400) * 0x400 + low % 0x400)
+
+abbrev pub utf16_width : ℕ → ℕ
+utf16_width c = if nat_le 0x1_0000 c then 2 else 1
+
+-- a high surrogate before a low one is one character with it, and any other unit is itself
+abbrev pub utf16_characters : List ℕ → List ℕ
+utf16_characters [] = []
+utf16_characters (u ∷ []) = u ∷ []
+utf16_characters (u ∷ v ∷ units) =
+    let pair = character_of_pair u v ∷ utf16_characters units in
+    let single = u ∷ utf16_characters (v ∷ units) in
+    if is_high_surrogate u && is_low_surrogate v then pair else single
+
+abbrev pub utf16_text : List ℕ → (unicode : Bool) → Text
+utf16_text units unicode = record {
+  characters = utf16_characters units;
+  offsets = offsets_from 0 (map utf16_width (utf16_characters units));
+  unicode = unicode;
+  fold = fold_code_point unicode;
+}
+
+-- no pair is cut at this offset of 16-bit units
+abbrev pub is_unit_boundary : List ℕ → ℕ → Bool
+is_unit_boundary units i = contains (offsets_from 0 (map utf16_width (utf16_characters units))) i
+
+abbrev pub ucs2_text : List ℕ → (unicode : Bool) → Text
+ucs2_text units unicode = record {
+  characters = units;
+  offsets = offsets_from 0 (map one_unit units);
+  unicode = unicode;
+  fold = fold_code_point unicode;
+}
+
+-- ---- What stands beside a place
+
+pub data Direction : Type 0 where
+  rightwards : Direction
+  leftwards : Direction
+
+module _ (text : Text) where
+  -- the right end
+  abbrev pub last_place : ℕ
+  last_place = length text.characters
+
+  abbrev pub character_before : ℕ → Option ℕ
+  character_before zero = None
+  character_before (suc place) = slice_get text.characters place
+
+  abbrev pub character_after : ℕ → Option ℕ
+  character_after place = slice_get text.characters place
+
+  -- the next character in the direction
+  abbrev pub next_character : Direction → ℕ → Option ℕ
+  next_character rightwards place = character_after place
+  next_character leftwards place = character_before place
+
+  -- how many characters stand on the direction's side
+  abbrev pub characters_left : Direction → ℕ → ℕ
+  characters_left rightwards place = last_place - place
+  characters_left leftwards place = place
+
+  -- the place n characters on
+  abbrev pub moved : Direction → ℕ → ℕ → ℕ
+  moved rightwards n place = place + n
+  moved leftwards n place = place - n
+
+  -- the next n characters on the direction's side, read left to right
+  abbrev pub characters_beside : Direction → ℕ → ℕ → List ℕ
+  characters_beside rightwards n place = slice_range text.characters place (place + n)
+  characters_beside leftwards n place = slice_range text.characters (place - n) place

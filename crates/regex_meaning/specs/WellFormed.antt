@@ -1,0 +1,116 @@
+-- The trees that are compiled.
+use Rattle.std.specs.Prelude.{ℕ, ◌+◌, ◌-◌, Bool, true, false, ◌&&◌, length, chars, count_by, Option, Some, None, if◌then◌else◌, nat_lt, nat_le, nat_eq, ◌==◌, IsTrue}
+use Rattle.std.specs.List.{list_all}
+use Rattle.std.specs.Str.{is_utf8}
+use Rattle.regex_meaning.specs.Lists.{contains, numbers_from}
+use Rattle.regex_meaning.specs.Tree.{Quantifier, Node, goal, char, char_set, byte_set, byte_sequence, cat, end_of_cat, alt, bracket, string_set, match_any, match_any_except_line_terminator, capture_group, back_ref, lookaround, loop, loop_1_char_body, group_ids, every}
+
+abbrev pub goal_count : Node → ℕ
+goal_count goal = 1
+goal_count (cat first rest) = goal_count first + goal_count rest
+goal_count (alt left right) = goal_count left + goal_count right
+goal_count (capture_group id name contents) = goal_count contents
+goal_count (lookaround l contents) = goal_count contents
+goal_count (loop q start_group end_group loopee) = goal_count loopee
+goal_count (loop_1_char_body q loopee) = goal_count loopee
+goal_count _ = 0
+
+abbrev pub is_end_of_cat : Node → Bool
+is_end_of_cat end_of_cat = true
+is_end_of_cat _ = false
+
+-- the node is `Goal`, or a `Cat` whose last child is so in turn
+abbrev pub ends_in_goal : Node → Bool
+ends_in_goal goal = true
+ends_in_goal (cat first rest) = if is_end_of_cat rest then ends_in_goal first else ends_in_goal rest
+ends_in_goal _ = false
+
+-- 1: there is exactly one `Goal`, and it is last
+abbrev pub goal_is_last : Node → Bool
+goal_is_last root = goal_count root == 1 && ends_in_goal root
+
+-- 2: each number below the number of groups is the id of exactly one group
+abbrev pub each_id_stands_once : Node → Bool
+each_id_stands_once root =
+    let ids = group_ids root in
+    list_all (λ id. count_by (nat_eq id) ids == 1) (numbers_from 0 (length ids))
+
+-- the ids from the first up to the second, which is not counted in, are exactly those inside
+abbrev pub encloses : (start_group end_group : ℕ) → (contents : Node) → Bool
+encloses start_group end_group contents =
+    let ids = group_ids contents in
+    let named = numbers_from start_group (end_group - start_group) in
+    nat_le start_group end_group && list_all (contains named) ids && list_all (contains ids) named
+
+-- 3: each loop and each lookaround names exactly the groups inside it
+abbrev pub names_the_groups_inside : Node → Bool
+names_the_groups_inside (lookaround l contents) = encloses l.start_group l.end_group contents
+names_the_groups_inside (loop q start_group end_group loopee) = encloses start_group end_group loopee
+names_the_groups_inside _ = true
+
+-- 4: each backreference is to one of n groups, which count from 1
+abbrev pub refers_to_a_group : (n : ℕ) → Node → Bool
+refers_to_a_group n (back_ref group icase) = nat_le 1 group && nat_le group n
+refers_to_a_group n _ = true
+
+abbrev pub is_in_order : Quantifier → Bool
+is_in_order q = if_given q.max
+  where
+    if_given : Option ℕ → Bool
+    if_given None = true
+    if_given (Some max) = nat_le q.min max
+
+-- 5: no minimum is above its maximum
+abbrev pub has_order_in_quantifier : Node → Bool
+has_order_in_quantifier (loop q start_group end_group loopee) = is_in_order q
+has_order_in_quantifier (loop_1_char_body q loopee) = is_in_order q
+has_order_in_quantifier _ = true
+
+abbrev pub is_one_character : Node → Bool
+is_one_character (char c) = true
+is_one_character (char_set members) = true
+is_one_character (byte_set members) = true
+is_one_character (bracket contents) = true
+is_one_character match_any = true
+is_one_character match_any_except_line_terminator = true
+is_one_character (byte_sequence bytes) = length (chars bytes) == 1
+is_one_character _ = false
+
+-- 6: the body of a one-character loop is one
+abbrev pub has_one_character_body : Node → Bool
+has_one_character_body (loop_1_char_body q loopee) = is_one_character loopee
+has_one_character_body _ = true
+
+-- 7: each byte sequence is the UTF-8 of at least one character
+abbrev pub has_text_in_sequence : Node → Bool
+has_text_in_sequence (byte_sequence bytes) = nat_lt 0 (length bytes) && is_utf8 bytes
+has_text_in_sequence _ = true
+
+-- 8: sets hold at most four, bytes are ASCII, and the code points of strings are at most U+10FFFF
+abbrev pub fits_instructions : Node → Bool
+fits_instructions (byte_set members) = nat_le (length members) 4 && list_all (λ b. nat_lt b 128) members
+fits_instructions (char_set members) = nat_le (length members) 4
+fits_instructions (string_set strings icase) = list_all (list_all (λ c. nat_le c 0x10_FFFF)) strings
+fits_instructions _ = true
+
+pub record IsWellFormed (root : Node) : Type 0 where
+  pub goal_last : IsTrue (goal_is_last root)
+  pub ids : IsTrue (each_id_stands_once root)
+  pub enclosed : IsTrue (every names_the_groups_inside root)
+  pub references : IsTrue (every (refers_to_a_group (length (group_ids root))) root)
+  pub quantifiers : IsTrue (every has_order_in_quantifier root)
+  pub bodies : IsTrue (every has_one_character_body root)
+  pub sequences : IsTrue (every has_text_in_sequence root)
+  pub sets : IsTrue (every fits_instructions root)
+
+-- the same as a test
+unfoldable pub is_well_formed : Node → Bool
+is_well_formed root =
+    goal_is_last root
+    && each_id_stands_once root
+    && every names_the_groups_inside root
+    && every (refers_to_a_group (length (group_ids root))) root
+    && every has_order_in_quantifier root
+    && every has_one_character_body root
+    && every has_text_in_sequence root
+    && every fits_instructions root

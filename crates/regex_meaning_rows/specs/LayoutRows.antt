@@ -1,0 +1,32 @@
+-- Programs and the trees whose code they are.
+use Rattle.std.specs.Prelude.{ℕ, ◌^◌, ◌-◌, List, [], ◌∷◌, None, refl, true, false}
+use Rattle.regex_meaning.specs.Tree.{goal, char, byte_sequence, cat, end_of_cat, alt, lookaround, loop}
+use Rattle.regex_meaning.specs.Layout.{Insn, Goal, Char, Alt, Jump, EnterLoop, LoopAgain, ByteSeq, Lookbehind, Program, Mark, IsCode}
+use Rattle.regex_meaning.specs.StartPredicate.{start_arbitrary}
+use Rattle.regex_meaning.specs.Computing.{times, look, no_flags}
+
+abbrev program : List Insn → Program
+program insns = record { insns = insns; brackets = []; loops = 1; groups = 0; flags = no_flags; group_names = []; start_pred = start_arbitrary }
+
+abbrev mark : ℕ → ℕ → Mark
+mark i l = record { insn = i; loop = l; bracket = 0 }
+
+alternatives : IsCode (program (Alt 3 ∷ Char 97 ∷ Jump 5 ∷ Char 97 ∷ Char 98 ∷ Goal ∷ [])) false
+    (cat (alt (char 97) (cat (char 97) (cat (char 98) end_of_cat))) (cat goal end_of_cat)) (mark 0 0) (mark 6 0)
+unfolding IsCode
+alternatives = (
+  mark 5 0,
+  (mark 2 0, refl, (refl, refl), refl, (mark 4 0, (refl, refl), (mark 5 0, (refl, refl), refl))),
+  (mark 6 0, (refl, refl), refl),
+)
+
+looped : IsCode (program (EnterLoop (record { loop_id = 0; min_iters = 0; max_iters = 2 ^ 64 - 1; greedy = true; exit = 3 }) ∷ Char 97 ∷ LoopAgain 0 ∷ Goal ∷ [])) false
+    (cat (loop (times 0 None true) 0 0 (char 97)) (cat goal end_of_cat)) (mark 0 0) (mark 4 1)
+unfolding IsCode
+looped =
+    (mark 3 1, (mark 1 1, mark 2 1, (refl, refl), (refl, refl), (refl, refl)), (mark 4 1, (refl, refl), refl))
+
+behind : IsCode (program (Lookbehind false 0 0 4 ∷ ByteSeq (113 ∷ []) ∷ ByteSeq (97 ∷ 98 ∷ 99 ∷ 100 ∷ 101 ∷ 102 ∷ 103 ∷ 104 ∷ 105 ∷ 106 ∷ 107 ∷ 108 ∷ 109 ∷ 110 ∷ 111 ∷ 112 ∷ []) ∷ Goal ∷ Goal ∷ [])) false
+    (cat (lookaround (look false true 0 0) (byte_sequence (97 ∷ 98 ∷ 99 ∷ 100 ∷ 101 ∷ 102 ∷ 103 ∷ 104 ∷ 105 ∷ 106 ∷ 107 ∷ 108 ∷ 109 ∷ 110 ∷ 111 ∷ 112 ∷ 113 ∷ []))) (cat goal end_of_cat)) (mark 0 0) (mark 5 0)
+unfolding IsCode
+behind = (mark 4 0, (mark 3 0, refl, (refl, (refl, refl)), (refl, refl)), (mark 5 0, (refl, refl), refl))

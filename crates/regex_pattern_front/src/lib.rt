@@ -1,0 +1,8 @@
+//! The front: pattern trees, their flags, and what they are made of.
+#![tactic(auto)]
+
+pub mod bytesearch;
+pub mod codepointset;
+pub mod flags;
+pub mod ir;
+pub mod types;

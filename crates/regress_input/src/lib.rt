@@ -1,0 +1,5 @@
+//! Texts that are read a character at a time, in four encodings and two directions.
+#![tactic(auto)]
+
+pub mod indexing;
+pub mod position;

@@ -1,11 +1,12 @@
 -- What a match says of its groups, by number and by name.
-use Rattle.std.specs.Prelude.{ℕ, zero, suc, ◌+◌, Bool, List, [], ◌∷◌, length, map, ◌++◌, ◌==◌, position, nat_eq, slice_index, option_map, Option, Some, None, if◌then◌else◌, bytes_eq}
+use Rattle.std.specs.Prelude.{ℕ, zero, suc, ◌+◌, Bool, List, [], ◌∷◌, length, map, ◌++◌, ◌==◌, option_map, Option, Some, None, if◌then◌else◌, bytes_eq}
 use Rattle.std.specs.List.{list_any, list_all}
 use Rattle.std.specs.Option.{option_or, option_map_or}
 use Rattle.regex_meaning.specs.Lists.{numbers_from}
 use Rattle.regex_meaning.specs.Tree.{Node, cat, alt, capture_group, lookaround, loop, loop_1_char_body}
 use Rattle.regex_meaning.specs.Text.{Text}
 use Rattle.regex_meaning.specs.Find.{Found, match_list}
+use Rattle.regex_meaning.specs.Offsets.{offset, place_at}
 use Rattle.regex_meaning.specs.Outcomes.{Groups, group_range}
 
 -- a match in offsets, and the name of each id, empty where there is none
@@ -36,19 +37,16 @@ names_by_id root =
 
 -- the match with its places as offsets, its groups by id and the names by id
 module _ (root : Node) (text : Text) where
-  abbrev pub offset : (place : ℕ) → ℕ
-  offset place = slice_index text.offsets place
-
   abbrev pub answer : Found → Answer
   answer m = record {
-    range = (offset m.start, offset m.end);
-    captures = map (option_map (λ r. (offset r.0, offset r.1))) m.groups;
+    range = (offset text m.start, offset text m.end);
+    captures = map (option_map (λ r. (offset text r.0, offset text r.1))) m.groups;
     names = names_by_id root;
   }
 
   -- the answers from an offset on, none where it is past the end
   unfoldable pub answers_from : (start : ℕ) → List Answer
-  answers_from start = option_map_or (λ place. map answer (match_list root text place)) (position (nat_eq start) text.offsets) []
+  answers_from start = option_map_or (λ place. map answer (match_list root text place)) (place_at text start) []
 
 -- 0 is the whole match
 abbrev pub group : Answer → ℕ → Option (ℕ × ℕ)

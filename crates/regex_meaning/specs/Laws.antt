@@ -1,12 +1,18 @@
 -- Laws of these definitions.
-use Rattle.std.specs.Prelude.{◌≡◌, ◌↔◌, IsTrue, ℕ, ◌+◌, ◌≤◌, List, [], ◌∷◌, if◌then◌else◌, nat_lt, nat_le, max, Option, Some, None, filter, flat_map}
+use Rattle.std.specs.Prelude.{◌≡◌, ◌↔◌, IsTrue, ℕ, ◌+◌, ◌<◌, ◌≤◌, Bool, List, [], ◌∷◌, if◌then◌else◌, nat_lt, nat_le, max, Option, Some, None, filter, flat_map}
+use Rattle.std.specs.Option.{option_or}
 use Rattle.regex_meaning.specs.Tree.{Quantifier, Node, Tree}
-use Rattle.regex_meaning.specs.Text.{Text, Direction, rightwards, leftwards, last_place}
+use Rattle.regex_meaning.specs.Text.{Text, Direction, rightwards, leftwards, last_place, utf8_text, ascii_text, utf16_text, ucs2_text}
+use Rattle.regex_meaning.specs.Offsets.{IsText, offset, place_at, IsBoundary}
 use Rattle.regex_meaning.specs.Outcomes.{Groups, repetition, repeat, counts, preferred, most_of, outcomes}
-use Rattle.regex_meaning.specs.Find.{Found, first_match, place_behind, match_list}
+use Rattle.regex_meaning.specs.Find.{Found, match_at, first_match, place_behind, match_list}
+use Rattle.regex_meaning.specs.Names.{Answer, answers_from}
+use Rattle.regex_meaning.specs.Answers.{first_answer, next_start, answer_then_list}
 use Rattle.regex_meaning.specs.StartPredicate.{start_predicate, IsSound}
 use Rattle.regex_meaning.specs.WellFormed.{IsWellFormed, is_well_formed}
 use Rattle.regex_meaning.specs.Ticks.{pairs, ticked}
+
+-- ---- Outcomes
 
 -- the list with ticks has the outcomes as its pairs
 abbrev pub PairsAreOutcomes : Type 0
@@ -38,6 +44,8 @@ abbrev pub OutcomesGoOn : Type 0
 OutcomesGoOn = (text : Text) (node : Node) (d : Direction) (place : ℕ) (groups : Groups)
     → Each (λ o. IsOnward text d place o.end) (outcomes text node d place groups)
 
+-- ---- Matches
+
 -- the matches from a place on, if there is one
 abbrev pub list_from : Node → Text → Option ℕ → List Found
 list_from root text None = []
@@ -52,6 +60,50 @@ match_then_list root text (Some m) = m ∷ list_from root text (place_behind roo
 abbrev pub MatchListUnfolds : Type 0
 MatchListUnfolds = (root : Node) (text : Text) (place : ℕ)
     → match_list root text place ≡ match_then_list root text (first_match root text place)
+
+-- the first match from a place on stands there, or else it is the first from the next place on
+abbrev pub FirstMatchUnfolds : Type 0
+FirstMatchUnfolds = (root : Node) (text : Text) (place : ℕ)
+    → (place ≤ last_place text → first_match root text place ≡ option_or (match_at root text place) (first_match root text (place + 1)))
+    × (last_place text < place → first_match root text place ≡ None)
+
+-- ---- Offsets
+
+-- the places of a text and their offsets
+pub record HasOffsets (text : Text) : Type 0 where
+  pub rise : (p q : ℕ) → p < q → q ≤ last_place text → offset text p < offset text q
+  pub place : (p : ℕ) → p ≤ last_place text → place_at text (offset text p) ≡ Some p
+  pub offset_of_place : (at p : ℕ) → place_at text at ≡ Some p → (offset text p ≡ at) × (p ≤ last_place text)
+
+-- each place has one offset and each boundary one place, in the same order
+abbrev pub PlacesHaveOffsets : Type 0
+PlacesHaveOffsets = (text : Text) → IsText text → HasOffsets text
+
+-- the texts of the four encodings are texts
+abbrev pub EncodingsAreTexts : Type 0
+EncodingsAreTexts = (units : List ℕ) (unicode : Bool)
+    → IsText (utf8_text units unicode) × IsText (ascii_text units unicode) × IsText (utf16_text units unicode) × IsText (ucs2_text units unicode)
+
+-- the answers from an offset on are the first one, if there is one, and those from where the list goes on
+abbrev pub AnswersGoOn : Type 0
+AnswersGoOn = (root : Node) (text : Text) → IsText text → (start : ℕ)
+    → answers_from root text start ≡ answer_then_list root text (first_answer root text start) (next_start root text start)
+
+-- the list goes on at a boundary behind the start
+abbrev pub ListGoesOnAhead : Type 0
+ListGoesOnAhead = (root : Node) (text : Text) → IsText text → (start next : ℕ)
+    → next_start root text start ≡ Some next → (start < next) × IsBoundary text next
+
+-- a range of whole characters
+abbrev pub IsRange : Text → ℕ × ℕ → Type 0
+IsRange text range = (range.0 ≤ range.1) × IsBoundary text range.0 × IsBoundary text range.1
+
+-- the first answer from an offset on stands there or behind it
+abbrev pub AnswersStandInText : Type 0
+AnswersStandInText = (root : Node) (text : Text) → IsText text → (start : ℕ) (m : Answer)
+    → first_answer root text start ≡ Some m → (start ≤ m.range.0) × IsRange text m.range
+
+-- ---- Trees
 
 -- the start predicate of a well-formed tree rules out no place with an outcome
 abbrev pub PredicateIsSound : Type 0

@@ -1,7 +1,7 @@
 // The meaning of patterns: definitions that contracts cite, and laws of theirs.
 #![tactic(auto)]
 
-ghost use Rattle.regex_meaning.specs.Laws.{PairsAreOutcomes, RepeatUnfolds, OutcomesGoOn, MatchListUnfolds, PredicateIsSound, TestIsClauses};
+ghost use Rattle.regex_meaning.specs.Laws.{PairsAreOutcomes, RepeatUnfolds, OutcomesGoOn, MatchListUnfolds, FirstMatchUnfolds, PlacesHaveOffsets, EncodingsAreTexts, AnswersGoOn, ListGoesOnAhead, AnswersStandInText, PredicateIsSound, TestIsClauses};
 
 // The ticks of a search are put among its outcomes, and change none of them.
 pub fn ticks_change_nothing()
@@ -21,6 +21,36 @@ pub fn outcomes_go_on()
 // The list of matches goes on from behind the first one.
 pub fn matches_go_on()
     ensures { MatchListUnfolds }
+{}
+
+// The first match stands at the place itself, or else at or behind the next one.
+pub fn first_matches_unfold()
+    ensures { FirstMatchUnfolds }
+{}
+
+// Places and their offsets are in the same order, one for one.
+pub fn places_have_offsets()
+    ensures { PlacesHaveOffsets }
+{}
+
+// The texts of the four encodings are texts.
+pub fn encodings_are_texts()
+    ensures { EncodingsAreTexts }
+{}
+
+// The list of answers goes on from where the first one says.
+pub fn answers_go_on()
+    ensures { AnswersGoOn }
+{}
+
+// The list goes on at a boundary ahead.
+pub fn list_goes_on_ahead()
+    ensures { ListGoesOnAhead }
+{}
+
+// The first answer is a range of whole characters, not before the start.
+pub fn answers_stand_in_text()
+    ensures { AnswersStandInText }
 {}
 
 // The start predicate of a well-formed tree is sound.

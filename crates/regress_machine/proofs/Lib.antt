@@ -1,0 +1,4 @@
+pub mod Search
+pub mod Yields
+pub mod Frames
+pub mod Nodes

@@ -1,0 +1,2 @@
+//! The abstract machine that runs programs, and what it finds.
+#![tactic(auto)]

@@ -81,7 +81,7 @@ module _ (program : Program) (text : Text) (is_text : IsText text) where
       let F = Inner inner j.insn p ids m.loop n.loop g s ls in
       let inside : Yields program text inner F (running u ∷ []) items =
         find F (next m) j p g s ls (λ o. tick ∷ pair o ∷ []) code.2
-        (record { inside = enters.inside; fit = enters.fit; starts = enters.starts; loops = omega (arith, enters.loops) })
+        (record { inside = enters.inside; fit = enters.fit; groups = enters.groups; starts = enters.starts; loops = omega (arith, enters.loops) })
         (record {
           at = λ o s' ls' r kept.
             let v = state_at program text is_text j.insn o.end o.groups s' ls' in

@@ -200,6 +200,7 @@ module _ (program : Program) (text : Text) (is_text : IsText text) where
         (record {
           inside = h.reached.inside;
           fit = Fit-cleared first count g h.reached.fit;
+          groups = len_g1 ∙ enters.groups;
           starts = h.kept.starts_length ∙ enters.starts ∙ sym len_g1;
           loops = omega (arith, l_loop, enters.loops);
         })

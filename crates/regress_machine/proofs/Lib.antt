@@ -7,4 +7,5 @@ pub mod Sets
 pub mod Groups
 pub mod Looks
 pub mod Loops
+pub mod Ready
 pub mod Whole

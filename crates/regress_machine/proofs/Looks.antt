@@ -1,17 +1,17 @@
 -- What lookarounds find.
-use Rattle.std.proofs.Common.{◌≡◌, ℕ, zero, suc, ◌+◌, ◌<◌, ◌≤◌, List, [], ◌∷◌, ◌++◌, length, map, Option, Some, None, Bool, true, false, refl, ap, ◌∙◌, sym, subst, arith, append-nil}
+use Rattle.std.proofs.Common.{◌≡◌, ℕ, zero, suc, ◌+◌, ◌≤◌, List, [], ◌∷◌, ◌++◌, length, map, Option, Some, None, Bool, true, false, refl, ap, ◌∙◌, sym, arith, append-nil}
 use Rattle.std.specs.Prelude.{if◌then◌else◌}
 use Rattle.regex_meaning.specs.Tree.{Lookaround, Node, lookaround, group_ids}
-use Rattle.regex_meaning.specs.Text.{Text, Direction, rightwards, leftwards, last_place}
+use Rattle.regex_meaning.specs.Text.{Text, Direction, rightwards, leftwards}
 use Rattle.regex_meaning.specs.Offsets.{IsText}
 use Rattle.regex_meaning.specs.Outcomes.{Groups, Outcome, looked, direction_of}
 use Rattle.regex_meaning.specs.Ticks.{Item, tick, pair, pairs, ticks, ticks_to_first, and_then, ticked_pairs, ticked}
 use Rattle.regex_meaning.specs.Layout.{Program, Mark, next, IsCode, Goal, Lookahead, Lookbehind, lookaround_insn}
 use Rattle.regex_meaning.proofs.Onward.{IsOnward-refl}
-use Rattle.regress_machine.specs.Machine.{LoopData, State, running, Next, ends, asks, at_ip, next_ip, resumed, act_on, act}
+use Rattle.regress_machine.specs.Machine.{LoopData, State, running, asks, at_ip, next_ip, resumed, act_on}
 use Rattle.regress_machine.proofs.Yields.{Ending, EndIs, first_pair, Yields, yields_none, yields_same, yields_end, yields_asks}
 use Rattle.regress_machine.proofs.Frames.{Kept, kept_itself, kept_more, inside_itself}
-use Rattle.regress_machine.proofs.Nodes.{over, state_at, Fit, Reached, GoesOn, Enters, here, act_at, Finds, at_mark, and_then-and_then}
+use Rattle.regress_machine.proofs.Nodes.{state_at, Reached, GoesOn, Enters, here, act_at, Finds}
 
 -- the outcome of a lookaround whose contents have this one first
 abbrev looked_first : (negate : Bool) → Option Outcome → ℕ → Groups → List Outcome
@@ -62,7 +62,7 @@ module _ (program : Program) (text : Text) (is_text : IsText text) where
       let kept = is.2.1.3 in
       let there : Outcome = record { end = p; groups = o.groups } in
       let states : resumed false w e ≡ running (state_at program text is_text exit p o.groups s' ls') ∷ [] =
-        ap (resumed false w) is.1 ∙ ap (λ (t : State). running (record t { ip = w.ip; pos = w.pos }) ∷ []) is.2.1.1 in
+      ap (resumed false w) is.1 ∙ ap (λ (t : State). running (record t { ip = w.ip; pos = w.pos }) ∷ []) is.2.1.1 in
       rw states (yields_same program text d E _ (k there) (k there ++ []) (sym (append-nil (k there)))
       (on.at there s' ls' (record { onward = IsOnward-refl text d p; inside = enters.inside; same_groups = r.same_groups; fit = r.fit }) kept))
 
@@ -80,14 +80,14 @@ module _ (program : Program) (text : Text) (is_text : IsText text) where
       let same_end : j.loop ≡ n.loop = ap (λ (m : Mark). m.loop) code.3.1 in
       let F = Inner inner j.insn p ids m.loop n.loop g s ls in
       let inside : Yields program text inner F (running u ∷ []) items =
-        find F (next m) j p g s ls (λ o. tick ∷ pair o ∷ []) code.2
-        (record { inside = enters.inside; fit = enters.fit; groups = enters.groups; starts = enters.starts; loops = omega (arith, enters.loops) })
-        (record {
-          at = λ o s' ls' r kept.
+      find F (next m) j p g s ls (λ o. tick ∷ pair o ∷ []) code.2
+      (record { inside = enters.inside; fit = enters.fit; groups = enters.groups; starts = enters.starts; loops = omega (arith, enters.loops) })
+      (record {
+        at = λ o s' ls' r kept.
             let v = state_at program text is_text j.insn o.end o.groups s' ls' in
             yields_end program text inner F v o (act_at program text is_text inner v Goal code.3.0)
             (s', (ls', refl, r, kept_more ids ids m.loop j.loop m.loop n.loop s s' ls ls' (inside_itself ids) (let le : m.loop ≤ m.loop = omega arith in le) (let le : j.loop ≤ n.loop = omega arith in le) kept));
-        }) in
+      }) in
       yields_same program text d E (running t ∷ []) (tick ∷ (ticks (ticks_to_first items) ++ and_then (map pair (looked_first l.negate (first_pair items) p g)) k)) _
       (ap (λ (os : List Outcome). tick ∷ (ticks (ticks_to_first items) ++ and_then (map pair os) k)) (sym (looked-pairs l.negate items p g))
       ∙ ap (λ (l : List Item). tick ∷ l) (sym (and_then-ticks (ticks_to_first items) (map pair (looked l.negate (pairs items) p g)) k)))

@@ -1,10 +1,10 @@
 -- What loops find.
-use Rattle.std.proofs.Common.{◌≡◌, ℕ, zero, suc, ◌+◌, ◌-◌, ◌<◌, ◌≤◌, max, List, [], ◌∷◌, ◌++◌, length, map, Option, Some, None, Bool, true, false, refl, ap, ap₂, ◌∙◌, sym, subst, arith, append-nil, slice_get, slice_set, length-set, lt-ltb, ltb→lt, nat_eq, nat_lt, nat_le, eq-eqb, ne_eqb, eqb-true, nltb→le}
+use Rattle.std.proofs.Common.{◌≡◌, ℕ, zero, suc, ◌+◌, ◌-◌, ◌<◌, ◌≤◌, List, [], ◌∷◌, ◌++◌, length, map, Option, Some, None, Bool, true, false, refl, ap, ◌∙◌, sym, subst, arith, append-nil, slice_get, slice_set, length-set, lt-ltb, nat_eq, nat_lt, nat_le, eq-eqb, ne_eqb, eqb-true, nltb→le}
 use Rattle.std.proofs.lemmas.List.{length-map}
 use Rattle.std.proofs.lemmas.Bool.{eqb-false}
 use Rattle.std.specs.Prelude.{option_map, if◌then◌else◌, ◌&&◌, ◌==◌}
-use Rattle.regex_meaning.specs.Lists.{contains, numbers_from}
-use Rattle.regex_meaning.specs.Laws.{Each, IsOnward}
+use Rattle.regex_meaning.specs.Lists.{numbers_from}
+use Rattle.regex_meaning.specs.Laws.{IsOnward}
 use Rattle.regex_meaning.specs.Tree.{Quantifier, Node, loop, group_ids}
 use Rattle.regex_meaning.specs.Text.{Text, Direction, rightwards, leftwards, last_place, characters_left}
 use Rattle.regex_meaning.specs.Offsets.{IsText, offset}
@@ -12,7 +12,7 @@ use Rattle.regex_meaning.specs.Outcomes.{Groups, Outcome, cleared, most_of}
 use Rattle.regex_meaning.specs.Ticks.{Item, tick, pair, ticks, and_then, ways, TickedRepetition, ticked_repetition, ticked_rounds, ticked}
 use Rattle.regex_meaning.specs.Layout.{Program, LoopFields, Insn, Mark, next, HasAll, IsCode, ResetCaptureGroup, EnterLoop, LoopAgain}
 use Rattle.regex_meaning.proofs.TextLemmas.{offset-injective}
-use Rattle.regress_machine.specs.Machine.{LoopData, State, Thread, running, waiting, Next, goes, go, with_some, only_if, in_turn, preferring, loop_turn, again_with, again_at, act_on, act}
+use Rattle.regress_machine.specs.Machine.{LoopData, State, Thread, running, waiting, goes, go, with_some, only_if, in_turn, preferring, loop_turn, again_with, again_at, act}
 use Rattle.regress_machine.proofs.Yields.{Ending, Yields, yields_none, yields_append, yields_same, yields_turn, yields_wait}
 use Rattle.regress_machine.proofs.Frames.{Kept, kept_itself, kept_more, kept_both, inside_itself, slice_get-set_same, slice_get-set_other}
 use Rattle.regress_machine.proofs.Nodes.{over, state_at, RangeFits, Fit, Reached, GoesOn, Enters, here, reached_both, act_at, Finds, at_mark, Rising, and_then-append, and_then-and_then}
@@ -69,9 +69,9 @@ module _ (program : Program) (text : Text) (is_text : IsText text) where
       let g1 = slice_set g first None in
       let u = state_at program text is_text (i.insn + 1) p g1 s ls in
       let turn : act program text d t ≡ go u =
-        act_at program text is_text d t (ResetCaptureGroup first) has.0
-        ∙ ap (λ b. only_if b (go (record t { ip = i.insn + 1; groups = slice_set (over program text is_text g) first None }))) (lt-ltb first (length (over program text is_text g)) in_over)
-        ∙ ap (λ h. go (record t { ip = i.insn + 1; groups = h })) (map-set f g first None) in
+      act_at program text is_text d t (ResetCaptureGroup first) has.0
+      ∙ ap (λ b. only_if b (go (record t { ip = i.insn + 1; groups = slice_set (over program text is_text g) first None }))) (lt-ltb first (length (over program text is_text g)) in_over)
+      ∙ ap (λ h. go (record t { ip = i.insn + 1; groups = h })) (map-set f g first None) in
       let later : AreBelow (first + 1) count (length g1) = λ j le less. let in_j : j < length g = room j (omega arith) (omega arith) in omega (arith, length-set g first None) in
       yields_turn program text d E t (running u ∷ []) (ticks count ++ items) turn
       (resets_yield d E (first + 1) count (next i) k p g1 s ls items has.1 later y)
@@ -206,14 +206,14 @@ module _ (program : Program) (text : Text) (is_text : IsText text) where
         })
         (record {
           at = λ o s' ls' r kept.
-            next_round o s' ls' r.onward
-            (record {
-              reached = reached_both program text is_text d p0 p (length g0) g1 o (sym len_g1) h.reached.onward r;
-              kept = kept_both ids m.loop n.loop s0 s s' ls0 ls ls' h.kept
-              (kept_both ids m.loop n.loop s s s' ls ls1 ls' (begun i p s ls h.kept.loops_length)
-              (kept_more ids ids j.loop l.loop m.loop n.loop s s' ls1 ls' (inside_itself ids) (omega (arith, j_loop)) (omega (arith, l_loop)) kept));
-            })
-            (kept.below m.loop (omega (arith, j_loop)) ∙ slice_get-set_same ls m.loop entry own);
+              next_round o s' ls' r.onward
+              (record {
+                reached = reached_both program text is_text d p0 p (length g0) g1 o (sym len_g1) h.reached.onward r;
+                kept = kept_both ids m.loop n.loop s0 s s' ls0 ls ls' h.kept
+                    (kept_both ids m.loop n.loop s s s' ls ls1 ls' (begun i p s ls h.kept.loops_length)
+                    (kept_more ids ids j.loop l.loop m.loop n.loop s s' ls1 ls' (inside_itself ids) (omega (arith, j_loop)) (omega (arith, l_loop)) kept));
+              })
+              (kept.below m.loop (omega (arith, j_loop)) ∙ slice_get-set_same ls m.loop entry own);
         }))
 
     -- the end of an iteration
@@ -250,7 +250,7 @@ module _ (program : Program) (text : Text) (is_text : IsText text) where
         let leave : List Item = pair (record { end = p; groups = g }) ∷ [] in
         let k' = λ (o : Outcome). tick ∷ and_then (if dropped o then [] else further o) k in
         let again_items : ticks count ++ and_then items k' ≡ and_then again k =
-          sym (and_then-and_then (ticks count ++ items) (λ o. tick ∷ (if dropped o then [] else further o)) k ∙ and_then-ticks count items k') in
+        sym (and_then-and_then (ticks count ++ items) (λ o. tick ∷ (if dropped o then [] else further o)) k ∙ and_then-ticks count items k') in
         yields_same program text d E _ _ _ (sym (and_then-ways (nat_lt i (most_of q)) (nat_le q.min i) q.greedy again leave k))
         (ways_yield d E (nat_lt i (most_of q)) (nat_le q.min i) q.greedy (again_state i p g s ls) (leave_state p g s ls) (and_then again k) (and_then leave k)
         (λ few. yields_same program text d E _ _ _ again_items

@@ -6,7 +6,7 @@ use Rattle.regex_meaning.specs.Text.{Text, Direction, rightwards, leftwards, las
 use Rattle.regex_meaning.specs.Offsets.{IsText, offset, place_at, IsBoundary}
 use Rattle.regex_meaning.specs.Outcomes.{Groups, repetition, repeat, counts, preferred, most_of, outcomes}
 use Rattle.regex_meaning.specs.Find.{Found, match_at, first_match, place_behind, match_list}
-use Rattle.regex_meaning.specs.Names.{Answer, answers_from}
+use Rattle.regex_meaning.specs.Names.{Answer, answers_from, named_group, named_groups}
 use Rattle.regex_meaning.specs.Answers.{first_answer, next_start, answer_then_list}
 use Rattle.regex_meaning.specs.StartPredicate.{start_predicate, IsSound}
 use Rattle.regex_meaning.specs.WellFormed.{IsWellFormed, is_well_formed}
@@ -102,6 +102,12 @@ IsRange text range = (range.0 ≤ range.1) × IsBoundary text range.0 × IsBound
 abbrev pub AnswersStandInText : Type 0
 AnswersStandInText = (root : Node) (text : Text) → IsText text → (start : ℕ) (m : Answer)
     → first_answer root text start ≡ Some m → (start ≤ m.range.0) × IsRange text m.range
+
+-- ---- Names
+
+-- the range of a name is the one that stands with it among all names
+abbrev pub NamesAgree : Type 0
+NamesAgree = (m : Answer) → Each (λ named. named_group m named.0 ≡ named.1) (named_groups m)
 
 -- ---- Trees
 

@@ -1,7 +1,7 @@
 // The meaning of patterns: definitions that contracts cite, and laws of theirs.
 #![tactic(auto)]
 
-ghost use Rattle.regex_meaning.specs.Laws.{PairsAreOutcomes, RepeatUnfolds, OutcomesGoOn, MatchListUnfolds, FirstMatchUnfolds, PlacesHaveOffsets, EncodingsAreTexts, AnswersGoOn, ListGoesOnAhead, AnswersStandInText, PredicateIsSound, TestIsClauses};
+ghost use Rattle.regex_meaning.specs.Laws.{PairsAreOutcomes, RepeatUnfolds, OutcomesGoOn, MatchListUnfolds, FirstMatchUnfolds, PlacesHaveOffsets, EncodingsAreTexts, AnswersGoOn, ListGoesOnAhead, AnswersStandInText, NamesAgree, PredicateIsSound, TestIsClauses};
 
 // The ticks of a search are put among its outcomes, and change none of them.
 pub fn ticks_change_nothing()
@@ -51,6 +51,11 @@ pub fn list_goes_on_ahead()
 // The first answer is a range of whole characters, not before the start.
 pub fn answers_stand_in_text()
     ensures { AnswersStandInText }
+{}
+
+// A name's range is the one that stands with it among all names.
+pub fn names_agree()
+    ensures { NamesAgree }
 {}
 
 // The start predicate of a well-formed tree is sound.

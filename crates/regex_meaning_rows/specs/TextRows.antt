@@ -3,7 +3,7 @@ use Rattle.std.specs.Prelude.{◌≡◌, ◌++◌, ◌==◌, Bool, filter, map, 
 use Rattle.regex_meaning.specs.Lists.{numbers_from}
 use Rattle.regex_meaning.specs.Text.{is_unit_boundary, expand_code_point, fold_code_point}
 use Rattle.regex_meaning.specs.Outcomes.{Groups}
-use Rattle.regex_meaning.specs.Names.{Answer, named_group, named_group_that_matched, named_groups}
+use Rattle.regex_meaning.specs.Names.{Answer, named_group, named_groups}
 use Rattle.regex_meaning.specs.Replace.{expansion, replaced}
 use Rattle.regex_meaning.specs.Flags.{flags_text, flags_of_text, escape, special}
 
@@ -57,14 +57,27 @@ by_name : expansion (codes "xa") (record { range = (1, 2); captures = Some (1, 2
 unfolding expansion
 by_name = refl
 
-least_id : named_group two (codes "n") ≡ None
-least_id = refl
-
-that_matched : named_group_that_matched two (codes "n") ≡ Some (0, 1)
+that_matched : named_group two (codes "n") ≡ Some (0, 1)
 that_matched = refl
+
+of_the_empty_name : named_group two [] ≡ None
+of_the_empty_name = refl
+
+of_no_group : named_group two (codes "m") ≡ None
+of_no_group = refl
+
+-- both groups of the name matched: the first one counts
+abbrev both : Answer
+both = record { range = (0, 2); captures = Some (0, 1) ∷ Some (1, 2) ∷ []; names = codes "n" ∷ codes "n" ∷ [] }
+
+first_that_matched : named_group both (codes "n") ≡ Some (0, 1)
+first_that_matched = refl
 
 all_names : named_groups two ≡ (codes "n", Some (0, 1)) ∷ []
 all_names = refl
+
+truncated : named_group (record two { captures = None ∷ [] }) (codes "n") ≡ None
+truncated = refl
 
 cut_off : named_groups (record two { captures = [] }) ≡ (codes "n", None) ∷ []
 cut_off = refl

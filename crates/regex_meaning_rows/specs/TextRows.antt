@@ -3,7 +3,7 @@ use Rattle.std.specs.Prelude.{◌≡◌, ◌++◌, ◌==◌, Bool, filter, map, 
 use Rattle.regex_meaning.specs.Lists.{numbers_from}
 use Rattle.regex_meaning.specs.Text.{is_unit_boundary, expand_code_point, fold_code_point}
 use Rattle.regex_meaning.specs.Outcomes.{Groups}
-use Rattle.regex_meaning.specs.Names.{Answer, named_group, named_groups}
+use Rattle.regex_meaning.specs.Names.{Answer, group, named_group, named_groups}
 use Rattle.regex_meaning.specs.Replace.{expansion, replaced}
 use Rattle.regex_meaning.specs.Flags.{flags_text, flags_of_text, escape, special}
 
@@ -82,6 +82,28 @@ truncated = refl
 cut_off : named_groups (record two { captures = [] }) ≡ (codes "n", None) ∷ []
 cut_off = refl
 
+-- a match of a group that is there and of one that is not, and what is asked of it
+abbrev one_of_two : Answer
+one_of_two = record { range = (0, 1); captures = Some (0, 1) ∷ None ∷ []; names = codes "n" ∷ [] ∷ [] }
+
+groups : map (group one_of_two) (0 ∷ 1 ∷ 2 ∷ 3 ∷ []) ≡ (Some (0, 1) ∷ Some (0, 1) ∷ None ∷ None ∷ [])
+groups = refl
+
+-- the same without its captures
+groups_cut_off : map (group (record one_of_two { captures = [] })) (0 ∷ 1 ∷ []) ≡ (Some (0, 1) ∷ None ∷ [])
+groups_cut_off = refl
+
+name_cut_off : named_group (record one_of_two { captures = [] }) (codes "n") ≡ None
+name_cut_off = refl
+
+flags : flags_of_text (codes "gimuy") ≡ record { icase = true; multiline = true; dot_all = false; no_opt = false; unicode = true; unicode_sets = false }
+unfolding flags_of_text
+flags = refl
+
+no_letters : flags_text (flags_of_text []) ≡ []
+unfolding flags_text flags_of_text
+no_letters = refl
+
 letters : flags_text (flags_of_text (codes "gimuy")) ≡ codes "miu"
 unfolding flags_text flags_of_text
 letters = refl
@@ -89,6 +111,10 @@ letters = refl
 escaped_text : escape (codes "a^b$c.d|e?f*g+h(i)j[k]l{m}n\\o") ≡ codes "a\\^b\\$c\\.d\\|e\\?f\\*g\\+h\\(i\\)j\\[k\\]l\\{m\\}n\\\\o"
 unfolding escape
 escaped_text = refl
+
+escaped_nothing : escape [] ≡ []
+unfolding escape
+escaped_nothing = refl
 
 fourteen : special ≡ 92 ∷ 94 ∷ 36 ∷ 46 ∷ 124 ∷ 63 ∷ 42 ∷ 43 ∷ 40 ∷ 41 ∷ 91 ∷ 93 ∷ 123 ∷ 125 ∷ []
 fourteen = refl

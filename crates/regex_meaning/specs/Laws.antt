@@ -1,13 +1,15 @@
 -- Laws of these definitions.
-use Rattle.std.specs.Prelude.{◌≡◌, ◌↔◌, IsTrue, ℕ, ◌+◌, ◌<◌, ◌≤◌, Bool, List, [], ◌∷◌, if◌then◌else◌, nat_lt, nat_le, max, Option, Some, None, filter, flat_map}
+use Rattle.std.specs.Prelude.{◌≡◌, ◌↔◌, IsTrue, ℕ, ◌+◌, ◌-◌, ◌<◌, ◌≤◌, Bool, false, List, [], ◌∷◌, ◌++◌, length, map, codes, IfSome, if◌then◌else◌, nat_lt, nat_le, max, Option, Some, None, filter, flat_map}
 use Rattle.std.specs.Option.{option_or}
-use Rattle.regex_meaning.specs.Tree.{Quantifier, Node, Tree}
+use Rattle.regex_meaning.specs.Tree.{Quantifier, Node, Tree, Flags, group_ids}
 use Rattle.regex_meaning.specs.Text.{Text, Direction, rightwards, leftwards, last_place, utf8_text, ascii_text, utf16_text, ucs2_text}
 use Rattle.regex_meaning.specs.Offsets.{IsText, offset, place_at, IsBoundary}
 use Rattle.regex_meaning.specs.Outcomes.{Groups, repetition, repeat, counts, preferred, most_of, outcomes}
 use Rattle.regex_meaning.specs.Find.{Found, match_at, first_match, place_behind, match_list}
-use Rattle.regex_meaning.specs.Names.{Answer, answers_from}
+use Rattle.regex_meaning.specs.Names.{Answer, answers_from, named_group, named_groups}
 use Rattle.regex_meaning.specs.Answers.{first_answer, next_start, answer_then_list}
+use Rattle.regex_meaning.specs.Replace.{expansion, replaced}
+use Rattle.regex_meaning.specs.Flags.{flags_text, flags_of_text, escape}
 use Rattle.regex_meaning.specs.StartPredicate.{start_predicate, IsSound}
 use Rattle.regex_meaning.specs.WellFormed.{IsWellFormed, is_well_formed}
 use Rattle.regex_meaning.specs.Ticks.{pairs, ticked}
@@ -43,6 +45,22 @@ Each P (x ∷ xs) = P x × Each P xs
 abbrev pub OutcomesGoOn : Type 0
 OutcomesGoOn = (text : Text) (node : Node) (d : Direction) (place : ℕ) (groups : Groups)
     → Each (λ o. IsOnward text d place o.end) (outcomes text node d place groups)
+
+-- a group is none, or two places in order within the text
+abbrev pub StandsIn : Text → Option (ℕ × ℕ) → Type 0
+StandsIn text None = Unit {0}
+StandsIn text (Some range) = (range.0 ≤ range.1) × (range.1 ≤ last_place text)
+
+-- no outcome gains or loses a group
+abbrev pub OutcomesKeepGroups : Type 0
+OutcomesKeepGroups = (text : Text) (node : Node) (d : Direction) (place : ℕ) (groups : Groups)
+    → Each (λ o. length o.groups ≡ length groups) (outcomes text node d place groups)
+
+-- outcomes and their groups stay within the text
+abbrev pub OutcomesStayInText : Type 0
+OutcomesStayInText = (text : Text) (node : Node) (d : Direction) (place : ℕ) (groups : Groups)
+    → place ≤ last_place text → Each (StandsIn text) groups
+    → Each (λ o. (o.end ≤ last_place text) × Each (StandsIn text) o.groups) (outcomes text node d place groups)
 
 -- ---- Matches
 
@@ -102,6 +120,57 @@ IsRange text range = (range.0 ≤ range.1) × IsBoundary text range.0 × IsBound
 abbrev pub AnswersStandInText : Type 0
 AnswersStandInText = (root : Node) (text : Text) → IsText text → (start : ℕ) (m : Answer)
     → first_answer root text start ≡ Some m → (start ≤ m.range.0) × IsRange text m.range
+
+-- a match of whole characters, with an entry for each group
+pub record IsAnswerOf (root : Node) (text : Text) (m : Answer) : Type 0 where
+  pub whole : IsRange text m.range
+  pub groups : Each (λ g. IfSome g (IsRange text)) m.captures
+  pub count : length m.captures ≡ length (group_ids root)
+
+-- all answers are such
+abbrev pub AnswersAreRanges : Type 0
+AnswersAreRanges = (root : Node) (text : Text) → IsText text → (start : ℕ) → Each (IsAnswerOf root text) (answers_from root text start)
+
+-- the first stands at or behind `from`, and the next one behind its start and not before its end
+abbrev pub StandInOrder : (from : ℕ) → List Answer → Type 0
+StandInOrder from [] = Unit {0}
+StandInOrder from (m ∷ ms) =
+    (from ≤ m.range.0) × (m.range.0 ≤ m.range.1) × StandInOrder (max (m.range.0 + 1) m.range.1) ms
+
+-- starts rise, and no two matches overlap
+abbrev pub AnswersStandInOrder : Type 0
+AnswersStandInOrder = (root : Node) (text : Text) → IsText text → (start : ℕ) → StandInOrder start (answers_from root text start)
+
+-- there is at most one match more than characters from the start
+abbrev pub AnswersAreFew : Type 0
+AnswersAreFew = (root : Node) (text : Text) → IsText text → (start place : ℕ)
+    → place_at text start ≡ Some place → length (answers_from root text start) ≤ last_place text - place + 1
+
+-- the list from the end of a match that is not empty is the rest of the list
+abbrev pub AnswersResume : Type 0
+AnswersResume = (root : Node) (text : Text) → IsText text → (start : ℕ) (before : List Answer) (m : Answer) (after : List Answer)
+    → answers_from root text start ≡ before ++ m ∷ after → m.range.0 < m.range.1 → answers_from root text m.range.1 ≡ after
+
+-- ---- Replaced texts, flags and escaped texts
+
+-- a text whose matches are replaced by themselves is the text
+abbrev pub WholeMatchesChangeNothing : Type 0
+WholeMatchesChangeNothing = (text : List ℕ) (ms : List Answer) → StandInOrder 0 ms
+    → replaced text 0 (map (λ m. (m, expansion text m (codes "$0"))) ms) ≡ text
+
+-- the flags of displayed flags are these, but for the one that is not displayed
+abbrev pub FlagsReadBack : Type 0
+FlagsReadBack = (flags : Flags) → flags_of_text (flags_text flags) ≡ record flags { no_opt = false }
+
+-- no two texts are escaped alike
+abbrev pub EscapeIsInjective : Type 0
+EscapeIsInjective = (s t : List ℕ) → escape s ≡ escape t → s ≡ t
+
+-- ---- Names
+
+-- the range of a name is the one that stands with it among all names
+abbrev pub NamesAgree : Type 0
+NamesAgree = (m : Answer) → Each (λ named. named_group m named.0 ≡ named.1) (named_groups m)
 
 -- ---- Trees
 

@@ -5,4 +5,6 @@ pub mod bytesearch;
 pub mod codepointset;
 pub mod flags;
 pub mod ir;
+pub mod parse;
+mod reader;
 pub mod types;

@@ -30,11 +30,11 @@ fn write_node(text: &mut String, node: &Node) -> Result<(), AllocError> {
 
 #[cycle(write)]
 fn write_nodes(text: &mut String, nodes: &[Node]) -> Result<(), AllocError> {
-    let mut before = "";
-    for node in nodes {
-        text.push_str(before)?;
+    for (i, node) in nodes.iter().enumerate() {
+        if i > 0 {
+            text.push_str(", ")?;
+        }
         write_node(text, node)?;
-        before = ", ";
     }
     Ok(())
 }

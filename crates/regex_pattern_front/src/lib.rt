@@ -4,6 +4,7 @@
 pub mod bytesearch;
 pub mod codepointset;
 pub mod flags;
+pub mod folding;
 pub mod ir;
 pub mod parse;
 mod reader;

@@ -1,0 +1,3 @@
+pub mod Insns
+pub mod Code
+pub mod Programs

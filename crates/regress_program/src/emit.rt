@@ -1,14 +1,17 @@
 //! From trees to programs.
 
-ghost use Rattle.std.specs.Prelude.{◌≡◌, IfOk, OnOk, IfErr};
+ghost use Rattle.std.specs.Prelude.{◌≡◌, IfOk, OnOk, IfErr, IsErrOf};
 ghost use Rattle.regex_meaning.specs.Layout.{IsByteCodeOf};
 ghost use Rattle.regex_pattern_front.specs.TreeOf.{node_of, tree_of};
 ghost use Rattle.regress_program.specs.Code.{compiled};
+ghost use Rattle.regress_program.specs.declared.emit.EmitError.TheVariants.{Unsupported, NotWellFormed, TooManyGroups, TooManyLoops, TooManyInstructions};
 ghost use Rattle.regress_program.specs.Refusals.{IsRefused, FitsLimits};
 
 mod emitter;
 mod supported;
 mod tally;
+#[cfg(test)]
+mod tests;
 mod wellformed;
 
 use crate::emit::emitter::{Emitter, Mode};
@@ -55,9 +58,24 @@ impl From<AllocError> for EmitError {
 ///
 /// # Errors
 ///
-/// In this order, each only where its cause holds: `Unsupported`, `NotWellFormed`, `TooManyInstructions`.
-/// `Memory` may stand in place of any answer.
+/// In this order, each only where its cause holds: `Unsupported`, `NotWellFormed`, `TooManyGroups`, `TooManyLoops`,
+/// `TooManyInstructions`. `Memory` may stand in place of any answer.
 pub fn emit(alloc: Global, re: &ir::Regex) -> Result<CompiledRegex, EmitError>
+    ensures tree { IfOk result (λ p. p ≡ re.now) }
+    ensures code { OnOk result (IsByteCodeOf (compiled (tree_of re.now)) (tree_of re.now)) }
+    ensures fits { OnOk result (FitsLimits (tree_of re.now).root) }
+    ensures unsupported { IsErrOf result EmitError.Unsupported → IsRefused Unsupported (tree_of re.now).root }
+    ensures not_well_formed { IsErrOf result EmitError.NotWellFormed → IsRefused NotWellFormed (tree_of re.now).root }
+    ensures too_many_groups { IsErrOf result EmitError.TooManyGroups → IsRefused TooManyGroups (tree_of re.now).root }
+    ensures too_many_loops { IsErrOf result EmitError.TooManyLoops → IsRefused TooManyLoops (tree_of re.now).root }
+    ensures too_many_instructions { IsErrOf result EmitError.TooManyInstructions → IsRefused TooManyInstructions (tree_of re.now).root }
+    ensures no_units { ¬ (IsErrOf result EmitError.BytesInUnits) }
+{
+    compile(alloc, re)
+}
+
+// The program of a tree, or why there is none.
+fn compile(alloc: Global, re: &ir::Regex) -> Result<CompiledRegex, EmitError>
     ensures tree { IfOk result (λ p. p ≡ re.now) }
     ensures code { OnOk result (IsByteCodeOf (compiled (tree_of re.now)) (tree_of re.now)) }
     ensures fits { OnOk result (FitsLimits (tree_of re.now).root) }

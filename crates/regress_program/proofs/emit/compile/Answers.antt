@@ -5,7 +5,7 @@ use Rattle.regress_program.specs.Code.{compiled, loop_count}
 use Rattle.regress_program.specs.Emitting.{state_of, nothing, with_code}
 use Rattle.regress_program.proofs.SupportedLemmas.{no_groups, no_names, start-arbitrary, no_loops}
 use Rattle.regress_program.proofs.CodeLemmas.{compiled-is_code}
-use Rattle.regress_program.proofs.emit.emit.Goals as goal
+use Rattle.regress_program.proofs.emit.compile.Goals as goal
 
 pub emit-requires-clause-room : goal.emit-requires-clause-room
 emit-requires-clause-room c =

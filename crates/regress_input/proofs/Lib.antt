@@ -1,0 +1,4 @@
+pub mod Places
+pub mod Spelled
+pub mod Utf8Reads
+pub mod Moves

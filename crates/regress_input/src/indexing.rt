@@ -1,10 +1,12 @@
 //! Inputs: texts that are read a character at a time.
 
-ghost use Rattle.std.specs.Prelude.{◌≡◌, ◌<◌, ◌≤◌, ◌^◌, ℕ, option_map, IfNone, if◌then◌else◌, nat_le, Some, None, ◌+◌};
-ghost use Rattle.regex_meaning.specs.Text.{Text, rightwards};
+ghost use Rattle.std.specs.Prelude.{◌≡◌, ◌<◌, ◌≤◌, ◌^◌, ℕ, option_map, IfSome, IfNone, if◌then◌else◌, nat_le, length, IsUtf8, Some, None, ◌+◌};
+ghost use Rattle.regex_meaning.specs.Text.{Text, rightwards, leftwards, utf8_text};
 ghost use Rattle.regex_meaning.specs.Offsets.{IsText, IsBoundary, units, read};
+ghost use Rattle.regex_meaning.proofs.Rising.{utf8_is_text, utf8_units_fit};
 
-use crate::position::PositionType;
+use crate::position::{DefPosition, IndexPosition, PositionType};
+use crate::utf8;
 
 /// A character of an input. Contracts see its number.
 pub trait ElementType: Copy {
@@ -13,6 +15,15 @@ pub trait ElementType: Copy {
     /// The number of the character.
     fn as_u32(self) -> u32
         ensures { result ≡ number self };
+}
+
+impl ElementType for char {
+    ghost number = { λ c. c };
+
+    #[inline(always)]
+    fn as_u32(self) -> u32 {
+        self as u32
+    }
 }
 
 /// A text that can be read from any boundary. Contracts see the text.
@@ -41,10 +52,94 @@ pub trait InputIndexer: Copy {
         ensures read { option_map (λ e. (Self.Element.number e, Self.Position.offset pos.new)) result ≡ read (text self.now) rightwards (Self.Position.offset pos.old) }
         ensures stays { IfNone result (pos.new ≡ pos.old) };
 
+    /// The position past the character to the right; none at the right end.
+    fn next_right_pos(&self, pos: Self::Position) -> Option<Self::Position>
+        requires { IsBoundary (text self.now) (Self.Position.offset pos) }
+        ensures { option_map (λ p. Self.Position.offset p) result ≡ option_map (λ r. r.1) (read (text self.now) rightwards (Self.Position.offset pos)) };
+
     /// The position `amt` units to the right, where that is not past the right end.
     fn try_move_right(&self, pos: Self::Position, amt: usize) -> Option<Self::Position>
         requires { Self.Position.offset pos ≤ units (text self.now) }
         ensures { option_map (λ p. Self.Position.offset p) result ≡ (if nat_le (Self.Position.offset pos + amt) (units (text self.now)) then Some (Self.Position.offset pos + amt) else None) };
 
     ghost is_text: { (it : Self) → IsText (text it) };
+
+    // Offsets fit, and may be added to.
+    ghost offsets_fit: { (it : Self) → units (text it) < 2 ^ 64 };
+}
+
+/// A text in UTF-8.
+#[derive(Clone, Copy, Debug)]
+pub struct Utf8Input<'a> {
+    input: &'a str,
+    unicode: bool,
+    ghost is_utf8: { ∥ IsUtf8 input.now ∥₁ },
+    ghost fits: { length input.now < 2 ^ 64 },
+}
+
+impl<'a> Utf8Input<'a> {
+    /// The characters of `input`, folded as with the flag `u` where `unicode` is set.
+    #[inline(always)]
+    pub fn new(input: &'a str, unicode: bool) -> Self
+        ensures { ⟦<Utf8Input<'a> as InputIndexer>⟧.text result ≡ utf8_text input.now unicode }
+    {
+        Utf8Input { input, unicode }
+    }
+}
+
+impl<'a> InputIndexer for Utf8Input<'a> {
+    type Element = char;
+
+    type Position = DefPosition<'a>;
+
+    ghost text = { λ it. utf8_text it.input.now it.unicode };
+
+    ghost is_text = { λ it. utf8_is_text it.input.now it.unicode };
+
+    ghost offsets_fit = { λ it. utf8_units_fit it.input.now it.unicode it.is_utf8 it.fits };
+
+    #[inline(always)]
+    fn left_end(&self) -> DefPosition<'a> {
+        IndexPosition::new(0)
+    }
+
+    #[inline(always)]
+    fn right_end(&self) -> DefPosition<'a> {
+        IndexPosition::new(self.input.len())
+    }
+
+    #[inline(always)]
+    fn pos_to_offset(&self, pos: DefPosition<'a>) -> usize {
+        pos.offset
+    }
+
+    #[inline(always)]
+    fn next_right(&self, pos: &mut DefPosition<'a>) -> Option<char> {
+        let bytes = self.input.as_bytes();
+        if pos.offset == bytes.len() {
+            return None;
+        }
+        let (c, end) = utf8::character_at(bytes, pos.offset);
+        pos.offset = end;
+        Some(c)
+    }
+
+    #[inline(always)]
+    fn next_right_pos(&self, pos: DefPosition<'a>) -> Option<DefPosition<'a>> {
+        let at = pos.offset;
+        let bytes = self.input.as_bytes();
+        if at == bytes.len() {
+            return None;
+        }
+        let end = utf8::end_of_character(bytes, at);
+        Some(IndexPosition::new(end))
+    }
+
+    #[inline(always)]
+    fn try_move_right(&self, pos: DefPosition<'a>, amt: usize) -> Option<DefPosition<'a>> {
+        if self.input.len() - pos.offset < amt {
+            return None;
+        }
+        Some(IndexPosition::new(pos.offset + amt))
+    }
 }

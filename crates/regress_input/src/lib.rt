@@ -3,3 +3,4 @@
 
 pub mod indexing;
 pub mod position;
+mod utf8;

@@ -1,0 +1,226 @@
+-- Characters in UTF-8, read from their bytes.
+use Rattle.std.proofs.Common.{◌≡◌, ℕ, zero, suc, ◌+◌, ◌-◌, ◌*◌, ◌<◌, ◌≤◌, ◌≢◌, ◌/◌, ◌⊎◌, inl, inr, ⊎_elim, ltb, lt-ltb, le-ltb, ltb-true, ltb-false, List, [], ◌∷◌, ◌++◌, ◌&&◌, Some, None, length, get_or, drop, flat_map, slice_get, Bool, true, false, encode_utf8, IsUtf8, chars, IsTrue, refl, sym, ◌∙◌, ap, ap₂, subst, option_map, Option, arith, length-append, length-drop, get_or-drop}
+use Rattle.std.specs.Char.{IsScalar, len_utf8}
+use Rattle.std.proofs.lemmas.Str.{encodes-chars, scalars-chars, IsUtf8-had, length-encode, len_utf8_bounds}
+use lib.Utf8.{scalar, scalars, encode, encodes, next, scalar_cases}
+use Rattle.regex_meaning.specs.Text.{Text, utf8_text, rightwards, leftwards, fold_char}
+use Rattle.regex_meaning.specs.Offsets.{IsText, IsBoundary, units, read}
+use Rattle.regress_input.specs.Utf8.{StandsAt, EndsAt}
+use Rattle.regress_input.proofs.Spelled.{ReadsRight, ReadsLeft, reads_right, reads_left, at_end, before_character, at_start, behind_character}
+use Rattle.regex_meaning.proofs.Rising.{len_utf8-positive, utf8_units-length}
+
+-- a byte that continues a character
+abbrev pub Follows : ℕ → Type 0
+Follows b = (128 ≤ b) × (b < 192)
+
+follows : (x : ℕ) → Follows (next x)
+follows x = (omega arith, omega arith)
+
+-- what the bytes of a character are, from where it stands
+pub data Bytes (bytes : List ℕ) (at c : ℕ) : Type 0 where
+  one : at + 1 ≤ length bytes → len_utf8 c ≡ 1 → get_or bytes at 0 < 128 → get_or bytes at 0 ≡ c → Bytes bytes at c
+  two : at + 2 ≤ length bytes → len_utf8 c ≡ 2 → 192 ≤ get_or bytes at 0 → get_or bytes at 0 < 224 → Follows (get_or bytes (at + 1) 0)
+      → c + 12416 ≡ get_or bytes at 0 * 64 + get_or bytes (at + 1) 0 → Bytes bytes at c
+  three : at + 3 ≤ length bytes → len_utf8 c ≡ 3 → 224 ≤ get_or bytes at 0 → get_or bytes at 0 < 240
+      → Follows (get_or bytes (at + 1) 0) → Follows (get_or bytes (at + 2) 0)
+      → c + 925824 ≡ get_or bytes at 0 * 4096 + get_or bytes (at + 1) 0 * 64 + get_or bytes (at + 2) 0 → Bytes bytes at c
+  four : at + 4 ≤ length bytes → len_utf8 c ≡ 4 → 240 ≤ get_or bytes at 0 → get_or bytes at 0 < 248
+      → Follows (get_or bytes (at + 1) 0) → Follows (get_or bytes (at + 2) 0) → Follows (get_or bytes (at + 3) 0)
+      → c + 63447168 ≡ get_or bytes at 0 * 262144 + get_or bytes (at + 1) 0 * 4096 + get_or bytes (at + 2) 0 * 64 + get_or bytes (at + 3) 0 → Bytes bytes at c
+
+encode_one : (c : ℕ) → c < 128 → encode c ≡ c ∷ []
+unfolding encode
+encode_one c h = let a : ltb c 128 ≡ true = lt-ltb _ _ h in rw a refl
+
+encode_two : (c : ℕ) → 128 ≤ c → c < 2048 → encode c ≡ (192 + c / 64) ∷ next c ∷ []
+unfolding encode
+encode_two c l h =
+    let a : ltb c 128 ≡ false = le-ltb _ _ l in
+    let b : ltb c 2048 ≡ true = lt-ltb _ _ h in rw (a, b) refl
+
+encode_three : (c : ℕ) → 2048 ≤ c → c < 65536 → encode c ≡ (224 + c / 4096) ∷ next (c / 64) ∷ next c ∷ []
+unfolding encode
+encode_three c l h =
+    let a : ltb c 128 ≡ false = le-ltb _ _ (omega arith) in
+    let b : ltb c 2048 ≡ false = le-ltb _ _ l in
+    let d : ltb c 65536 ≡ true = lt-ltb _ _ h in rw (a, b, d) refl
+
+encode_four : (c : ℕ) → 65536 ≤ c → encode c ≡ (240 + c / 262144) ∷ next (c / 4096) ∷ next (c / 64) ∷ next c ∷ []
+unfolding encode
+encode_four c l =
+    let a : ltb c 128 ≡ false = le-ltb _ _ (omega arith) in
+    let b : ltb c 2048 ≡ false = le-ltb _ _ (omega arith) in
+    let d : ltb c 65536 ≡ false = le-ltb _ _ l in rw (a, b, d) refl
+
+below_top : (c : ℕ) → IsScalar c → c < 1114112
+below_top c s = ⊎_elim (λ h. omega arith) (λ h. h.1) (scalar_cases c s)
+
+order : (m n : ℕ) → (m < n) ⊎ (n ≤ m)
+order m n = by (ltb m n) refl
+  where
+    by : (b : Bool) → ltb m n ≡ b → (m < n) ⊎ (n ≤ m)
+    by true e = inl (ltb-true m n e)
+    by false e = inr (ltb-false m n e)
+
+pub bytes_at : (bytes : List ℕ) (at c : ℕ) → StandsAt bytes at c → Bytes bytes at c
+bytes_at bytes at c s = by (order c 128) (order c 2048) (order c 65536)
+  where
+    -- a byte behind the offset, where these are the character's
+    seen : (p : List ℕ) (i : ℕ) → encode c ≡ p → get_or bytes (at + i) 0 ≡ get_or (p ++ s.rest) i 0
+    seen p i e = sym (get_or-drop at bytes i 0) ∙ ap (λ l. get_or l i 0) (s.spelled ∙ ap (λ l. l ++ s.rest) e)
+
+    seen0 : (p : List ℕ) → encode c ≡ p → get_or bytes at 0 ≡ get_or (p ++ s.rest) 0 0
+    seen0 p e = let z : at ≡ at + 0 = omega arith in ap (λ n. get_or bytes n 0) z ∙ seen p 0 e
+
+    fits : (p : List ℕ) → encode c ≡ p → 0 < length p → at + length p ≤ length bytes
+    fits p e some = omega (arith, ap length s.spelled, length-drop at bytes, length-append (encode c) s.rest, ap length e)
+
+    long : (p : List ℕ) → encode c ≡ p → len_utf8 c ≡ length p
+    long p e = sym (length-encode c) ∙ ap length e
+
+    follows_as : (b x : ℕ) → b ≡ next x → Follows b
+    follows_as b x e = (omega arith, omega arith)
+
+    by : (c < 128) ⊎ (128 ≤ c) → (c < 2048) ⊎ (2048 ≤ c) → (c < 65536) ⊎ (65536 ≤ c) → Bytes bytes at c
+    by (inl h) _ _ =
+        let e = encode_one c h in
+        one (fits _ e (omega arith)) (long _ e) (omega (arith, h, seen0 _ e)) (seen0 _ e)
+    by (inr l) (inl h) _ =
+        let e = encode_two c l h in
+        let x : get_or bytes at 0 ≡ 192 + c / 64 = seen0 _ e in
+        let y : get_or bytes (at + 1) 0 ≡ next c = seen _ 1 e in
+        two (fits _ e (omega arith)) (long _ e) (omega arith) (omega arith) (follows_as _ c y) (omega arith)
+    by (inr _) (inr l) (inl h) =
+        let e = encode_three c l h in
+        let x : get_or bytes at 0 ≡ 224 + c / 4096 = seen0 _ e in
+        let y : get_or bytes (at + 1) 0 ≡ next (c / 64) = seen _ 1 e in
+        let z : get_or bytes (at + 2) 0 ≡ next c = seen _ 2 e in
+        three (fits _ e (omega arith)) (long _ e) (omega arith) (omega arith) (follows_as _ (c / 64) y) (follows_as _ c z) (omega arith)
+    by (inr _) (inr _) (inr l) =
+        let e = encode_four c l in
+        let top : c < 1114112 = below_top c s.scalar in
+        let x : get_or bytes at 0 ≡ 240 + c / 262144 = seen0 _ e in
+        let y : get_or bytes (at + 1) 0 ≡ next (c / 4096) = seen _ 1 e in
+        let z : get_or bytes (at + 2) 0 ≡ next (c / 64) = seen _ 2 e in
+        let v : get_or bytes (at + 3) 0 ≡ next c = seen _ 3 e in
+        four (fits _ e (omega arith)) (long _ e) (omega arith) (omega arith) (follows_as _ (c / 4096) y) (follows_as _ (c / 64) z) (follows_as _ c v) (omega arith)
+
+-- which bytes there are, by those before them
+pub first_inside : (bytes : List ℕ) (at : ℕ) → (c : ℕ) × StandsAt bytes at c → at < length bytes
+first_inside bytes at (c, s) = elim (bytes_at bytes at c s) [
+    one l n h e ↦ omega arith | two l n h i f e ↦ omega arith | three l n h i f g e ↦ omega arith | four l n h i f g k e ↦ omega arith ]
+
+pub second_inside : (bytes : List ℕ) (at : ℕ) → (c : ℕ) × StandsAt bytes at c → 128 ≤ get_or bytes at 0 → at + 1 < length bytes
+second_inside bytes at (c, s) m = elim (bytes_at bytes at c s) [
+    one l n h e ↦ absurd (omega arith) | two l n h i f e ↦ omega arith | three l n h i f g e ↦ omega arith | four l n h i f g k e ↦ omega arith ]
+
+pub third_inside : (bytes : List ℕ) (at : ℕ) → (c : ℕ) × StandsAt bytes at c → 224 ≤ get_or bytes at 0 → at + 2 < length bytes
+third_inside bytes at (c, s) m = elim (bytes_at bytes at c s) [
+    one l n h e ↦ absurd (omega arith) | two l n h i f e ↦ absurd (omega arith) | three l n h i f g e ↦ omega arith | four l n h i f g k e ↦ omega arith ]
+
+pub fourth_inside : (bytes : List ℕ) (at : ℕ) → (c : ℕ) × StandsAt bytes at c → 240 ≤ get_or bytes at 0 → at + 3 < length bytes
+fourth_inside bytes at (c, s) m = elim (bytes_at bytes at c s) [
+    one l n h e ↦ absurd (omega arith) | two l n h i f e ↦ absurd (omega arith) | three l n h i f g e ↦ absurd (omega arith) | four l n h i f g k e ↦ omega arith ]
+
+-- and which character they spell
+pub is_one : (bytes : List ℕ) (at c : ℕ) → StandsAt bytes at c → get_or bytes at 0 < 128 → (get_or bytes at 0 ≡ c) × (at + 1 ≡ at + len_utf8 c)
+is_one bytes at c s m = elim (bytes_at bytes at c s) [
+    one l n h e ↦ (e, omega arith) | two l n h i f e ↦ absurd (omega arith) | three l n h i f g e ↦ absurd (omega arith) | four l n h i f g k e ↦ absurd (omega arith) ]
+
+pub is_two : (bytes : List ℕ) (at c : ℕ) → StandsAt bytes at c → 128 ≤ get_or bytes at 0 → get_or bytes at 0 < 224
+    → (c + 12416 ≡ get_or bytes at 0 * 64 + get_or bytes (at + 1) 0) × (at + 2 ≡ at + len_utf8 c)
+is_two bytes at c s m o = elim (bytes_at bytes at c s) [
+    one l n h e ↦ absurd (omega arith) | two l n h i f e ↦ (e, omega arith) | three l n h i f g e ↦ absurd (omega arith) | four l n h i f g k e ↦ absurd (omega arith) ]
+
+pub is_three : (bytes : List ℕ) (at c : ℕ) → StandsAt bytes at c → 224 ≤ get_or bytes at 0 → get_or bytes at 0 < 240
+    → (c + 925824 ≡ get_or bytes at 0 * 4096 + get_or bytes (at + 1) 0 * 64 + get_or bytes (at + 2) 0) × (at + 3 ≡ at + len_utf8 c)
+is_three bytes at c s m o = elim (bytes_at bytes at c s) [
+    one l n h e ↦ absurd (omega arith) | two l n h i f e ↦ absurd (omega arith) | three l n h i f g e ↦ (e, omega arith) | four l n h i f g k e ↦ absurd (omega arith) ]
+
+pub is_four : (bytes : List ℕ) (at c : ℕ) → StandsAt bytes at c → 240 ≤ get_or bytes at 0
+    → (c + 63447168 ≡ get_or bytes at 0 * 262144 + get_or bytes (at + 1) 0 * 4096 + get_or bytes (at + 2) 0 * 64 + get_or bytes (at + 3) 0) × (at + 4 ≡ at + len_utf8 c)
+is_four bytes at c s m = elim (bytes_at bytes at c s) [
+    one l n h e ↦ absurd (omega arith) | two l n h i f e ↦ absurd (omega arith) | three l n h i f g e ↦ absurd (omega arith) | four l n h i f g k e ↦ (e, omega arith) ]
+
+encodes-flat_map : (cs : List ℕ) → encodes cs ≡ flat_map encode cs
+encodes-flat_map [] = refl
+encodes-flat_map (c ∷ cs) = ap (λ l. encode c ++ l) (encodes-flat_map cs)
+
+scalar_first : (d : ℕ) (b : Bool) → scalar d && b ≡ true → (scalar d ≡ true) × (b ≡ true)
+scalar_first d b s = by (scalar d) refl s
+  where
+    by : (a : Bool) → scalar d ≡ a → a && b ≡ true → (scalar d ≡ true) × (b ≡ true)
+    by false t s' = absurd (cc)
+    by true t s' = (t, s')
+
+scalar_among : (cs : List ℕ) (k c : ℕ) → scalars cs ≡ true → slice_get cs k ≡ Some c → IsScalar c
+scalar_among [] k c s e = absurd (cc)
+scalar_among (d ∷ cs) zero c s e = let same : d ≡ c = cc in ap scalar (sym same) ∙ (scalar_first d (scalars cs) s).0
+scalar_among (d ∷ cs) (suc k) c s e = scalar_among cs k c (scalar_first d (scalars cs) s).1 e
+
+spelled_by : (bytes : List ℕ) → IsUtf8 bytes → flat_map encode (chars bytes) ≡ bytes
+spelled_by bytes u = sym (encodes-flat_map (chars bytes)) ∙ encodes-chars bytes u
+
+-- what is read to the right of a boundary
+pub data Right (bytes : List ℕ) (unicode : Bool) (at : ℕ) : Type 0 where
+  at_the_end : at ≡ length bytes → read (utf8_text bytes unicode) rightwards at ≡ None → Right bytes unicode at
+  character_behind : (c : ℕ) → StandsAt bytes at c → at + len_utf8 c ≤ length bytes → at < length bytes
+      → read (utf8_text bytes unicode) rightwards at ≡ Some (c, at + len_utf8 c) → Right bytes unicode at
+
+-- what is read to the left of a boundary
+pub data Left (bytes : List ℕ) (unicode : Bool) (at : ℕ) : Type 0 where
+  at_the_start : at ≡ 0 → read (utf8_text bytes unicode) leftwards at ≡ None → Left bytes unicode at
+  character_before : (start c : ℕ) → EndsAt bytes at start c → at ≤ length bytes → 0 < at
+      → read (utf8_text bytes unicode) leftwards at ≡ Some (c, start) → Left bytes unicode at
+
+module _ (bytes : List ℕ) (unicode : Bool) (is_utf8 : ∥ IsUtf8 bytes ∥₁) where
+  u : IsUtf8 bytes
+  u = IsUtf8-had bytes is_utf8
+
+  abbrev text : Text
+  text = utf8_text bytes unicode
+
+  pub right : (at : ℕ) → IsBoundary text at → Right bytes unicode at
+  right at b = go (reads_right encode len_utf8 length-encode (chars bytes) bytes unicode (fold_char unicode) (spelled_by bytes u) len_utf8-positive at b)
+    where
+      go : ReadsRight encode len_utf8 length-encode text (chars bytes) bytes at → Right bytes unicode at
+      go (at_end e r) = at_the_end e r
+      go (before_character k c rest g e l r) =
+          character_behind c (record { scalar = scalar_among (chars bytes) k c (scalars-chars bytes u) g; rest = rest; spelled = e }) l (omega (arith, l, len_utf8-positive c)) r
+
+  pub left : (at : ℕ) → IsBoundary text at → Left bytes unicode at
+  left at b = go (reads_left encode len_utf8 length-encode (chars bytes) bytes unicode (fold_char unicode) (spelled_by bytes u) len_utf8-positive at b)
+    where
+      go : ReadsLeft encode len_utf8 length-encode text (chars bytes) bytes at → Left bytes unicode at
+      go (at_start e r) = at_the_start e r
+      go (behind_character k c start rest g e s l r) =
+          character_before start c
+          (record { stands = record { scalar = scalar_among (chars bytes) k c (scalars-chars bytes u) g; rest = rest; spelled = e }; ends = s })
+          l (omega (arith, s, len_utf8-positive c)) r
+
+  -- the length of the text is that of its bytes
+  pub units-bytes : units text ≡ length bytes
+  units-bytes = utf8_units-length bytes unicode u
+
+  pub boundary_inside : (at : ℕ) → IsBoundary text at → at ≤ length bytes
+  boundary_inside at b = elim (right at b) [ at_the_end e r ↦ omega arith | character_behind c s l i r ↦ omega arith ]
+
+  -- as the code sees the bytes
+  module _ (bs : List ℕ) (same : bs ≡ bytes) where
+    -- a boundary that is not the right end has a character behind it
+    pub stands_at : (at : ℕ) → IsBoundary text at → at ≢ length bs → (c : ℕ) × StandsAt bs at c
+    stands_at at b n = elim (right at b) [
+        at_the_end e r ↦ absurd (n (omega (arith, e, ap length same)))
+        | character_behind c s l i r ↦ (c, subst (λ l. StandsAt l at c) (sym same) s) ]
+
+    pub read-end : (at : ℕ) → IsBoundary text at → at ≡ length bs → read text rightwards at ≡ None
+    read-end at b e = elim (right at b) [ at_the_end e r ↦ r | character_behind c s l i r ↦ absurd (omega (arith, ap length same)) ]
+
+    pub read-character : (at x y : ℕ) → IsBoundary text at → at ≢ length bs → ((c : ℕ) → StandsAt bs at c → (x ≡ c) × (y ≡ at + len_utf8 c)) → Some (x, y) ≡ read text rightwards at
+    read-character at x y b n is = elim (right at b) [
+        at_the_end e r ↦ absurd (n (omega (arith, e, ap length same)))
+        | character_behind c s l i r ↦ let both = is c (subst (λ l. StandsAt l at c) (sym same) s) in ap₂ (λ v w. Some (v, w)) both.0 both.1 ∙ sym r ]
+    pub read-past : (at y : ℕ) → IsBoundary text at → at ≢ length bs → ((c : ℕ) → StandsAt bs at c → y ≡ at + len_utf8 c) → Some y ≡ option_map (λ r. r.1) (read text rightwards at)
+    read-past at y b n is = elim (right at b) [
+        at_the_end e r ↦ absurd (n (omega (arith, e, ap length same)))
+        | character_behind c s l i r ↦ let past = is c (subst (λ l. StandsAt l at c) (sym same) s) in ap Some past ∙ sym (ap (option_map (λ v. v.1)) r) ]

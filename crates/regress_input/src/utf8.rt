@@ -1,0 +1,72 @@
+//! Characters in UTF-8, read from their bytes.
+
+ghost use Rattle.std.specs.Prelude.{◌≡◌, ◌+◌, ◌*◌, ℕ};
+ghost use Rattle.std.specs.Char.{IsScalar, len_utf8};
+ghost use Rattle.regress_input.specs.Utf8.{StandsAt, EndsAt};
+
+/// The character that begins at an offset, and where it ends.
+#[inline(always)]
+pub(crate) fn character_at(bytes: &[u8], at: usize) -> (char, usize)
+    requires { (c : ℕ) × StandsAt bytes.now at c }
+    ensures { (c : ℕ) → StandsAt bytes.now at c → (result.0 ≡ c) × (result.1 ≡ at + len_utf8 c) }
+{
+    let first = bytes[at];
+    if first < 0x80 {
+        return (first as char, at + 1);
+    }
+    let second = bytes[at + 1];
+    if first < 0xE0 {
+        return (character_of_two(first, second), at + 2);
+    }
+    let third = bytes[at + 2];
+    if first < 0xF0 {
+        return (character_of_three(first, second, third), at + 3);
+    }
+    (character_of_four(first, second, third, bytes[at + 3]), at + 4)
+}
+
+/// Where the character ends that begins at an offset.
+#[inline(always)]
+pub(crate) fn end_of_character(bytes: &[u8], at: usize) -> usize
+    requires { (c : ℕ) × StandsAt bytes.now at c }
+    ensures { (c : ℕ) → StandsAt bytes.now at c → result ≡ at + len_utf8 c }
+{
+    let first = bytes[at];
+    if first < 0x80 {
+        at + 1
+    } else if first < 0xE0 {
+        at + 2
+    } else if first < 0xF0 {
+        at + 3
+    } else {
+        at + 4
+    }
+}
+
+// The characters that such bytes spell. A lead byte has a fixed part, and so has each of the others; together these
+// come to the number that is taken off.
+
+#[inline(always)]
+fn character_of_two(first: u8, second: u8) -> char
+    requires { (c : ℕ) × IsScalar c × (c + 12416 ≡ first * 64 + second) }
+    ensures { result + 12416 ≡ first * 64 + second }
+{
+    unsafe { char::from_u32_unchecked(first as u32 * 64 + second as u32 - 12416) }
+}
+
+#[inline(always)]
+fn character_of_three(first: u8, second: u8, third: u8) -> char
+    requires { (c : ℕ) × IsScalar c × (c + 925824 ≡ first * 4096 + second * 64 + third) }
+    ensures { result + 925824 ≡ first * 4096 + second * 64 + third }
+{
+    unsafe { char::from_u32_unchecked(first as u32 * 4096 + second as u32 * 64 + third as u32 - 925824) }
+}
+
+#[inline(always)]
+fn character_of_four(first: u8, second: u8, third: u8, fourth: u8) -> char
+    requires { (c : ℕ) × IsScalar c × (c + 63447168 ≡ first * 262144 + second * 4096 + third * 64 + fourth) }
+    ensures { result + 63447168 ≡ first * 262144 + second * 4096 + third * 64 + fourth }
+{
+    let code = first as u32 * 262144 + second as u32 * 4096 + third as u32 * 64 + fourth as u32 - 63447168;
+    unsafe { char::from_u32_unchecked(code) }
+}

@@ -1,0 +1,230 @@
+-- What is emitted.
+use Rattle.std.proofs.Common.{◌≡◌, ℕ, zero, suc, ◌+◌, ◌-◌, ◌<◌, ◌^◌, Bool, true, false, List, [], ◌∷◌, ◌++◌, length, refl, sym, ap, ◌∙◌, arith, append_assoc, append-nil, length-append, length-set, slice_set}
+use Rattle.std.proofs.Math.Seq.{set-append_seam}
+use Rattle.std.proofs.lemmas.List.{length-map, length-reverse}
+use Rattle.regex_meaning.specs.Lists.{numbers_from}
+use Rattle.regex_meaning.specs.Tree.{Node, empty, goal, char, char_set, byte_set, byte_sequence, cat, end_of_cat, alt, bracket, string_set, match_any, match_any_except_line_terminator, anchor, word_boundary, capture_group, back_ref, lookaround, loop, loop_1_char_body}
+use Rattle.regex_meaning.specs.Ticks.{chunks}
+use Rattle.regex_meaning.specs.Layout.{Insn, Alt, Jump, LoopAgain, Goal, EndCaptureGroup, ByteSeq, ResetCaptureGroup, ordered}
+use Rattle.regress_program.specs.Code.{size, strings_size, loop_count, brackets_of, string_code, strings_code, resets, code_of}
+use Rattle.regress_program.specs.Emitting.{State, HasRoom, with_code, with_insn, with_insn_at}
+
+-- ---- States
+
+pub same_state : (s t : State) → s.insns ≡ t.insns → s.loops ≡ t.loops → s.brackets ≡ t.brackets → s ≡ t
+same_state s t ei el eb =
+    ap (λ x. let r : State = record { insns = x; loops = s.loops; brackets = s.brackets } in r) ei
+    ∙ ap (λ x. let r : State = record { insns = t.insns; loops = x; brackets = s.brackets } in r) el
+    ∙ ap (λ x. let r : State = record { insns = t.insns; loops = t.loops; brackets = x } in r) eb
+
+-- ---- The length of code
+
+length-ordered : {A : Type 0} → (d : Bool) (xs : List A) → length (ordered d xs) ≡ length xs
+length-ordered true xs = length-reverse xs
+length-ordered false xs = refl
+
+length-numbers_from : (first n : ℕ) → length (numbers_from first n) ≡ n
+length-numbers_from first zero = refl
+length-numbers_from first (suc n) = ap suc (length-numbers_from (first + 1) n)
+
+pub length-resets : (g e : ℕ) → length (resets g e) ≡ e - g
+length-resets g e = length-map (numbers_from g (e - g)) ResetCaptureGroup ∙ length-numbers_from g (e - g)
+
+pub length-string_code : (u icase d : Bool) (s : List ℕ) → length (string_code u icase d s) ≡ length s
+length-string_code u icase d s = length-map (ordered d s) _ ∙ length-ordered d s
+
+pub length-strings_code : (u icase d : Bool) (strings : List (List ℕ)) (at : ℕ) → length (strings_code u icase d strings at) ≡ strings_size strings
+length-strings_code u icase d [] at = refl
+length-strings_code u icase d (s ∷ []) at = length-string_code u icase d s
+length-strings_code u icase d (s ∷ t ∷ more) at =
+    let later = strings_code u icase d (t ∷ more) (at + length s + 2) in
+    omega (
+      arith,
+      length-strings_code u icase d (t ∷ more) (at + length s + 2),
+      length-string_code u icase d s,
+      length-append (string_code u icase d s) (Jump (at + length s + 2 + strings_size (t ∷ more)) ∷ later),
+    )
+
+pub length-code_of : (u d : Bool) (n : Node) (at l b : ℕ) → length (code_of u d n at l b) ≡ size n
+unfolding code_of size
+length-code_of u d empty at l b = refl
+length-code_of u d goal at l b = refl
+length-code_of u d (char c) at l b = refl
+length-code_of u d (char_set members) at l b = refl
+length-code_of u d (byte_set members) at l b = refl
+length-code_of u d (byte_sequence bytes) at l b = length-map (ordered d (chunks bytes)) ByteSeq ∙ length-ordered d (chunks bytes)
+length-code_of u d (cat first rest) at l b =
+    omega (
+      arith,
+      length-append (code_of u d first at l b) (code_of u d rest (at + size first) (l + loop_count first) (b + length (brackets_of first))),
+      length-code_of u d first at l b,
+      length-code_of u d rest (at + size first) (l + loop_count first) (b + length (brackets_of first)),
+    )
+length-code_of u d end_of_cat at l b = refl
+length-code_of u d (alt left right) at l b =
+    let second = at + size left + 2 in
+    let r = code_of u d right second (l + loop_count left) (b + length (brackets_of left)) in
+    omega (
+      arith,
+      length-append (code_of u d left (at + 1) l b) (Jump (second + size right) ∷ r),
+      length-code_of u d left (at + 1) l b,
+      length-code_of u d right second (l + loop_count left) (b + length (brackets_of left)),
+    )
+length-code_of u d (bracket contents) at l b = refl
+length-code_of u d (string_set strings icase) at l b = length-strings_code u icase d strings at
+length-code_of u d match_any at l b = refl
+length-code_of u d match_any_except_line_terminator at l b = refl
+length-code_of u d (anchor type multiline) at l b = refl
+length-code_of u d (word_boundary invert unicode_icase) at l b = refl
+length-code_of u d (capture_group id name contents) at l b =
+    omega (arith, length-append (code_of u d contents (at + 1) l b) (EndCaptureGroup id ∷ []), length-code_of u d contents (at + 1) l b)
+length-code_of u d (back_ref group icase) at l b = refl
+length-code_of u d (lookaround k contents) at l b =
+    omega (arith, length-append (code_of u k.backwards contents (at + 1) l b) (Goal ∷ []), length-code_of u k.backwards contents (at + 1) l b)
+length-code_of u d (loop q g e loopee) at l b =
+    let body = code_of u d loopee (at + 1 + (e - g)) (l + 1) b in
+    omega (
+      arith,
+      length-append (resets g e) (body ++ LoopAgain at ∷ []),
+      length-append body (LoopAgain at ∷ []),
+      length-resets g e,
+      length-code_of u d loopee (at + 1 + (e - g)) (l + 1) b,
+    )
+length-code_of u d (loop_1_char_body q loopee) at l b = omega (arith, length-code_of u d loopee (at + 1) l b)
+
+pub length-with_code : (u d : Bool) (n : Node) (s : State) → length (with_code u d n s).insns ≡ length s.insns + size n
+length-with_code u d n s = omega (arith, length-append s.insns (code_of u d n (length s.insns) s.loops (length s.brackets)), length-code_of u d n (length s.insns) s.loops (length s.brackets))
+
+-- ---- Rows
+
+pub with_code-end_of_cat : (u d : Bool) (s : State) → with_code u d end_of_cat s ≡ s
+unfolding code_of loop_count brackets_of
+with_code-end_of_cat u d s = same_state (with_code u d end_of_cat s) s (append-nil s.insns) (omega arith) (append-nil s.brackets)
+
+pub with_code-cat : (u d : Bool) (a b : Node) (s : State) → with_code u d (cat a b) s ≡ with_code u d b (with_code u d a s)
+unfolding code_of loop_count brackets_of
+with_code-cat u d a b s =
+    let at = length s.insns in
+    let k = length s.brackets in
+    let ca = code_of u d a at s.loops k in
+    let len : length (s.insns ++ ca) ≡ at + size a = length-with_code u d a s in
+    let len_b = length-append s.brackets (brackets_of a) in
+    same_state (with_code u d (cat a b) s) (with_code u d b (with_code u d a s))
+    (sym (append_assoc s.insns ca (code_of u d b (at + size a) (s.loops + loop_count a) (k + length (brackets_of a))))
+    ∙ ap (λ n. (s.insns ++ ca) ++ code_of u d b n (s.loops + loop_count a) (k + length (brackets_of a))) (sym len)
+    ∙ ap (λ n. (s.insns ++ ca) ++ code_of u d b (length (s.insns ++ ca)) (s.loops + loop_count a) n) (sym len_b))
+    (omega arith)
+    (sym (append_assoc s.brackets (brackets_of a) (brackets_of b)))
+
+-- ---- A choice
+
+-- the two jumps of a choice, written once their targets are known
+alt_patched : (ca_at cb_at : ℕ → List Insn) (na nb : ℕ) (base c1 c2 c3 c4 c5 : List Insn) (x y : Insn)
+    → ((m : ℕ) → length (ca_at m) ≡ na) → ((m : ℕ) → length (cb_at m) ≡ nb)
+    → c1 ≡ base ++ x ∷ [] → c2 ≡ c1 ++ ca_at (length c1) → c3 ≡ c2 ++ y ∷ []
+    → c4 ≡ slice_set c3 (length base) (Alt (length c3)) → c5 ≡ c4 ++ cb_at (length c4)
+    → slice_set c5 (length c2) (Jump (length c5))
+    ≡ base ++ Alt (length base + na + 2) ∷ (ca_at (length base + 1) ++ Jump (length base + na + 2 + nb) ∷ cb_at (length base + na + 2))
+alt_patched ca_at cb_at na nb base c1 c2 c3 c4 c5 x y la lb e1 e2 e3 e4 e5 =
+    let s = length base in
+    let ca = ca_at (s + 1) in
+    let second = s + na + 2 in
+    let cb = cb_at second in
+    let i = Alt second in
+    let len1 : length c1 ≡ s + 1 = ap length e1 ∙ length-append base (x ∷ []) in
+    let e2' : c2 ≡ c1 ++ ca = e2 ∙ ap (λ n. c1 ++ ca_at n) len1 in
+    let all3 : c3 ≡ ((base ++ x ∷ []) ++ ca) ++ y ∷ [] = cc in
+    let flat3 : ((base ++ x ∷ []) ++ ca) ++ y ∷ [] ≡ base ++ x ∷ (ca ++ y ∷ []) = simp append_assoc in
+    let len2 : length c2 ≡ s + 1 + na = omega (arith, ap length e2', length-append c1 ca, la (s + 1)) in
+    let len3 : length c3 ≡ second = omega (arith, ap length e3, length-append c2 (y ∷ [])) in
+    let e4' : c4 ≡ (base ++ i ∷ ca) ++ y ∷ [] =
+    e4 ∙ ap (λ n. slice_set c3 s (Alt n)) len3 ∙ ap (λ c. slice_set c s i) (all3 ∙ flat3) ∙ set-append_seam base x (ca ++ y ∷ []) i ∙ sym (append_assoc base (i ∷ ca) (y ∷ [])) in
+    let len4 : length c4 ≡ second = omega (arith, ap length e4', length-append (base ++ i ∷ ca) (y ∷ []), length-append base (i ∷ ca), la (s + 1)) in
+    let e5' : c5 ≡ (base ++ i ∷ ca) ++ y ∷ cb =
+    e5 ∙ ap (λ n. c4 ++ cb_at n) len4 ∙ ap (λ c. c ++ cb) e4' ∙ append_assoc (base ++ i ∷ ca) (y ∷ []) cb in
+    let len5 : length c5 ≡ second + nb = omega (arith, ap length e5, length-append c4 (cb_at (length c4)), lb (length c4)) in
+    let at_jump : length c2 ≡ length (base ++ i ∷ ca) = omega (arith, length-append base (i ∷ ca), la (s + 1)) in
+    let j = Jump (second + nb) in
+    ap (λ n. slice_set c5 (length c2) (Jump n)) len5
+    ∙ ap (λ c. slice_set c (length c2) j) e5'
+    ∙ ap (λ n. slice_set ((base ++ i ∷ ca) ++ y ∷ cb) n j) at_jump
+    ∙ set-append_seam (base ++ i ∷ ca) y cb j
+    ∙ append_assoc base (i ∷ ca) (j ∷ cb)
+
+pub with_code-alt : (u d : Bool) (a b : Node) (s s1 s2 s3 s4 s5 s6 : State) (x y : Insn)
+    → s1 ≡ with_insn x s → s2 ≡ with_code u d a s1 → s3 ≡ with_insn y s2 → s4 ≡ with_insn_at (length s.insns) (Alt (length s3.insns)) s3
+    → s5 ≡ with_code u d b s4 → s6 ≡ with_insn_at (length s2.insns) (Jump (length s5.insns)) s5
+    → s6 ≡ with_code u d (alt a b) s
+unfolding code_of loop_count brackets_of
+with_code-alt u d a b s s1 s2 s3 s4 s5 s6 x y e1 e2 e3 e4 e5 e6 =
+    let k = length s.brackets in
+    let ca_at = λ (m : ℕ). code_of u d a m s.loops k in
+    let cb_at = λ (m : ℕ). code_of u d b m (s.loops + loop_count a) (k + length (brackets_of a)) in
+    let in_loops : s6.loops ≡ s.loops + (loop_count a + loop_count b) =
+    omega (arith, ap (λ r. r.loops) e1, ap (λ r. r.loops) e2, ap (λ r. r.loops) e3, ap (λ r. r.loops) e4, ap (λ r. r.loops) e5, ap (λ r. r.loops) e6) in
+    let b1 : s1.brackets ≡ s.brackets = ap (λ r. r.brackets) e1 in
+    let b2 : s2.brackets ≡ s.brackets ++ brackets_of a = ap (λ r. r.brackets) e2 ∙ ap (λ r. r ++ brackets_of a) b1 in
+    let b4 : s4.brackets ≡ s.brackets ++ brackets_of a = ap (λ r. r.brackets) e4 ∙ ap (λ r. r.brackets) e3 ∙ b2 in
+    let b6 : s6.brackets ≡ s.brackets ++ (brackets_of a ++ brackets_of b) =
+    ap (λ r. r.brackets) e6 ∙ ap (λ r. r.brackets) e5 ∙ ap (λ r. r ++ brackets_of b) b4 ∙ append_assoc s.brackets (brackets_of a) (brackets_of b) in
+    let l1 : s1.loops ≡ s.loops = ap (λ r. r.loops) e1 in
+    let l4 : s4.loops ≡ s.loops + loop_count a = omega (arith, ap (λ r. r.loops) e2, ap (λ r. r.loops) e3, ap (λ r. r.loops) e4) in
+    let k4 : length s4.brackets ≡ k + length (brackets_of a) = ap length b4 ∙ length-append s.brackets (brackets_of a) in
+    let i2 : s2.insns ≡ s1.insns ++ ca_at (length s1.insns) =
+    ap (λ r. r.insns) e2 ∙ ap (λ n. s1.insns ++ code_of u d a (length s1.insns) n (length s1.brackets)) l1 ∙ ap (λ r. s1.insns ++ code_of u d a (length s1.insns) s.loops (length r)) b1 in
+    let i5 : s5.insns ≡ s4.insns ++ cb_at (length s4.insns) =
+    ap (λ r. r.insns) e5 ∙ ap (λ n. s4.insns ++ code_of u d b (length s4.insns) n (length s4.brackets)) l4 ∙ ap (λ n. s4.insns ++ code_of u d b (length s4.insns) (s.loops + loop_count a) n) k4 in
+    same_state s6 (with_code u d (alt a b) s)
+    (ap (λ r. r.insns) e6
+    ∙ alt_patched ca_at cb_at (size a) (size b) s.insns s1.insns s2.insns s3.insns s4.insns s5.insns x y
+    (λ m. length-code_of u d a m s.loops k) (λ m. length-code_of u d b m (s.loops + loop_count a) (k + length (brackets_of a)))
+    (ap (λ r. r.insns) e1) i2 (ap (λ r. r.insns) e3) (ap (λ r. r.insns) e4) i5)
+    in_loops b6
+
+-- ---- Room
+
+pub room-first : (s : State) (a b : Node) → HasRoom s (cat a b) → HasRoom s a
+unfolding size loop_count
+room-first s a b r = record { insns = omega (arith, r.insns); loops = omega (arith, r.loops) }
+
+pub room-rest : (u d : Bool) (s t : State) (a b : Node) → HasRoom s (cat a b) → t ≡ with_code u d a s → HasRoom t b
+unfolding size loop_count
+room-rest u d s t a b r e = record {
+  insns = omega (arith, r.insns, ap (λ x. length x.insns) e, length-with_code u d a s);
+  loops = omega (arith, r.loops, ap (λ x. x.loops) e);
+}
+
+length-with_insn : (x : Insn) (s : State) → length (with_insn x s).insns ≡ length s.insns + 1
+length-with_insn x s = length-append s.insns (x ∷ [])
+
+pub room-left : (s t : State) (x : Insn) (a b : Node) → HasRoom s (alt a b) → t ≡ with_insn x s → HasRoom t a
+unfolding size loop_count
+room-left s t x a b r e = record {
+  insns = omega (arith, r.insns, ap (λ y. length y.insns) e, length-with_insn x s);
+  loops = omega (arith, r.loops, ap (λ y. y.loops) e);
+}
+
+-- the length before the right arm
+pub length-left : (u d : Bool) (a : Node) (s s1 s2 s3 : State) (x y : Insn)
+    → s1 ≡ with_insn x s → s2 ≡ with_code u d a s1 → s3 ≡ with_insn y s2 → length s3.insns ≡ length s.insns + size a + 2
+length-left u d a s s1 s2 s3 x y e1 e2 e3 =
+    omega (arith, ap (λ z. length z.insns) e1, length-with_insn x s, ap (λ z. length z.insns) e2, length-with_code u d a s1, ap (λ z. length z.insns) e3, length-with_insn y s2)
+
+pub second_fits : (u d : Bool) (a b : Node) (s s1 s2 s3 : State) (x y : Insn) → HasRoom s (alt a b)
+    → s1 ≡ with_insn x s → s2 ≡ with_code u d a s1 → s3 ≡ with_insn y s2 → length s3.insns < 2 ^ 32
+unfolding size
+second_fits u d a b s s1 s2 s3 x y r e1 e2 e3 = omega (arith, r.insns, length-left u d a s s1 s2 s3 x y e1 e2 e3)
+
+pub room-right : (u d : Bool) (a b : Node) (s s1 s2 s3 s4 : State) (x y z : Insn) (place : ℕ) → HasRoom s (alt a b)
+    → s1 ≡ with_insn x s → s2 ≡ with_code u d a s1 → s3 ≡ with_insn y s2 → s4 ≡ with_insn_at place z s3 → HasRoom s4 b
+unfolding size loop_count
+room-right u d a b s s1 s2 s3 s4 x y z place r e1 e2 e3 e4 = record {
+  insns = omega (arith, r.insns, length-left u d a s s1 s2 s3 x y e1 e2 e3, ap (λ w. length w.insns) e4, length-set s3.insns place z);
+  loops = omega (arith, r.loops, ap (λ w. w.loops) e1, ap (λ w. w.loops) e2, ap (λ w. w.loops) e3, ap (λ w. w.loops) e4);
+}
+
+pub end_fits : (u d : Bool) (a b : Node) (s s1 s2 s3 s4 s5 : State) (x y z : Insn) (place : ℕ) → HasRoom s (alt a b)
+    → s1 ≡ with_insn x s → s2 ≡ with_code u d a s1 → s3 ≡ with_insn y s2 → s4 ≡ with_insn_at place z s3 → s5 ≡ with_code u d b s4 → length s5.insns < 2 ^ 32
+unfolding size
+end_fits u d a b s s1 s2 s3 s4 s5 x y z place r e1 e2 e3 e4 e5 =
+    omega (arith, r.insns, length-left u d a s s1 s2 s3 x y e1 e2 e3, ap (λ w. length w.insns) e4, length-set s3.insns place z, ap (λ w. length w.insns) e5, length-with_code u d b s4)

@@ -1,0 +1,5 @@
+pub mod NodeLemmas
+pub mod EmitLemmas
+pub mod CodeLemmas
+pub mod SupportedLemmas
+pub mod Weights

@@ -1,0 +1,55 @@
+-- The tree of a node with a list.
+use Rattle.std.proofs.Common.{◌≡◌, ℕ, ◌+◌, ◌<◌, ◌-◌, suc, Bool, true, false, ◌&&◌, IsTrue, List, [], ◌∷◌, length, slice_get, Some, None, get_or, drop, drop-cons, add-one, sym, ap, ◌∙◌, refl, arith, Vec, Global}
+use Rattle.regex_meaning.specs.Tree as tree
+use Rattle.regex_pattern_front.specs.TreeOf.{node_of, nodes_of}
+use Rattle.regex_pattern_front.specs.declared.ir.Node.{Node, Cat, Cat', Row_of-Node, end_of-Node, more_of-Node, items-the_row-Node, items_hidden-the_row-Node-0}
+use Rattle.regex_meaning.specs.WellFormed.{ends_in_goal}
+use Rattle.regress_program.specs.Nodes.{cat_of}
+
+row-is : (n : _) (row : Row_of-Node n) → nodes_of row ≡ cat_of (items-the_row-Node n row)
+unfolding nodes_of
+row-is n end_of-Node = refl
+row-is n (more_of-Node node rest) = ap (λ t. tree.cat (node_of node) t) (row-is _ rest)
+
+abbrev row_in : Node → (n : _) × Row_of-Node n
+row_in (Cat' _ row) = (_, row)
+row_in _ = (_, end_of-Node)
+
+pub node_of-Cat : (nodes : Vec Node Global) → node_of (Cat nodes) ≡ cat_of nodes.items
+unfolding node_of
+node_of-Cat nodes =
+    let row = row_in (Cat nodes) in
+    row-is row.0 row.1 ∙ ap cat_of (items_hidden-the_row-Node-0 nodes)
+
+-- the rest of a row, from a node on
+pub cat_of-drop : (nodes : List Node) (i : ℕ) (n : Node) → i < length nodes → n ≡ get_or nodes i n
+    → cat_of (drop i nodes) ≡ tree.cat (node_of n) (cat_of (drop (i + 1) nodes))
+cat_of-drop nodes i n h e =
+    let next : drop i nodes ≡ n ∷ drop (i + 1) nodes = rw add-one (drop-cons nodes i n h ∙ ap (λ x. x ∷ drop (suc i) nodes) (sym e)) in
+    ap cat_of next
+
+-- ---- The last of a row
+
+pub ends_in_goal-none : (nodes : List Node) → slice_get nodes (length nodes - 1) ≡ None → ends_in_goal (cat_of nodes) ≡ false
+ends_in_goal-none [] h = refl
+ends_in_goal-none (n ∷ []) h = cc
+ends_in_goal-none (n ∷ m ∷ rest) h =
+    let e : length (n ∷ m ∷ rest) - 1 ≡ suc (length (m ∷ rest) - 1) = omega arith in
+    ends_in_goal-none (m ∷ rest) (rw e at h)
+
+pub ends_in_goal-last : (nodes : List Node) (last : Node) → slice_get nodes (length nodes - 1) ≡ Some last → ends_in_goal (cat_of nodes) ≡ ends_in_goal (node_of last)
+ends_in_goal-last [] last h = cc
+ends_in_goal-last (n ∷ []) last h = cc
+ends_in_goal-last (n ∷ m ∷ rest) last h =
+    let e : length (n ∷ m ∷ rest) - 1 ≡ suc (length (m ∷ rest) - 1) = omega arith in
+    ends_in_goal-last (m ∷ rest) last (rw e at h)
+
+-- ---- Both of two tests
+
+pub both_first : (a b : Bool) → IsTrue (a && b) → IsTrue a
+both_first true b h = refl
+both_first false b h = h
+
+pub both_second : (a b : Bool) → IsTrue (a && b) → IsTrue b
+both_second true b h = h
+both_second false b h = cc

@@ -1,0 +1,125 @@
+//! From trees to programs.
+
+ghost use Rattle.std.specs.Prelude.{◌≡◌, IfOk, OnOk, IfErr, IsErrOf};
+ghost use Rattle.regex_meaning.specs.Layout.{IsByteCodeOf};
+ghost use Rattle.regex_pattern_front.specs.TreeOf.{node_of, tree_of};
+ghost use Rattle.regress_program.specs.Code.{compiled};
+ghost use Rattle.regress_program.specs.declared.emit.EmitError.TheVariants.{Unsupported, NotWellFormed, TooManyGroups, TooManyLoops, TooManyInstructions};
+ghost use Rattle.regress_program.specs.Refusals.{IsRefused, FitsLimits};
+
+mod emitter;
+mod supported;
+mod tally;
+#[cfg(test)]
+mod tests;
+mod wellformed;
+
+use crate::emit::emitter::{Emitter, Mode};
+use crate::emit::supported::is_supported;
+use crate::emit::tally::Tally;
+use crate::emit::wellformed::is_goal_last;
+use crate::insn::{CompiledRegex, StartPredicate};
+use regex_pattern_front::ir;
+use regex_pattern_front::ir::Node;
+use std::alloc::{AllocError, Global};
+use std::snapshot::Snapshot;
+
+/// Why a tree is not compiled.
+#[derive(Clone, Copy, Debug, PartialEq, Eq)]
+pub enum EmitError {
+    /// The tree is not well formed.
+    NotWellFormed,
+    /// A byte set or a byte sequence stands in a tree for 16-bit units.
+    BytesInUnits,
+    /// There are more than `MAX_CAPTURE_GROUPS` groups.
+    TooManyGroups,
+    /// There are more than `LoopID::MAX` loops.
+    TooManyLoops,
+    /// There are more than `u32::MAX` instructions.
+    TooManyInstructions,
+    /// A growth was refused.
+    Memory,
+    /// A node stands in the tree that is not compiled yet.
+    Unsupported,
+}
+
+impl From<AllocError> for EmitError {
+    ghost use Rattle.std.specs.Prelude.{◌≡◌};
+    ghost use Rattle.regress_program.specs.declared.emit.EmitError.TheVariants.{Memory};
+
+    ghost from_gives = { λ _ e. e ≡ Memory };
+
+    fn from(_e: AllocError) -> EmitError {
+        EmitError::Memory
+    }
+}
+
+/// The program of a tree for texts in bytes, or the first cause for which there is none.
+///
+/// # Errors
+///
+/// In this order, each only where its cause holds: `Unsupported`, `NotWellFormed`, `TooManyGroups`, `TooManyLoops`,
+/// `TooManyInstructions`. `Memory` may stand in place of any answer.
+pub fn emit(alloc: Global, re: &ir::Regex) -> Result<CompiledRegex, EmitError>
+    ensures tree { IfOk result (λ p. p ≡ re.now) }
+    ensures code { OnOk result (IsByteCodeOf (compiled (tree_of re.now)) (tree_of re.now)) }
+    ensures fits { OnOk result (FitsLimits (tree_of re.now).root) }
+    ensures unsupported { IsErrOf result EmitError.Unsupported → IsRefused Unsupported (tree_of re.now).root }
+    ensures not_well_formed { IsErrOf result EmitError.NotWellFormed → IsRefused NotWellFormed (tree_of re.now).root }
+    ensures too_many_groups { IsErrOf result EmitError.TooManyGroups → IsRefused TooManyGroups (tree_of re.now).root }
+    ensures too_many_loops { IsErrOf result EmitError.TooManyLoops → IsRefused TooManyLoops (tree_of re.now).root }
+    ensures too_many_instructions { IsErrOf result EmitError.TooManyInstructions → IsRefused TooManyInstructions (tree_of re.now).root }
+    ensures no_units { ¬ (IsErrOf result EmitError.BytesInUnits) }
+{
+    compile(alloc, re)
+}
+
+// The program of a tree, or why there is none.
+fn compile(alloc: Global, re: &ir::Regex) -> Result<CompiledRegex, EmitError>
+    ensures tree { IfOk result (λ p. p ≡ re.now) }
+    ensures code { OnOk result (IsByteCodeOf (compiled (tree_of re.now)) (tree_of re.now)) }
+    ensures fits { OnOk result (FitsLimits (tree_of re.now).root) }
+    ensures refused { IfErr result (λ e. IsRefused e (tree_of re.now).root) }
+{
+    check_limits(&re.node)?;
+    let mut emitter = Emitter::new(alloc);
+    let mode = Mode {
+        unicode: re.flags.unicode,
+        behind: false,
+    };
+    emitter.emit(mode, &re.node)?;
+    let Emitter {
+        insns,
+        brackets,
+        loops,
+    } = emitter;
+    Ok(CompiledRegex {
+        insns,
+        brackets,
+        start_pred: StartPredicate::Arbitrary,
+        loops: u32::from(loops),
+        groups: 0,
+        group_names: Vec::new(alloc),
+        flags: re.flags,
+        tree: Snapshot::of(re),
+    })
+}
+
+// Whether the tree is one that is compiled.
+fn check_limits(node: &Node) -> Result<(), EmitError>
+    ensures fits { OnOk result (FitsLimits (node_of node.now)) }
+    ensures refused { IfErr result (λ e. IsRefused e (node_of node.now)) }
+{
+    if !is_supported(node) {
+        return Err(EmitError::Unsupported);
+    }
+    if !is_goal_last(node) {
+        return Err(EmitError::NotWellFormed);
+    }
+    let mut tally = Tally::new();
+    tally.add(node);
+    if tally.insns > u32::MAX as usize {
+        return Err(EmitError::TooManyInstructions);
+    }
+    Ok(())
+}

@@ -1,0 +1,1 @@
+//! What a text has to start with where a pattern matches.

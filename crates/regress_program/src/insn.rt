@@ -1,6 +1,6 @@
 //! Instructions, and programs made of them.
 
-ghost use Rattle.std.specs.Prelude.{◌≡◌, IsTrue, IfOk, map};
+ghost use Rattle.std.specs.Prelude.{◌≡◌, IsTrue, IfOk, map, string_bytes};
 ghost use Rattle.regex_pattern_front.specs.TreeOf.{tree_of, flags_of};
 ghost use Rattle.regex_meaning.specs.WellFormed.{is_well_formed};
 ghost use Rattle.regress_program.specs.Insns.{insn_of};
@@ -10,6 +10,7 @@ use regex_pattern_front::bytesearch::{AsciiBitmap, ByteArraySet, ByteBitmap};
 use regex_pattern_front::flags::Flags;
 use regex_pattern_front::ir;
 use regex_pattern_front::types::{BracketContents, CaptureGroupID, LoopID};
+use std::alloc::Global;
 use std::marker::Model;
 use std::snapshot::Snapshot;
 
@@ -200,6 +201,20 @@ impl CompiledRegex {
         ensures { result ≡ (compiled (tree_of self.now)).groups }
     {
         self.groups
+    }
+
+    /// The names of the groups by id, empty where there is none; no list where no group has a name.
+    #[inline(always)]
+    pub fn group_names(&self) -> &[String]
+        ensures { map string_bytes result.now ≡ (compiled (tree_of self.now)).group_names }
+    {
+        &self.group_names
+    }
+
+    /// The allocator that the program's parts are made with.
+    #[inline(always)]
+    pub fn allocator(&self) -> Global {
+        *self.insns.allocator()
     }
 
     /// The flags of the pattern.

@@ -107,7 +107,7 @@ module _ (program : Program) (text : Text) (is_text : IsText text) where
 
   -- an instruction whose test is, at each character, that of the node
   pub same_test_finds : (d : Direction) (test accepted : ℕ → Bool) (i : Insn) (E : Ending) (m n : Mark) (p : ℕ) (ids : List ℕ) (g : Groups) (s : List ℕ) (ls : List LoopData) (k : Outcome → List Item)
-      → ((c : ℕ) → test c ≡ accepted c) → ((t : State) → act_on program text d (Some i) t ≡ read_one program text test d t)
+      → ((c : ℕ) → test c ≡ accepted c) → ((t : State) → act_on program text d (Some i) t ≡ read_one text test d t)
       → HasAll program (i ∷ []) m n → Enters program text is_text p g s ls n.loop → GoesOn program text is_text d E n.insn p ids m.loop n.loop g s ls k
       → Yields program text d E (running (state_at program text is_text m.insn p g s ls) ∷ []) (and_then (one_items accepted d p g) k)
   same_test_finds d test accepted i E m n p ids g s ls k same is has enters on =
@@ -180,7 +180,7 @@ module _ (program : Program) (text : Text) (is_text : IsText text) where
       → Enters program text is_text p g s ls n.loop → GoesOn program text is_text d E n.insn p [] m.loop n.loop g s ls k → BracketYields d contents E m n p g s ls k
   listed_bracket_finds d contents E m n p g s ls k code listed enters on =
       same_test_finds d (accepts (bracket contents)) (accepts (bracket contents)) (Bracket m.bracket) E (record m { bracket = m.bracket + 1 }) n p [] g s ls k (λ c. refl)
-      (λ t. ap (λ o. with_some (option_and_then (λ (contents : BracketContents). Some (λ c. differ contents.invert (in_intervals contents.intervals c))) o) (λ test. read_one program text test d t)) listed)
+      (λ t. ap (λ o. with_some (option_and_then (λ (contents : BracketContents). Some (λ c. differ contents.invert (in_intervals contents.intervals c))) o) (λ test. read_one text test d t)) listed)
       code enters on
 
   pub bracket_finds : (d : Direction) (behind : Bool) (contents : BracketContents) → Finds program text is_text d behind (bracket contents)

@@ -1,2 +1,4 @@
 pub mod Answers
 pub mod ToCome
+pub mod States
+pub mod Attempts

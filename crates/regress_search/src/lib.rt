@@ -2,3 +2,4 @@
 #![tactic(auto)]
 
 pub mod exec;
+pub mod pikevm;

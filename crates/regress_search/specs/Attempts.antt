@@ -1,0 +1,13 @@
+-- What one attempt answers.
+use Rattle.std.specs.Prelude.{ℕ, Option, option_map, option_and_then}
+use Rattle.regex_meaning.specs.Tree.{Tree}
+use Rattle.regex_meaning.specs.Text.{Text}
+use Rattle.regex_meaning.specs.Offsets.{place_at}
+use Rattle.regex_meaning.specs.Outcomes.{Groups}
+use Rattle.regex_meaning.specs.Ticks.{items_at}
+use Rattle.regress_machine.specs.Finds.{first_pair, end_in_offsets}
+
+-- the end and the groups of the first outcome from an offset, in offsets, if there is one
+abbrev pub end_from : Tree → Text → (at : ℕ) → Option (ℕ × Groups)
+end_from tree text at =
+    option_and_then (λ place. option_map (end_in_offsets text) (first_pair (items_at tree text place))) (place_at text at)

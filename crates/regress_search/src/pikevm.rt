@@ -1,0 +1,137 @@
+//! The executor that copies its states: as plain as can be, each way still to try a state of its own.
+
+ghost use Rattle.std.specs.Prelude.{◌≡◌, ◌<◌, ◌^◌, ◌+◌, ℕ, length, map, IsTrue, IfOk, Some, option_map, slice_get, ◌==◌, true};
+ghost use Rattle.regex_meaning.specs.Text.{rightwards};
+ghost use Rattle.regex_meaning.specs.Offsets.{IsBoundary};
+ghost use Rattle.regex_pattern_front.specs.TreeOf.{tree_of};
+ghost use Rattle.regress_program.specs.Code.{compiled};
+ghost use Rattle.regress_program.specs.Insns.{insn_of};
+ghost use Rattle.regress_machine.specs.Machine.{act, act_on, read_one};
+ghost use Rattle.regress_search.specs.States.{state_of, next_of, CanTake, is_small};
+
+use regress_input::indexing::{ElementType, InputIndexer};
+use regress_input::position::PositionType;
+use regress_program::insn::{CompiledRegex, Insn};
+use std::alloc::AllocError;
+
+/// A loop's finished iterations, and where the current one began.
+#[derive(Clone, Copy)]
+struct LoopData<P> {
+    iters: usize,
+    entry: P,
+}
+
+/// Where a way stands: an instruction and a position, the groups, where each open group began, and the loops.
+#[derive(Drop)]
+struct State<P> {
+    ip: usize,
+    pos: P,
+    groups: Vec<Option<(P, P)>>,
+    starts: Vec<P>,
+    loops: Vec<LoopData<P>>,
+}
+
+/// What comes next, the preferred state first.
+#[derive(Drop)]
+enum Turn<P> {
+    /// The way has failed.
+    Dead,
+    Go(State<P>),
+    Fork(State<P>, State<P>),
+    /// The search has ended.
+    Done(State<P>),
+}
+
+// A state like another.
+fn copy_of<P: PositionType>(state: &State<P>) -> Result<State<P>, AllocError>
+    ensures { IfOk result (λ s. state_of P.offset s ≡ state_of P.offset state.now) }
+{
+    Ok(State {
+        ip: state.ip,
+        pos: state.pos,
+        groups: Vec::from_slice(*state.groups.allocator(), &state.groups)?,
+        starts: Vec::from_slice(*state.starts.allocator(), &state.starts)?,
+        loops: Vec::from_slice(*state.loops.allocator(), &state.loops)?,
+    })
+}
+
+// What the instruction at the state does.
+fn take_turn<Input: InputIndexer>(
+    program: &CompiledRegex,
+    input: &Input,
+    state: State<Input::Position>,
+) -> Result<Turn<Input::Position>, AllocError>
+    requires can { CanTake (act (compiled (tree_of program.now)) (Input.text input.now) rightwards (state_of Input.Position.offset state)) }
+    requires small { (i : ℕ) (insn : _) → slice_get (compiled (tree_of program.now)).insns i ≡ Some insn → IsTrue (is_small insn) }
+    ensures { IfOk result (λ t. next_of Input.Position.offset t ≡ act (compiled (tree_of program.now)) (Input.text input.now) rightwards (state_of Input.Position.offset state)) }
+{
+    let insn = program.insns()[state.ip];
+    perform(insn, program, input, state)
+}
+
+// What one instruction does.
+fn perform<Input: InputIndexer>(
+    insn: Insn,
+    program: &CompiledRegex,
+    input: &Input,
+    mut state: State<Input::Position>,
+) -> Result<Turn<Input::Position>, AllocError>
+    requires can { CanTake (act_on (compiled (tree_of program.now)) (Input.text input.now) rightwards (Some (insn_of insn)) (state_of Input.Position.offset state)) }
+    requires small { IsTrue (is_small (insn_of insn)) }
+    requires within { state.ip + 1 < 2 ^ 64 }
+    ensures { IfOk result (λ t. next_of Input.Position.offset t ≡ act_on (compiled (tree_of program.now)) (Input.text input.now) rightwards (Some (insn_of insn)) (state_of Input.Position.offset state)) }
+{
+    match insn {
+        Insn::Goal => Ok(Turn::Done(state)),
+        Insn::Char(c) => Ok(read_char(c, input, state)),
+        Insn::MatchAny => Ok(read_any(input, state)),
+        Insn::Alt { secondary } => {
+            let mut second = copy_of(&state)?;
+            second.ip = secondary as usize;
+            state.ip += 1;
+            Ok(Turn::Fork(state, second))
+        }
+        Insn::Jump { target } => {
+            state.ip = target as usize;
+            Ok(Turn::Go(state))
+        }
+        _ => unreachable!(),
+    }
+}
+
+// One character that is this one.
+fn read_char<Input: InputIndexer>(
+    c: u32,
+    input: &Input,
+    mut state: State<Input::Position>,
+) -> Turn<Input::Position>
+    requires boundary { IsBoundary (Input.text input.now) (Input.Position.offset state.pos) }
+    requires within { state.ip + 1 < 2 ^ 64 }
+    ensures { next_of Input.Position.offset result ≡ read_one (Input.text input.now) (λ d. c == d) rightwards (state_of Input.Position.offset state) }
+{
+    match input.next_right(&mut state.pos) {
+        Some(found) if found.as_u32() == c => {
+            state.ip += 1;
+            Turn::Go(state)
+        }
+        _ => Turn::Dead,
+    }
+}
+
+// Any character.
+fn read_any<Input: InputIndexer>(
+    input: &Input,
+    mut state: State<Input::Position>,
+) -> Turn<Input::Position>
+    requires boundary { IsBoundary (Input.text input.now) (Input.Position.offset state.pos) }
+    requires within { state.ip + 1 < 2 ^ 64 }
+    ensures { next_of Input.Position.offset result ≡ read_one (Input.text input.now) (λ d. true) rightwards (state_of Input.Position.offset state) }
+{
+    match input.next_right(&mut state.pos) {
+        Some(_) => {
+            state.ip += 1;
+            Turn::Go(state)
+        }
+        None => Turn::Dead,
+    }
+}

@@ -161,11 +161,12 @@ searches-find program tree text can place inside =
     let n = length (group_ids root) in
     let same : program.groups ≡ n = can.code.groups in
     let g = no_groups root in
-    let starts : List ℕ = replicate program.groups 0 in
-    let fresh : LoopData = record { iters = 0; entry = 0 } in
+    let at = offset text place in
+    let starts : List ℕ = replicate program.groups at in
+    let fresh : LoopData = record { iters = 0; entry = at } in
     let loops = replicate program.loops fresh in
     let len_g : length g ≡ program.groups = length-replicate n none ∙ sym same in
-    let len_s : length starts ≡ program.groups = length-replicate program.groups 0 in
+    let len_s : length starts ≡ program.groups = length-replicate program.groups at in
     let len_l : length loops ≡ program.loops = length-replicate program.loops fresh in
     let ready = subst (λ n. Ready n root) (sym same) (root_ready root can.well_formed can.run) in
     let last : Mark = record { insn = length program.insns; loop = program.loops; bracket = length program.brackets } in

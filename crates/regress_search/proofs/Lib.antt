@@ -1,1 +1,3 @@
 pub mod Coming
+pub mod Remains
+pub mod Small

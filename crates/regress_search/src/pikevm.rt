@@ -1,18 +1,21 @@
 //! The executor that copies its states: as plain as can be, each way still to try a state of its own.
 
-ghost use Rattle.std.specs.Prelude.{◌≡◌, ◌<◌, ◌^◌, ◌+◌, ℕ, length, map, IsTrue, IfOk, Some, option_map, slice_get, ◌==◌, true};
+ghost use Rattle.std.specs.Prelude.{◌≡◌, ◌<◌, ◌^◌, ◌+◌, ℕ, length, map, IsTrue, IfOk, Some, option_map, slice_get, replicate, ◌==◌, true};
 ghost use Rattle.regex_meaning.specs.Text.{rightwards};
 ghost use Rattle.regex_meaning.specs.Offsets.{IsBoundary};
 ghost use Rattle.regex_pattern_front.specs.TreeOf.{tree_of};
 ghost use Rattle.regress_program.specs.Code.{compiled};
 ghost use Rattle.regress_program.specs.Insns.{insn_of};
+ghost use Rattle.regress_program.specs.Supported.{is_supported};
 ghost use Rattle.regress_machine.specs.Machine.{act, act_on, read_one};
+ghost use Rattle.regress_machine.specs.Finds.{initial, end_of};
+ghost use Rattle.regress_search.specs.Attempts.{end_from};
 ghost use Rattle.regress_search.specs.States.{state_of, next_of, CanTake, is_small};
 
 use regress_input::indexing::{ElementType, InputIndexer};
 use regress_input::position::PositionType;
 use regress_program::insn::{CompiledRegex, Insn};
-use std::alloc::AllocError;
+use std::alloc::{AllocError, Global};
 
 /// A loop's finished iterations, and where the current one began.
 #[derive(Clone, Copy)]
@@ -40,6 +43,23 @@ enum Turn<P> {
     Fork(State<P>, State<P>),
     /// The search has ended.
     Done(State<P>),
+}
+
+// What an executor searches, and with which program.
+#[derive(Drop)]
+struct Searched<'r, Input: InputIndexer> {
+    program: &'r CompiledRegex,
+    input: Input,
+    ghost unicode: { (Input.text input).unicode ≡ (tree_of program.now).flags.unicode },
+    ghost supported: { IsTrue (is_supported (tree_of program.now).root) },
+}
+
+/// Runs a program over a text by copies of whole states.
+#[derive(Drop)]
+pub struct PikeVMExecutor<'r, Input: InputIndexer> {
+    searched: Searched<'r, Input>,
+    // the ways still to try, the next one last
+    stack: Vec<State<Input::Position>>,
 }
 
 // A state like another.
@@ -133,5 +153,64 @@ fn read_any<Input: InputIndexer>(
             Turn::Go(state)
         }
         None => Turn::Dead,
+    }
+}
+
+// So many of a value.
+fn copies<T: Copy>(alloc: Global, value: T, count: usize) -> Result<Vec<T>, AllocError>
+    ensures { IfOk result (λ v. v.items ≡ replicate count value) }
+{
+    let mut values = Vec::with_capacity(alloc, count)?;
+    for _ in 0..count {
+        values.push(value)?;
+    }
+    Ok(values)
+}
+
+// The state before the first instruction.
+fn initial_state<P: PositionType>(program: &CompiledRegex, pos: P) -> Result<State<P>, AllocError>
+    ensures { IfOk result (λ s. state_of P.offset s ≡ initial (compiled (tree_of program.now)) (P.offset pos)) }
+{
+    let alloc = program.allocator();
+    let groups = program.groups() as usize;
+    let loops = program.loops() as usize;
+    Ok(State {
+        ip: 0,
+        pos,
+        groups: vec![in alloc; None; groups]?,
+        starts: vec![in alloc; pos; groups]?,
+        loops: vec![in alloc; LoopData {
+            iters: 0,
+            entry: pos
+        }; loops]?,
+    })
+}
+
+// The preferred way from a position to an end, if there is one.
+fn attempt<Input: InputIndexer>(
+    searched: &Searched<'_, Input>,
+    stack: &mut Vec<State<Input::Position>>,
+    pos: Input::Position,
+) -> Result<Option<State<Input::Position>>, AllocError>
+    requires { IsBoundary (Input.text searched.now.input) (Input.Position.offset pos) }
+    ensures { IfOk result (λ r. option_map (λ s. end_of (state_of Input.Position.offset s)) r ≡ end_from (tree_of searched.now.program.now) (Input.text searched.now.input) (Input.Position.offset pos)) }
+{
+    stack.clear();
+    let mut state = initial_state(searched.program, pos)?;
+    'search: loop {
+        match take_turn(searched.program, &searched.input, state)? {
+            Turn::Dead => {
+                let Some(next) = stack.pop() else {
+                    return Ok(None);
+                };
+                state = next;
+            }
+            Turn::Go(next) => state = next,
+            Turn::Fork(preferred, other) => {
+                stack.push(other)?;
+                state = preferred;
+            }
+            Turn::Done(end) => return Ok(Some(end)),
+        }
     }
 }

@@ -1,3 +1,4 @@
 pub mod Coming
 pub mod Remains
 pub mod Small
+pub mod FirstMatch

@@ -1,5 +1,5 @@
 -- What is left of a search after each turn.
-use Rattle.std.proofs.Common.{◌≡◌, ℕ, zero, suc, ◌+◌, ◌<◌, ◌≤◌, List, [], ◌∷◌, ◌++◌, Option, Some, None, Bool, true, false, refl, ap, sym, ◌∙◌, subst, arith, map, reverse, slice_get}
+use Rattle.std.proofs.Common.{◌≡◌, ℕ, zero, suc, ◌+◌, ◌<◌, ◌≤◌, List, [], ◌∷◌, ◌++◌, Option, Some, None, Bool, true, false, refl, ap, sym, ◌∙◌, subst, arith, map, reverse, slice_get, take, ◌-◌, append-nil, replicate}
 use Rattle.std.proofs.lemmas.List.{reverse-append}
 use Rattle.std.specs.Prelude.{option_map, option_and_then, is_some, IsTrue, ◌==◌}
 use Rattle.std.specs.Option.{option_map_or}
@@ -16,7 +16,7 @@ use Rattle.regress_machine.specs.Finds.{initial, end_of, first_pair, end_in_offs
 use Rattle.regress_machine.proofs.Search.{search_more}
 use Rattle.regress_machine.proofs.Whole.{searches-find}
 use Rattle.regress_search.specs.declared.pikevm.State.{State}
-use Rattle.regress_search.specs.States.{state_of, waiting_of, CanTake, is_small}
+use Rattle.regress_search.specs.States.{loop_of, state_of, waiting_of, CanTake, is_small}
 use Rattle.regress_search.specs.Attempts.{end_from}
 
 -- how many turns serve from an offset
@@ -110,9 +110,10 @@ module _ (program : Program) (tree : Tree) (text : Text) (at : ℕ) where
           let w = steps-with 1 (search program text n rightwards (ss ++ ts)) r.found e' in
           let later = more_turns n (omega arith) (ss ++ ts) w.0 w.1 in
           let before = ap steps_of r.searches in
-          let behind = ap steps_of later in
-          (record { found = w.0; searches = later; end = ap (option_map end_of) (sym w.3) ∙ r.end },
-          omega (arith, before, behind, w.2))
+          let behind = ap steps_of later in (
+            record { found = w.0; searches = later; end = ap (option_map end_of) (sym w.3) ∙ r.end },
+            omega (arith, before, behind, w.2),
+          )
 
   -- a thread that is taken up
   pub remains-waits : (s : machine.State) (ts : List Thread) → Remains (waiting s ∷ ts) → Remains (running s ∷ ts) × (steps_left (running s ∷ ts) < steps_left (waiting s ∷ ts))
@@ -126,9 +127,10 @@ module _ (program : Program) (tree : Tree) (text : Text) (at : ℕ) where
           let w = steps-with 1 (search program text n rightwards (running s ∷ ts)) r.found e in
           let later = more_turns n (omega arith) (running s ∷ ts) w.0 w.1 in
           let before = ap steps_of r.searches in
-          let behind = ap steps_of later in
-          (record { found = w.0; searches = later; end = ap (option_map end_of) (sym w.3) ∙ r.end },
-          omega (arith, before, behind, w.2))
+          let behind = ap steps_of later in (
+            record { found = w.0; searches = later; end = ap (option_map end_of) (sym w.3) ∙ r.end },
+            omega (arith, before, behind, w.2),
+          )
 
   pub remains-ends : (s end : machine.State) (ts : List Thread) → Remains (running s ∷ ts) → ends end ≡ act program text rightwards s
       → Some (end_of end) ≡ end_from tree text at
@@ -171,5 +173,63 @@ module _ (program : Program) (tree : Tree) (text : Text) (at : ℕ) where
 
 -- ---- The stack
 
+-- a stack with nothing to pop
+pub popped-none : {X : Type 0} (xs ys : List X) (n : ℕ) → xs ≡ ys ++ [] → n ≡ 0 → ys ≡ take (n - 1) xs → xs ≡ []
+popped-none xs ys n e z r = e ∙ append-nil ys ∙ r ∙ ap (λ m. take (m - 1) xs) z
+
 pub waiting-push : {P : Type 0} (offset : P → ℕ) (xs : List (State P)) (s : State P) → waiting_of offset (xs ++ s ∷ []) ≡ waiting (state_of offset s) ∷ waiting_of offset xs
 waiting-push offset xs s = ap (λ l. map (λ s. waiting (state_of offset s)) l) (reverse-append xs (s ∷ []))
+
+module _ {P : Type 0} (offset : P → ℕ) (program : Program) (tree : Tree) (text : Text) (at : ℕ) (s : State P) (stack : List (State P)) (next : Next)
+    (r : Remains program tree text at (running (state_of offset s) ∷ waiting_of offset stack)) (is : next ≡ act program text rightwards (state_of offset s)) where
+  abbrev LeftTo : State P → List (State P) → Type 0
+  LeftTo t rest =
+      Remains program tree text at (running (state_of offset t) ∷ waiting_of offset rest)
+      × (steps_left program tree text at (running (state_of offset t) ∷ waiting_of offset rest) < steps_left program tree text at (running (state_of offset s) ∷ waiting_of offset stack))
+
+  -- the way failed, and the last one of the stack is taken up
+  pub left-popped : (t : State P) (rest : List (State P)) → goes [] ≡ next → stack ≡ rest ++ t ∷ [] → LeftTo t rest
+  left-popped t rest g e =
+      let on = remains-goes program tree text at (state_of offset s) [] (waiting_of offset stack) r (g ∙ is) in
+      let top : waiting_of offset stack ≡ waiting (state_of offset t) ∷ waiting_of offset rest = ap (waiting_of offset) e ∙ waiting-push offset rest t in
+      let on' : Remains program tree text at (waiting (state_of offset t) ∷ waiting_of offset rest) = rw top at on.0 in
+      let taken = remains-waits program tree text at (state_of offset t) (waiting_of offset rest) on' in
+      let fewer : steps_left program tree text at (waiting (state_of offset t) ∷ waiting_of offset rest) < steps_left program tree text at (running (state_of offset s) ∷ waiting_of offset stack) =
+      subst (λ ts. steps_left program tree text at ts < steps_left program tree text at (running (state_of offset s) ∷ waiting_of offset stack)) top on.1 in
+      (taken.0, omega (arith, taken.1, fewer))
+
+  -- it failed, and there is no other
+  pub left-none : goes [] ≡ next → stack ≡ [] → None ≡ end_from tree text at
+  left-none g e =
+      let on = remains-goes program tree text at (state_of offset s) [] (waiting_of offset stack) r (g ∙ is) in
+      remains-none program tree text at (subst (λ st. Remains program tree text at (waiting_of offset st)) e on.0)
+
+  pub left-went : (t : State P) → goes (running (state_of offset t) ∷ []) ≡ next → LeftTo t stack
+  left-went t g = remains-goes program tree text at (state_of offset s) (running (state_of offset t) ∷ []) (waiting_of offset stack) r (g ∙ is)
+
+  pub left-forked : (t u : State P) (later : List (State P)) → goes (running (state_of offset t) ∷ waiting (state_of offset u) ∷ []) ≡ next → later ≡ stack ++ u ∷ [] → LeftTo t later
+  left-forked t u later g e =
+      let on = remains-goes program tree text at (state_of offset s) (running (state_of offset t) ∷ waiting (state_of offset u) ∷ []) (waiting_of offset stack) r (g ∙ is) in
+      let all : waiting_of offset later ≡ waiting (state_of offset u) ∷ waiting_of offset stack = ap (waiting_of offset) e ∙ waiting-push offset stack u in
+      rw all on
+
+  pub left-ended : (t : State P) → ends (state_of offset t) ≡ next → Some (end_of (state_of offset t)) ≡ end_from tree text at
+  left-ended t g = remains-ends program tree text at (state_of offset s) (state_of offset t) (waiting_of offset stack) r (g ∙ is)
+
+-- ---- The first state
+
+map-replicate : {X Y : Type 0} (f : X → Y) (n : ℕ) (x : X) → map f (replicate n x) ≡ replicate n (f x)
+map-replicate f zero x = refl
+map-replicate f (suc n) x = ap (λ l. f x ∷ l) (map-replicate f n x)
+
+copies-are : {X Y : Type 0} (f : X → Y) (xs : List X) (n m : ℕ) (x : X) → xs ≡ replicate n x → n ≡ m → map f xs ≡ replicate m (f x)
+copies-are f xs n m x e same = ap (map f) e ∙ map-replicate f n x ∙ ap (λ n. replicate n (f x)) same
+
+pub initial-is : (P : Type 0) (offset : P → ℕ) (program : Program) (s : State P) (groups loops : ℕ) → s.ip ≡ 0 → s.groups.items ≡ replicate groups None
+    → s.starts.items ≡ replicate groups s.pos → s.loops.items ≡ replicate loops (record { iters = 0; entry = s.pos }) → groups ≡ program.groups → loops ≡ program.loops
+    → state_of offset s ≡ initial program (offset s.pos)
+initial-is P offset program s groups loops i g st ls eg el =
+    let a = copies-are {X = Option (P × P)} {Y = Option (ℕ × ℕ)} (option_map (λ r. (offset r.0, offset r.1))) s.groups.items groups program.groups None g eg in
+    let b = copies-are offset s.starts.items groups program.groups s.pos st eg in
+    let c = copies-are (loop_of offset) s.loops.items loops program.loops (record { iters = 0; entry = s.pos }) ls el in
+    rw (i, a, b, c) refl

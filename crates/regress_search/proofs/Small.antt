@@ -6,8 +6,13 @@ use Rattle.std.specs.List.{list_all}
 use Rattle.regex_meaning.specs.Tree.{Node, empty, goal, char, cat, end_of_cat, alt, match_any, Tree, every}
 use Rattle.regex_meaning.specs.Layout.{Insn, Goal, Char, MatchAny, Alt, Jump}
 use Rattle.regress_program.specs.Code.{size, loop_count, brackets_of, code_of, compiled}
+use Rattle.regex_meaning.specs.Text.{Text}
+use Rattle.regex_meaning.specs.Offsets.{IsText}
+use Rattle.regex_meaning.specs.WellFormed.{is_well_formed}
+use Rattle.regex_meaning.proofs.WellFormedLemmas.{well_formed-iff}
+use Rattle.regress_program.proofs.CodeLemmas.{compiled-is_code}
 use Rattle.regress_program.specs.Supported.{is_supported}
-use Rattle.regress_machine.specs.Finds.{is_run}
+use Rattle.regress_machine.specs.Finds.{is_run, CanSearch}
 use Rattle.regress_machine.proofs.Ready.{left_true, right_true}
 use Rattle.regress_search.specs.States.{is_small}
 
@@ -55,3 +60,14 @@ supported-run (cat first rest) h =
 supported-run (alt left right) h =
     ap₂ (λ a b. a && b) (supported-run left (left_true (is_supported left) (is_supported right) h)) (supported-run right (right_true (is_supported left) (is_supported right) h))
 supported-run _ h = cc
+
+-- a program that was compiled can be searched with
+pub can-search : (tree : Tree) (text : Text) → IsTrue (is_well_formed tree.root) → IsTrue (is_supported tree.root) → IsText text → text.unicode ≡ tree.flags.unicode
+    → CanSearch (compiled tree) tree text
+can-search tree text w s is u = record {
+  code = (compiled-is_code tree ((well_formed-iff tree.root).0 w)).code;
+  well_formed = (well_formed-iff tree.root).0 w;
+  run = supported-run tree.root s;
+  is_text = is;
+  unicode = u;
+}

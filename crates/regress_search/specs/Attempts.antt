@@ -1,8 +1,8 @@
 -- What one attempt answers.
-use Rattle.std.specs.Prelude.{ℕ, Option, option_map, option_and_then}
+use Rattle.std.specs.Prelude.{ℕ, Option, Some, option_map, option_and_then, nat_lt, if◌then◌else◌}
 use Rattle.regex_meaning.specs.Tree.{Tree}
-use Rattle.regex_meaning.specs.Text.{Text}
-use Rattle.regex_meaning.specs.Offsets.{place_at}
+use Rattle.regex_meaning.specs.Text.{Text, rightwards}
+use Rattle.regex_meaning.specs.Offsets.{place_at, read}
 use Rattle.regex_meaning.specs.Outcomes.{Groups}
 use Rattle.regex_meaning.specs.Ticks.{items_at}
 use Rattle.regress_machine.specs.Finds.{first_pair, end_in_offsets}
@@ -11,3 +11,7 @@ use Rattle.regress_machine.specs.Finds.{first_pair, end_in_offsets}
 abbrev pub end_from : Tree → Text → (at : ℕ) → Option (ℕ × Groups)
 end_from tree text at =
     option_and_then (λ place. option_map (end_in_offsets text) (first_pair (items_at tree text place))) (place_at text at)
+
+-- the offset from which the list goes on behind a match: its end, or one character on where it is empty
+abbrev pub offset_behind : Text → (start end : ℕ) → Option ℕ
+offset_behind text start end = if nat_lt start end then Some end else option_map (λ r. r.1) (read text rightwards end)

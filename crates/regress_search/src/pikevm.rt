@@ -1,21 +1,26 @@
 //! The executor that copies its states: as plain as can be, each way still to try a state of its own.
 
-ghost use Rattle.std.specs.Prelude.{◌≡◌, ◌<◌, ◌^◌, ◌+◌, ℕ, length, map, IsTrue, IfOk, Some, option_map, slice_get, replicate, ◌==◌, true};
-ghost use Rattle.regex_meaning.specs.Text.{rightwards};
+ghost use Rattle.std.specs.Prelude.{◌≡◌, ◌<◌, ◌^◌, ◌+◌, ℕ, length, map, IsTrue, IfOk, Some, option_map, slice_get, replicate, string_bytes, ◌==◌, true};
+ghost use Rattle.regex_meaning.specs.Text.{rightwards, utf8_text};
 ghost use Rattle.regex_meaning.specs.Offsets.{IsBoundary};
+ghost use Rattle.regex_meaning.specs.WellFormed.{is_well_formed};
 ghost use Rattle.regex_pattern_front.specs.TreeOf.{tree_of};
 ghost use Rattle.regress_program.specs.Code.{compiled};
 ghost use Rattle.regress_program.specs.Insns.{insn_of};
 ghost use Rattle.regress_program.specs.Supported.{is_supported};
 ghost use Rattle.regress_machine.specs.Machine.{act, act_on, read_one};
 ghost use Rattle.regress_machine.specs.Finds.{initial, end_of};
-ghost use Rattle.regress_search.specs.Attempts.{end_from};
-ghost use Rattle.regress_search.specs.States.{state_of, next_of, CanTake, is_small};
+ghost use Rattle.regress_search.specs.Attempts.{end_from, offset_behind};
+ghost use Rattle.regress_search.specs.States.{groups_of, state_of, next_of, CanTake, is_small};
+ghost use Rattle.regress_search.specs.Answers.{answer_of, range_of};
+ghost use Rattle.regex_meaning.specs.Names.{names_by_id};
 
-use regress_input::indexing::{ElementType, InputIndexer};
+use crate::exec::{Match, MatchProducer, SearchError};
+use regress_input::indexing::{ElementType, InputIndexer, Utf8Input};
 use regress_input::position::PositionType;
 use regress_program::insn::{CompiledRegex, Insn};
 use std::alloc::{AllocError, Global};
+use std::ops::Range;
 
 /// A loop's finished iterations, and where the current one began.
 #[derive(Clone, Copy)]
@@ -51,6 +56,7 @@ struct Searched<'r, Input: InputIndexer> {
     program: &'r CompiledRegex,
     input: Input,
     ghost unicode: { (Input.text input).unicode ≡ (tree_of program.now).flags.unicode },
+    ghost well_formed: { IsTrue (is_well_formed (tree_of program.now).root) },
     ghost supported: { IsTrue (is_supported (tree_of program.now).root) },
 }
 
@@ -177,12 +183,16 @@ fn initial_state<P: PositionType>(program: &CompiledRegex, pos: P) -> Result<Sta
     Ok(State {
         ip: 0,
         pos,
-        groups: vec![in alloc; None; groups]?,
-        starts: vec![in alloc; pos; groups]?,
-        loops: vec![in alloc; LoopData {
-            iters: 0,
-            entry: pos
-        }; loops]?,
+        groups: copies(alloc, None, groups)?,
+        starts: copies(alloc, pos, groups)?,
+        loops: copies(
+            alloc,
+            LoopData {
+                iters: 0,
+                entry: pos,
+            },
+            loops,
+        )?,
     })
 }
 
@@ -212,5 +222,122 @@ fn attempt<Input: InputIndexer>(
             }
             Turn::Done(end) => return Ok(Some(end)),
         }
+    }
+}
+
+// The groups in offsets.
+fn offsets_of<Input: InputIndexer>(
+    alloc: Global,
+    input: &Input,
+    groups: &[Option<(Input::Position, Input::Position)>],
+) -> Result<Vec<Option<Range<usize>>>, AllocError>
+    ensures { IfOk result (λ v. map (option_map range_of) v.items ≡ groups_of Input.Position.offset groups.now) }
+{
+    let mut captures = Vec::with_capacity(alloc, groups.len())?;
+    for group in groups {
+        let range = match *group {
+            None => None,
+            Some((start, end)) => Some(input.pos_to_offset(start)..input.pos_to_offset(end)),
+        };
+        captures.push(range)?;
+    }
+    Ok(captures)
+}
+
+// The names of a program's groups once more.
+fn names_of(program: &CompiledRegex) -> Result<Vec<String>, AllocError>
+    ensures { IfOk result (λ v. map string_bytes v.items ≡ (compiled (tree_of program.now)).group_names) }
+{
+    let alloc = program.allocator();
+    let mut names = Vec::new(alloc);
+    for name in program.group_names() {
+        names.push(String::from_str(alloc, name.as_str())?)?;
+    }
+    Ok(names)
+}
+
+// The match that begins at a position and ends in a state.
+fn successful_match<Input: InputIndexer>(
+    searched: &Searched<'_, Input>,
+    start: Input::Position,
+    end: &State<Input::Position>,
+) -> Result<Match, AllocError>
+    ensures { IfOk result (λ m. answer_of m ≡ record { range = (Input.Position.offset start, Input.Position.offset end.now.pos); captures = groups_of Input.Position.offset end.now.groups.items; names = names_by_id (tree_of searched.now.program.now).root }) }
+{
+    let program = searched.program;
+    let input = &searched.input;
+    let captures = offsets_of(program.allocator(), input, &end.groups)?;
+    let names = names_of(program)?;
+    let range = input.pos_to_offset(start)..input.pos_to_offset(end.pos);
+    Ok(Match::from_parts(range, captures, names))
+}
+
+// The position from which the list goes on behind a match: its end, or one character on where it is empty.
+fn position_behind<Input: InputIndexer>(
+    input: &Input,
+    start: Input::Position,
+    end: Input::Position,
+) -> Option<Input::Position>
+    requires { IsBoundary (Input.text input.now) (Input.Position.offset end) }
+    ensures { option_map Input.Position.offset result ≡ offset_behind (Input.text input.now) (Input.Position.offset start) (Input.Position.offset end) }
+{
+    if input.pos_to_offset(start) < input.pos_to_offset(end) {
+        Some(end)
+    } else {
+        input.next_right_pos(end)
+    }
+}
+
+impl<'r, Input: InputIndexer> MatchProducer for PikeVMExecutor<'r, Input> {
+    type Position = Input::Position;
+
+    ghost root = { λ e. (tree_of e.searched.program.now).root };
+
+    ghost text = { λ e. Input.text e.searched.input };
+
+    ghost is_text = { λ e. Input.is_text e.searched.input };
+
+    fn initial_position(&self, offset: usize) -> Option<Input::Position> {
+        let input = &self.searched.input;
+        input.try_move_right(input.left_end(), offset)
+    }
+
+    fn next_match(
+        &mut self,
+        pos: Input::Position,
+        next_start: &mut Option<Input::Position>,
+    ) -> Result<Option<Match>, SearchError> {
+        let mut start = pos;
+        'places: loop {
+            if let Some(end) = attempt(&self.searched, &mut self.stack, start)? {
+                let found = successful_match(&self.searched, start, &end)?;
+                *next_start = position_behind(&self.searched.input, start, end.pos);
+                return Ok(Some(found));
+            }
+            match self.searched.input.next_right_pos(start) {
+                Some(next) => start = next,
+                None => return Ok(None),
+            }
+        }
+    }
+}
+
+impl<'r, 't> PikeVMExecutor<'r, Utf8Input<'t>> {
+    /// Searches `text` with the program `re`.
+    pub fn new(re: &'r CompiledRegex, text: &'t str) -> Result<Self, AllocError>
+        requires { IsTrue (is_supported (tree_of re.now).root) }
+        ensures root { IfOk result (λ e. ⟦<PikeVMExecutor<'r, Utf8Input<'t>> as MatchProducer>⟧.root e ≡ (tree_of re.now).root) }
+        ensures text { IfOk result (λ e. ⟦<PikeVMExecutor<'r, Utf8Input<'t>> as MatchProducer>⟧.text e ≡ utf8_text text.now (tree_of re.now).flags.unicode) }
+    {
+        let flags = re.flags();
+        let _well_formed = re.insns();
+        let searched = Searched {
+            program: re,
+            input: Utf8Input::new(text, flags.unicode),
+        };
+        Ok(PikeVMExecutor {
+            searched,
+            stack: Vec::new(re.allocator()),
+        })
     }
 }

@@ -1,0 +1,103 @@
+use Rattle.std.proofs.Common.{◌≡◌, ℕ, ap, sym, refl, ◌∙◌, Some, None, option_map}
+use Rattle.regex_pattern_front.specs.TreeOf.{tree_of}
+use Rattle.regress_machine.specs.Finds.{end_of}
+use Rattle.regress_search.specs.Attempts.{end_from}
+use Rattle.regress_search.specs.States.{groups_of, state_of}
+use Rattle.regress_search.proofs.FirstMatch.{goes-from_itself, goes-on, found-first, found-last}
+use Rattle.regress_search.proofs.pikevm.PikeVMExecutorMatchProducer.next_match.Goals as goal
+
+pub places-init : goal.places-init
+places-init g c = record {
+  from = goes-from_itself _ _ (g.met.Input.InputIndexer.is_text c.args.self.now.searched.input) (g.Input.Position.PositionType.offset c.args.pos) c.requires;
+  searched = refl;
+  next_start = refl;
+}
+
+pub attempt-requires : goal.attempt-requires
+attempt-requires g c = rw c.places.invariant.searched c.places.invariant.from.boundary
+
+pub returns-in-Some-clause-found : goal.returns-in-Some-clause-found
+returns-in-Some-clause-found g c =
+    let searched = c.places.self.searched in
+    let same = c.places.invariant.searched in
+    let tree = tree_of searched.program.now in
+    let text = g.Input.InputIndexer.text searched.input in
+    let is = g.met.Input.InputIndexer.is_text searched.input in
+    let offset = g.Input.Position.PositionType.offset in
+    let start = offset c.places.start in
+    let from = rw (← same) at c.places.invariant.from in
+    let state = c.in-Some.end in
+    let end : end_from tree text start ≡ Some (end_of (state_of offset state)) = sym c.in_ok-end.ensures ∙ ap (option_map (λ s. end_of (state_of offset s))) c.in-Some.is in
+    let found = found-first tree text is (offset c.args.pos) start (offset state.pos) (groups_of offset state.groups.items) from end in
+    rw (← same) (ap Some c.in_ok-found.ensures ∙ found.0)
+
+pub returns-in-Some-clause-goes_on : goal.returns-in-Some-clause-goes_on
+returns-in-Some-clause-goes_on g c =
+    let searched = c.places.self.searched in
+    let same = c.places.invariant.searched in
+    let tree = tree_of searched.program.now in
+    let text = g.Input.InputIndexer.text searched.input in
+    let is = g.met.Input.InputIndexer.is_text searched.input in
+    let offset = g.Input.Position.PositionType.offset in
+    let start = offset c.places.start in
+    let from = rw (← same) at c.places.invariant.from in
+    let state = c.in-Some.end in
+    let end : end_from tree text start ≡ Some (end_of (state_of offset state)) = sym c.in_ok-end.ensures ∙ ap (option_map (λ s. end_of (state_of offset s))) c.in-Some.is in
+    let found = found-first tree text is (offset c.args.pos) start (offset state.pos) (groups_of offset state.groups.items) from end in
+    rw (← same) (c.position_behind.ensures ∙ found.1)
+
+pub position_behind-requires : goal.position_behind-requires
+position_behind-requires g c =
+    let searched = c.places.self.searched in
+    let same = c.places.invariant.searched in
+    let tree = tree_of searched.program.now in
+    let text = g.Input.InputIndexer.text searched.input in
+    let is = g.met.Input.InputIndexer.is_text searched.input in
+    let offset = g.Input.Position.PositionType.offset in
+    let start = offset c.places.start in
+    let from = rw (← same) at c.places.invariant.from in
+    let state = c.in-Some.end in
+    let end : end_from tree text start ≡ Some (end_of (state_of offset state)) = sym c.in_ok-end.ensures ∙ ap (option_map (λ s. end_of (state_of offset s))) c.in-Some.is in
+    let found = found-first tree text is (offset c.args.pos) start (offset state.pos) (groups_of offset state.groups.items) from end in
+    found.2
+
+pub places-preserved : goal.places-preserved
+places-preserved g c =
+    let searched = c.places.self.searched in
+    let same = c.places.invariant.searched in
+    let tree = tree_of searched.program.now in
+    let text = g.Input.InputIndexer.text searched.input in
+    let is = g.met.Input.InputIndexer.is_text searched.input in
+    let offset = g.Input.Position.PositionType.offset in
+    let start = offset c.places.start in
+    let from = rw (← same) at c.places.invariant.from in
+    let none : end_from tree text start ≡ None = sym c.in_ok-end.ensures ∙ ap (option_map (λ s. end_of (state_of offset s))) c.in_default.is in
+    let on = goes-on tree text is (offset c.args.pos) start (offset c.in-Some-next_right_pos.next) from none c.in-Some-next_right_pos.ensures in
+    record { from = rw (← same) on.0; searched = same; next_start = c.places.invariant.next_start }
+
+pub places-smaller : goal.places-smaller
+places-smaller g c =
+    let searched = c.places.self.searched in
+    let same = c.places.invariant.searched in
+    let tree = tree_of searched.program.now in
+    let text = g.Input.InputIndexer.text searched.input in
+    let is = g.met.Input.InputIndexer.is_text searched.input in
+    let offset = g.Input.Position.PositionType.offset in
+    let start = offset c.places.start in
+    let from = rw (← same) at c.places.invariant.from in
+    let none : end_from tree text start ≡ None = sym c.in_ok-end.ensures ∙ ap (option_map (λ s. end_of (state_of offset s))) c.in_default.is in
+    let on = goes-on tree text is (offset c.args.pos) start (offset c.in-Some-next_right_pos.next) from none c.in-Some-next_right_pos.ensures in
+    rw (← same) on.1
+
+pub returns-in-None-clause-found : goal.returns-in-None-clause-found
+returns-in-None-clause-found g c =
+    let searched = c.places.self.searched in
+    let same = c.places.invariant.searched in
+    let tree = tree_of searched.program.now in
+    let text = g.Input.InputIndexer.text searched.input in
+    let is = g.met.Input.InputIndexer.is_text searched.input in
+    let offset = g.Input.Position.PositionType.offset in
+    let start = offset c.places.start in
+    let from = rw (← same) at c.places.invariant.from in
+    let none : end_from tree text start ≡ None = sym c.in_ok-end.ensures ∙ ap (option_map (λ s. end_of (state_of offset s))) c.in_default.is in
+    rw (← same) (found-last tree text is (offset c.args.pos) start from none c.in-None.ensures)

@@ -1,0 +1,86 @@
+//! The program `regress-tool`.
+
+use crate::api::{Error, Flags, Regex};
+use regress_search::exec::{Match, SearchError};
+use std::alloc::Global;
+use std::io;
+use std::io::Write;
+use std::ops::Range;
+
+/// The status where there is a match.
+const FOUND: u8 = 0;
+
+/// The status where there is none.
+const NOT_FOUND: u8 = 1;
+
+/// The status on a refusal, or where a line cannot be written.
+const REFUSED: u8 = 2;
+
+/// Searches a text, and answers the status to end with: 0 with a match, 1 without, 2 on a refusal.
+///
+/// `words` are the pattern, the flags and the text; `None` stands for a word that is not UTF-8. For each match
+/// a line goes to `out`, before the next match is looked for: the range in bytes and those of the groups, `-`
+/// for a group that did not match. A refusal is a line on `err`. Where a line cannot be written the program
+/// ends, and writes nothing more.
+pub fn run<W: Write, W2: Write>(
+    alloc: Global,
+    words: &[Option<String>],
+    out: &mut W,
+    err: &mut W2,
+) -> u8 {
+    let [Some(pattern), Some(flags), Some(text)] = words else {
+        return refuse(err, "usage: regress-tool PATTERN FLAGS TEXT");
+    };
+    match Regex::with_flags(alloc, pattern.as_str(), Flags::from(flags.as_str())) {
+        Ok(re) => print_matches(&re, text.as_str(), out, err),
+        Err(Error::Memory) => refuse(err, "out of memory"),
+        Err(_) => refuse(err, "pattern refused"),
+    }
+}
+
+// One line on why there is no answer.
+fn refuse<W: Write>(err: &mut W, why: &str) -> u8 {
+    let _ = writeln!(err, "{why}");
+    REFUSED
+}
+
+// A line for each match.
+fn print_matches<W: Write, W2: Write>(re: &Regex, text: &str, out: &mut W, err: &mut W2) -> u8 {
+    let Ok(matches) = re.find_iter(text) else {
+        return refuse(err, "out of memory");
+    };
+    let mut status = NOT_FOUND;
+    for item in matches {
+        match item {
+            Ok(found) => {
+                if print_match(&found, out).is_err() {
+                    return REFUSED;
+                }
+                status = FOUND;
+            }
+            Err(SearchError::Memory) => return refuse(err, "out of memory"),
+        }
+    }
+    status
+}
+
+// The line of a match.
+fn print_match<W: Write>(found: &Match, out: &mut W) -> io::Result<()> {
+    print_range(&found.range, out)?;
+    for group in &found.captures {
+        match group {
+            Some(range) => {
+                write!(out, " ")?;
+                print_range(range, out)?;
+            }
+            None => write!(out, " -")?,
+        }
+    }
+    writeln!(out)
+}
+
+fn print_range<W: Write>(range: &Range<usize>, out: &mut W) -> io::Result<()> {
+    let start = range.start;
+    let end = range.end;
+    write!(out, "{start}..{end}")
+}

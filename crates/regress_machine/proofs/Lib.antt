@@ -3,3 +3,7 @@ pub mod Yields
 pub mod Frames
 pub mod Nodes
 pub mod Sets
+pub mod Beside
+pub mod Run
+pub mod OneTests
+pub mod OneCharacter

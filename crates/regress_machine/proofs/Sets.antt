@@ -92,7 +92,7 @@ not_true_false : (b : Bool) → not b ≡ true → b ≡ false
 not_true_false true h = cc
 not_true_false false h = refl
 
-ascii_accepts : (contents : BracketContents) → is_ascii_set contents ≡ true → (c : ℕ)
+pub ascii_accepts : (contents : BracketContents) → is_ascii_set contents ≡ true → (c : ℕ)
     → contains (bytes_where (in_intervals contents.intervals)) c ≡ accepts (bracket contents) c
 ascii_accepts contents h c =
     let plain = not_true_false contents.invert (and-left (not contents.invert) _ h) in

@@ -7,3 +7,5 @@ pub mod Beside
 pub mod Run
 pub mod OneTests
 pub mod OneCharacter
+pub mod Stands
+pub mod Strings

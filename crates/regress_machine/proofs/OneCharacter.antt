@@ -92,7 +92,7 @@ module _ (program : Program) (text : Text) (is_text : IsText text) where
   each_in_turns P false ns h = h
 
   -- a place behind so many characters
-  reached_behind : (d : Direction) (n p : ℕ) (g : Groups) → p ≤ last_place text → n ≤ characters_left text d p → IsOnward text d p (moved text d n p)
+  pub reached_behind : (d : Direction) (n p : ℕ) (g : Groups) → p ≤ last_place text → n ≤ characters_left text d p → IsOnward text d p (moved text d n p)
   reached_behind rightwards n p g inside few = (omega arith, omega arith)
   reached_behind leftwards n p g inside few = (omega arith, tt)
 

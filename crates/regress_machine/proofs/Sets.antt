@@ -19,11 +19,11 @@ use Rattle.regress_machine.proofs.Nodes.{state_at, Enters, GoesOn, Finds, Rising
 
 -- ---- Tests
 
-is_some_and-same : (o : Option ℕ) (f g : ℕ → Bool) → ((c : ℕ) → f c ≡ g c) → is_some_and o f ≡ is_some_and o g
+pub is_some_and-same : (o : Option ℕ) (f g : ℕ → Bool) → ((c : ℕ) → f c ≡ g c) → is_some_and o f ≡ is_some_and o g
 is_some_and-same None f g h = refl
 is_some_and-same (Some c) f g h = h c
 
-is_some_and-none : (o : Option ℕ) → is_some_and o (λ c. false) ≡ false
+pub is_some_and-none : (o : Option ℕ) → is_some_and o (λ c. false) ≡ false
 is_some_and-none None = refl
 is_some_and-none (Some c) = refl
 

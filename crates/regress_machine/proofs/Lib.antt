@@ -9,3 +9,6 @@ pub mod OneTests
 pub mod OneCharacter
 pub mod Stands
 pub mod Strings
+pub mod Utf8
+pub mod Chunks
+pub mod Bytes

@@ -123,7 +123,7 @@ module _ (program : Program) (text : Text) (is_text : IsText text) where
       let t = state_at program text is_text m.insn p g s ls in
       yields_turn program text d E t [] [] (act_at program text is_text d t JustFail has.0) (yields_none program text d E)
 
-  none_finds : (d : Direction) (E : Ending) (m n : Mark) (p : ℕ) (g : Groups) (s : List ℕ) (ls : List LoopData) (k : Outcome → List Item)
+  pub none_finds : (d : Direction) (E : Ending) (m n : Mark) (p : ℕ) (g : Groups) (s : List ℕ) (ls : List LoopData) (k : Outcome → List Item)
       → HasAll program (JustFail ∷ []) m n
       → Yields program text d E (running (state_at program text is_text m.insn p g s ls) ∷ []) (and_then (one_items (λ c. false) d p g) k)
   none_finds d E m n p g s ls k has =

@@ -24,7 +24,7 @@ use Rattle.regress_machine.proofs.Stands.{stands, stands-length, in_reading_orde
 -- ---- Items
 
 -- one more tick, where a character was the same
-tried_more : (n : ℕ) (xs : List Item) → tick ∷ (ticks n ++ xs) ≡ ticks (n + 1) ++ xs
+pub tried_more : (n : ℕ) (xs : List Item) → tick ∷ (ticks n ++ xs) ≡ ticks (n + 1) ++ xs
 tried_more n xs = ap (λ m. ticks m ++ xs) (sym (add-one n))
 
 -- the items of an outcome that is there where a test says so
@@ -32,11 +32,11 @@ abbrev pub items_if : Bool → List Item → List Item
 items_if true items = items
 items_if false items = []
 
-items_if-pair : (b : Bool) (o : Outcome) (k : Outcome → List Item) → and_then (map pair (if b then o ∷ [] else [])) k ≡ items_if b (k o)
+pub items_if-pair : (b : Bool) (o : Outcome) (k : Outcome → List Item) → and_then (map pair (if b then o ∷ [] else [])) k ≡ items_if b (k o)
 items_if-pair true o k = append-nil (k o)
 items_if-pair false o k = refl
 
-same_number : (c d : ℕ) → (c == d) ≡ contains (c ∷ []) d
+pub same_number : (c d : ℕ) → (c == d) ≡ contains (c ∷ []) d
 same_number c d =
     same_tests (c == d) (contains (c ∷ []) d) (λ h. or-left (nat_eq d c) false (eq-true d c (sym (true-eq c d h))))
     (λ h. eq-true c d (sym (true-eq d c (only (nat_eq d c) h))))

@@ -47,7 +47,7 @@ take-less (suc m) zero xs le = absurd (omega arith)
 take-less (suc m) (suc n) [] le = refl
 take-less (suc m) (suc n) (x ∷ xs) le = ap (λ (l : List ℕ). x ∷ l) (take-less m n xs (omega arith))
 
-utf8_scalars : (bs : List ℕ) → is_utf8 bs ≡ true → scalars (chars bs) ≡ true
+pub utf8_scalars : (bs : List ℕ) → is_utf8 bs ≡ true → scalars (chars bs) ≡ true
 unfolding is_utf8
 utf8_scalars bs u = and-left (scalars (chars bs)) (pointwise nat_eq (encode_utf8_all (chars bs)) bs) u
 

@@ -12,3 +12,4 @@ pub mod Strings
 pub mod Utf8
 pub mod Chunks
 pub mod Bytes
+pub mod ByteTexts

@@ -1,12 +1,12 @@
 -- The chunks of a byte sequence, one after another.
-use Rattle.std.proofs.Common.{◌≡◌, ℕ, zero, suc, ◌+◌, ◌≤◌, List, [], ◌∷◌, ◌++◌, length, map, take, drop, Bool, true, false, refl, ap, ◌∙◌, sym, arith, append-nil, reverse, length-append, length-drop}
+use Rattle.std.proofs.Common.{◌≡◌, ℕ, zero, suc, ◌+◌, ◌≤◌, List, [], ◌∷◌, ◌++◌, length, map, take, drop, Bool, true, refl, ap, ◌∙◌, sym, arith, append-nil, reverse, length-append, length-drop}
 use Rattle.std.specs.Prelude.{◌&&◌, nat_eq}
 use Rattle.std.specs.List.{concat}
 use Rattle.std.proofs.lemmas.List.{reverse-append, length-reverse, take-append-drop}
 use Rattle.std.proofs.lemmas.List.Folds.{concat-append}
 use Rattle.regex_meaning.specs.Text.{Text, Direction, rightwards, leftwards}
 use Rattle.regex_meaning.specs.Ticks.{chunks, chunks_of}
-use Rattle.regress_machine.proofs.Stands.{stands, in_reading_order, length-reading}
+use Rattle.regress_machine.proofs.Stands.{and_assoc, stands, in_reading_order, length-reading}
 
 -- the chunks stand one after another
 abbrev pub chunks_stand : List (List ℕ) → List ℕ → Bool
@@ -17,10 +17,6 @@ stands-append : (xs ys ds : List ℕ) → stands nat_eq (xs ++ ys) ds ≡ (stand
 stands-append [] ys ds = refl
 stands-append (x ∷ xs) ys [] = refl
 stands-append (x ∷ xs) ys (d ∷ ds) = ap (λ b. nat_eq x d && b) (stands-append xs ys ds) ∙ and_assoc (nat_eq x d) (stands nat_eq xs ds) (stands nat_eq ys (drop (length xs) ds))
-  where
-    and_assoc : (a b c : Bool) → (a && (b && c)) ≡ ((a && b) && c)
-    and_assoc true b c = refl
-    and_assoc false b c = refl
 
 pub chunks_stand-concat : (cs : List (List ℕ)) (bs : List ℕ) → chunks_stand cs bs ≡ stands nat_eq (concat cs) bs
 chunks_stand-concat [] bs = refl

@@ -36,11 +36,11 @@ stands-length same [] ds h = omega arith
 stands-length same (c ∷ cs) [] h = cc
 stands-length same (c ∷ cs) (d ∷ ds) h = let l = stands-length same cs ds (and-right (same c d) (stands same cs ds) h) in omega arith
 
-and_assoc : (a b c : Bool) → (a && (b && c)) ≡ ((a && b) && c)
+pub and_assoc : (a b c : Bool) → (a && (b && c)) ≡ ((a && b) && c)
 and_assoc true b c = refl
 and_assoc false b c = refl
 
-and_true : (a : Bool) → (a && true) ≡ a
+pub and_true : (a : Bool) → (a && true) ≡ a
 and_true true = refl
 and_true false = refl
 

@@ -12,7 +12,7 @@ use Rattle.regex_meaning.specs.Replace.{expansion, replaced}
 use Rattle.regex_meaning.specs.Flags.{flags_text, flags_of_text, escape}
 use Rattle.regex_meaning.specs.StartPredicate.{start_predicate, IsSound}
 use Rattle.regex_meaning.specs.WellFormed.{IsWellFormed, is_well_formed}
-use Rattle.regex_meaning.specs.Ticks.{pairs, ticked}
+use Rattle.regex_meaning.specs.Ticks.{pairs, ticked, need, needs_from}
 
 -- ---- Outcomes
 
@@ -165,6 +165,25 @@ FlagsReadBack = (flags : Flags) → flags_of_text (flags_text flags) ≡ record 
 -- no two texts are escaped alike
 abbrev pub EscapeIsInjective : Type 0
 EscapeIsInjective = (s t : List ℕ) → escape s ≡ escape t → s ≡ t
+
+-- ---- Needs
+
+-- the needs of the matches from a place on and of the end, where so much was spent before; those of the end alone
+-- where the list goes on nowhere
+abbrev pub needs_on : Tree → Text → (spent : ℕ) → Option ℕ → List ℕ
+needs_on tree text spent None = spent ∷ []
+needs_on tree text spent (Some place) = needs_from tree text (last_place text + 1) spent (Some place)
+
+-- the needs behind a match; none behind the end
+abbrev pub needs_behind : Tree → Text → (spent : ℕ) → Option Found → List ℕ
+needs_behind tree text spent None = []
+needs_behind tree text spent (Some m) = needs_on tree text spent (place_behind tree.root text m)
+
+-- the first need is that of the first match, or of there being none, and the others go on from there
+abbrev pub NeedsUnfold : Type 0
+NeedsUnfold = (tree : Tree) (text : Text) (spent place : ℕ)
+    → needs_on tree text spent (Some place)
+    ≡ (spent + need tree text place) ∷ needs_behind tree text (spent + need tree text place) (first_match tree.root text place)
 
 -- ---- Names
 

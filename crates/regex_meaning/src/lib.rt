@@ -1,7 +1,7 @@
 // The meaning of patterns: definitions that contracts cite, and laws of theirs.
 #![tactic(auto)]
 
-ghost use Rattle.regex_meaning.specs.Laws.{PairsAreOutcomes, RepeatUnfolds, OutcomesGoOn, MatchListUnfolds, FirstMatchUnfolds, PlacesHaveOffsets, EncodingsAreTexts, AnswersGoOn, ListGoesOnAhead, AnswersStandInText, NamesAgree, PredicateIsSound, TestIsClauses, OutcomesKeepGroups, OutcomesStayInText, AnswersAreRanges, AnswersStandInOrder, AnswersAreFew, AnswersResume, WholeMatchesChangeNothing, FlagsReadBack, EscapeIsInjective};
+ghost use Rattle.regex_meaning.specs.Laws.{PairsAreOutcomes, RepeatUnfolds, OutcomesGoOn, MatchListUnfolds, FirstMatchUnfolds, PlacesHaveOffsets, EncodingsAreTexts, AnswersGoOn, ListGoesOnAhead, AnswersStandInText, NeedsUnfold, NamesAgree, PredicateIsSound, TestIsClauses, OutcomesKeepGroups, OutcomesStayInText, AnswersAreRanges, AnswersStandInOrder, AnswersAreFew, AnswersResume, WholeMatchesChangeNothing, FlagsReadBack, EscapeIsInjective};
 
 // The ticks of a search are put among its outcomes, and change none of them.
 pub fn ticks_change_nothing()
@@ -81,6 +81,11 @@ pub fn answers_are_few()
 // A search from the end of a match that is not empty gives the rest of the list.
 pub fn answers_resume()
     ensures { AnswersResume }
+{}
+
+// Needs add up along the list of matches.
+pub fn needs_unfold()
+    ensures { NeedsUnfold }
 {}
 
 // A name's range is the one that stands with it among all names.

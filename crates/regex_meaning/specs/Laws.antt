@@ -1,8 +1,8 @@
 -- Laws of these definitions.
-use Rattle.std.specs.Prelude.{◌≡◌, ◌↔◌, IsTrue, ℕ, ◌+◌, ◌-◌, ◌<◌, ◌≤◌, Bool, false, List, [], ◌∷◌, ◌++◌, length, map, codes, IfSome, if◌then◌else◌, nat_lt, nat_le, max, Option, Some, None, filter, flat_map}
+use Rattle.std.specs.Prelude.{◌≡◌, ◌↔◌, IsTrue, ℕ, zero, suc, ◌+◌, ◌-◌, ◌<◌, ◌≤◌, Bool, false, not, ◌&&◌, is_some, slice_index, List, [], ◌∷◌, ◌++◌, length, map, codes, IfSome, if◌then◌else◌, nat_lt, nat_le, max, Option, Some, None, filter, flat_map}
 use Rattle.std.specs.Option.{option_or}
 use Rattle.regex_meaning.specs.Tree.{Quantifier, Node, Tree, Flags, group_ids}
-use Rattle.regex_meaning.specs.Text.{Text, Direction, rightwards, leftwards, last_place, utf8_text, ascii_text, utf16_text, ucs2_text}
+use Rattle.regex_meaning.specs.Text.{Text, Direction, rightwards, leftwards, last_place, is_high_surrogate, is_low_surrogate, is_unit_boundary, utf8_text, ascii_text, utf16_text, ucs2_text}
 use Rattle.regex_meaning.specs.Offsets.{IsText, offset, place_at, IsBoundary}
 use Rattle.regex_meaning.specs.Outcomes.{Groups, repetition, repeat, counts, preferred, most_of, outcomes}
 use Rattle.regex_meaning.specs.Find.{Found, match_at, first_match, place_behind, match_list}
@@ -101,6 +101,18 @@ PlacesHaveOffsets = (text : Text) → IsText text → HasOffsets text
 abbrev pub EncodingsAreTexts : Type 0
 EncodingsAreTexts = (units : List ℕ) (unicode : Bool)
     → IsText (utf8_text units unicode) × IsText (ascii_text units unicode) × IsText (utf16_text units unicode) × IsText (ucs2_text units unicode)
+
+-- a high surrogate stands before this offset, and a low one at it
+abbrev pub is_within_pair : List ℕ → ℕ → Bool
+is_within_pair units zero = false
+is_within_pair units (suc i) = is_high_surrogate (slice_index units i) && is_low_surrogate (slice_index units (suc i))
+
+-- a unit boundary is a boundary of the text: an offset within it, and not within a pair
+abbrev pub UnitBoundariesAreBoundaries : Type 0
+UnitBoundariesAreBoundaries = (units : List ℕ) (unicode : Bool) (i : ℕ)
+    → (is_unit_boundary units i ≡ is_some (place_at (utf16_text units unicode) i))
+    × (((k : ℕ) → k < length units → slice_index units k < 0x1_0000)
+    → is_unit_boundary units i ≡ (nat_le i (length units) && not (is_within_pair units i)))
 
 -- the answers from an offset on are the first one, if there is one, and those from where the list goes on
 abbrev pub AnswersGoOn : Type 0

@@ -1,7 +1,7 @@
 // The meaning of patterns: definitions that contracts cite, and laws of theirs.
 #![tactic(auto)]
 
-ghost use Rattle.regex_meaning.specs.Laws.{PairsAreOutcomes, RepeatUnfolds, OutcomesGoOn, MatchListUnfolds, FirstMatchUnfolds, PlacesHaveOffsets, EncodingsAreTexts, AnswersGoOn, ListGoesOnAhead, AnswersStandInText, NeedsUnfold, NamesAgree, PredicateIsSound, TestIsClauses, OutcomesKeepGroups, OutcomesStayInText, AnswersAreRanges, AnswersStandInOrder, AnswersAreFew, AnswersResume, WholeMatchesChangeNothing, FlagsReadBack, EscapeIsInjective};
+ghost use Rattle.regex_meaning.specs.Laws.{PairsAreOutcomes, RepeatUnfolds, OutcomesGoOn, MatchListUnfolds, FirstMatchUnfolds, PlacesHaveOffsets, EncodingsAreTexts, UnitBoundariesAreBoundaries, AnswersGoOn, ListGoesOnAhead, AnswersStandInText, NeedsUnfold, NamesAgree, PredicateIsSound, TestIsClauses, OutcomesKeepGroups, OutcomesStayInText, AnswersAreRanges, AnswersStandInOrder, AnswersAreFew, AnswersResume, WholeMatchesChangeNothing, FlagsReadBack, EscapeIsInjective};
 
 // The ticks of a search are put among its outcomes, and change none of them.
 pub fn ticks_change_nothing()
@@ -16,6 +16,11 @@ pub fn loops_unfold()
 // No outcome goes back.
 pub fn outcomes_go_on()
     ensures { OutcomesGoOn }
+{}
+
+// A unit boundary is a boundary of the text: no pair is cut there.
+pub fn unit_boundaries_are_boundaries()
+    ensures { UnitBoundariesAreBoundaries }
 {}
 
 // No outcome gains or loses a group.

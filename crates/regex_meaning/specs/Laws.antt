@@ -1,8 +1,8 @@
 -- Laws of these definitions.
-use Rattle.std.specs.Prelude.{◌≡◌, ◌↔◌, IsTrue, ℕ, zero, suc, ◌+◌, ◌-◌, ◌<◌, ◌≤◌, Bool, false, not, ◌&&◌, is_some, slice_index, List, [], ◌∷◌, ◌++◌, length, map, codes, IfSome, if◌then◌else◌, nat_lt, nat_le, max, Option, Some, None, filter, flat_map}
+use Rattle.std.specs.Prelude.{◌≡◌, ◌↔◌, IsTrue, ℕ, zero, suc, ◌+◌, ◌-◌, ◌<◌, ◌≤◌, Bool, false, not, ◌&&◌, is_some, slice_index, List, [], ◌∷◌, ◌++◌, length, map, codes, chars, IsAscii, IfSome, if◌then◌else◌, nat_lt, nat_le, max, Option, Some, None, filter, flat_map}
 use Rattle.std.specs.Option.{option_or}
 use Rattle.regex_meaning.specs.Tree.{Quantifier, Node, Tree, Flags, group_ids}
-use Rattle.regex_meaning.specs.Text.{Text, Direction, rightwards, leftwards, last_place, is_high_surrogate, is_low_surrogate, is_unit_boundary, utf8_text, ascii_text, utf16_text, ucs2_text}
+use Rattle.regex_meaning.specs.Text.{Text, Direction, rightwards, leftwards, last_place, is_high_surrogate, is_low_surrogate, is_unit_boundary, utf8_text, ascii_text, utf16_text, ucs2_text, utf16_characters}
 use Rattle.regex_meaning.specs.Offsets.{IsText, offset, place_at, IsBoundary}
 use Rattle.regex_meaning.specs.Outcomes.{Groups, repetition, repeat, counts, preferred, most_of, outcomes}
 use Rattle.regex_meaning.specs.Find.{Found, match_at, first_match, place_behind, match_list}
@@ -162,6 +162,18 @@ AnswersAreFew = (root : Node) (text : Text) → IsText text → (start place : �
 abbrev pub AnswersResume : Type 0
 AnswersResume = (root : Node) (text : Text) → IsText text → (start : ℕ) (before : List Answer) (m : Answer) (after : List Answer)
     → answers_from root text start ≡ before ++ m ∷ after → m.range.0 < m.range.1 → answers_from root text m.range.1 ≡ after
+
+-- ---- One text in two encodings
+
+-- the matches of one text in UTF-8 and in UTF-16 stand at the same places
+abbrev pub SameInUtf16 : Type 0
+SameInUtf16 = (root : Node) (bytes units : List ℕ) (unicode : Bool) (place : ℕ) → chars bytes ≡ utf16_characters units
+    → match_list root (utf8_text bytes unicode) place ≡ match_list root (utf16_text units unicode) place
+
+-- an ASCII text has the same answers as ASCII and as UTF-8
+abbrev pub SameInAscii : Type 0
+SameInAscii = (root : Node) (bytes : List ℕ) (unicode : Bool) (start : ℕ) → IsAscii bytes
+    → answers_from root (ascii_text bytes unicode) start ≡ answers_from root (utf8_text bytes unicode) start
 
 -- ---- Replaced texts, flags and escaped texts
 

@@ -1,7 +1,7 @@
 // The meaning of patterns: definitions that contracts cite, and laws of theirs.
 #![tactic(auto)]
 
-ghost use Rattle.regex_meaning.specs.Laws.{PairsAreOutcomes, RepeatUnfolds, OutcomesGoOn, MatchListUnfolds, FirstMatchUnfolds, PlacesHaveOffsets, EncodingsAreTexts, UnitBoundariesAreBoundaries, AnswersGoOn, ListGoesOnAhead, AnswersStandInText, NeedsUnfold, NamesAgree, PredicateIsSound, TestIsClauses, OutcomesKeepGroups, OutcomesStayInText, AnswersAreRanges, AnswersStandInOrder, AnswersAreFew, AnswersResume, WholeMatchesChangeNothing, FlagsReadBack, EscapeIsInjective};
+ghost use Rattle.regex_meaning.specs.Laws.{PairsAreOutcomes, RepeatUnfolds, OutcomesGoOn, MatchListUnfolds, FirstMatchUnfolds, PlacesHaveOffsets, EncodingsAreTexts, UnitBoundariesAreBoundaries, AnswersGoOn, ListGoesOnAhead, AnswersStandInText, NeedsUnfold, NamesAgree, PredicateIsSound, TestIsClauses, OutcomesKeepGroups, OutcomesStayInText, AnswersAreRanges, AnswersStandInOrder, AnswersAreFew, AnswersResume, SameInUtf16, SameInAscii, WholeMatchesChangeNothing, FlagsReadBack, EscapeIsInjective};
 
 // The ticks of a search are put among its outcomes, and change none of them.
 pub fn ticks_change_nothing()
@@ -96,6 +96,16 @@ pub fn needs_unfold()
 // A name's range is the one that stands with it among all names.
 pub fn names_agree()
     ensures { NamesAgree }
+{}
+
+// One text in UTF-8 and in UTF-16 has its matches at the same places.
+pub fn same_in_utf16()
+    ensures { SameInUtf16 }
+{}
+
+// An ASCII text has the same answers as ASCII and as UTF-8.
+pub fn same_in_ascii()
+    ensures { SameInAscii }
 {}
 
 // Matches replaced by themselves give the text back.

@@ -1,11 +1,11 @@
 -- The boundaries of UTF-16 texts, unit by unit.
-use Rattle.std.proofs.Common.{◌≡◌, ℕ, zero, suc, ◌+◌, ◌<◌, ◌≤◌, Bool, true, false, cond, not, ◌&&◌, List, [], ◌∷◌, length, map, refl, sym, ap, ◌∙◌, arith, eq-eqb, ne_eqb, lt-ltb, le-leb, leb-true, is_some, nat_eq, nat_le, nat_lt, Some, None, slice_index}
+use Rattle.std.proofs.Common.{◌≡◌, ℕ, zero, suc, ◌+◌, ◌<◌, ◌≤◌, Bool, true, false, cond, not, ◌&&◌, List, [], ◌∷◌, length, map, refl, sym, ap, ◌∙◌, arith, zero-add, eq-eqb, ne_eqb, lt-ltb, le-leb, leb-true, is_some, nat_eq, nat_le, nat_lt, Some, None, slice_index}
 use Rattle.std.specs.List.{list_any, position_or_len}
 use Rattle.std.proofs.lemmas.Bool.{cases_Bool, cases_lt, lt-leb, and_parts}
 use mathlib.Core.Logic.{inl, inr}
 use Rattle.regex_meaning.specs.Lists.{contains}
-use Rattle.regex_meaning.specs.Text.{is_high_surrogate, is_low_surrogate, character_of_pair, utf16_width, utf16_characters, offsets_from, is_unit_boundary, utf16_text}
-use Rattle.regex_meaning.specs.Offsets.{place_at}
+use Rattle.regex_meaning.specs.Text.{is_high_surrogate, is_low_surrogate, character_of_pair, utf16_width, utf16_characters, offsets_from, is_unit_boundary, utf16_text, one_unit, ascii_text, ucs2_text}
+use Rattle.regex_meaning.specs.Offsets.{place_at, units}
 use Rattle.regex_meaning.specs.Laws.{is_within_pair}
 
 -- two tests of order are the same where the orders are
@@ -140,3 +140,37 @@ pub unit_boundary-between : (units : List ℕ) (i : ℕ) → AreUnits units → 
 unit_boundary-between units i small =
     let e : i ≡ 0 + i = omega arith in
     ap (contains (unit_offsets 0 units)) e ∙ unit_boundary-from units 0 i small
+
+-- ---- Lengths in units
+
+last-single : (cs : List ℕ) (at : ℕ) → slice_index (offsets_from at (map one_unit cs)) (length cs) ≡ at + length cs
+last-single [] at = omega arith
+last-single (c ∷ cs) at = let more = last-single cs (at + 1) in omega arith
+
+two-on : (at n : ℕ) → at + 2 + n ≡ at + suc (suc n)
+two-on at n = omega arith
+
+one-on : (at n : ℕ) → at + 1 + n ≡ at + suc n
+one-on at n = omega arith
+
+last-utf16 : (us : List ℕ) (at : ℕ) → AreUnits us → slice_index (unit_offsets at us) (length (utf16_characters us)) ≡ at + length us
+last-utf16 [] at small = omega arith
+last-utf16 (u ∷ []) at small = rw (single-width u (small 0 (omega arith))) refl
+last-utf16 (u ∷ v ∷ us) at small = elim (cases_Bool (is_high_surrogate u && is_low_surrogate v)) [
+  | inl pair ↦
+      rw (pair, pair-width u v)
+      (last-utf16 us (at + 2) (behind-first v us (behind-first u (v ∷ us) small)) ∙ two-on at (length us))
+  | inr apart ↦
+      rw (apart, single-width u (small 0 (omega arith)))
+      (last-utf16 (v ∷ us) (at + 1) (behind-first u (v ∷ us) small) ∙ one-on at (length (v ∷ us)))
+]
+
+-- the length of each text is that of its units
+pub units-ascii : (bytes : List ℕ) (unicode : Bool) → units (ascii_text bytes unicode) ≡ length bytes
+units-ascii bytes unicode = last-single bytes 0 ∙ zero-add (length bytes)
+
+pub units-ucs2 : (us : List ℕ) (unicode : Bool) → units (ucs2_text us unicode) ≡ length us
+units-ucs2 us unicode = last-single us 0 ∙ zero-add (length us)
+
+pub units-utf16 : (us : List ℕ) (unicode : Bool) → AreUnits us → units (utf16_text us unicode) ≡ length us
+units-utf16 us unicode small = last-utf16 us 0 small ∙ zero-add (length us)

@@ -20,13 +20,13 @@ use Rattle.regress_machine.specs.Machine.{LoopData, State, running, go_if, has_b
 use Rattle.regress_machine.specs.Bytes.{ReadsBytes}
 use Rattle.regress_machine.proofs.Yields.{Ending, Yields, yields_none, yields_same, yields_turn}
 use Rattle.regress_machine.proofs.Frames.{kept_itself}
-use Rattle.regress_machine.proofs.Nodes.{over, state_at, Finds, Rising, act_at, inside_by, leaf_yields}
+use Rattle.regress_machine.proofs.Nodes.{and_then-ticks, direction_at, over, state_at, Finds, Rising, act_at, inside_by, leaf_yields}
 use Rattle.regress_machine.proofs.Sets.{one_items, none_finds, byte_pair_finds, insns_rising}
 use Rattle.regress_machine.proofs.Beside.{Beside, nothing_left, one_more, beside, length-nearest}
 use Rattle.regress_machine.proofs.OneTests.{low_scalar, scalar_of, utf8_text_of}
-use Rattle.regress_machine.proofs.OneCharacter.{and_then-ticks, reached_behind}
+use Rattle.regress_machine.proofs.OneCharacter.{reached_behind}
 use Rattle.regress_machine.proofs.Stands.{and_true, stands, stands-length, in_reading_order, length-reading, beside-stands}
-use Rattle.regress_machine.proofs.Strings.{items_if, items_if-pair, tried_more, same_number, direction_at}
+use Rattle.regress_machine.proofs.Strings.{items_if, items_if-pair, tried_more, same_number}
 use Rattle.regress_machine.proofs.Chunks.{chunks_stand, chunks_stand-concat, total, in_code_order, chunks_read, chunks_read-cons, concat-chunks, total-chunks}
 use Rattle.regress_machine.proofs.Utf8.{starts-stands, scalars_of, bytes-stand, side, nearest-side, scalars-side, bytes, bytes_near, bytes_near-side, offset-inside, offset-moved}
 
@@ -263,14 +263,14 @@ module _ (program : Program) (text : Text) (is_text : IsText text) where
 
   -- ---- The nodes
 
-  code_in_order : (behind : Bool) (cs : List (List ℕ)) → in_code_order (direction_at program text is_text behind) cs ≡ ordered behind cs
+  code_in_order : (behind : Bool) (cs : List (List ℕ)) → in_code_order (direction_at behind) cs ≡ ordered behind cs
   code_in_order true cs = refl
   code_in_order false cs = refl
 
-  in_direction_finds : (behind : Bool) (bs : List ℕ) → ReadsBytes text → is_utf8 bs ≡ true → Finds program text is_text (direction_at program text is_text behind) behind (byte_sequence bs)
+  in_direction_finds : (behind : Bool) (bs : List ℕ) → ReadsBytes text → is_utf8 bs ≡ true → Finds program text is_text (direction_at behind) behind (byte_sequence bs)
   unfolding IsCode ticked outcomes
   in_direction_finds behind bs reads u E m n p g s ls k code enters on =
-      let d = direction_at program text is_text behind in
+      let d = direction_at behind in
       sequence_yields d E g s ls reads bs m n p k u enters.inside
       (subst (λ (cs : List (List ℕ)). HasAll program (map ByteSeq cs) m n) (sym (code_in_order behind (chunks bs))) code)
       (λ q onward within.
@@ -278,7 +278,7 @@ module _ (program : Program) (text : Text) (is_text : IsText text) where
       (kept_itself [] m.loop n.loop s ls))
 
   -- in the direction that the code was made for
-  pub byte_sequence_finds : (d : Direction) (behind : Bool) (bs : List ℕ) → d ≡ direction_at program text is_text behind → ReadsBytes text
+  pub byte_sequence_finds : (d : Direction) (behind : Bool) (bs : List ℕ) → d ≡ direction_at behind → ReadsBytes text
       → has_text_in_sequence (byte_sequence bs) ≡ true → Finds program text is_text d behind (byte_sequence bs)
   byte_sequence_finds d behind bs same reads spelt =
       subst (λ (d : Direction). Finds program text is_text d behind (byte_sequence bs)) (sym same)

@@ -21,16 +21,12 @@ use Rattle.regress_machine.specs.Machine.{LoopData, State, running, waiting, in_
 use Rattle.regress_machine.specs.Bytes.{ReadsBytes, reads_bytes}
 use Rattle.regress_machine.proofs.Yields.{Ending, Yields, yields_none, yields_append, yields_same, yields_wait, yields_scan}
 use Rattle.regress_machine.proofs.Frames.{kept_itself}
-use Rattle.regress_machine.proofs.Nodes.{state_at, Enters, GoesOn, Finds, Rising, act_at, inside_by}
+use Rattle.regress_machine.proofs.Nodes.{and_then-ticks, state_at, Enters, GoesOn, Finds, Rising, act_at, inside_by}
 use Rattle.regress_machine.proofs.Beside.{Beside, nothing_left, one_more, beside, length-nearest, in_text_order, characters_beside-nearest}
 use Rattle.regress_machine.proofs.Run.{in_turns, numbers_between, outcome_at, run, repeat_run}
 use Rattle.regress_machine.proofs.OneTests.{one_of_length, ReadsOne, reads_one}
 
 -- ---- Lists
-
-pub and_then-ticks : (n : ℕ) (xs : List Item) (k : Outcome → List Item) → and_then (ticks n ++ xs) k ≡ ticks n ++ and_then xs k
-and_then-ticks zero xs k = refl
-and_then-ticks (suc n) xs k = ap (λ (l : List Item). tick ∷ l) (and_then-ticks n xs k)
 
 prefix_len-same : (f g : ℕ → Bool) (xs : List ℕ) → Each (λ c. f c ≡ g c) xs → prefix_len f xs ≡ prefix_len g xs
 prefix_len-same f g [] h = refl

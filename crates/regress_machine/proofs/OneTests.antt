@@ -26,6 +26,10 @@ use Rattle.regress_machine.proofs.Sets.{contains-padded, ascii_accepts}
 
 -- ---- Tests
 
+pub or_false : (x : Bool) → (x || false) ≡ true → x ≡ true
+or_false true h = refl
+or_false false h = h
+
 pub same_tests : (a b : Bool) → (a ≡ true → b ≡ true) → (b ≡ true → a ≡ true) → a ≡ b
 same_tests true b h k = sym (h refl)
 same_tests false true h k = k refl
@@ -76,12 +80,8 @@ byte_test b low d s =
     (λ h. let e = (bytes_eq-Decides (encode_utf8_all (d ∷ [])) (b ∷ [])).0 h in
     let f : d ∷ [] ≡ b ∷ [] = sym (chars_of_one d s) ∙ ap chars (e ∙ sym is) ∙ chars_of_one b (low_scalar b low) in
     or-left _ _ (eq-true d b (cc)))
-    (λ h. let e : d ≡ b = true-eq d b (only (nat_eq d b) h) in
+    (λ h. let e : d ≡ b = true-eq d b (or_false (nat_eq d b) h) in
     (bytes_eq-Decides (encode_utf8_all (d ∷ [])) (b ∷ [])).1 (ap (λ (c : ℕ). encode_utf8_all (c ∷ [])) e ∙ is))
-  where
-    only : (x : Bool) → (x || false) ≡ true → x ≡ true
-    only true h = refl
-    only false h = h
 
 -- ---- Chunks
 

@@ -14,11 +14,11 @@ use Rattle.regex_meaning.proofs.TextLemmas.{place_at-offset}
 use Rattle.regress_machine.specs.Machine.{LoopData, State, running, waiting, with_some, go_if, on_to, read_one, act_on, act}
 use Rattle.regress_machine.proofs.Yields.{Ending, Yields, yields_none, yields_append, yields_same, yields_turn, yields_wait}
 use Rattle.regress_machine.proofs.Frames.{kept_itself}
-use Rattle.regress_machine.proofs.Nodes.{and_then-append, and_then-pairs, state_at, Finds, Rising, act_at, inside_by}
+use Rattle.regress_machine.proofs.Nodes.{and_then-append, and_then-pairs, and_then-ticks, direction_at, state_at, Finds, Rising, act_at, inside_by}
 use Rattle.regress_machine.proofs.Sets.{contains-padded, is_some_and-same, is_some_and-none, fail_finds, insns_rising}
 use Rattle.regress_machine.proofs.Beside.{Beside, nothing_left, one_more, beside, length-nearest, moved-suc, moved-zero}
-use Rattle.regress_machine.proofs.OneTests.{same_tests}
-use Rattle.regress_machine.proofs.OneCharacter.{and_then-ticks, reached_behind}
+use Rattle.regress_machine.proofs.OneTests.{or_false, same_tests}
+use Rattle.regress_machine.proofs.OneCharacter.{reached_behind}
 use Rattle.regress_machine.proofs.Stands.{stands, stands-length, in_reading_order, length-reading, beside-stands}
 
 -- ---- Items
@@ -39,17 +39,9 @@ items_if-pair false o k = refl
 pub same_number : (c d : ℕ) → (c == d) ≡ contains (c ∷ []) d
 same_number c d =
     same_tests (c == d) (contains (c ∷ []) d) (λ h. or-left (nat_eq d c) false (eq-true d c (sym (true-eq c d h))))
-    (λ h. eq-true c d (sym (true-eq d c (only (nat_eq d c) h))))
-  where
-    only : (x : Bool) → (x || false) ≡ true → x ≡ true
-    only true h = refl
-    only false h = h
+    (λ h. eq-true c d (sym (true-eq d c (or_false (nat_eq d c) h))))
 
 module _ (program : Program) (text : Text) (is_text : IsText text) where
-  -- the direction of the code
-  abbrev pub direction_at : Bool → Direction
-  direction_at behind = if behind then leftwards else rightwards
-
   in_order : (behind : Bool) (cs : List ℕ) → in_reading_order text (direction_at behind) cs ≡ ordered behind cs
   in_order true cs = refl
   in_order false cs = refl

@@ -1,3 +1,3 @@
 pub mod Machine
-pub mod Finds
 pub mod Bytes
+pub mod Finds

@@ -1,5 +1,5 @@
 -- What a well-formed tree says of each node.
-use Rattle.std.proofs.Common.{◌≡◌, ℕ, zero, suc, ◌+◌, ◌-◌, ◌<◌, ◌≤◌, List, [], ◌∷◌, ◌++◌, length, Bool, true, false, cond, refl, ap, ◌∙◌, sym, subst, arith, nat_eq, nat_lt, nat_le, ltb→lt, nltb→le, leb→le, eqb-true, eq-eqb}
+use Rattle.std.proofs.Common.{◌≡◌, ℕ, zero, suc, ◌+◌, ◌-◌, ◌<◌, ◌≤◌, List, [], ◌∷◌, ◌++◌, length, Bool, true, false, cond, refl, ap, ◌∙◌, sym, subst, arith, nat_eq, nat_lt, nat_le, ltb→lt, nltb→le, eqb-true, eq-eqb}
 use Rattle.std.proofs.lemmas.Bool.{eqb-false, le-ltb}
 use Rattle.std.proofs.lemmas.List.Sums.{sum_by-cons, count_by-le-length}
 use Rattle.std.proofs.lemmas.List.Folds.{list_any-append}
@@ -284,7 +284,7 @@ module _ (text : Text) (n : ℕ) where
     s.below id (or-left (nat_eq id id) (contains (group_ids contents) id) (eq-eqb id id refl)),
     s.distinct.0,
     ready contents (sound_inside text n (capture_group id name contents) contents (λ test. refl) refl
-    (λ i h. s.below i (or-right (nat_eq i id) (contains (group_ids contents) i) h)) s.distinct.1 s),
+        (λ i h. s.below i (or-right (nat_eq i id) (contains (group_ids contents) i) h)) s.distinct.1 s),
   )
   ready (back_ref group icase) s = back_ref-below n group s.refers
   ready (lookaround l contents) s = ready contents (sound_inside text n (lookaround l contents) contents (λ test. refl) refl s.below s.distinct s)

@@ -19,3 +19,4 @@ pub mod Bytes
 pub mod ByteTexts
 pub mod Ready
 pub mod Whole
+pub mod Follows

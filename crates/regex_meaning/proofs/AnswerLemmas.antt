@@ -1,6 +1,5 @@
 -- Answers in offsets, from what is known of places.
-use Rattle.std.proofs.Common.{◌≡◌, ℕ, ◌+◌, ◌<◌, ◌≤◌, List, ◌∷◌, map, Option, Some, None, refl, ap, ◌∙◌, arith, option_map, option_and_then}
-use Rattle.std.specs.Prelude.{if◌then◌else◌, nat_lt}
+use Rattle.std.proofs.Common.{◌≡◌, ℕ, ◌<◌, ◌≤◌, List, ◌∷◌, map, Option, Some, None, refl, ap, ◌∙◌, arith, option_map, option_and_then}
 use Rattle.regex_meaning.specs.Tree.{Node}
 use Rattle.regex_meaning.specs.Text.{Text, last_place}
 use Rattle.regex_meaning.specs.Offsets.{IsText, offset, place_at, IsBoundary}
@@ -8,28 +7,16 @@ use Rattle.regex_meaning.specs.Find.{Found, first_match, place_behind, match_lis
 use Rattle.regex_meaning.specs.Names.{Answer, answer, answers_from}
 use Rattle.regex_meaning.specs.Answers.{first_answer, next_start, answers_on, answer_then_list}
 use Rattle.regex_meaning.specs.Laws.{list_from, match_then_list, IsRange}
-use Rattle.regex_meaning.proofs.Matches.{StandsFrom, stands-first, match_list-unfolds, if-cases, below}
+use Rattle.regex_meaning.proofs.Matches.{StandsFrom, stands-first, match_list-unfolds, GoesOnInside, goes-inside}
 use Rattle.regex_meaning.proofs.TextLemmas.{offset-less, offset-le, place_at-offset, offset-place_at, offset-IsBoundary}
 
 module _ (root : Node) (text : Text) (is : IsText text) where
-  -- the list goes on behind the place and within the text, if anywhere
-  abbrev GoesOnInside : ℕ → Option ℕ → Type 0
-  GoesOnInside place None = Unit {0}
-  GoesOnInside place (Some next) = (place < next) × (next ≤ last_place text)
-
-  goes-inside : (place : ℕ) (m : Found) → StandsFrom root text place (Some m) → GoesOnInside place (place_behind root text m)
-  goes-inside place m h =
-      if-cases (GoesOnInside place) (nat_lt m.start m.end) (Some m.end) (if nat_lt m.end (last_place text) then Some (m.end + 1) else None)
-      (λ e. let less = below m.start m.end e in (omega arith, omega arith))
-      (λ e. if-cases (GoesOnInside place) (nat_lt m.end (last_place text)) (Some (m.end + 1)) None
-      (λ f. let less = below m.end (last_place text) f in (omega arith, omega arith)) (λ f. tt))
-
   -- the answers from the offset of a place
   answers-at : (p : ℕ) → p ≤ last_place text → answers_from root text (offset text p) ≡ map (answer root text) (match_list root text p)
   unfolding answers_from
   answers-at p inside = rw (place_at-offset text p is inside) refl
 
-  answers-on : (place : ℕ) (next : Option ℕ) → GoesOnInside place next
+  answers-on : (place : ℕ) (next : Option ℕ) → GoesOnInside root text place next
       → map (answer root text) (list_from root text next) ≡ answers_on root text (option_map (offset text) next)
   answers-on place None h = refl
   answers-on place (Some next) h = rw (answers-at next h.1) refl
@@ -39,7 +26,7 @@ module _ (root : Node) (text : Text) (is : IsText text) where
       ≡ answer_then_list root text (option_map (answer root text) m) (option_map (offset text) (option_and_then (place_behind root text) m))
   answers-then place None h = refl
   answers-then place (Some m) h =
-      ap (λ (ms : List Answer). answer root text m ∷ ms) (answers-on place (place_behind root text m) (goes-inside place m h))
+      ap (λ (ms : List Answer). answer root text m ∷ ms) (answers-on place (place_behind root text m) (goes-inside root text place m h))
 
   -- the same at what is known of the start's place
   abbrev found-at : Option ℕ → Option Found
@@ -59,7 +46,7 @@ module _ (root : Node) (text : Text) (is : IsText text) where
 
   -- ---- Where the list goes on
 
-  next-of : (start p next : ℕ) → offset text p ≡ start → p ≤ last_place text → (behind : Option ℕ) → GoesOnInside p behind
+  next-of : (start p next : ℕ) → offset text p ≡ start → p ≤ last_place text → (behind : Option ℕ) → GoesOnInside root text p behind
       → option_map (offset text) behind ≡ Some next → (start < next) × IsBoundary text next
   next-of start p next at inside None g e = absurd (cc e)
   next-of start p next at inside (Some q) g e =
@@ -71,7 +58,7 @@ module _ (root : Node) (text : Text) (is : IsText text) where
   next-found : (start p next : ℕ) → offset text p ≡ start → p ≤ last_place text → (m : Option Found) → StandsFrom root text p m
       → option_map (offset text) (option_and_then (place_behind root text) m) ≡ Some next → (start < next) × IsBoundary text next
   next-found start p next at inside None h e = absurd (cc e)
-  next-found start p next at inside (Some m) h e = next-of start p next at inside (place_behind root text m) (goes-inside p m h) e
+  next-found start p next at inside (Some m) h e = next-of start p next at inside (place_behind root text m) (goes-inside root text p m h) e
 
   next-from : (start next : ℕ) (at : Option ℕ) → place_at text start ≡ at
       → option_map (offset text) (option_and_then (place_behind root text) (found-at at)) ≡ Some next → (start < next) × IsBoundary text next

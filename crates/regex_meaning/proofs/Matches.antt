@@ -71,6 +71,18 @@ module _ (root : Node) (text : Text) where
       (λ e. let less = below m.start m.end e in omega arith)
       (λ e. if-cases (GoesOn place) (nat_lt m.end (last_place text)) (Some (m.end + 1)) None (λ f. omega arith) (λ f. tt))
 
+  -- the list goes on behind the place and within the text, if anywhere
+  abbrev pub GoesOnInside : ℕ → Option ℕ → Type 0
+  GoesOnInside place None = Unit {0}
+  GoesOnInside place (Some next) = (place < next) × (next ≤ last_place text)
+
+  pub goes-inside : (place : ℕ) (m : Found) → StandsFrom place (Some m) → GoesOnInside place (place_behind root text m)
+  goes-inside place m h =
+      if-cases (GoesOnInside place) (nat_lt m.start m.end) (Some m.end) (if nat_lt m.end (last_place text) then Some (m.end + 1) else None)
+      (λ e. let less = below m.start m.end e in (omega arith, omega arith))
+      (λ e. if-cases (GoesOnInside place) (nat_lt m.end (last_place text)) (Some (m.end + 1)) None
+      (λ f. let less = below m.end (last_place text) f in (omega arith, omega arith)) (λ f. tt))
+
   none-left : (count : ℕ) → matches_from root text count None ≡ []
   unfolding matches_from
   none-left zero = refl

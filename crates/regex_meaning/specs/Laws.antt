@@ -1,8 +1,8 @@
 -- Laws of these definitions.
-use Rattle.std.specs.Prelude.{◌≡◌, ◌↔◌, IsTrue, ℕ, ◌+◌, ◌-◌, ◌<◌, ◌≤◌, Bool, false, List, [], ◌∷◌, ◌++◌, length, map, codes, IfSome, if◌then◌else◌, nat_lt, nat_le, max, Option, Some, None, filter, flat_map}
+use Rattle.std.specs.Prelude.{◌≡◌, ◌↔◌, IsTrue, ℕ, zero, suc, ◌+◌, ◌-◌, ◌<◌, ◌≤◌, Bool, false, not, ◌&&◌, is_some, slice_index, List, [], ◌∷◌, ◌++◌, length, map, codes, chars, IsAscii, IfSome, if◌then◌else◌, nat_lt, nat_le, max, Option, Some, None, filter, flat_map}
 use Rattle.std.specs.Option.{option_or}
 use Rattle.regex_meaning.specs.Tree.{Quantifier, Node, Tree, Flags, group_ids}
-use Rattle.regex_meaning.specs.Text.{Text, Direction, rightwards, leftwards, last_place, utf8_text, ascii_text, utf16_text, ucs2_text}
+use Rattle.regex_meaning.specs.Text.{Text, Direction, rightwards, leftwards, last_place, is_high_surrogate, is_low_surrogate, is_unit_boundary, utf8_text, ascii_text, utf16_text, ucs2_text, utf16_characters}
 use Rattle.regex_meaning.specs.Offsets.{IsText, offset, place_at, IsBoundary}
 use Rattle.regex_meaning.specs.Outcomes.{Groups, repetition, repeat, counts, preferred, most_of, outcomes}
 use Rattle.regex_meaning.specs.Find.{Found, match_at, first_match, place_behind, match_list}
@@ -12,7 +12,7 @@ use Rattle.regex_meaning.specs.Replace.{expansion, replaced}
 use Rattle.regex_meaning.specs.Flags.{flags_text, flags_of_text, escape}
 use Rattle.regex_meaning.specs.StartPredicate.{start_predicate, IsSound}
 use Rattle.regex_meaning.specs.WellFormed.{IsWellFormed, is_well_formed}
-use Rattle.regex_meaning.specs.Ticks.{pairs, ticked}
+use Rattle.regex_meaning.specs.Ticks.{pairs, ticked, need, needs_from}
 
 -- ---- Outcomes
 
@@ -102,6 +102,18 @@ abbrev pub EncodingsAreTexts : Type 0
 EncodingsAreTexts = (units : List ℕ) (unicode : Bool)
     → IsText (utf8_text units unicode) × IsText (ascii_text units unicode) × IsText (utf16_text units unicode) × IsText (ucs2_text units unicode)
 
+-- a high surrogate stands before this offset, and a low one at it
+abbrev pub is_within_pair : List ℕ → ℕ → Bool
+is_within_pair units zero = false
+is_within_pair units (suc i) = is_high_surrogate (slice_index units i) && is_low_surrogate (slice_index units (suc i))
+
+-- a unit boundary is a boundary of the text: an offset within it, and not within a pair
+abbrev pub UnitBoundariesAreBoundaries : Type 0
+UnitBoundariesAreBoundaries = (units : List ℕ) (unicode : Bool) (i : ℕ)
+    → (is_unit_boundary units i ≡ is_some (place_at (utf16_text units unicode) i))
+    × (((k : ℕ) → k < length units → slice_index units k < 0x1_0000)
+    → is_unit_boundary units i ≡ (nat_le i (length units) && not (is_within_pair units i)))
+
 -- the answers from an offset on are the first one, if there is one, and those from where the list goes on
 abbrev pub AnswersGoOn : Type 0
 AnswersGoOn = (root : Node) (text : Text) → IsText text → (start : ℕ)
@@ -151,6 +163,18 @@ abbrev pub AnswersResume : Type 0
 AnswersResume = (root : Node) (text : Text) → IsText text → (start : ℕ) (before : List Answer) (m : Answer) (after : List Answer)
     → answers_from root text start ≡ before ++ m ∷ after → m.range.0 < m.range.1 → answers_from root text m.range.1 ≡ after
 
+-- ---- One text in two encodings
+
+-- the matches of one text in UTF-8 and in UTF-16 stand at the same places
+abbrev pub SameInUtf16 : Type 0
+SameInUtf16 = (root : Node) (bytes units : List ℕ) (unicode : Bool) (place : ℕ) → chars bytes ≡ utf16_characters units
+    → match_list root (utf8_text bytes unicode) place ≡ match_list root (utf16_text units unicode) place
+
+-- an ASCII text has the same answers as ASCII and as UTF-8
+abbrev pub SameInAscii : Type 0
+SameInAscii = (root : Node) (bytes : List ℕ) (unicode : Bool) (start : ℕ) → IsAscii bytes
+    → answers_from root (ascii_text bytes unicode) start ≡ answers_from root (utf8_text bytes unicode) start
+
 -- ---- Replaced texts, flags and escaped texts
 
 -- a text whose matches are replaced by themselves is the text
@@ -165,6 +189,25 @@ FlagsReadBack = (flags : Flags) → flags_of_text (flags_text flags) ≡ record 
 -- no two texts are escaped alike
 abbrev pub EscapeIsInjective : Type 0
 EscapeIsInjective = (s t : List ℕ) → escape s ≡ escape t → s ≡ t
+
+-- ---- Needs
+
+-- the needs of the matches from a place on and of the end, where so much was spent before; those of the end alone
+-- where the list goes on nowhere
+abbrev pub needs_on : Tree → Text → (spent : ℕ) → Option ℕ → List ℕ
+needs_on tree text spent None = spent ∷ []
+needs_on tree text spent (Some place) = needs_from tree text (last_place text + 1) spent (Some place)
+
+-- the needs behind a match; none behind the end
+abbrev pub needs_behind : Tree → Text → (spent : ℕ) → Option Found → List ℕ
+needs_behind tree text spent None = []
+needs_behind tree text spent (Some m) = needs_on tree text spent (place_behind tree.root text m)
+
+-- the first need is that of the first match, or of there being none, and the others go on from there
+abbrev pub NeedsUnfold : Type 0
+NeedsUnfold = (tree : Tree) (text : Text) (spent place : ℕ)
+    → needs_on tree text spent (Some place)
+    ≡ (spent + need tree text place) ∷ needs_behind tree text (spent + need tree text place) (first_match tree.root text place)
 
 -- ---- Names
 

@@ -1,4 +1,4 @@
--- From the primitives of a search to what each node finds.
+-- From the primitives of a search to what the code of a whole tree finds.
 pub mod Search
 pub mod Yields
 pub mod Frames
@@ -7,5 +7,16 @@ pub mod Sets
 pub mod Groups
 pub mod Looks
 pub mod Loops
+pub mod Beside
+pub mod Run
+pub mod OneTests
+pub mod OneCharacter
+pub mod Stands
+pub mod Strings
+pub mod Utf8
+pub mod Chunks
+pub mod Bytes
+pub mod ByteTexts
 pub mod Ready
 pub mod Whole
+pub mod Follows

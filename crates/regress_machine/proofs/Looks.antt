@@ -1,5 +1,5 @@
 -- What lookarounds find.
-use Rattle.std.proofs.Common.{◌≡◌, ℕ, zero, suc, ◌+◌, ◌≤◌, List, [], ◌∷◌, ◌++◌, length, map, Option, Some, None, Bool, true, false, refl, ap, ◌∙◌, sym, arith, append-nil}
+use Rattle.std.proofs.Common.{◌≡◌, ℕ, ◌+◌, ◌≤◌, List, [], ◌∷◌, ◌++◌, length, map, Option, Some, None, Bool, true, false, refl, ap, ◌∙◌, sym, arith, append-nil}
 use Rattle.std.specs.Prelude.{if◌then◌else◌}
 use Rattle.regex_meaning.specs.Tree.{Lookaround, Node, lookaround, group_ids}
 use Rattle.regex_meaning.specs.Text.{Text, Direction, rightwards, leftwards}
@@ -11,7 +11,7 @@ use Rattle.regex_meaning.proofs.Onward.{IsOnward-refl}
 use Rattle.regress_machine.specs.Machine.{LoopData, State, running, asks, at_ip, next_ip, resumed, act_on}
 use Rattle.regress_machine.proofs.Yields.{Ending, EndIs, first_pair, Yields, yields_none, yields_same, yields_end, yields_asks}
 use Rattle.regress_machine.proofs.Frames.{Kept, kept_itself, kept_more, inside_itself}
-use Rattle.regress_machine.proofs.Nodes.{state_at, Reached, GoesOn, Enters, here, act_at, Finds}
+use Rattle.regress_machine.proofs.Nodes.{and_then-ticks, state_at, Reached, GoesOn, Enters, here, act_at, Finds}
 
 -- the outcome of a lookaround whose contents have this one first
 abbrev looked_first : (negate : Bool) → Option Outcome → ℕ → Groups → List Outcome
@@ -26,10 +26,6 @@ looked-pairs true [] p g = refl
 looked-pairs negate (tick ∷ items) p g = looked-pairs negate items p g
 looked-pairs false (pair o ∷ items) p g = refl
 looked-pairs true (pair o ∷ items) p g = refl
-
-pub and_then-ticks : (n : ℕ) (items : List Item) (k : Outcome → List Item) → and_then (ticks n ++ items) k ≡ ticks n ++ and_then items k
-and_then-ticks zero items k = refl
-and_then-ticks (suc n) items k = ap (λ (l : List Item). tick ∷ l) (and_then-ticks n items k)
 
 module _ (program : Program) (text : Text) (is_text : IsText text) where
   -- an end of the contents, from where the lookaround was entered

@@ -15,9 +15,8 @@ use Rattle.regex_meaning.proofs.TextLemmas.{offset-injective}
 use Rattle.regress_machine.specs.Machine.{LoopData, State, Thread, running, waiting, goes, go, with_some, only_if, in_turn, preferring, loop_turn, again_with, again_at, act}
 use Rattle.regress_machine.proofs.Yields.{Ending, Yields, yields_none, yields_append, yields_same, yields_turn, yields_wait}
 use Rattle.regress_machine.proofs.Frames.{Kept, kept_itself, kept_more, kept_both, inside_itself, slice_get-set_same, slice_get-set_other}
-use Rattle.regress_machine.proofs.Nodes.{over, state_at, RangeFits, Fit, Reached, GoesOn, Enters, here, reached_both, act_at, Finds, at_mark, Rising, and_then-append, and_then-and_then}
+use Rattle.regress_machine.proofs.Nodes.{over, state_at, RangeFits, Fit, Reached, GoesOn, Enters, here, reached_both, act_at, Finds, at_mark, Rising, and_then-append, and_then-and_then, and_then-ticks}
 use Rattle.regress_machine.proofs.Groups.{map-set, Each-set}
-use Rattle.regress_machine.proofs.Looks.{and_then-ticks}
 
 -- ---- Items
 
@@ -46,9 +45,6 @@ abbrev pub AreBelow : (first count bound : ℕ) → Type 0
 AreBelow first count bound = (i : ℕ) → first ≤ i → i < first + count → i < bound
 
 -- ---- Rounds
-
-and-true-true : (a b : Bool) → a ≡ true → b ≡ true → (a && b) ≡ true
-and-true-true a b p q = rw (p, q)
 
 module _ (program : Program) (text : Text) (is_text : IsText text) where
   Fit-cleared : (first n : ℕ) (g : Groups) → Fit program text is_text g → Fit program text is_text (cleared first n g)

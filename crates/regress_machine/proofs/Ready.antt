@@ -1,5 +1,5 @@
 -- What a well-formed tree says of each node.
-use Rattle.std.proofs.Common.{◌≡◌, ℕ, zero, suc, ◌+◌, ◌-◌, ◌<◌, ◌≤◌, List, [], ◌∷◌, ◌++◌, length, Bool, true, false, cond, refl, ap, ◌∙◌, sym, arith, nat_eq, nat_lt, nat_le, ltb→lt, nltb→le, leb→le, eqb-true, eq-eqb}
+use Rattle.std.proofs.Common.{◌≡◌, ℕ, zero, suc, ◌+◌, ◌-◌, ◌<◌, ◌≤◌, List, [], ◌∷◌, ◌++◌, length, Bool, true, false, cond, refl, ap, ◌∙◌, sym, subst, arith, nat_eq, nat_lt, nat_le, ltb→lt, nltb→le, eqb-true, eq-eqb}
 use Rattle.std.proofs.lemmas.Bool.{eqb-false, le-ltb}
 use Rattle.std.proofs.lemmas.List.Sums.{sum_by-cons, count_by-le-length}
 use Rattle.std.proofs.lemmas.List.Folds.{list_any-append}
@@ -7,33 +7,27 @@ use Rattle.std.specs.Prelude.{count_by, ◌&&◌, ◌||◌, ◌==◌, if◌then�
 use Rattle.std.specs.List.{list_all}
 use Rattle.regex_meaning.specs.Lists.{contains, numbers_from}
 use Rattle.regex_meaning.specs.Tree.{Node, empty, goal, char, char_set, byte_set, byte_sequence, cat, end_of_cat, alt, bracket, string_set, match_any, match_any_except_line_terminator, anchor, word_boundary, capture_group, back_ref, lookaround, loop, loop_1_char_body, group_ids, every}
-use Rattle.regex_meaning.specs.WellFormed.{IsWellFormed, encloses, names_the_groups_inside, refers_to_a_group}
-use Rattle.regress_machine.specs.Finds.{is_run}
+use Rattle.regex_meaning.specs.Text.{Text}
+use Rattle.regex_meaning.specs.WellFormed.{IsWellFormed, encloses, names_the_groups_inside, refers_to_a_group, is_one_character, has_one_character_body, has_text_in_sequence, fits_instructions}
+use Rattle.regex_meaning.proofs.FirstBytes.{and-left, and-right, or-left, or-right, true-le}
+use Rattle.regress_machine.specs.Bytes.{ReadsBytes, reads_bytes}
+use Rattle.regress_machine.proofs.Frames.{left_false, right_false}
 use Rattle.regress_machine.proofs.Loops.{AreBelow}
 
 -- what the proofs of a node rest on, where there are n groups
-abbrev pub Ready : (n : ℕ) → Node → Type 0
-Ready n (cat first rest) = Ready n first × Ready n rest
-Ready n (alt left right) = Ready n left × Ready n right
-Ready n (capture_group id name contents) = (id < n) × (contains (group_ids contents) id ≡ false) × Ready n contents
-Ready n (back_ref group icase) = group - 1 < n
-Ready n (lookaround l contents) = Ready n contents
-Ready n (loop q first end loopee) = AreBelow first (end - first) n × Ready n loopee
-Ready n (byte_set members) = ⊥
-Ready n (byte_sequence bytes) = ⊥
-Ready n (string_set strings icase) = ⊥
-Ready n (loop_1_char_body q loopee) = ⊥
-Ready n _ = Unit {0}
-
--- ---- Tests
-
-pub left_true : (a b : Bool) → (a && b) ≡ true → a ≡ true
-left_true true b h = refl
-left_true false b h = h
-
-pub right_true : (a b : Bool) → (a && b) ≡ true → b ≡ true
-right_true true b h = h
-right_true false b h = cc
+abbrev pub Ready : Text → (n : ℕ) → Node → Type 0
+Ready text n (byte_set members) = ReadsBytes text × (fits_instructions (byte_set members) ≡ true)
+Ready text n (byte_sequence bytes) = ReadsBytes text × (has_text_in_sequence (byte_sequence bytes) ≡ true)
+Ready text n (cat first rest) = Ready text n first × Ready text n rest
+Ready text n (alt left right) = Ready text n left × Ready text n right
+Ready text n (capture_group id name contents) = (id < n) × (contains (group_ids contents) id ≡ false) × Ready text n contents
+Ready text n (back_ref group icase) = group - 1 < n
+Ready text n (lookaround l contents) = Ready text n contents
+Ready text n (loop q first end loopee) = AreBelow first (end - first) n × Ready text n loopee
+Ready text n (loop_1_char_body q loopee) =
+    (is_one_character loopee ≡ true) × (has_text_in_sequence loopee ≡ true) × (fits_instructions loopee ≡ true)
+    × (reads_bytes loopee ≡ true → ReadsBytes text) × Ready text n loopee
+Ready text n _ = Unit {0}
 
 -- ---- Ids
 
@@ -45,23 +39,15 @@ Distinct [] = Unit {0}
 Distinct (x ∷ xs) = (contains xs x ≡ false) × Distinct xs
 
 contains-left : (xs ys : List ℕ) (i : ℕ) → contains xs i ≡ true → contains (xs ++ ys) i ≡ true
-contains-left xs ys i h = list_any-append (nat_eq i) xs ys ∙ ap (λ b. b || contains ys i) h
+contains-left xs ys i h = list_any-append (nat_eq i) xs ys ∙ or-left (contains xs i) (contains ys i) h
 
 contains-right : (xs ys : List ℕ) (i : ℕ) → contains ys i ≡ true → contains (xs ++ ys) i ≡ true
-contains-right xs ys i h = list_any-append (nat_eq i) xs ys ∙ ap (λ b. contains xs i || b) h ∙ or-true (contains xs i)
-  where
-    or-true : (b : Bool) → (b || true) ≡ true
-    or-true true = refl
-    or-true false = refl
-
-or-false : (a b : Bool) → (a || b) ≡ false → (a ≡ false) × (b ≡ false)
-or-false true b h = cc
-or-false false b h = (refl, h)
+contains-right xs ys i h = list_any-append (nat_eq i) xs ys ∙ or-right (contains xs i) (contains ys i) h
 
 distinct-left : (xs ys : List ℕ) → Distinct (xs ++ ys) → Distinct xs
 distinct-left [] ys d = tt
 distinct-left (x ∷ xs) ys d =
-    ((or-false (contains xs x) (contains ys x) (sym (list_any-append (nat_eq x) xs ys) ∙ d.0)).0, distinct-left xs ys d.1)
+    (left_false (contains xs x) (contains ys x) (sym (list_any-append (nat_eq x) xs ys) ∙ d.0), distinct-left xs ys d.1)
 
 distinct-right : (xs ys : List ℕ) → Distinct (xs ++ ys) → Distinct ys
 distinct-right [] ys d = d
@@ -148,10 +134,10 @@ distinct-by (x ∷ xs) h =
 -- a test of numbers in a row
 all_numbers : (p : ℕ → Bool) (first n : ℕ) → list_all p (numbers_from first n) ≡ true → (i : ℕ) → first ≤ i → i < first + n → p i ≡ true
 all_numbers p first zero h i le less = absurd (omega arith)
-all_numbers p first (suc n) h i le less = by (nat_eq i first) refl (λ a b. all_numbers p (first + 1) n (right_true (p first) _ h) i a b)
+all_numbers p first (suc n) h i le less = by (nat_eq i first) refl (λ a b. all_numbers p (first + 1) n (and-right (p first) _ h) i a b)
   where
     by : (b : Bool) → nat_eq i first ≡ b → (first + 1 ≤ i → i < first + 1 + n → p i ≡ true) → p i ≡ true
-    by true q more = rw (eqb-true i first q) (left_true (p first) _ h)
+    by true q more = rw (eqb-true i first q) (and-left (p first) _ h)
     by false q more = let apart = eqb-false i first q in more (omega arith) (omega arith)
 
 pub ids-below : (ids : List ℕ) → list_all (λ id. count_by (nat_eq id) ids == 1) (numbers_from 0 (length ids)) ≡ true → AllBelow (length ids) ids
@@ -169,9 +155,9 @@ ids-distinct ids h = distinct-by ids few
         outside : (ys : List ℕ) → contains ys id ≡ false → count id ys ≡ 0
         outside [] e = refl
         outside (y ∷ ys) e =
-            let parts = or-false (nat_eq id y) (contains ys id) e in
+            let apart = left_false (nat_eq id y) (contains ys id) e in
             let c = count-one (nat_eq id) y ys in
-            omega (arith, c, ap one_if parts.0, outside ys parts.1)
+            omega (arith, c, ap one_if apart, outside ys (right_false (nat_eq id y) (contains ys id) e))
 
         by_inside : (c : Bool) → contains ids id ≡ c → nat_lt id (length ids) ≡ false → count id ids ≤ 1
         by_inside true q r = let less = ids-below ids h id q in let le : length ids ≤ id = nltb→le id (length ids) (rw r tt) in absurd (omega arith)
@@ -185,101 +171,148 @@ ids-distinct ids h = distinct-by ids few
 
 -- ---- Nodes
 
--- what a well-formed tree says of a node inside it
-pub record Sound (n : ℕ) (node : Node) : Type 0 where
+-- what a well-formed tree and a text say of a node inside the tree
+pub record Sound (text : Text) (n : ℕ) (node : Node) : Type 0 where
   pub names : every names_the_groups_inside node ≡ true
   pub refers : every (refers_to_a_group n) node ≡ true
-  pub runs : every is_run node ≡ true
+  pub bodies : every has_one_character_body node ≡ true
+  pub sequences : every has_text_in_sequence node ≡ true
+  pub sets : every fits_instructions node ≡ true
+  pub bytes : reads_bytes node ≡ true → ReadsBytes text
   pub below : AllBelow n (group_ids node)
   pub distinct : Distinct (group_ids node)
 
--- of two nodes in one
-sound_parts : (n : ℕ) (a b : Node) (s t u : Bool) → (s && every names_the_groups_inside a && every names_the_groups_inside b) ≡ true
-    → (t && every (refers_to_a_group n) a && every (refers_to_a_group n) b) ≡ true
-    → (u && every is_run a && every is_run b) ≡ true
-    → AllBelow n (group_ids a ++ group_ids b) → Distinct (group_ids a ++ group_ids b) → Sound n a × Sound n b
-sound_parts n a b s t u names refers runs below distinct = (
-  record {
-    names = right_true s _ (left_true _ _ names);
-    refers = right_true t _ (left_true _ _ refers);
-    runs = right_true u _ (left_true _ _ runs);
-    below = λ id h. below id (contains-left (group_ids a) (group_ids b) id h);
-    distinct = distinct-left (group_ids a) (group_ids b) distinct;
-  },
-  record {
-    names = right_true _ _ names;
-    refers = right_true _ _ refers;
-    runs = right_true _ _ runs;
-    below = λ id h. below id (contains-right (group_ids a) (group_ids b) id h);
-    distinct = distinct-right (group_ids a) (group_ids b) distinct;
-  },
-)
+-- a node holds two others
+abbrev Holds : (node a b : Node) → Type 0
+Holds node a b = (test : Node → Bool) → every test node ≡ (test node && every test a && every test b)
 
-sound_inside : (n : ℕ) (a : Node) (s t u : Bool) → (s && every names_the_groups_inside a) ≡ true → (t && every (refers_to_a_group n) a) ≡ true
-    → (u && every is_run a) ≡ true → AllBelow n (group_ids a) → Distinct (group_ids a) → Sound n a
-sound_inside n a s t u names refers runs below distinct = record {
-  names = right_true s _ names;
-  refers = right_true t _ refers;
-  runs = right_true u _ runs;
+-- a test of one of the two, and of the other
+of_left : (test : Node → Bool) (node a b : Node) → Holds node a b → every test node ≡ true → every test a ≡ true
+of_left test node a b holds h = and-right (test node) (every test a) (and-left (test node && every test a) (every test b) (sym (holds test) ∙ h))
+
+of_right : (test : Node → Bool) (node a b : Node) → Holds node a b → every test node ≡ true → every test b ≡ true
+of_right test node a b holds h = and-right (test node && every test a) (every test b) (sym (holds test) ∙ h)
+
+sound_left : (text : Text) (n : ℕ) (node a b : Node) → Holds node a b → group_ids node ≡ group_ids a ++ group_ids b
+    → reads_bytes node ≡ (reads_bytes a || reads_bytes b) → Sound text n node → Sound text n a
+sound_left text n node a b holds ids reads s = record {
+  names = of_left names_the_groups_inside node a b holds s.names;
+  refers = of_left (refers_to_a_group n) node a b holds s.refers;
+  bodies = of_left has_one_character_body node a b holds s.bodies;
+  sequences = of_left has_text_in_sequence node a b holds s.sequences;
+  sets = of_left fits_instructions node a b holds s.sets;
+  bytes = λ h. s.bytes (reads ∙ or-left (reads_bytes a) (reads_bytes b) h);
+  below = λ id h. s.below id (ap (λ (l : List ℕ). contains l id) ids ∙ contains-left (group_ids a) (group_ids b) id h);
+  distinct = distinct-left (group_ids a) (group_ids b) (subst Distinct ids s.distinct);
+}
+
+sound_right : (text : Text) (n : ℕ) (node a b : Node) → Holds node a b → group_ids node ≡ group_ids a ++ group_ids b
+    → reads_bytes node ≡ (reads_bytes a || reads_bytes b) → Sound text n node → Sound text n b
+sound_right text n node a b holds ids reads s = record {
+  names = of_right names_the_groups_inside node a b holds s.names;
+  refers = of_right (refers_to_a_group n) node a b holds s.refers;
+  bodies = of_right has_one_character_body node a b holds s.bodies;
+  sequences = of_right has_text_in_sequence node a b holds s.sequences;
+  sets = of_right fits_instructions node a b holds s.sets;
+  bytes = λ h. s.bytes (reads ∙ or-right (reads_bytes a) (reads_bytes b) h);
+  below = λ id h. s.below id (ap (λ (l : List ℕ). contains l id) ids ∙ contains-right (group_ids a) (group_ids b) id h);
+  distinct = distinct-right (group_ids a) (group_ids b) (subst Distinct ids s.distinct);
+}
+
+-- of a node that holds one other
+sound_inside : (text : Text) (n : ℕ) (node a : Node) → ((test : Node → Bool) → every test node ≡ (test node && every test a))
+    → reads_bytes node ≡ reads_bytes a → AllBelow n (group_ids a) → Distinct (group_ids a) → Sound text n node → Sound text n a
+sound_inside text n node a holds reads below distinct s = record {
+  names = inside names_the_groups_inside s.names;
+  refers = inside (refers_to_a_group n) s.refers;
+  bodies = inside has_one_character_body s.bodies;
+  sequences = inside has_text_in_sequence s.sequences;
+  sets = inside fits_instructions s.sets;
+  bytes = λ h. s.bytes (reads ∙ h);
   below = below;
   distinct = distinct;
 }
+  where
+    inside : (test : Node → Bool) → every test node ≡ true → every test a ≡ true
+    inside test h = and-right (test node) (every test a) (sym (holds test) ∙ h)
 
 below_named : (first end n : ℕ) (contents : Node) → encloses first end contents ≡ true → AllBelow n (group_ids contents) → AreBelow first (end - first) n
 below_named first end n contents h below i le less =
-    below i (all_numbers (contains (group_ids contents)) first (end - first) (right_true _ _ h) i le less)
+    below i (all_numbers (contains (group_ids contents)) first (end - first) (and-right _ _ h) i le less)
 
 back_ref-below : (n group : ℕ) → (nat_le 1 group && nat_le group n) ≡ true → group - 1 < n
 back_ref-below n group h =
-    let a : 1 ≤ group = leb→le 1 group (rw (left_true (nat_le 1 group) (nat_le group n) h) tt) in
-    let b : group ≤ n = leb→le group n (rw (right_true (nat_le 1 group) (nat_le group n) h) tt) in
+    let a : 1 ≤ group = true-le 1 group (and-left (nat_le 1 group) (nat_le group n) h) in
+    let b : group ≤ n = true-le group n (and-right (nat_le 1 group) (nat_le group n) h) in
     omega arith
 
-pub ready : (n : ℕ) (node : Node) → Sound n node → Ready n node
-ready n empty s = tt
-ready n goal s = tt
-ready n (char c) s = tt
-ready n (char_set members) s = tt
-ready n (byte_set members) s = let no = s.runs in cc
-ready n (byte_sequence bytes) s = let no = s.runs in cc
-ready n (cat first rest) s =
-    let parts = sound_parts n first rest (names_the_groups_inside (cat first rest)) (refers_to_a_group n (cat first rest)) (is_run (cat first rest)) s.names s.refers s.runs s.below s.distinct in
-    (ready n first parts.0, ready n rest parts.1)
-ready n end_of_cat s = tt
-ready n (alt left right) s =
-    let parts = sound_parts n left right (names_the_groups_inside (alt left right)) (refers_to_a_group n (alt left right)) (is_run (alt left right)) s.names s.refers s.runs s.below s.distinct in
-    (ready n left parts.0, ready n right parts.1)
-ready n (bracket contents) s = tt
-ready n (string_set strings icase) s = let no = s.runs in cc
-ready n match_any s = tt
-ready n match_any_except_line_terminator s = tt
-ready n (anchor type multiline) s = tt
-ready n (word_boundary invert unicode_icase) s = tt
-ready n (capture_group id name contents) s = (
-  s.below id (ap (λ b. b || contains (group_ids contents) id) (eq-eqb id id refl)),
-  s.distinct.0,
-  ready n contents (sound_inside n contents (names_the_groups_inside (capture_group id name contents)) (refers_to_a_group n (capture_group id name contents)) (is_run (capture_group id name contents)) s.names s.refers s.runs (λ i h. s.below i (ap (λ b. nat_eq i id || b) h ∙ or-true (nat_eq i id))) s.distinct.1),
-)
-  where
-    or-true : (b : Bool) → (b || true) ≡ true
-    or-true true = refl
-    or-true false = refl
-ready n (back_ref group icase) s = back_ref-below n group s.refers
-ready n (lookaround l contents) s = ready n contents (sound_inside n contents (names_the_groups_inside (lookaround l contents)) (refers_to_a_group n (lookaround l contents)) (is_run (lookaround l contents)) s.names s.refers s.runs s.below s.distinct)
-ready n (loop q first end loopee) s = (
-  below_named first end n loopee (left_true (encloses first end loopee) (every names_the_groups_inside loopee) s.names) s.below,
-  ready n loopee (sound_inside n loopee (names_the_groups_inside (loop q first end loopee)) (refers_to_a_group n (loop q first end loopee)) (is_run (loop q first end loopee)) s.names s.refers s.runs s.below s.distinct),
-)
-ready n (loop_1_char_body q loopee) s = let no : false ≡ true = left_true false (every is_run loopee) s.runs in cc
+-- a test of a node of one character holds of the node itself
+of_one : (test : Node → Bool) (node : Node) → is_one_character node ≡ true → every test node ≡ true → test node ≡ true
+of_one test (char c) one h = h
+of_one test (char_set members) one h = h
+of_one test (byte_set members) one h = h
+of_one test (byte_sequence bytes) one h = h
+of_one test (bracket contents) one h = h
+of_one test match_any one h = h
+of_one test match_any_except_line_terminator one h = h
+of_one test _ one h = cc
 
-pub root_ready : (root : Node) → IsWellFormed root → IsTrue (every is_run root) → Ready (length (group_ids root)) root
-root_ready root w run =
+module _ (text : Text) (n : ℕ) where
+  pub ready : (node : Node) → Sound text n node → Ready text n node
+  ready empty s = tt
+  ready goal s = tt
+  ready (char c) s = tt
+  ready (char_set members) s = tt
+  ready (byte_set members) s = (s.bytes refl, s.sets)
+  ready (byte_sequence bytes) s = (s.bytes refl, s.sequences)
+  ready (cat first rest) s = (
+    ready first (sound_left text n (cat first rest) first rest (λ test. refl) refl refl s),
+    ready rest (sound_right text n (cat first rest) first rest (λ test. refl) refl refl s),
+  )
+  ready end_of_cat s = tt
+  ready (alt left right) s = (
+    ready left (sound_left text n (alt left right) left right (λ test. refl) refl refl s),
+    ready right (sound_right text n (alt left right) left right (λ test. refl) refl refl s),
+  )
+  ready (bracket contents) s = tt
+  ready (string_set strings icase) s = tt
+  ready match_any s = tt
+  ready match_any_except_line_terminator s = tt
+  ready (anchor type multiline) s = tt
+  ready (word_boundary invert unicode_icase) s = tt
+  ready (capture_group id name contents) s = (
+    s.below id (or-left (nat_eq id id) (contains (group_ids contents) id) (eq-eqb id id refl)),
+    s.distinct.0,
+    ready contents (sound_inside text n (capture_group id name contents) contents (λ test. refl) refl
+        (λ i h. s.below i (or-right (nat_eq i id) (contains (group_ids contents) i) h)) s.distinct.1 s),
+  )
+  ready (back_ref group icase) s = back_ref-below n group s.refers
+  ready (lookaround l contents) s = ready contents (sound_inside text n (lookaround l contents) contents (λ test. refl) refl s.below s.distinct s)
+  ready (loop q first end loopee) s = (
+    below_named first end n loopee (and-left (encloses first end loopee) (every names_the_groups_inside loopee) s.names) s.below,
+    ready loopee (sound_inside text n (loop q first end loopee) loopee (λ test. refl) refl s.below s.distinct s),
+  )
+  ready (loop_1_char_body q loopee) s =
+      let one = and-left (is_one_character loopee) (every has_one_character_body loopee) s.bodies in
+      let inside = sound_inside text n (loop_1_char_body q loopee) loopee (λ test. refl) refl s.below s.distinct s in (
+        one,
+        of_one has_text_in_sequence loopee one inside.sequences,
+        of_one fits_instructions loopee one inside.sets,
+        s.bytes,
+        ready loopee inside,
+      )
+
+pub root_ready : (text : Text) (root : Node) → IsWellFormed root → (IsTrue (reads_bytes root) → ReadsBytes text) → Ready text (length (group_ids root)) root
+root_ready text root w bytes =
     let ids = group_ids root in
     let once = w.ids in
-    ready (length ids) root (record {
+    ready text (length ids) root (record {
       names = w.enclosed;
       refers = w.references;
-      runs = run;
+      bodies = w.bodies;
+      sequences = w.sequences;
+      sets = w.sets;
+      bytes = bytes;
       below = ids-below ids once;
       distinct = ids-distinct ids once;
     })

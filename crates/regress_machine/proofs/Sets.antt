@@ -19,11 +19,11 @@ use Rattle.regress_machine.proofs.Nodes.{state_at, Enters, GoesOn, Finds, Rising
 
 -- ---- Tests
 
-is_some_and-same : (o : Option ℕ) (f g : ℕ → Bool) → ((c : ℕ) → f c ≡ g c) → is_some_and o f ≡ is_some_and o g
+pub is_some_and-same : (o : Option ℕ) (f g : ℕ → Bool) → ((c : ℕ) → f c ≡ g c) → is_some_and o f ≡ is_some_and o g
 is_some_and-same None f g h = refl
 is_some_and-same (Some c) f g h = h c
 
-is_some_and-none : (o : Option ℕ) → is_some_and o (λ c. false) ≡ false
+pub is_some_and-none : (o : Option ℕ) → is_some_and o (λ c. false) ≡ false
 is_some_and-none None = refl
 is_some_and-none (Some c) = refl
 
@@ -92,7 +92,7 @@ not_true_false : (b : Bool) → not b ≡ true → b ≡ false
 not_true_false true h = cc
 not_true_false false h = refl
 
-ascii_accepts : (contents : BracketContents) → is_ascii_set contents ≡ true → (c : ℕ)
+pub ascii_accepts : (contents : BracketContents) → is_ascii_set contents ≡ true → (c : ℕ)
     → contains (bytes_where (in_intervals contents.intervals)) c ≡ accepts (bracket contents) c
 ascii_accepts contents h c =
     let plain = not_true_false contents.invert (and-left (not contents.invert) _ h) in
@@ -123,7 +123,7 @@ module _ (program : Program) (text : Text) (is_text : IsText text) where
       let t = state_at program text is_text m.insn p g s ls in
       yields_turn program text d E t [] [] (act_at program text is_text d t JustFail has.0) (yields_none program text d E)
 
-  none_finds : (d : Direction) (E : Ending) (m n : Mark) (p : ℕ) (g : Groups) (s : List ℕ) (ls : List LoopData) (k : Outcome → List Item)
+  pub none_finds : (d : Direction) (E : Ending) (m n : Mark) (p : ℕ) (g : Groups) (s : List ℕ) (ls : List LoopData) (k : Outcome → List Item)
       → HasAll program (JustFail ∷ []) m n
       → Yields program text d E (running (state_at program text is_text m.insn p g s ls) ∷ []) (and_then (one_items (λ c. false) d p g) k)
   none_finds d E m n p g s ls k has =

@@ -1,0 +1,5 @@
+use Rattle.regex_meaning.proofs.Needs.{needs-unfold}
+use Rattle.regex_meaning.proofs.needs_unfold.Goals as goal
+
+pub returns : goal.returns
+returns c = needs-unfold

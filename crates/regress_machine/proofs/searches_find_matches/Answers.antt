@@ -1,0 +1,5 @@
+use Rattle.regress_machine.proofs.Follows.{finds-match}
+use Rattle.regress_machine.proofs.searches_find_matches.Goals as goal
+
+pub returns : goal.returns
+returns c = finds-match

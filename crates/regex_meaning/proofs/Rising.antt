@@ -1,5 +1,5 @@
 -- The texts of the four encodings are texts: their offsets rise from 0, one for each place.
-use Rattle.std.proofs.Common.{◌≡◌, ℕ, ◌+◌, ◌<◌, ◌⊎◌, Bool, true, false, cond, List, [], ◌∷◌, length, get_or, map, chars, nat_le, IsUtf8, ◌^◌, length-append, refl, ◌∙◌, ap, arith}
+use Rattle.std.proofs.Common.{◌≡◌, ℕ, ◌+◌, ◌<◌, Bool, true, false, cond, List, [], ◌∷◌, length, get_or, map, chars, nat_le, IsUtf8, ◌^◌, length-append, refl, ◌∙◌, ap, arith}
 use Rattle.std.specs.Char.{len_utf8}
 use Rattle.std.proofs.lemmas.Str.{len_utf8_bounds, length-encode, encodes-chars, IsUtf8-had}
 use lib.Utf8.{encode, encodes}

@@ -1,5 +1,5 @@
 -- The left end, and letters in a text.
-use Rattle.std.proofs.Common.{◌≡◌, ◌⊎◌, inl, ℕ, ◌<◌, ◌≤◌, List, [], ◌∷◌, Bool, true, false, refl, ap, ap₂, sym, ◌∙◌, subst, arith, nat_eq, eq-eqb, ne_eqb, eqb-true}
+use Rattle.std.proofs.Common.{◌≡◌, ℕ, List, [], ◌∷◌, Bool, true, false, refl, ap₂, sym, subst, arith, nat_eq, eq-eqb, ne_eqb, eqb-true}
 use Rattle.std.proofs.lemmas.Bool.{eqb-false}
 use Rattle.std.specs.Prelude.{◌||◌, Result, Ok, Err, IfOk}
 use Rattle.regex_meaning.specs.Tree.{Flags}

@@ -1,17 +1,17 @@
 -- The first match from an offset, by what an attempt there answers.
-use Rattle.std.proofs.Common.{◌≡◌, ℕ, zero, suc, ◌+◌, ◌-◌, ◌<◌, ◌≤◌, List, [], ◌∷◌, length, Option, Some, None, Bool, true, false, refl, ap, ap₂, sym, ◌∙◌, subst, arith, slice_get, ltb→lt, lt-ltb, nltb→le, get_or, le_refl}
+use Rattle.std.proofs.Common.{◌≡◌, ℕ, ◌+◌, ◌-◌, ◌<◌, ◌≤◌, List, [], ◌∷◌, Option, Some, None, Bool, true, false, refl, ap, ap₂, sym, ◌∙◌, subst, arith, ltb→lt, lt-ltb, nltb→le, get_or, le_refl}
 use Rattle.std.proofs.lemmas.Bool.{le-ltb}
 use Rattle.std.proofs.lemmas.Option.{slice_get_past, slice_get-get_or}
-use Rattle.std.specs.Prelude.{option_map, option_and_then, if◌then◌else◌, nat_lt, is_some, IsTrue, string_bytes, map}
+use Rattle.std.specs.Prelude.{option_map, option_and_then, if◌then◌else◌, nat_lt, is_some, IsTrue}
 use Rattle.std.specs.Option.{option_or}
-use Rattle.regex_meaning.specs.Tree.{Node, Tree}
+use Rattle.regex_meaning.specs.Tree.{Tree}
 use Rattle.regex_meaning.specs.Text.{Text, rightwards, last_place}
 use Rattle.regex_meaning.specs.Offsets.{IsText, IsBoundary, offset, place_at, read, read_at, units}
 use Rattle.regex_meaning.specs.Outcomes.{Groups, Outcome}
 use Rattle.regex_meaning.specs.Find.{Found, first_of, match_at, first_match, place_behind, no_groups}
 use Rattle.regex_meaning.specs.Names.{Answer, answer, names_by_id}
 use Rattle.regex_meaning.specs.Answers.{first_found, first_answer, next_start}
-use Rattle.regex_meaning.specs.Ticks.{Item, tick, pair, pairs, ticked, items_at}
+use Rattle.regex_meaning.specs.Ticks.{Item, tick, pair, pairs, items_at}
 use Rattle.regex_meaning.proofs.Ticked.{pairs-ticked}
 use Rattle.regex_meaning.proofs.Matches.{first-unfolds, first-past, stands-first, StandsFrom}
 use Rattle.regex_meaning.proofs.TextLemmas.{place_at-offset, offset-place_at, offset-IsBoundary, offset-less, offset-le}
@@ -220,17 +220,19 @@ module _ (tree : Tree) (text : Text) (is : IsText text) where
       by None q e = cc
       by (Some r) q e =
           let same : next ≡ r.1 = cc in
-          let f = found-on at r.1 r.0 none q in
-          (record { same = g.same ∙ f.same ∙ ap (first_found tree.root text) (sym same); boundary = subst (IsBoundary text) (sym same) f.boundary },
-          omega (arith, f.ahead, f.inside, same))
+          let f = found-on at r.1 r.0 none q in (
+            record { same = g.same ∙ f.same ∙ ap (first_found tree.root text) (sym same); boundary = subst (IsBoundary text) (sym same) f.boundary },
+            omega (arith, f.ahead, f.inside, same),
+          )
 
   pub found-first : (first at e : ℕ) (gs : Groups) → GoesFrom tree text first at → end_from tree text at ≡ Some (e, gs)
       → (Some (answer_by at e gs (names_by_id tree.root)) ≡ first_answer tree.root text first) × (offset_behind text at e ≡ next_start tree.root text first) × IsBoundary text e
   found-first first at e gs g end =
-      let f = found-here at e gs g.boundary end in
-      (sym (ap (option_map (answer tree.root text)) g.same ∙ f.first),
-      sym (ap (λ x. option_map (offset text) (option_and_then (place_behind tree.root text) x)) g.same ∙ f.behind),
-      f.boundary)
+      let f = found-here at e gs g.boundary end in (
+        sym (ap (option_map (answer tree.root text)) g.same ∙ f.first),
+        sym (ap (λ x. option_map (offset text) (option_and_then (place_behind tree.root text) x)) g.same ∙ f.behind),
+        f.boundary,
+      )
 
   pub found-last : (first at : ℕ) → GoesFrom tree text first at → end_from tree text at ≡ None → None ≡ option_map (λ (r : ℕ × ℕ). r.1) (read text rightwards at)
       → None ≡ first_answer tree.root text first

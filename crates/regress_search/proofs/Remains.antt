@@ -1,12 +1,12 @@
 -- What is left of a search after each turn.
-use Rattle.std.proofs.Common.{◌≡◌, ℕ, zero, suc, ◌+◌, ◌<◌, ◌≤◌, List, [], ◌∷◌, ◌++◌, Option, Some, None, Bool, true, false, refl, ap, sym, ◌∙◌, subst, arith, map, reverse, slice_get, take, ◌-◌, append-nil, replicate}
+use Rattle.std.proofs.Common.{◌≡◌, ℕ, zero, suc, ◌+◌, ◌<◌, ◌≤◌, List, [], ◌∷◌, ◌++◌, Option, Some, None, Bool, true, false, refl, ap, sym, ◌∙◌, subst, arith, map, slice_get, take, ◌-◌, append-nil, replicate}
 use Rattle.std.proofs.lemmas.List.{reverse-append}
 use Rattle.std.specs.Prelude.{option_map, option_and_then, is_some, IsTrue, ◌==◌}
 use Rattle.std.specs.Option.{option_map_or}
 use Rattle.regex_meaning.specs.Tree.{Tree}
-use Rattle.regex_meaning.specs.Text.{Text, rightwards, last_place, next_character, moved}
-use Rattle.regex_meaning.specs.Offsets.{IsText, IsBoundary, offset, place_at}
-use Rattle.regex_meaning.specs.Outcomes.{Groups, is_some_and}
+use Rattle.regex_meaning.specs.Text.{Text, rightwards, next_character, moved}
+use Rattle.regex_meaning.specs.Offsets.{IsBoundary, offset, place_at}
+use Rattle.regex_meaning.specs.Outcomes.{is_some_and}
 use Rattle.regex_meaning.specs.Layout.{Program, Insn, Goal, Char, MatchAny, Alt, Jump}
 use Rattle.regex_meaning.specs.Ticks.{items_at}
 use Rattle.regex_meaning.proofs.TextLemmas.{offset-place_at}

@@ -1,5 +1,5 @@
 -- What a match says.
-use Rattle.std.specs.Prelude.{ℕ, List, map, option_map, Option, string_bytes, vec_items}
+use Rattle.std.specs.Prelude.{ℕ, map, option_map, string_bytes}
 use Rattle.std.specs.declared.ops.Range.{Range}
 use Rattle.regex_meaning.specs.Names.{Answer}
 use Rattle.regress_search.specs.declared.exec.Match.{Match}

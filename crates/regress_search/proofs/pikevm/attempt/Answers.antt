@@ -1,7 +1,7 @@
-use Rattle.std.proofs.Common.{◌≡◌, ap, sym, refl, subst, ◌∙◌, ◌∷◌, []}
+use Rattle.std.proofs.Common.{ap, sym, subst, ◌∷◌, []}
 use Rattle.regex_pattern_front.specs.TreeOf.{tree_of}
 use Rattle.regress_program.specs.Code.{compiled}
-use Rattle.regress_machine.specs.Machine.{running, act}
+use Rattle.regress_machine.specs.Machine.{running}
 use Rattle.regress_search.specs.States.{state_of, next_of}
 use Rattle.regress_search.proofs.Small.{program-small, can-search}
 use Rattle.regress_search.proofs.Remains.{Remains, remains-begin, remains-can, left-popped, left-none, left-went, left-forked, left-ended, popped-none}

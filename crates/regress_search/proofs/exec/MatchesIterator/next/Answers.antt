@@ -1,4 +1,4 @@
-use Rattle.std.proofs.Common.{ap, sym, subst, Some, option_map, refl, ◌∙◌}
+use Rattle.std.proofs.Common.{ap, sym, subst, option_map, refl, ◌∙◌}
 use Rattle.regex_meaning.specs.Offsets.{IsBoundary}
 use Rattle.regress_search.specs.Answers.{answer_of}
 use Rattle.regress_search.proofs.Coming.{call-some, call-none, next-boundary, fewer}

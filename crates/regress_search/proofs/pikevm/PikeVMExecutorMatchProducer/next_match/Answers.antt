@@ -1,4 +1,4 @@
-use Rattle.std.proofs.Common.{◌≡◌, ℕ, ap, sym, refl, ◌∙◌, Some, None, option_map}
+use Rattle.std.proofs.Common.{◌≡◌, ap, sym, refl, ◌∙◌, Some, None, option_map}
 use Rattle.regex_pattern_front.specs.TreeOf.{tree_of}
 use Rattle.regress_machine.specs.Finds.{end_of}
 use Rattle.regress_search.specs.Attempts.{end_from}

@@ -2,10 +2,14 @@
 #![tactic(auto)]
 
 pub mod bytesearch;
+mod classes;
 pub mod codepointset;
+mod escapes;
 pub mod flags;
 pub mod folding;
+mod groups;
 pub mod ir;
+pub mod optimizer;
 pub mod parse;
 mod reader;
 pub mod types;

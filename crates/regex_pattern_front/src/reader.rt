@@ -1,6 +1,10 @@
 //! The code points of a pattern that are still to read.
 
-ghost use Rattle.std.specs.Prelude.{◌≡◌, ◌<◌, ◌≤◌, length, IsTrue, IsSome, IfSome};
+ghost use Rattle.std.specs.Prelude.{◌≡◌, ◌<◌, ◌≤◌, length, IsTrue, IsSome, OnOk, IfOk};
+ghost use Rattle.std.specs.Option.{ForSome};
+
+use crate::ir::Quantifier;
+use crate::parse::ParseError;
 
 /// A place in a pattern: what stands from there on.
 #[derive(Clone, Copy)]
@@ -9,17 +13,18 @@ pub(crate) struct Reader<'p> {
 }
 
 impl Reader<'_> {
-    /// The next code point, which stays unread; none at the end.
-    pub(crate) fn peek(&self) -> Option<u32>
+    /// The next code point, which stays unread, if it is a `char`.
+    pub(crate) fn peek(&self) -> Option<char>
         ensures more { IsSome result → 0 < length self.now.rest.now }
     {
-        self.rest.first().copied()
+        char::from_u32(*self.rest.first()?)
     }
 
     /// Reads the next code point.
     pub(crate) fn next(&mut self) -> Option<u32>
         ensures moves { length self.new.rest.now ≤ length self.old.rest.now }
         ensures read { IsSome result → length self.new.rest.now < length self.old.rest.now }
+        ensures more { 0 < length self.old.rest.now → length self.new.rest.now < length self.old.rest.now }
     {
         let (first, others) = self.rest.split_first()?;
         self.rest = others;
@@ -27,18 +32,31 @@ impl Reader<'_> {
     }
 
     /// Reads the next code point if it is this one.
-    pub(crate) fn eat(&mut self, c: u32) -> bool
+    pub(crate) fn eat(&mut self, c: char) -> bool
         ensures moves { length self.new.rest.now ≤ length self.old.rest.now }
         ensures read { IsTrue result → length self.new.rest.now < length self.old.rest.now }
     {
         let Some((first, others)) = self.rest.split_first() else {
             return false;
         };
-        if *first != c {
+        if *first != c as u32 {
             return false;
         }
         self.rest = others;
         true
+    }
+
+    /// Reads a digit of this base, and gives its value.
+    pub(crate) fn digit(&mut self, radix: u32) -> Option<u32>
+        requires least { 2 ≤ radix }
+        requires most { radix ≤ 36 }
+        ensures moves { length self.new.rest.now ≤ length self.old.rest.now }
+        ensures read { IsSome result → length self.new.rest.now < length self.old.rest.now }
+    {
+        let (first, others) = self.rest.split_first()?;
+        let digit = char::from_u32(*first)?.to_digit(radix)?;
+        self.rest = others;
+        Some(digit)
     }
 
     /// Reads a decimal number, which counts as `usize::MAX` where it is past that; none where there is no digit.
@@ -46,24 +64,34 @@ impl Reader<'_> {
         ensures moves { length self.new.rest.now ≤ length self.old.rest.now }
         ensures read { IsSome result → length self.new.rest.now < length self.old.rest.now }
     {
-        let mut value = self.digit()?;
-        while let Some(digit) = self.digit() {
-            value = value.saturating_mul(10).saturating_add(digit);
+        let mut value = self.digit(10)? as usize;
+        while let Some(digit) = self.digit(10) {
+            value = value.saturating_mul(10).saturating_add(digit as usize);
         }
         Some(value)
     }
 
-    fn digit(&mut self) -> Option<usize>
+    /// Reads so many hexadecimal digits.
+    pub(crate) fn hex(&mut self, count: u32) -> Option<u32>
         ensures moves { length self.new.rest.now ≤ length self.old.rest.now }
-        ensures read { IsSome result → length self.new.rest.now < length self.old.rest.now }
     {
-        let (first, others) = self.rest.split_first()?;
-        let digit = first.wrapping_sub(0x30);
-        if digit > 9 {
-            return None;
+        let mut value = 0u32;
+        for _ in 0..count {
+            value = value.saturating_mul(16).saturating_add(self.digit(16)?);
         }
-        self.rest = others;
-        Some(digit as usize)
+        Some(value)
+    }
+
+    /// Reads the hexadecimal digits of a number, which counts as `u32::MAX` where it is past that; none where
+    /// there is no digit.
+    pub(crate) fn hex_number(&mut self) -> Option<u32>
+        ensures moves { length self.new.rest.now ≤ length self.old.rest.now }
+    {
+        let mut value = self.digit(16)?;
+        while let Some(digit) = self.digit(16) {
+            value = value.saturating_mul(16).saturating_add(digit);
+        }
+        Some(value)
     }
 
     /// Reads `{n}`, `{n,}` or `{n,m}` and gives the two counts; none where no such braces stand.
@@ -81,19 +109,45 @@ impl Reader<'_> {
         ensures moves { length self.new.rest.now ≤ length self.old.rest.now }
         ensures read { IsSome result → length self.new.rest.now < length self.old.rest.now }
     {
-        if !self.eat('{' as u32) {
+        if !self.eat('{') {
             return None;
         }
         let min = self.number()?;
-        let max = if self.eat(',' as u32) {
+        let max = if self.eat(',') {
             self.number()
         } else {
             Some(min)
         };
-        if self.eat('}' as u32) {
+        if self.eat('}') {
             Some((min, max))
         } else {
             None
         }
+    }
+
+    /// Reads a quantifier, if one stands here. Its counts are in order.
+    pub(crate) fn quantifier(&mut self) -> Result<Option<Quantifier>, ParseError>
+        ensures moves { length self.new.rest.now ≤ length self.old.rest.now }
+        ensures ordered { IfOk result (λ found. ForSome found (λ q. ForSome q.max (λ max. q.min ≤ max))) }
+    {
+        let counts = if self.eat('*') {
+            Some((0, None))
+        } else if self.eat('+') {
+            Some((1, None))
+        } else if self.eat('?') {
+            Some((0, Some(1)))
+        } else {
+            self.braces()
+        };
+        let Some((min, max)) = counts else {
+            return Ok(None);
+        };
+        if let Some(max) = max {
+            if max < min {
+                return Err(ParseError::Syntax);
+            }
+        }
+        let greedy = !self.eat('?');
+        Ok(Some(Quantifier { min, max, greedy }))
     }
 }

@@ -1,7 +1,9 @@
 use super::*;
+use crate::codepointset::Interval;
+use crate::ir::Quantifier;
 use std::test::Fail;
 
-fn to_text(alloc: Global, node: &Node) -> Result<String, AllocError> {
+fn tree_text(alloc: Global, node: &Node) -> Result<String, AllocError> {
     let mut text = String::new(alloc);
     write_node(&mut text, node)?;
     Ok(text)
@@ -10,8 +12,6 @@ fn to_text(alloc: Global, node: &Node) -> Result<String, AllocError> {
 #[cycle(write)]
 fn write_node(text: &mut String, node: &Node) -> Result<(), AllocError> {
     match node {
-        Node::Goal => text.push_str("Goal"),
-        Node::Char { c } => write_code_point(text, *c),
         Node::Cat(nodes) => {
             text.push_str("Cat[")?;
             write_nodes(text, nodes)?;
@@ -24,7 +24,38 @@ fn write_node(text: &mut String, node: &Node) -> Result<(), AllocError> {
             write_node(text, right)?;
             text.push_str(")")
         }
-        _ => text.push_str("?"),
+        Node::CaptureGroup { id, contents, name } => {
+            let name = name.as_ref().map_or("", |n| n.as_str());
+            write!(text, "Group{id}{name}(")?;
+            write_node(text, contents)?;
+            text.push_str(")")
+        }
+        Node::LookaroundAssertion {
+            negate,
+            backwards,
+            start_group,
+            end_group,
+            contents,
+        } => {
+            let not = if *negate { "Not" } else { "" };
+            let way = if *backwards { "Behind" } else { "Ahead" };
+            write!(text, "{not}{way}{start_group}..{end_group}(")?;
+            write_node(text, contents)?;
+            text.push_str(")")
+        }
+        Node::Loop {
+            loopee,
+            quant,
+            enclosed_groups,
+        } => {
+            write_quantifier(text, quant)?;
+            let start = enclosed_groups.start;
+            let end = enclosed_groups.end;
+            write!(text, "{start}..{end}(")?;
+            write_node(text, loopee)?;
+            text.push_str(")")
+        }
+        leaf => write_leaf(text, leaf),
     }
 }
 
@@ -39,51 +70,333 @@ fn write_nodes(text: &mut String, nodes: &[Node]) -> Result<(), AllocError> {
     Ok(())
 }
 
+fn write_leaf(text: &mut String, node: &Node) -> Result<(), AllocError> {
+    match node {
+        Node::Goal => text.push_str("Goal"),
+        Node::Char { c } => write_code_point(text, *c),
+        Node::CharSet(members) => {
+            text.push_str("Set(")?;
+            for c in members {
+                write_code_point(text, *c)?;
+            }
+            text.push_str(")")
+        }
+        Node::Bracket(contents) => {
+            text.push_str(if contents.invert { "[^" } else { "[" })?;
+            write_intervals(text, contents.cps.intervals())?;
+            text.push_str("]")
+        }
+        Node::MatchAny => text.push_str("Any"),
+        Node::MatchAnyExceptLineTerminator => text.push_str("Dot"),
+        Node::Anchor {
+            anchor_type,
+            multiline,
+        } => write!(text, "{anchor_type:?}({multiline})"),
+        Node::WordBoundary {
+            invert,
+            unicode_icase,
+        } => write!(text, "Boundary({invert}, {unicode_icase})"),
+        Node::BackRef { group, icase } => write!(text, "Ref{group}({icase})"),
+        _ => text.push_str("?"),
+    }
+}
+
+fn write_quantifier(text: &mut String, quant: &Quantifier) -> Result<(), AllocError> {
+    let min = quant.min;
+    write!(text, "Loop{{{min},")?;
+    if let Some(max) = quant.max {
+        write!(text, "{max}")?;
+    }
+    text.push_str(if quant.greedy { "}" } else { "}?" })
+}
+
+fn write_intervals(text: &mut String, intervals: &[Interval]) -> Result<(), AllocError> {
+    for interval in intervals {
+        write_code_point(text, interval.first)?;
+        if interval.first < interval.last {
+            text.push_str("-")?;
+            write_code_point(text, interval.last)?;
+        }
+    }
+    Ok(())
+}
+
 fn write_code_point(text: &mut String, c: u32) -> Result<(), AllocError> {
-    if 0x20 <= c && c < 0x7F {
+    if 0x20 < c && c < 0x7F {
         write!(text, "{}", c as u8 as char)
     } else {
-        write!(text, "U+{c:04X}")
+        write!(text, "<{c:X}>")
+    }
+}
+
+fn flags_of(letters: &str) -> Flags {
+    Flags {
+        icase: letters.contains('i'),
+        multiline: letters.contains('m'),
+        dot_all: letters.contains('s'),
+        no_opt: false,
+        unicode: letters.contains('u'),
+        unicode_sets: letters.contains('v'),
+    }
+}
+
+fn parsed(alloc: Global, pattern: &str, letters: &str) -> Result<String, AllocError> {
+    let code_points: Vec<u32> = pattern.chars().map(|c| c as u32).collect(alloc)?;
+    match try_parse(alloc, &code_points, flags_of(letters)) {
+        Ok(re) => tree_text(alloc, &re.node),
+        Err(ParseError::Syntax) => String::from_str(alloc, "Syntax"),
+        Err(ParseError::Memory) => Err(AllocError),
     }
 }
 
 #[test]
 fn patterns_have_these_trees(rt: HostRuntime) -> Result<(), Fail> {
-    let plain = Flags::default();
-    let unicode = Flags {
-        unicode: true,
-        ..plain
-    };
-    let icase = Flags {
-        icase: true,
-        ..plain
-    };
-    for (pattern, flags, wanted) in [
-        ("", plain, "Cat[Cat[], Goal]"),
-        ("a|b", plain, "Cat[Alt(Cat[a], Cat[b]), Goal]"),
-        ("ab|", plain, "Cat[Alt(Cat[a, b], Cat[]), Goal]"),
+    for (pattern, letters, wanted) in [
+        // alternatives
+        ("", "", "Cat[Cat[], Goal]"),
+        ("a|b", "", "Cat[Alt(Cat[a], Cat[b]), Goal]"),
+        ("ab|", "", "Cat[Alt(Cat[a, b], Cat[]), Goal]"),
+        ("a|b|c", "u", "Cat[Alt(Cat[a], Alt(Cat[b], Cat[c])), Goal]"),
+        // assertions
         (
-            "a|b|c",
-            unicode,
-            "Cat[Alt(Cat[a], Alt(Cat[b], Cat[c])), Goal]",
+            "^$",
+            "",
+            "Cat[Cat[StartOfLine(false), EndOfLine(false)], Goal]",
         ),
-        ("é", plain, "Cat[Cat[U+00E9], Goal]"),
-        ("]}{", plain, "Cat[Cat[], }, {], Goal]"),
-        ("a{,1}", plain, "Cat[Cat[a, {, ,, 1, }], Goal]"),
-        ("]", unicode, "Syntax"),
-        ("{", unicode, "Syntax"),
-        ("{1,2}", plain, "Syntax"),
-        ("a)", plain, "Syntax"),
-        ("*", plain, "Syntax"),
-        ("a", icase, "Syntax"),
+        (
+            "^$",
+            "m",
+            "Cat[Cat[StartOfLine(true), EndOfLine(true)], Goal]",
+        ),
+        (
+            r"\b\B",
+            "i",
+            "Cat[Cat[Boundary(false, false), Boundary(true, false)], Goal]",
+        ),
+        (
+            r"\b\B",
+            "iu",
+            "Cat[Cat[Boundary(false, true), Boundary(true, true)], Goal]",
+        ),
+        (
+            "(?=a)(?!b)",
+            "",
+            "Cat[Cat[Ahead0..0(Cat[a]), NotAhead0..0(Cat[b])], Goal]",
+        ),
+        (
+            "(?<=ab(c))(?<!d)",
+            "",
+            "Cat[Cat[Behind0..1(Cat[Group0(Cat[c]), b, a]), NotBehind1..1(Cat[d])], Goal]",
+        ),
+        (
+            "(?<=a(?=bc)d)",
+            "",
+            "Cat[Cat[Behind0..0(Cat[d, Ahead0..0(Cat[b, c]), a])], Goal]",
+        ),
+        (
+            "(?<=(?:ab|c)*)",
+            "",
+            "Cat[Cat[Behind0..0(Cat[Loop{0,}0..0(Alt(Cat[b, a], Cat[c]))])], Goal]",
+        ),
+        // quantifiers
+        (
+            "a*b+?c?",
+            "",
+            "Cat[Cat[Loop{0,}0..0(a), Loop{1,}?0..0(b), Loop{0,1}0..0(c)], Goal]",
+        ),
+        (
+            "a{2}b{2,}?c{2,3}",
+            "u",
+            "Cat[Cat[Loop{2,2}0..0(a), Loop{2,}?0..0(b), Loop{2,3}0..0(c)], Goal]",
+        ),
+        (
+            "a{99999999999999999999}",
+            "",
+            "Cat[Cat[Loop{18446744073709551615,18446744073709551615}0..0(a)], Goal]",
+        ),
+        (
+            "(a)((b)c)*",
+            "",
+            "Cat[Cat[Group0(Cat[a]), Loop{0,}1..3(Group1(Cat[Group2(Cat[b]), c]))], Goal]",
+        ),
+        ("a{,1}", "", "Cat[Cat[a, {, ,, 1, }], Goal]"),
+        // groups and references
+        ("(a)\\1", "", "Cat[Cat[Group0(Cat[a]), Ref1(false)], Goal]"),
+        (
+            "\\2(a)(b)",
+            "i",
+            "Cat[Cat[Ref2(true), Group0(Cat[Set(Aa)]), Group1(Cat[Set(Bb)])], Goal]",
+        ),
+        (
+            "(?:a)(?<n_1>b)\\k<n_1>",
+            "",
+            "Cat[Cat[Cat[a], Group0n_1(Cat[b]), Ref1(false)], Goal]",
+        ),
+        (
+            "\\k<$x>(?:[(](?<$x>c))",
+            "",
+            "Cat[Cat[Ref1(false), Cat[[(], Group0$x(Cat[c])]], Goal]",
+        ),
+        // dots and characters
+        (".", "", "Cat[Cat[Dot], Goal]"),
+        (".", "s", "Cat[Cat[Any], Goal]"),
+        ("é ", "", "Cat[Cat[<E9>, <20>], Goal]"),
+        ("]}{", "", "Cat[Cat[], }, {], Goal]"),
+        (
+            r"\t\n\v\f\r\0a",
+            "",
+            "Cat[Cat[<9>, <A>, <B>, <C>, <D>, <0>, a], Goal]",
+        ),
+        (r"\x41\u0042\.\_\é", "", "Cat[Cat[A, B, ., _, <E9>], Goal]"),
+        (r"\ud83d\ude00", "", "Cat[Cat[<D83D>, <DE00>], Goal]"),
+        (
+            r"\ud83d\ude00\ud83d\u0041",
+            "u",
+            "Cat[Cat[<1F600>, <D83D>, A], Goal]",
+        ),
+        (r"\u{1F600}\u{000041}", "u", "Cat[Cat[<1F600>, A], Goal]"),
+        ("sk1", "i", "Cat[Cat[Set(Ss), Set(Kk), 1], Goal]"),
+        (
+            "sK\u{17F}\u{212A}",
+            "iu",
+            "Cat[Cat[Set(Ss<17F>), Set(Kk<212A>), Set(Ss<17F>), Set(Kk<212A>)], Goal]",
+        ),
+        // classes
+        ("[a-cx]", "", "Cat[Cat[[a-cx]], Goal]"),
+        ("[]", "", "Cat[Cat[[]], Goal]"),
+        ("[^]", "", "Cat[Cat[[^]], Goal]"),
+        ("[^b-da]", "", "Cat[Cat[[^a-d]], Goal]"),
+        (
+            r"[-a][a-][\d-x][a-\d]",
+            "",
+            "Cat[Cat[[-a], [-a], [-0-9x], [-0-9a]], Goal]",
+        ),
+        (r"[\b\]\-\x41\t^]", "", "Cat[Cat[[<8>-<9>-A]-^]], Goal]"),
+        ("[[&&--]", "", "Cat[Cat[[&--[]], Goal]"),
+        (
+            r"[\ud83d\ude00-\u{1F601}]",
+            "u",
+            "Cat[Cat[[<1F600>-<1F601>]], Goal]",
+        ),
+        (r"\d\D", "", "Cat[Cat[[0-9], [^0-9]], Goal]"),
+        (r"\w\W", "", "Cat[Cat[[0-9A-Z_a-z], [^0-9A-Z_a-z]], Goal]"),
+        (
+            r"\w\W",
+            "iu",
+            "Cat[Cat[[0-9A-Z_a-z<17F><212A>], [^0-9A-Z_a-z<17F><212A>]], Goal]",
+        ),
+        (
+            r"\s",
+            "",
+            "Cat[Cat[[<9>-<D><20><A0><1680><2000>-<200A><2028>-<2029><202F><205F><FEFF>]], Goal]",
+        ),
+        (r"[\D]", "", "Cat[Cat[[<0>-/:-<10FFFF>]], Goal]"),
+        (
+            r"[\W]",
+            "iu",
+            "Cat[Cat[[<0>-/:-@[-^`{-<17E><180>-<2129><212B>-<10FFFF>]], Goal]",
+        ),
+        ("[^x]", "i", "Cat[Cat[[^Xx]], Goal]"),
+        ("[r-t]", "iu", "Cat[Cat[[R-Tr-t<17F>]], Goal]"),
+        ("[\u{212A}]", "iu", "Cat[Cat[[Kk<212A>]], Goal]"),
+        ("[\u{212A}]", "i", "Cat[Cat[[<212A>]], Goal]"),
+        (r"[&\-\--]", "v", "Cat[Cat[[&-]], Goal]"),
     ] {
-        let code_points: Vec<u32> = pattern.chars().map(|c| c as u32).collect(rt.alloc())?;
-        let text = match try_parse(rt.alloc(), &code_points, flags) {
-            Ok(re) => to_text(rt.alloc(), &re.node)?,
-            Err(ParseError::Syntax) => String::from_str(rt.alloc(), "Syntax")?,
-            Err(ParseError::Memory) => String::from_str(rt.alloc(), "Memory")?,
-        };
-        assert_eq!(rt; text.as_str(), wanted, "at {pattern}");
+        let text = parsed(rt.alloc(), pattern, letters)?;
+        assert_eq!(rt; text.as_str(), wanted, "at {pattern} with {letters}");
+    }
+    Ok(())
+}
+
+#[test]
+fn patterns_are_refused(rt: HostRuntime) -> Result<(), Fail> {
+    for (pattern, letters) in [
+        // parentheses
+        ("(", ""),
+        (")", ""),
+        ("a)", ""),
+        ("(?a)", ""),
+        ("(?", ""),
+        ("(?=a", ""),
+        ("(?<", ""),
+        ("(?:a", ""),
+        // nothing to repeat
+        ("*", ""),
+        ("a|+", ""),
+        ("a**", ""),
+        ("{1,2}", ""),
+        ("{1}", "u"),
+        ("^*", ""),
+        ("$?", ""),
+        (r"\b+", ""),
+        (r"\B{2}", ""),
+        ("(?=a)*", ""),
+        ("(?!a)?", "u"),
+        ("(?<=a)+", ""),
+        ("(?<!a){1}", ""),
+        ("a{2,1}", ""),
+        // names and references
+        (r"\1", ""),
+        (r"(a)\2", ""),
+        (r"\k<n>", ""),
+        (r"\k", ""),
+        (r"(?<n>a)\k<n", ""),
+        (r"(?<n>a)\k<m>", ""),
+        ("(?<n>a)(?<n>b)", ""),
+        ("(?<1>a)", ""),
+        ("(?<>a)", ""),
+        ("(?<é>a)", ""),
+        // characters
+        ("]", "u"),
+        ("}", "u"),
+        ("{", "u"),
+        ("a{", "u"),
+        (r"\", ""),
+        (r"\00", ""),
+        (r"\08", ""),
+        (r"\x4", ""),
+        (r"\xg0", ""),
+        (r"\u004", ""),
+        (r"\u{41}", ""),
+        (r"\u{}", "u"),
+        (r"\u{110000}", "u"),
+        (r"\u{41", "u"),
+        (r"\u{FFFFFFFFF}", "u"),
+        (r"\c", ""),
+        (r"\p", "u"),
+        (r"\a", ""),
+        (r"\9", ""),
+        // classes
+        ("[", ""),
+        ("[a", ""),
+        ("[a-", ""),
+        ("[^", ""),
+        ("[b-a]", ""),
+        (r"[\1]", ""),
+        (r"[\B]", ""),
+        (r"[\k]", ""),
+        (r"[\", ""),
+        ("[[]", "v"),
+        ("[a&&b]", "v"),
+        ("[a--b]", "v"),
+        ("[--a]", "v"),
+    ] {
+        let text = parsed(rt.alloc(), pattern, letters)?;
+        assert_eq!(rt; text.as_str(), "Syntax", "at {pattern} with {letters}");
+    }
+    Ok(())
+}
+
+#[test]
+fn groups_have_a_limit(rt: HostRuntime) -> Result<(), Fail> {
+    for (groups, wanted) in [(65535, true), (65536, false)] {
+        let mut pattern = Vec::new(rt.alloc());
+        for _i in 0..groups {
+            pattern.push('(' as u32)?;
+            pattern.push(')' as u32)?;
+        }
+        let result = try_parse(rt.alloc(), &pattern, Flags::default());
+        assert_eq!(rt; result.is_ok(), wanted, "{groups} groups");
     }
     Ok(())
 }

@@ -1,0 +1,117 @@
+//! Groups: how one opens, and the names of all of them.
+
+ghost use Rattle.std.specs.Prelude.{◌≡◌, ◌<◌, ◌≤◌, length, IfOk, OnSome, IsSome};
+
+use crate::escapes::name;
+use crate::parse::ParseError;
+use crate::reader::Reader;
+use std::alloc::Global;
+use std::collections::BTreeMap;
+
+/// How a parenthesis opens.
+#[derive(Clone, Copy)]
+pub(crate) enum Opening {
+    /// `(`
+    Capture,
+    /// `(?<`, before a name
+    Named,
+    /// `(?:`
+    Plain,
+    /// `(?=`, `(?!`, `(?<=` or `(?<!`
+    Look { negate: bool, backwards: bool },
+}
+
+/// Reads an opening parenthesis with what belongs to it, if one stands here.
+pub(crate) fn read_opening(reader: &mut Reader) -> Result<Option<Opening>, ParseError>
+    ensures moves { length reader.new.rest.now ≤ length reader.old.rest.now }
+    ensures read { IfOk result (λ found. OnSome found (length reader.new.rest.now < length reader.old.rest.now)) }
+{
+    if reader.eat('(') {
+        Ok(Some(opened(reader)?))
+    } else {
+        Ok(None)
+    }
+}
+
+// What stands behind an opening parenthesis.
+fn opened(reader: &mut Reader) -> Result<Opening, ParseError>
+    ensures moves { length reader.new.rest.now ≤ length reader.old.rest.now }
+{
+    if !reader.eat('?') {
+        return Ok(Opening::Capture);
+    }
+    if reader.eat(':') {
+        return Ok(Opening::Plain);
+    }
+    let backwards = reader.eat('<');
+    let negate = reader.eat('!');
+    if negate || reader.eat('=') {
+        Ok(Opening::Look { negate, backwards })
+    } else if backwards {
+        Ok(Opening::Named)
+    } else {
+        Err(ParseError::Syntax)
+    }
+}
+
+/// The numbers of the groups that have a name, by it. Groups count from 1.
+pub(crate) type GroupNumbers = BTreeMap<String, u32>;
+
+/// Finds the names of a whole pattern, since a reference may stand before its group. A name that stands twice is
+/// refused.
+pub(crate) fn group_numbers(alloc: Global, pattern: &[u32]) -> Result<GroupNumbers, ParseError> {
+    let mut numbers = BTreeMap::new(alloc);
+    let mut reader = Reader { rest: pattern };
+    let mut groups = 0u32;
+    let mut in_class = false;
+    while let Some(c) = next_unescaped(&mut reader) {
+        match char::from_u32(c) {
+            Some('[') => in_class = true,
+            Some(']') => in_class = false,
+            Some('(') if !in_class => groups = note_group(
+                alloc,
+                &mut numbers,
+                &mut reader,
+                groups,
+            )?,
+            _ => {}
+        }
+    }
+    Ok(numbers)
+}
+
+// The next code point; of an escape, the backslash.
+fn next_unescaped(reader: &mut Reader) -> Option<u32>
+    ensures moves { length reader.new.rest.now ≤ length reader.old.rest.now }
+    ensures read { IsSome result → length reader.new.rest.now < length reader.old.rest.now }
+{
+    let c = reader.next()?;
+    if c == '\\' as u32 {
+        let _ = reader.next();
+    }
+    Some(c)
+}
+
+// Notes the name of a group that has one, behind its parenthesis, and gives how many groups there are then.
+fn note_group(
+    alloc: Global,
+    numbers: &mut GroupNumbers,
+    reader: &mut Reader,
+    groups: u32,
+) -> Result<u32, ParseError>
+    ensures moves { length reader.new.rest.now ≤ length reader.old.rest.now }
+{
+    match opened(reader)? {
+        Opening::Capture => Ok(groups.saturating_add(1)),
+        Opening::Named => {
+            let group = groups.saturating_add(1);
+            let name = name(alloc, reader)?;
+            if numbers.contains_key(name.as_str()) {
+                return Err(ParseError::Syntax);
+            }
+            numbers.insert(name, group)?;
+            Ok(group)
+        }
+        _ => Ok(groups),
+    }
+}

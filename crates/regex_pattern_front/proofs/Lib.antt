@@ -3,3 +3,5 @@ pub mod AddedBytes
 pub mod IntervalLemmas
 pub mod NodeLemmas
 pub mod OptimizedLemmas
+pub mod PartLemmas
+pub mod LeafLemmas

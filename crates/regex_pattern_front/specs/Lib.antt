@@ -3,3 +3,4 @@ pub mod TreeOf
 pub mod ByteSets
 pub mod Searching
 pub mod Optimized
+pub mod Parts

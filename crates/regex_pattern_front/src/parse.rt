@@ -1,6 +1,9 @@
 //! From the text of a pattern to its tree.
 
-ghost use Rattle.std.specs.Prelude.{◌≡◌, ◌<◌, ◌≤◌, length, IfOk, OnOk};
+ghost use Rattle.std.specs.Prelude.{◌≡◌, ℕ, ◌<◌, ◌≤◌, length, IfOk, OnOk, IsTrue};
+ghost use Rattle.regex_meaning.specs.WellFormed.{is_well_formed};
+ghost use Rattle.regex_pattern_front.specs.TreeOf.{node_of, tree_of};
+ghost use Rattle.regex_pattern_front.specs.Parts.{IsPart, AreParts, IsLeaf};
 ghost use Rattle.regex_pattern_front.specs.declared.parse.ParseError.TheVariants.{Memory};
 
 use crate::classes::{ClassEscape, class};
@@ -10,8 +13,9 @@ use crate::folding::expand_code_point;
 use crate::groups::{GroupNumbers, Opening, group_numbers, read_opening};
 use crate::ir::{AnchorType, Node, Regex};
 use crate::reader::Reader;
-use crate::types::CaptureGroupID;
+use crate::types::{BracketContents, CaptureGroupID};
 use std::alloc::{AllocError, AllocFailed, Global};
+use std::ops::Range;
 
 /// Why there is no tree of a pattern.
 #[derive(Clone, Copy, Debug, PartialEq, Eq)]
@@ -44,6 +48,7 @@ impl<T: Drop> From<AllocFailed<T>> for ParseError {
 /// stand in reverse order inside a lookbehind (ECMA-262, 21.2.1 and 21.2.2).
 pub fn try_parse(alloc: Global, pattern: &[u32], flags: Flags) -> Result<Regex, ParseError>
     ensures flags { IfOk result (λ re. re.flags ≡ flags) }
+    ensures well_formed { IfOk result (λ re. IsTrue (is_well_formed (tree_of re).root)) }
 {
     let mut parser = Parser {
         alloc,
@@ -86,6 +91,8 @@ impl Parser<'_> {
     #[cycle(parse)]
     fn disjunction(&mut self, behind: bool) -> Result<Node, ParseError>
         ensures moves { length self.new.reader.rest.now ≤ length self.old.reader.rest.now }
+        ensures part { IfOk result (λ n. IsPart self.old.groups self.new.groups self.new.references (node_of n)) }
+        ensures references { OnOk result (self.old.references ≤ self.new.references) }
     {
         let first = self.alternative(behind)?;
         let mut alternatives = vec![in self.alloc; first]?;
@@ -100,16 +107,15 @@ impl Parser<'_> {
     #[cycle(parse)]
     fn alternative(&mut self, behind: bool) -> Result<Node, ParseError>
         ensures moves { length self.new.reader.rest.now ≤ length self.old.reader.rest.now }
+        ensures part { IfOk result (λ n. IsPart self.old.groups self.new.groups self.new.references (node_of n)) }
+        ensures references { OnOk result (self.old.references ≤ self.new.references) }
     {
         let mut terms = Vec::new(self.alloc);
         while !self.is_at_end() {
             let term = self.term(behind)?;
             terms.push(term)?;
         }
-        if behind {
-            terms.reverse();
-        }
-        Ok(Node::Cat(terms))
+        Ok(cat(terms, behind))
     }
 
     fn is_at_end(&self) -> bool {
@@ -120,34 +126,50 @@ impl Parser<'_> {
     fn term(&mut self, behind: bool) -> Result<Node, ParseError>
         ensures read { OnOk result (length self.new.reader.rest.now < length self.old.reader.rest.now) }
         ensures moves { length self.new.reader.rest.now ≤ length self.old.reader.rest.now }
+        ensures part { IfOk result (λ n. IsPart self.old.groups self.new.groups self.new.references (node_of n)) }
+        ensures references { OnOk result (self.old.references ≤ self.new.references) }
     {
-        let start_group = self.groups;
         let Some(opening) = read_opening(&mut self.reader)? else {
             return self.simple_term();
         };
         if let Opening::Look { negate, backwards } = opening {
-            let contents = self.enclosed(backwards)?;
-            return Ok(Node::LookaroundAssertion {
-                negate,
-                backwards,
-                start_group,
-                end_group: self.groups,
-                contents: Box::new(self.alloc, contents)?,
-            });
+            return self.lookaround(negate, backwards);
         }
+        let start = self.groups;
         let atom = self.group(opening, behind)?;
-        self.quantified(atom, start_group)
+        let end = self.groups;
+        quantified(self.alloc, &mut self.reader, atom, start..end)
+    }
+
+    // A lookaround, behind what opens it.
+    #[cycle(parse)]
+    fn lookaround(&mut self, negate: bool, backwards: bool) -> Result<Node, ParseError>
+        ensures moves { length self.new.reader.rest.now ≤ length self.old.reader.rest.now }
+        ensures part { IfOk result (λ n. IsPart self.old.groups self.new.groups self.new.references (node_of n)) }
+        ensures references { OnOk result (self.old.references ≤ self.new.references) }
+    {
+        let start_group = self.groups;
+        let contents = self.enclosed(backwards)?;
+        Ok(Node::LookaroundAssertion {
+            negate,
+            backwards,
+            start_group,
+            end_group: self.groups,
+            contents: Box::new(self.alloc, contents)?,
+        })
     }
 
     // A group, behind what opens it.
     #[cycle(parse)]
     fn group(&mut self, opening: Opening, behind: bool) -> Result<Node, ParseError>
         ensures moves { length self.new.reader.rest.now ≤ length self.old.reader.rest.now }
+        ensures part { IfOk result (λ n. IsPart self.old.groups self.new.groups self.new.references (node_of n)) }
+        ensures references { OnOk result (self.old.references ≤ self.new.references) }
     {
         if let Opening::Plain = opening {
             return self.enclosed(behind);
         }
-        let name = self.name_of(opening)?;
+        let name = group_name(self.alloc, &mut self.reader, opening)?;
         let id = self.groups;
         if id == CaptureGroupID::MAX {
             return Err(ParseError::Syntax);
@@ -165,6 +187,8 @@ impl Parser<'_> {
     #[cycle(parse)]
     fn enclosed(&mut self, behind: bool) -> Result<Node, ParseError>
         ensures moves { length self.new.reader.rest.now ≤ length self.old.reader.rest.now }
+        ensures part { IfOk result (λ n. IsPart self.old.groups self.new.groups self.new.references (node_of n)) }
+        ensures references { OnOk result (self.old.references ≤ self.new.references) }
     {
         let contents = self.disjunction(behind)?;
         if self.reader.eat(')') {
@@ -174,45 +198,27 @@ impl Parser<'_> {
         }
     }
 
-    fn name_of(&mut self, opening: Opening) -> Result<Option<String>, ParseError>
-        ensures moves { length self.new.reader.rest.now ≤ length self.old.reader.rest.now }
-    {
-        match opening {
-            Opening::Named => Ok(Some(name(self.alloc, &mut self.reader)?)),
-            _ => Ok(None),
-        }
-    }
-
-    // The atom, or a loop over it where a quantifier follows. Its groups begin with this one.
-    fn quantified(&mut self, atom: Node, start_group: CaptureGroupID) -> Result<Node, ParseError>
-        ensures moves { length self.new.reader.rest.now ≤ length self.old.reader.rest.now }
-    {
-        match self.reader.quantifier()? {
-            None => Ok(atom),
-            Some(quant) => Ok(Node::Loop {
-                loopee: Box::new(self.alloc, atom)?,
-                quant,
-                enclosed_groups: start_group..self.groups,
-            }),
-        }
-    }
-
     // A term that is no parenthesis.
     fn simple_term(&mut self) -> Result<Node, ParseError>
         ensures read { OnOk result (length self.new.reader.rest.now < length self.old.reader.rest.now) }
         ensures moves { length self.new.reader.rest.now ≤ length self.old.reader.rest.now }
+        ensures part { IfOk result (λ n. IsPart self.old.groups self.new.groups self.new.references (node_of n)) }
+        ensures references { OnOk result (self.old.references ≤ self.new.references) }
     {
         let Leaf { node, is_atom } = self.leaf()?;
-        if is_atom {
-            self.quantified(node, self.groups)
-        } else {
-            Ok(node)
+        if !is_atom {
+            return Ok(node);
         }
+        let group = self.groups;
+        quantified(self.alloc, &mut self.reader, node, group..group)
     }
 
     fn leaf(&mut self) -> Result<Leaf, ParseError>
         ensures read { OnOk result (length self.new.reader.rest.now < length self.old.reader.rest.now) }
         ensures moves { length self.new.reader.rest.now ≤ length self.old.reader.rest.now }
+        ensures leaf { IfOk result (λ l. IsLeaf self.new.references (node_of l.node)) }
+        ensures groups { self.new.groups ≡ self.old.groups }
+        ensures references { self.old.references ≤ self.new.references }
     {
         let unicode = self.flags.unicode;
         if !unicode && self.reader.braces().is_some() {
@@ -223,10 +229,10 @@ impl Parser<'_> {
             Some('^') => Ok(self.anchor(AnchorType::StartOfLine)),
             Some('$') => Ok(self.anchor(AnchorType::EndOfLine)),
             Some('\\') => self.escape(),
-            Some('.') => Ok(atom(self.dot())),
+            Some('.') => Ok(self.dot()),
             Some('[') => {
                 let contents = class(self.alloc, &mut self.reader, self.flags)?;
-                Ok(atom(Node::Bracket(contents)))
+                Ok(bracket(contents))
             }
             Some('*' | '+' | '?' | '(' | ')' | '|') => Err(ParseError::Syntax),
             Some(']' | '{' | '}') if unicode => Err(ParseError::Syntax),
@@ -234,51 +240,60 @@ impl Parser<'_> {
         }
     }
 
-    fn anchor(&self, anchor_type: AnchorType) -> Leaf {
-        assertion(Node::Anchor {
-            anchor_type,
-            multiline: self.flags.multiline,
-        })
+    fn anchor(&self, anchor_type: AnchorType) -> Leaf
+        ensures { (greatest : ℕ) → IsLeaf greatest (node_of result.node) }
+    {
+        Leaf {
+            node: Node::Anchor {
+                anchor_type,
+                multiline: self.flags.multiline,
+            },
+            is_atom: false,
+        }
     }
 
-    fn dot(&self) -> Node {
+    fn dot(&self) -> Leaf
+        ensures { (greatest : ℕ) → IsLeaf greatest (node_of result.node) }
+    {
         if self.flags.dot_all {
-            Node::MatchAny
+            atom(Node::MatchAny)
         } else {
-            Node::MatchAnyExceptLineTerminator
+            atom(Node::MatchAnyExceptLineTerminator)
         }
     }
 
     // With `icase` a character of several spellings is the set of them.
-    fn character(&self, c: u32) -> Result<Leaf, ParseError> {
+    fn character(&self, c: u32) -> Result<Leaf, ParseError>
+        ensures { IfOk result (λ l. (greatest : ℕ) → IsLeaf greatest (node_of l.node)) }
+    {
         let members = expand_code_point(self.alloc, c, self.flags.icase, self.flags.unicode)?;
-        Ok(atom(if members.len() > 1 {
-            Node::CharSet(members)
+        if members.len() > 1 {
+            Ok(atom(Node::CharSet(members)))
         } else {
-            Node::Char { c }
-        }))
+            Ok(atom(Node::Char { c }))
+        }
     }
 
     // What follows a backslash.
     fn escape(&mut self) -> Result<Leaf, ParseError>
         ensures moves { length self.new.reader.rest.now ≤ length self.old.reader.rest.now }
+        ensures leaf { IfOk result (λ l. IsLeaf self.new.references (node_of l.node)) }
+        ensures groups { self.new.groups ≡ self.old.groups }
+        ensures references { self.old.references ≤ self.new.references }
     {
         let letter = self.reader.peek();
         if let Some(escape) = ClassEscape::of(letter) {
             let _ = self.reader.next();
             let contents = escape.contents(self.alloc, self.flags)?;
-            return Ok(atom(Node::Bracket(contents)));
+            return Ok(bracket(contents));
         }
         match letter {
             Some('b' | 'B') => {
                 let _ = self.reader.next();
-                Ok(assertion(Node::WordBoundary {
-                    invert: letter == Some('B'),
-                    unicode_icase: self.flags.icase && self.flags.unicode,
-                }))
+                Ok(self.boundary(letter == Some('B')))
             }
             Some('k' | '1'..='9') => {
-                let group = self.group_number()?;
+                let group = group_number(self.alloc, &mut self.reader, &self.numbers)?;
                 Ok(self.reference(group))
             }
             _ => {
@@ -288,33 +303,24 @@ impl Parser<'_> {
         }
     }
 
-    // The group of `\1` or `\k<name>`, behind the backslash.
-    fn group_number(&mut self) -> Result<u32, ParseError>
-        ensures moves { length self.new.reader.rest.now ≤ length self.old.reader.rest.now }
+    fn boundary(&self, invert: bool) -> Leaf
+        ensures { (greatest : ℕ) → IsLeaf greatest (node_of result.node) }
     {
-        let number = if self.reader.eat('k') {
-            self.named_group()?
-        } else {
-            self.reader.number().and_then(|n| u32::try_from(n).ok())
-        };
-        match number {
-            Some(number) if number > 0 => Ok(number),
-            _ => Err(ParseError::Syntax),
+        Leaf {
+            node: Node::WordBoundary {
+                invert,
+                unicode_icase: self.flags.icase && self.flags.unicode,
+            },
+            is_atom: false,
         }
-    }
-
-    fn named_group(&mut self) -> Result<Option<u32>, ParseError>
-        ensures moves { length self.new.reader.rest.now ≤ length self.old.reader.rest.now }
-    {
-        if !self.reader.eat('<') {
-            return Err(ParseError::Syntax);
-        }
-        let name = name(self.alloc, &mut self.reader)?;
-        Ok(self.numbers.get(name.as_str()).copied())
     }
 
     fn reference(&mut self, group: u32) -> Leaf
+        requires { 0 < group }
+        ensures leaf { IsLeaf self.new.references (node_of result.node) }
         ensures moves { self.new.reader ≡ self.old.reader }
+        ensures groups { self.new.groups ≡ self.old.groups }
+        ensures references { self.old.references ≤ self.new.references }
     {
         self.references = self.references.max(group);
         atom(Node::BackRef {
@@ -324,22 +330,103 @@ impl Parser<'_> {
     }
 }
 
-fn atom(node: Node) -> Leaf {
+fn atom(node: Node) -> Leaf
+    ensures { result.node ≡ node }
+{
     Leaf {
         node,
         is_atom: true,
     }
 }
 
-fn assertion(node: Node) -> Leaf {
-    Leaf {
-        node,
-        is_atom: false,
+fn bracket(contents: BracketContents) -> Leaf
+    ensures { (greatest : ℕ) → IsLeaf greatest (node_of result.node) }
+{
+    atom(Node::Bracket(contents))
+}
+
+// The atom, which has these groups inside, or a loop over it where a quantifier follows.
+fn quantified(
+    alloc: Global,
+    reader: &mut Reader,
+    atom: Node,
+    groups: Range<CaptureGroupID>,
+) -> Result<Node, ParseError>
+    ensures moves { length reader.new.rest.now ≤ length reader.old.rest.now }
+    ensures part { IfOk result (λ n. (greatest : ℕ) → IsPart groups.start groups.end greatest (node_of atom) → IsPart groups.start groups.end greatest (node_of n)) }
+{
+    match reader.quantifier()? {
+        None => Ok(atom),
+        Some(quant) => Ok(Node::Loop {
+            loopee: Box::new(alloc, atom)?,
+            quant,
+            enclosed_groups: groups,
+        }),
     }
 }
 
+// The name of a group that has one, behind what opens it.
+fn group_name(
+    alloc: Global,
+    reader: &mut Reader,
+    opening: Opening,
+) -> Result<Option<String>, ParseError>
+    ensures moves { length reader.new.rest.now ≤ length reader.old.rest.now }
+{
+    match opening {
+        Opening::Named => Ok(Some(name(alloc, reader)?)),
+        _ => Ok(None),
+    }
+}
+
+// The group of `\1` or `\k<name>`, behind the backslash.
+fn group_number(
+    alloc: Global,
+    reader: &mut Reader,
+    numbers: &GroupNumbers,
+) -> Result<u32, ParseError>
+    ensures moves { length reader.new.rest.now ≤ length reader.old.rest.now }
+    ensures counts_from_one { IfOk result (λ group. 0 < group) }
+{
+    let number = if reader.eat('k') {
+        named_group(alloc, reader, numbers)?
+    } else {
+        reader.number().and_then(|n| u32::try_from(n).ok())
+    };
+    match number {
+        Some(number) if number > 0 => Ok(number),
+        _ => Err(ParseError::Syntax),
+    }
+}
+
+fn named_group(
+    alloc: Global,
+    reader: &mut Reader,
+    numbers: &GroupNumbers,
+) -> Result<Option<u32>, ParseError>
+    ensures moves { length reader.new.rest.now ≤ length reader.old.rest.now }
+{
+    if !reader.eat('<') {
+        return Err(ParseError::Syntax);
+    }
+    let name = name(alloc, reader)?;
+    Ok(numbers.get(name.as_str()).copied())
+}
+
+// The terms one after another.
+fn cat(mut terms: Vec<Node>, behind: bool) -> Node
+    ensures { (first end greatest : ℕ) → AreParts first end greatest terms.items → IsPart first end greatest (node_of result) }
+{
+    if behind {
+        terms.reverse();
+    }
+    Node::Cat(terms)
+}
+
 // The alternatives, nested to the right; an empty list is the empty pattern.
-fn join(alloc: Global, mut alternatives: Vec<Node>) -> Result<Node, AllocError> {
+fn join(alloc: Global, mut alternatives: Vec<Node>) -> Result<Node, AllocError>
+    ensures { IfOk result (λ n. (first end greatest : ℕ) → AreParts first end greatest alternatives.items → IsPart first end greatest (node_of n)) }
+{
     let Some(mut joined) = alternatives.pop() else {
         return Ok(Node::Empty);
     };

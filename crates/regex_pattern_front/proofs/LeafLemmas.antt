@@ -1,0 +1,86 @@
+-- Nodes without groups are sound parts of a pattern.
+use Rattle.std.proofs.Common.{◌≡◌, ℕ, ◌+◌, ◌<◌, ◌≤◌, Bool, true, false, ◌&&◌, List, [], ◌∷◌, ◌++◌, length, refl, arith, Vec, Global}
+use Rattle.std.specs.Prelude.{if◌then◌else◌, nat_le, ◌==◌}
+use Rattle.std.proofs.lemmas.Bool.{le-leb}
+use Rattle.regex_meaning.specs.Text.{expand_code_point, fold_code_point, all_with_fold, nonascii_with_fold, to_uppercase, to_lowercase}
+use Rattle.regex_pattern_front.specs.TreeOf.{node_of}
+use Rattle.regex_pattern_front.specs.Parts.{IsPart, AreParts, IsLeaf}
+use Rattle.regex_pattern_front.specs.declared.ir.AnchorType.{AnchorType}
+use Rattle.regex_pattern_front.specs.declared.ir.Node.TheVariants.{Empty, Char, CharSet, Bracket, MatchAny, MatchAnyExceptLineTerminator, Anchor, WordBoundary, BackRef}
+use Rattle.regex_pattern_front.specs.declared.types.BracketContents.{BracketContents}
+use Rattle.regex_pattern_front.proofs.PartLemmas.{part-leaf}
+
+module _ (greatest : ℕ) where
+  leaf-Empty : IsLeaf greatest (node_of Empty)
+  unfolding node_of
+  leaf-Empty = record { goals = refl; ids = refl; sound = refl }
+
+  pub leaf-Char : (c : ℕ) → IsLeaf greatest (node_of (Char c))
+  unfolding node_of
+  leaf-Char c = record { goals = refl; ids = refl; sound = refl }
+
+  pub leaf-CharSet : (members : Vec ℕ Global) → length members.items ≤ 4 → IsLeaf greatest (node_of (CharSet members))
+  unfolding node_of
+  leaf-CharSet members few = record { goals = refl; ids = refl; sound = le-leb (length members.items) 4 few }
+
+  pub leaf-Bracket : (contents : BracketContents) → IsLeaf greatest (node_of (Bracket contents))
+  unfolding node_of
+  leaf-Bracket contents = record { goals = refl; ids = refl; sound = refl }
+
+  pub leaf-MatchAny : IsLeaf greatest (node_of MatchAny)
+  unfolding node_of
+  leaf-MatchAny = record { goals = refl; ids = refl; sound = refl }
+
+  pub leaf-MatchAnyExceptLineTerminator : IsLeaf greatest (node_of MatchAnyExceptLineTerminator)
+  unfolding node_of
+  leaf-MatchAnyExceptLineTerminator = record { goals = refl; ids = refl; sound = refl }
+
+  pub leaf-Anchor : (type : AnchorType) (multiline : Bool) → IsLeaf greatest (node_of (Anchor type multiline))
+  unfolding node_of
+  leaf-Anchor type multiline = record { goals = refl; ids = refl; sound = refl }
+
+  pub leaf-WordBoundary : (invert unicode_icase : Bool) → IsLeaf greatest (node_of (WordBoundary invert unicode_icase))
+  unfolding node_of
+  leaf-WordBoundary invert unicode_icase = record { goals = refl; ids = refl; sound = refl }
+
+  pub leaf-BackRef : (group : ℕ) (icase : Bool) → 0 < group → group ≤ greatest → IsLeaf greatest (node_of (BackRef group icase))
+  unfolding node_of
+  leaf-BackRef group icase h k = record {
+    goals = refl;
+    ids = refl;
+    sound = sound (nat_le 1 group) (nat_le group greatest) (le-leb 1 group (omega arith)) (le-leb group greatest k);
+  }
+    where
+      sound : (a b : Bool) → a ≡ true → b ≡ true → (true && (a && b) && true && true && true && true) ≡ true
+      sound true true h k = refl
+      sound true false h k = k
+      sound false b h k = grind arith
+
+  -- no alternatives are the empty pattern
+  pub part-Empty : (first end : ℕ) → AreParts first end greatest [] → IsPart first end greatest (node_of Empty)
+  part-Empty first end a =
+      let same : end ≡ first = omega (arith, a.count) in
+      rw same (part-leaf first greatest (node_of Empty) leaf-Empty)
+
+-- a code point has at most three spellings
+pub few_members : (c : ℕ) (icase unicode : Bool) → length (expand_code_point c icase unicode) ≤ 4
+unfolding expand_code_point
+few_members c false unicode = omega arith
+few_members c true unicode = few_with_fold unicode (fold_code_point unicode c)
+  where
+    cases : (a b d : Bool) (x y z u v : ℕ) → length ((if a then x ∷ [] else y ∷ z ∷ []) ++ (if b then u ∷ [] else if d then v ∷ [] else [])) ≤ 4
+    cases true true d x y z u v = omega arith
+    cases true false true x y z u v = omega arith
+    cases true false false x y z u v = omega arith
+    cases false true d x y z u v = omega arith
+    cases false false true x y z u v = omega arith
+    cases false false false x y z u v = omega arith
+
+    plain : (a : Bool) (x y z : ℕ) → length ((if a then x ∷ [] else y ∷ z ∷ []) ++ []) ≤ 4
+    plain true x y z = omega arith
+    plain false x y z = omega arith
+
+    few_with_fold : (unicode : Bool) (folded : ℕ) → length (all_with_fold unicode folded) ≤ 4
+    few_with_fold false folded = plain (to_uppercase folded == to_lowercase folded) folded (to_uppercase folded) (to_lowercase folded)
+    few_with_fold true folded =
+        cases (to_uppercase folded == to_lowercase folded) (folded == 115) (folded == 107) folded (to_uppercase folded) (to_lowercase folded) 0x017F 0x212A

@@ -6,3 +6,6 @@
 
 pub mod api;
 pub mod program;
+
+#[cfg(test)]
+mod tests;

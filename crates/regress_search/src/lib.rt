@@ -3,3 +3,5 @@
 
 pub mod exec;
 pub mod pikevm;
+#[cfg(test)]
+mod tests;

@@ -1,0 +1,141 @@
+//! What the program writes and answers, and the flags of letters.
+
+use crate::api::{Flags, Regex};
+use crate::program::run;
+use std::alloc::Global;
+use std::io;
+use std::io::Write;
+use std::test::Fail;
+
+// The words as the program is given them.
+fn words_of(alloc: Global, texts: &[Option<&str>]) -> Result<Vec<Option<String>>, Fail> {
+    let mut words = Vec::new(alloc);
+    for text in texts {
+        match *text {
+            Some(text) => words.push(Some(String::from_str(alloc, text)?))?,
+            None => words.push(None)?,
+        }
+    }
+    Ok(words)
+}
+
+#[test]
+fn searches_print_their_matches(rt: HostRuntime) -> Result<(), Fail> {
+    let alloc = rt.alloc();
+    let refused = "pattern refused\n";
+    for (pattern, text, printed, told, status) in [
+        ("a|ab", "abc", "0..1\n", "", 0),
+        ("ab|a", "aab", "0..1\n1..3\n", "", 0),
+        ("", "ab", "0..0\n1..1\n2..2\n", "", 0),
+        ("", "", "0..0\n", "", 0),
+        ("é", "aé", "1..3\n", "", 0),
+        ("z", "abc", "", "", 1),
+        ("a*", "a", "", refused, 2),
+        ("(", "", "", refused, 2),
+    ] {
+        let words = words_of(alloc, &[Some(pattern), Some(""), Some(text)])?;
+        let mut out = Vec::new(alloc);
+        let mut err = Vec::new(alloc);
+        let got = run(alloc, &words, &mut out, &mut err);
+        assert_eq!(rt; got, status, "the status of {pattern}");
+        assert_eq!(rt; out.as_slice(), printed.as_bytes(), "the output of {pattern}");
+        assert_eq!(rt; err.as_slice(), told.as_bytes(), "the error of {pattern}");
+    }
+    Ok(())
+}
+
+#[test]
+fn other_words_are_refused(rt: HostRuntime) -> Result<(), Fail> {
+    let alloc = rt.alloc();
+    let usage = "usage: regress-tool PATTERN FLAGS TEXT\n";
+    let one = words_of(alloc, &[Some("a")])?;
+    let four = words_of(alloc, &[Some("a"), Some(""), Some("a"), Some("a")])?;
+    let no_text = words_of(alloc, &[Some("a"), Some(""), None])?;
+    for (row, words) in [("one", &one), ("four", &four), ("no text", &no_text)] {
+        let mut out = Vec::new(alloc);
+        let mut err = Vec::new(alloc);
+        let got = run(alloc, words, &mut out, &mut err);
+        assert_eq!(rt; got, 2, "the status of {row}");
+        assert!(rt; out.is_empty(), "the output of {row}");
+        assert_eq!(rt; err.as_slice(), usage.as_bytes(), "the error of {row}");
+    }
+    Ok(())
+}
+
+// Takes so many writes, fails the next one, and counts all that are tried.
+#[derive(Drop)]
+struct Failing {
+    taken: Vec<u8>,
+    good: usize,
+    tried: usize,
+}
+
+impl Write for Failing {
+    fn write(&mut self, buf: &[u8]) -> io::Result<usize> {
+        self.tried = self.tried.saturating_add(1);
+        if self.good < self.tried {
+            return Err(io::Error::from(io::ErrorKind::BrokenPipe));
+        }
+        self.taken.extend_from_slice(buf)?;
+        Ok(buf.len())
+    }
+
+    fn flush(&mut self) -> io::Result<()> {
+        Ok(())
+    }
+}
+
+#[test]
+fn a_failed_write_ends_the_output(rt: HostRuntime) -> Result<(), Fail> {
+    let alloc = rt.alloc();
+    let words = words_of(alloc, &[Some("a"), Some(""), Some("aaa")])?;
+    for good in [0, 1, 2, 5] {
+        let mut out = Failing {
+            taken: Vec::new(alloc),
+            good,
+            tried: 0,
+        };
+        let mut err = Vec::new(alloc);
+        assert_eq!(rt; run(alloc, &words, &mut out, &mut err), 2, "after {good}");
+        assert_eq!(rt; out.tried, good.saturating_add(1), "tried after {good}");
+        assert!(rt; b"0..1\n1..2\n2..3\n".starts_with(&out.taken), "after {good}");
+        assert!(rt; err.is_empty(), "the error after {good}");
+    }
+    Ok(())
+}
+
+#[test]
+fn a_failed_complaint_is_a_refusal(rt: HostRuntime) -> Result<(), Fail> {
+    let alloc = rt.alloc();
+    let words = words_of(alloc, &[Some("("), Some(""), Some("")])?;
+    let mut out = Vec::new(alloc);
+    let mut err = Failing {
+        taken: Vec::new(alloc),
+        good: 0,
+        tried: 0,
+    };
+    assert_eq!(rt; run(alloc, &words, &mut out, &mut err), 2);
+    assert!(rt; out.is_empty());
+    assert_eq!(rt; err.tried, 1);
+    Ok(())
+}
+
+#[test]
+fn letters_are_flags(rt: HostRuntime) {
+    let wanted = Flags {
+        icase: true,
+        multiline: true,
+        unicode: true,
+        ..Flags::default()
+    };
+    assert_eq!(rt; Flags::from("gimuy"), wanted);
+    assert_eq!(rt; Flags::from(""), Flags::default());
+}
+
+#[test]
+fn patterns_are_compiled(rt: HostRuntime) -> Result<(), Fail> {
+    let re = Regex::new(rt.alloc(), "b")?;
+    let found = re.find_iter("abc")?.next().ok_or("no match")??;
+    assert_eq!(rt; found.range, 1..2);
+    Ok(())
+}

@@ -6,6 +6,5 @@
 
 pub mod api;
 pub mod program;
-
 #[cfg(test)]
 mod tests;

@@ -38,7 +38,11 @@ fn searches_print_their_matches(rt: HostRuntime) -> Result<(), Fail> {
         let mut err = Vec::new(alloc);
         let got = run(alloc, &words, &mut out, &mut err);
         assert_eq!(rt; got, status, "the status of {pattern}");
-        assert_eq!(rt; out.as_slice(), printed.as_bytes(), "the output of {pattern}");
+        assert_eq!(rt;
+            out.as_slice(),
+            printed.as_bytes(),
+            "the output of {pattern}"
+        );
         assert_eq!(rt; err.as_slice(), told.as_bytes(), "the error of {pattern}");
     }
     Ok(())
@@ -98,7 +102,10 @@ fn a_failed_write_ends_the_output(rt: HostRuntime) -> Result<(), Fail> {
         let mut err = Vec::new(alloc);
         assert_eq!(rt; run(alloc, &words, &mut out, &mut err), 2, "after {good}");
         assert_eq!(rt; out.tried, good.saturating_add(1), "tried after {good}");
-        assert!(rt; b"0..1\n1..2\n2..3\n".starts_with(&out.taken), "after {good}");
+        assert!(rt;
+            b"0..1\n1..2\n2..3\n".starts_with(&out.taken),
+            "after {good}"
+        );
         assert!(rt; err.is_empty(), "the error after {good}");
     }
     Ok(())

@@ -15,9 +15,9 @@ new-matches-requires c =
     let input = c.in_ok-executor.executor.searched.input in
     let text = c.args.text.now in
     may_begin
-      (utf8_text input.input.now input.unicode)
-      (utf8_text-IsText input.input.now input.unicode)
-      (length text)
-      (ap units c.in_ok-executor.ensures.text ∙ utf8_units-length text _ c.utf8.text)
-      c.args.start
-      c.requires.start
+    (utf8_text input.input.now input.unicode)
+    (utf8_text-IsText input.input.now input.unicode)
+    (length text)
+    (ap units c.in_ok-executor.ensures.text ∙ utf8_units-length text _ c.utf8.text)
+    c.args.start
+    c.requires.start

@@ -1,5 +1,6 @@
 -- Places of a text and their offsets.
-use Rattle.std.proofs.Common.{◌≡◌, ℕ, zero, suc, ◌+◌, ◌-◌, ◌<◌, ◌≤◌, ◌⊎◌, inl, inr, Bool, true, false, cond, IsTrue, List, [], ◌∷◌, length, get_or, take, drop, map, slice_get, slice_index, position, nat_eq, nat_lt, Option, Some, None, is_some, option_map, option_and_then, refl, sym, ◌∙◌, ap, subst, arith, lt-ltb, eq-eqb, eqb-true, eqb→eq, ne_eqb}
+use Rattle.std.proofs.Common.{◌≡◌, ℕ, zero, suc, ◌+◌, ◌-◌, ◌<◌, ◌≤◌, ◌⊎◌, inl, inr, Bool, true, false, cond, IsTrue, List, [], ◌∷◌, length, get_or, take, drop, map, slice_get, slice_index, position, nat_eq, nat_lt, Option, Some, None, is_some, option_map, option_and_then, refl, sym, ◌∙◌, ap, subst, arith, lt-ltb, eq-eqb, eqb-true, ne_eqb, add-one, eq-or-lt_of_le}
+use Rattle.std.proofs.lemmas.Option.{slice_get_within, some_pair_parts}
 use Rattle.std.proofs.lemmas.List.Quantifiers.{position-Some}
 use Rattle.std.proofs.lemmas.List.Sums.{position_or_len_is}
 use Rattle.std.specs.List.{position_or_len}
@@ -54,3 +55,136 @@ offset_less text t p q l m = rises_between text.offsets t.rises p q l (omega (ar
 -- a read from a boundary is the read from its place
 pub read-place : (text : Text) (d : Direction) (at place : ℕ) → place_at text at ≡ Some place → read text d at ≡ read_at text d place
 read-place text d at place e = ap (λ o. option_and_then (read_at text d) o) e
+
+-- ---- Where a read goes
+
+-- a place on the way is no further than the right end
+pub offset_inside : (text : Text) → IsText text → (p : ℕ) → p ≤ last_place text → offset text p ≤ units text
+offset_inside text t p l = by (eq-or-lt_of_le l)
+  where
+    by : (p ≡ last_place text) ⊎ (p < last_place text) → offset text p ≤ units text
+    by (inl e) = omega (arith, ap (offset text) e)
+    by (inr m) = omega (arith, offset_less text t p (last_place text) m (omega arith))
+
+pub boundary_inside : (text : Text) → IsText text → (at : ℕ) → IsBoundary text at → at ≤ units text
+boundary_inside text t at b =
+    let p = place_of_boundary text t at b in
+    omega (arith, offset_inside text t p.0 p.1.within, p.1.offset_is)
+
+-- a read to the right: the character, and the two places
+pub record StepRight (text : Text) (at c to : ℕ) : Type 0 where
+  pub place : ℕ
+  pub from : HasPlace text at place
+  pub character : slice_get text.characters place ≡ Some c
+  pub upto : HasPlace text to (suc place)
+
+-- a read to the left
+pub record StepLeft (text : Text) (at c to : ℕ) : Type 0 where
+  pub place : ℕ
+  pub from : HasPlace text at (suc place)
+  pub character : slice_get text.characters place ≡ Some c
+  pub upto : HasPlace text to place
+
+abbrev pub pair : ℕ → ℕ → ℕ × ℕ
+pair a b = (a, b)
+
+same_pair : (a b x y : ℕ) → Some (pair a b) ≡ Some (pair x y) → (a ≡ x) × (b ≡ y)
+same_pair a b x y e = some_pair_parts a x b y e
+
+placed : (text : Text) → IsText text → (p : ℕ) → p ≤ last_place text → HasPlace text (offset text p) p
+placed text t p l = record { found = place_at-offset text t p l; within = l; offset_is = refl }
+
+pub step_right : (text : Text) → IsText text → (at c to : ℕ) → read text rightwards at ≡ Some (c, to) → StepRight text at c to
+step_right text t at c to e = by (place_at text at) refl e
+  where
+    by : (o : Option ℕ) → place_at text at ≡ o → option_and_then (read_at text rightwards) o ≡ Some (c, to) → StepRight text at c to
+    by None f e' = absurd (cc)
+    by (Some k) f e' = go (slice_get text.characters k) refl e'
+      where
+        go : (o : Option ℕ) → slice_get text.characters k ≡ o → option_map (λ d. pair d (offset text (k + 1))) o ≡ Some (pair c to) → StepRight text at c to
+        go None g e'' = absurd (cc)
+        go (Some d) g e'' =
+            let both = same_pair d (offset text (k + 1)) c to e'' in
+            let within : suc k ≤ last_place text = omega (arith, slice_get_within text.characters k d g) in
+            let to_is : offset text (suc k) ≡ to = ap (offset text) (sym (add-one k)) ∙ both.1 in
+            record { place = k; from = place_found text t at k f; character = g ∙ ap Some both.0; upto = subst (λ n. HasPlace text n (suc k)) to_is (placed text t (suc k) within) }
+
+pub step_left : (text : Text) → IsText text → (at c to : ℕ) → read text leftwards at ≡ Some (c, to) → StepLeft text at c to
+step_left text t at c to e = by (place_at text at) refl e
+  where
+    by : (o : Option ℕ) → place_at text at ≡ o → option_and_then (read_at text leftwards) o ≡ Some (c, to) → StepLeft text at c to
+    by None f e' = absurd (cc)
+    by (Some zero) f e' = absurd (cc)
+    by (Some (suc j)) f e' = go (slice_get text.characters j) refl e'
+      where
+        go : (o : Option ℕ) → slice_get text.characters j ≡ o → option_map (λ d. pair d (offset text (suc j - 1))) o ≡ Some (pair c to) → StepLeft text at c to
+        go None g e'' = absurd (cc)
+        go (Some d) g e'' =
+            let both = same_pair d (offset text (suc j - 1)) c to e'' in
+            let within : j ≤ last_place text = omega (arith, slice_get_within text.characters j d g) in
+            let back : suc j - 1 ≡ j = omega arith in
+            let to_is : offset text j ≡ to = ap (offset text) (sym back) ∙ both.1 in
+            record { place = j; from = place_found text t at (suc j) f; character = g ∙ ap Some both.0; upto = subst (λ n. HasPlace text n j) to_is (placed text t j within) }
+
+pub right_ahead : (text : Text) → IsText text → (at c to : ℕ) → read text rightwards at ≡ Some (c, to) → at < to
+right_ahead text t at c to e =
+    let s = step_right text t at c to e in
+    omega (arith, offset_less text t s.place (suc s.place) (omega arith) s.upto.within, s.from.offset_is, s.upto.offset_is)
+
+pub right_boundary : (text : Text) → IsText text → (at c to : ℕ) → read text rightwards at ≡ Some (c, to) → IsBoundary text to
+right_boundary text t at c to e = let s = step_right text t at c to e in boundary_of_place text to (suc s.place) s.upto.found
+
+pub left_ahead : (text : Text) → IsText text → (at c to : ℕ) → read text leftwards at ≡ Some (c, to) → to < at
+left_ahead text t at c to e =
+    let s = step_left text t at c to e in
+    omega (arith, offset_less text t s.place (suc s.place) (omega arith) s.from.within, s.from.offset_is, s.upto.offset_is)
+
+pub left_boundary : (text : Text) → IsText text → (at c to : ℕ) → read text leftwards at ≡ Some (c, to) → IsBoundary text to
+left_boundary text t at c to e = let s = step_left text t at c to e in boundary_of_place text to s.place s.upto.found
+
+-- the reads are inverse to each other
+pub right_then_left : (text : Text) → IsText text → (at c to : ℕ) → read text rightwards at ≡ Some (c, to) → read text leftwards to ≡ Some (c, at)
+right_then_left text t at c to e =
+    let s = step_right text t at c to e in
+    let back : suc s.place - 1 ≡ s.place = omega arith in
+    read-place text leftwards to (suc s.place) s.upto.found
+    ∙ ap (option_map (λ d. (d, offset text (suc s.place - 1)))) s.character
+    ∙ ap (λ n. Some (c, n)) (ap (offset text) back ∙ s.from.offset_is)
+
+pub left_then_right : (text : Text) → IsText text → (at c to : ℕ) → read text leftwards at ≡ Some (c, to) → read text rightwards to ≡ Some (c, at)
+left_then_right text t at c to e =
+    let s = step_left text t at c to e in
+    read-place text rightwards to s.place s.upto.found
+    ∙ ap (option_map (λ d. (d, offset text (s.place + 1)))) s.character
+    ∙ ap (λ n. Some (c, n)) (ap (offset text) (add-one s.place) ∙ s.from.offset_is)
+
+-- ---- The same of the offset alone
+past : (text : Text) (d : Direction) (at to : ℕ) → option_map (λ r. r.1) (read text d at) ≡ Some to → (c : ℕ) × (read text d at ≡ Some (pair c to))
+past text d at to e = by (read text d at) refl e
+  where
+    by : (o : Option (ℕ × ℕ)) → read text d at ≡ o → option_map {T = ℕ × ℕ} (λ r. r.1) o ≡ Some to → (c : ℕ) × (read text d at ≡ Some (pair c to))
+    by None f e' = absurd (cc)
+    by (Some r) f e' = let same : r.1 ≡ to = cc in (r.0, f ∙ ap (λ n. Some (pair r.0 n)) same)
+
+pub past_ahead : (text : Text) → IsText text → (at to : ℕ) → option_map (λ r. r.1) (read text rightwards at) ≡ Some to → at < to
+past_ahead text t at to e = let r = past text rightwards at to e in right_ahead text t at r.0 to r.1
+
+pub past_boundary : (text : Text) → IsText text → (at to : ℕ) → option_map (λ r. r.1) (read text rightwards at) ≡ Some to → IsBoundary text to
+past_boundary text t at to e = let r = past text rightwards at to e in right_boundary text t at r.0 to r.1
+
+pub before_ahead : (text : Text) → IsText text → (at to : ℕ) → option_map (λ r. r.1) (read text leftwards at) ≡ Some to → to < at
+before_ahead text t at to e = let r = past text leftwards at to e in left_ahead text t at r.0 to r.1
+
+pub before_boundary : (text : Text) → IsText text → (at to : ℕ) → option_map (λ r. r.1) (read text leftwards at) ≡ Some to → IsBoundary text to
+before_boundary text t at to e = let r = past text leftwards at to e in left_boundary text t at r.0 to r.1
+
+-- ---- The ends
+pub start_boundary : (text : Text) → IsText text → (at : ℕ) → at ≡ 0 → IsBoundary text at
+start_boundary text t at e =
+    let found : place_at text at ≡ Some 0 = ap (place_at text) (e ∙ sym t.from_zero) ∙ place_at-offset text t 0 (omega arith) in
+    boundary_of_place text at 0 found
+
+pub end_boundary : (text : Text) → IsText text → (at : ℕ) → at ≡ units text → IsBoundary text at
+end_boundary text t at e =
+    let found : place_at text at ≡ Some (last_place text) = ap (place_at text) e ∙ place_at-offset text t (last_place text) (omega arith) in
+    boundary_of_place text at (last_place text) found

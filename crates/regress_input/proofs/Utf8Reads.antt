@@ -108,39 +108,71 @@ bytes_at bytes at c s = by (order c 128) (order c 2048) (order c 65536)
 -- which bytes there are, by those before them
 pub first_inside : (bytes : List ℕ) (at : ℕ) → (c : ℕ) × StandsAt bytes at c → at < length bytes
 first_inside bytes at (c, s) = elim (bytes_at bytes at c s) [
-    one l n h e ↦ omega arith | two l n h i f e ↦ omega arith | three l n h i f g e ↦ omega arith | four l n h i f g k e ↦ omega arith ]
+  | one l n h e ↦ omega arith
+  | two l n h i f e ↦ omega arith
+  | three l n h i f g e ↦ omega arith
+  | four l n h i f g k e ↦ omega arith
+]
 
 pub second_inside : (bytes : List ℕ) (at : ℕ) → (c : ℕ) × StandsAt bytes at c → 128 ≤ get_or bytes at 0 → at + 1 < length bytes
 second_inside bytes at (c, s) m = elim (bytes_at bytes at c s) [
-    one l n h e ↦ absurd (omega arith) | two l n h i f e ↦ omega arith | three l n h i f g e ↦ omega arith | four l n h i f g k e ↦ omega arith ]
+  | one l n h e ↦ absurd (omega arith)
+  | two l n h i f e ↦ omega arith
+  | three l n h i f g e ↦ omega arith
+  | four l n h i f g k e ↦ omega arith
+]
 
 pub third_inside : (bytes : List ℕ) (at : ℕ) → (c : ℕ) × StandsAt bytes at c → 224 ≤ get_or bytes at 0 → at + 2 < length bytes
 third_inside bytes at (c, s) m = elim (bytes_at bytes at c s) [
-    one l n h e ↦ absurd (omega arith) | two l n h i f e ↦ absurd (omega arith) | three l n h i f g e ↦ omega arith | four l n h i f g k e ↦ omega arith ]
+  | one l n h e ↦ absurd (omega arith)
+  | two l n h i f e ↦ absurd (omega arith)
+  | three l n h i f g e ↦ omega arith
+  | four l n h i f g k e ↦ omega arith
+]
 
 pub fourth_inside : (bytes : List ℕ) (at : ℕ) → (c : ℕ) × StandsAt bytes at c → 240 ≤ get_or bytes at 0 → at + 3 < length bytes
 fourth_inside bytes at (c, s) m = elim (bytes_at bytes at c s) [
-    one l n h e ↦ absurd (omega arith) | two l n h i f e ↦ absurd (omega arith) | three l n h i f g e ↦ absurd (omega arith) | four l n h i f g k e ↦ omega arith ]
+  | one l n h e ↦ absurd (omega arith)
+  | two l n h i f e ↦ absurd (omega arith)
+  | three l n h i f g e ↦ absurd (omega arith)
+  | four l n h i f g k e ↦ omega arith
+]
 
 -- and which character they spell
 pub is_one : (bytes : List ℕ) (at c : ℕ) → StandsAt bytes at c → get_or bytes at 0 < 128 → (get_or bytes at 0 ≡ c) × (at + 1 ≡ at + len_utf8 c)
 is_one bytes at c s m = elim (bytes_at bytes at c s) [
-    one l n h e ↦ (e, omega arith) | two l n h i f e ↦ absurd (omega arith) | three l n h i f g e ↦ absurd (omega arith) | four l n h i f g k e ↦ absurd (omega arith) ]
+  | one l n h e ↦ (e, omega arith)
+  | two l n h i f e ↦ absurd (omega arith)
+  | three l n h i f g e ↦ absurd (omega arith)
+  | four l n h i f g k e ↦ absurd (omega arith)
+]
 
 pub is_two : (bytes : List ℕ) (at c : ℕ) → StandsAt bytes at c → 128 ≤ get_or bytes at 0 → get_or bytes at 0 < 224
     → (c + 12416 ≡ get_or bytes at 0 * 64 + get_or bytes (at + 1) 0) × (at + 2 ≡ at + len_utf8 c)
 is_two bytes at c s m o = elim (bytes_at bytes at c s) [
-    one l n h e ↦ absurd (omega arith) | two l n h i f e ↦ (e, omega arith) | three l n h i f g e ↦ absurd (omega arith) | four l n h i f g k e ↦ absurd (omega arith) ]
+  | one l n h e ↦ absurd (omega arith)
+  | two l n h i f e ↦ (e, omega arith)
+  | three l n h i f g e ↦ absurd (omega arith)
+  | four l n h i f g k e ↦ absurd (omega arith)
+]
 
 pub is_three : (bytes : List ℕ) (at c : ℕ) → StandsAt bytes at c → 224 ≤ get_or bytes at 0 → get_or bytes at 0 < 240
     → (c + 925824 ≡ get_or bytes at 0 * 4096 + get_or bytes (at + 1) 0 * 64 + get_or bytes (at + 2) 0) × (at + 3 ≡ at + len_utf8 c)
 is_three bytes at c s m o = elim (bytes_at bytes at c s) [
-    one l n h e ↦ absurd (omega arith) | two l n h i f e ↦ absurd (omega arith) | three l n h i f g e ↦ (e, omega arith) | four l n h i f g k e ↦ absurd (omega arith) ]
+  | one l n h e ↦ absurd (omega arith)
+  | two l n h i f e ↦ absurd (omega arith)
+  | three l n h i f g e ↦ (e, omega arith)
+  | four l n h i f g k e ↦ absurd (omega arith)
+]
 
 pub is_four : (bytes : List ℕ) (at c : ℕ) → StandsAt bytes at c → 240 ≤ get_or bytes at 0
     → (c + 63447168 ≡ get_or bytes at 0 * 262144 + get_or bytes (at + 1) 0 * 4096 + get_or bytes (at + 2) 0 * 64 + get_or bytes (at + 3) 0) × (at + 4 ≡ at + len_utf8 c)
 is_four bytes at c s m = elim (bytes_at bytes at c s) [
-    one l n h e ↦ absurd (omega arith) | two l n h i f e ↦ absurd (omega arith) | three l n h i f g e ↦ absurd (omega arith) | four l n h i f g k e ↦ (e, omega arith) ]
+  | one l n h e ↦ absurd (omega arith)
+  | two l n h i f e ↦ absurd (omega arith)
+  | three l n h i f g e ↦ absurd (omega arith)
+  | four l n h i f g k e ↦ (e, omega arith)
+]
 
 encodes-flat_map : (cs : List ℕ) → encodes cs ≡ flat_map encode cs
 encodes-flat_map [] = refl
@@ -210,17 +242,21 @@ module _ (bytes : List ℕ) (unicode : Bool) (is_utf8 : ∥ IsUtf8 bytes ∥₁)
     -- a boundary that is not the right end has a character behind it
     pub stands_at : (at : ℕ) → IsBoundary text at → at ≢ length bs → (c : ℕ) × StandsAt bs at c
     stands_at at b n = elim (right at b) [
-        at_the_end e r ↦ absurd (n (omega (arith, e, ap length same)))
-        | character_behind c s l i r ↦ (c, subst (λ l. StandsAt l at c) (sym same) s) ]
+      | at_the_end e r ↦ absurd (n (omega (arith, e, ap length same)))
+      | character_behind c s l i r ↦ (c, subst (λ l. StandsAt l at c) (sym same) s)
+    ]
 
     pub read-end : (at : ℕ) → IsBoundary text at → at ≡ length bs → read text rightwards at ≡ None
     read-end at b e = elim (right at b) [ at_the_end e r ↦ r | character_behind c s l i r ↦ absurd (omega (arith, ap length same)) ]
 
     pub read-character : (at x y : ℕ) → IsBoundary text at → at ≢ length bs → ((c : ℕ) → StandsAt bs at c → (x ≡ c) × (y ≡ at + len_utf8 c)) → Some (x, y) ≡ read text rightwards at
     read-character at x y b n is = elim (right at b) [
-        at_the_end e r ↦ absurd (n (omega (arith, e, ap length same)))
-        | character_behind c s l i r ↦ let both = is c (subst (λ l. StandsAt l at c) (sym same) s) in ap₂ (λ v w. Some (v, w)) both.0 both.1 ∙ sym r ]
+      | at_the_end e r ↦ absurd (n (omega (arith, e, ap length same)))
+      | character_behind c s l i r ↦ let both = is c (subst (λ l. StandsAt l at c) (sym same) s) in ap₂ (λ v w. Some (v, w)) both.0 both.1 ∙ sym r
+    ]
+
     pub read-past : (at y : ℕ) → IsBoundary text at → at ≢ length bs → ((c : ℕ) → StandsAt bs at c → y ≡ at + len_utf8 c) → Some y ≡ option_map (λ r. r.1) (read text rightwards at)
     read-past at y b n is = elim (right at b) [
-        at_the_end e r ↦ absurd (n (omega (arith, e, ap length same)))
-        | character_behind c s l i r ↦ let past = is c (subst (λ l. StandsAt l at c) (sym same) s) in ap Some past ∙ sym (ap (option_map (λ v. v.1)) r) ]
+      | at_the_end e r ↦ absurd (n (omega (arith, e, ap length same)))
+      | character_behind c s l i r ↦ let past = is c (subst (λ l. StandsAt l at c) (sym same) s) in ap Some past ∙ sym (ap (option_map (λ v. v.1)) r)
+    ]

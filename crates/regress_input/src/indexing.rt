@@ -36,11 +36,13 @@ pub trait InputIndexer: Copy {
 
     /// The left end.
     fn left_end(&self) -> Self::Position
-        ensures { Self.Position.offset result ≡ 0 };
+        ensures offset { Self.Position.offset result ≡ 0 }
+        ensures boundary { IsBoundary (text self.now) (Self.Position.offset result) };
 
     /// The right end.
     fn right_end(&self) -> Self::Position
-        ensures { Self.Position.offset result ≡ units (text self.now) };
+        ensures offset { Self.Position.offset result ≡ units (text self.now) }
+        ensures boundary { IsBoundary (text self.now) (Self.Position.offset result) };
 
     /// The offset of a position, in units.
     fn pos_to_offset(&self, pos: Self::Position) -> usize
@@ -50,12 +52,18 @@ pub trait InputIndexer: Copy {
     fn next_right(&self, pos: &mut Self::Position) -> Option<Self::Element>
         requires { IsBoundary (text self.now) (Self.Position.offset pos.old) }
         ensures read { option_map (λ e. (Self.Element.number e, Self.Position.offset pos.new)) result ≡ read (text self.now) rightwards (Self.Position.offset pos.old) }
-        ensures stays { IfNone result (pos.new ≡ pos.old) };
+        ensures stays { IfNone result (pos.new ≡ pos.old) }
+        ensures ahead { IfSome result (λ _. Self.Position.offset pos.old < Self.Position.offset pos.new) }
+        ensures boundary { IsBoundary (text self.now) (Self.Position.offset pos.new) }
+        ensures inside { Self.Position.offset pos.new ≤ units (text self.now) };
 
     /// The position past the character to the right; none at the right end.
     fn next_right_pos(&self, pos: Self::Position) -> Option<Self::Position>
         requires { IsBoundary (text self.now) (Self.Position.offset pos) }
-        ensures { option_map (λ p. Self.Position.offset p) result ≡ option_map (λ r. r.1) (read (text self.now) rightwards (Self.Position.offset pos)) };
+        ensures read { option_map (λ p. Self.Position.offset p) result ≡ option_map (λ r. r.1) (read (text self.now) rightwards (Self.Position.offset pos)) }
+        ensures ahead { IfSome result (λ p. Self.Position.offset pos < Self.Position.offset p) }
+        ensures boundary { IfSome result (λ p. IsBoundary (text self.now) (Self.Position.offset p)) }
+        ensures inside { IfSome result (λ p. Self.Position.offset p ≤ units (text self.now)) };
 
     /// The position `amt` units to the right, where that is not past the right end.
     fn try_move_right(&self, pos: Self::Position, amt: usize) -> Option<Self::Position>

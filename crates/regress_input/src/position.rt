@@ -10,16 +10,14 @@ use std::ops::{Add, AddAssign, Sub, SubAssign};
 
 /// A place in a text. Contracts see its offset in units: bytes, or 16-bit units.
 /// Arithmetic, equality and order are those of offsets.
-pub trait PositionType:
-    Copy
+pub trait PositionType: Copy
     + Debug
     + Ord
     + Add<usize, Output = Self>
     + Sub<usize, Output = Self>
     + Sub<Self, Output = usize>
     + AddAssign<usize>
-    + SubAssign<usize>
-{
+    + SubAssign<usize> {
     ghost offset: { Self → ℕ };
 
     // Positions are equal, and stand in order, as their offsets do.
@@ -109,7 +107,10 @@ impl<'a> IndexPosition<'a> {
     pub fn new(offset: usize) -> Self
         ensures { ⟦<IndexPosition<'a> as PositionType>⟧.offset result ≡ offset }
     {
-        IndexPosition { offset, text: PhantomData }
+        IndexPosition {
+            offset,
+            text: PhantomData,
+        }
     }
 }
 
@@ -125,7 +126,10 @@ impl<'a> Add<usize> for IndexPosition<'a> {
 
     #[inline(always)]
     fn add(self, units: usize) -> IndexPosition<'a> {
-        IndexPosition { offset: self.offset + units, text: PhantomData }
+        IndexPosition {
+            offset: self.offset + units,
+            text: PhantomData,
+        }
     }
 }
 
@@ -138,7 +142,10 @@ impl<'a> Sub<usize> for IndexPosition<'a> {
 
     #[inline(always)]
     fn sub(self, units: usize) -> IndexPosition<'a> {
-        IndexPosition { offset: self.offset - units, text: PhantomData }
+        IndexPosition {
+            offset: self.offset - units,
+            text: PhantomData,
+        }
     }
 }
 

@@ -22,7 +22,10 @@ pub(crate) fn character_at(bytes: &[u8], at: usize) -> (char, usize)
     if first < 0xF0 {
         return (character_of_three(first, second, third), at + 3);
     }
-    (character_of_four(first, second, third, bytes[at + 3]), at + 4)
+    (
+        character_of_four(first, second, third, bytes[at + 3]),
+        at + 4,
+    )
 }
 
 /// Where the character ends that begins at an offset.
@@ -59,7 +62,9 @@ fn character_of_three(first: u8, second: u8, third: u8) -> char
     requires { (c : ℕ) × IsScalar c × (c + 925824 ≡ first * 4096 + second * 64 + third) }
     ensures { result + 925824 ≡ first * 4096 + second * 64 + third }
 {
-    unsafe { char::from_u32_unchecked(first as u32 * 4096 + second as u32 * 64 + third as u32 - 925824) }
+    unsafe {
+        char::from_u32_unchecked(first as u32 * 4096 + second as u32 * 64 + third as u32 - 925824)
+    }
 }
 
 #[inline(always)]
@@ -67,6 +72,7 @@ fn character_of_four(first: u8, second: u8, third: u8, fourth: u8) -> char
     requires { (c : ℕ) × IsScalar c × (c + 63447168 ≡ first * 262144 + second * 4096 + third * 64 + fourth) }
     ensures { result + 63447168 ≡ first * 262144 + second * 4096 + third * 64 + fourth }
 {
-    let code = first as u32 * 262144 + second as u32 * 4096 + third as u32 * 64 + fourth as u32 - 63447168;
+    let code = first as u32 * 262144 + second as u32 * 4096 + third as u32 * 64 + fourth as u32
+        - 63447168;
     unsafe { char::from_u32_unchecked(code) }
 }

@@ -1,2 +1,4 @@
 pub mod Intervals
 pub mod TreeOf
+pub mod ByteSets
+pub mod Searching

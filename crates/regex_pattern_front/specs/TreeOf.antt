@@ -1,5 +1,5 @@
 -- The pattern tree without its pointers.
-use Rattle.std.specs.Prelude.{ℕ, List, [], ◌∷◌, map, vec_items, string_bytes, Option, Some, None, String}
+use Rattle.std.specs.Prelude.{ℕ, List, [], map, string_bytes, Option, Some, None, String}
 use Rattle.regex_meaning.specs.Tree as tree
 use Rattle.regex_pattern_front.specs.declared.ir.AnchorType.{AnchorType}
 use Rattle.regex_pattern_front.specs.declared.ir.AnchorType.TheVariants.{StartOfLine, EndOfLine}

@@ -1,17 +1,220 @@
-//! Sets of bytes.
+//! Sets of bytes, and where they stand in a text.
+
+ghost use Rattle.std.specs.Prelude.{◌≡◌, ◌<◌, ◌||◌, ◌==◌, ℕ, Bool, List, [], length, slice_index};
+ghost use Rattle.regex_meaning.specs.Lists.{contains};
+ghost use Rattle.regex_meaning.specs.StartPredicate.{bytes_where};
+ghost use Rattle.regex_pattern_front.specs.Searching.{FindsFirst, holds_at};
+
+/// A set of bytes. Contracts see its members.
+pub trait ByteSet: Copy {
+    ghost members: { Self → List ℕ };
+
+    /// Whether a byte is in the set.
+    fn contains(&self, byte: u8) -> bool
+        ensures { result ≡ contains (members self.now) byte };
+}
+
+/// A set of bytes that is an array of at most four.
+pub trait SmallArraySet: ByteSet {}
+
+/// What is looked for in bytes: a set, or a sequence. Contracts see at which indices it stands.
+pub trait ByteSearcher {
+    ghost stands_at: { Self → (bytes : List ℕ) → (index : ℕ) → Bool };
+
+    /// The first index at which it stands, if there is one.
+    fn find_in(&self, bytes: &[u8]) -> Option<usize>
+        ensures { FindsFirst (stands_at self.now bytes.now) (length bytes.now) result };
+}
 
 /// A set of bytes below 128.
 #[derive(Clone, Copy)]
 pub struct AsciiBitmap {
     bits: [u64; 2],
+    ghost sized: { length bits ≡ 2 },
 }
 
-/// A set of bytes.
+impl Default for AsciiBitmap {
+    ghost use Rattle.regex_pattern_front.specs.ByteSets.{ascii_bitmap_bytes};
+
+    fn default() -> Self
+        ensures { ascii_bitmap_bytes result ≡ [] }
+    {
+        AsciiBitmap { bits: [0; 2] }
+    }
+}
+
+impl AsciiBitmap {
+    ghost use Rattle.regex_pattern_front.specs.ByteSets.{ascii_bitmap_bytes};
+
+    /// Adds a byte.
+    pub fn set(&mut self, byte: u8)
+        requires { byte < 128 }
+        ensures { ascii_bitmap_bytes self.new ≡ bytes_where (λ b. b == byte || contains (ascii_bitmap_bytes self.old) b) }
+    {
+        self.bits[usize::from(byte / 64)] |= 1 << (byte % 64);
+    }
+}
+
+impl ByteSet for AsciiBitmap {
+    ghost use Rattle.regex_pattern_front.specs.ByteSets.{ascii_bitmap_bytes};
+
+    ghost members = { ascii_bitmap_bytes };
+
+    #[inline(always)]
+    fn contains(&self, byte: u8) -> bool {
+        byte < 128 && self.bits[usize::from(byte / 64)] >> (byte % 64) & 1 != 0
+    }
+}
+
+/// A set of bytes: for each byte, whether it is in the set.
 #[derive(Clone, Copy)]
 pub struct ByteBitmap {
-    bits: [u64; 4],
+    table: [bool; 256],
+    ghost sized: { length table ≡ 256 },
+}
+
+impl Default for ByteBitmap {
+    ghost use Rattle.regex_pattern_front.specs.ByteSets.{byte_bitmap_bytes};
+
+    fn default() -> Self
+        ensures { byte_bitmap_bytes result ≡ [] }
+    {
+        ByteBitmap {
+            table: [false; 256],
+        }
+    }
+}
+
+impl ByteBitmap {
+    ghost use Rattle.regex_pattern_front.specs.ByteSets.{byte_bitmap_bytes};
+
+    /// Adds a byte.
+    pub fn set(&mut self, byte: u8)
+        ensures { byte_bitmap_bytes self.new ≡ bytes_where (λ b. b == byte || contains (byte_bitmap_bytes self.old) b) }
+    {
+        self.table[usize::from(byte)] = true;
+    }
+}
+
+impl ByteSet for ByteBitmap {
+    ghost use Rattle.regex_pattern_front.specs.ByteSets.{byte_bitmap_bytes};
+
+    ghost members = { byte_bitmap_bytes };
+
+    #[inline(always)]
+    fn contains(&self, byte: u8) -> bool {
+        self.table[usize::from(byte)]
+    }
 }
 
 /// A set of a few bytes: an array of 2 to 4, some of which may be the same.
 #[derive(Clone, Copy)]
 pub struct ByteArraySet<ArraySet>(pub ArraySet);
+
+impl<ArraySet: SmallArraySet> ByteSet for ByteArraySet<ArraySet> {
+    ghost members = { λ s. ArraySet.members s.0 };
+
+    #[inline(always)]
+    fn contains(&self, byte: u8) -> bool {
+        self.0.contains(byte)
+    }
+}
+
+impl ByteSet for [u8; 1] {
+    ghost members = { λ s. s };
+
+    #[inline(always)]
+    fn contains(&self, byte: u8) -> bool {
+        let [a] = *self;
+        byte == a
+    }
+}
+
+impl ByteSet for [u8; 2] {
+    ghost members = { λ s. s };
+
+    #[inline(always)]
+    fn contains(&self, byte: u8) -> bool {
+        let [a, b] = *self;
+        byte == a || byte == b
+    }
+}
+
+impl ByteSet for [u8; 3] {
+    ghost members = { λ s. s };
+
+    #[inline(always)]
+    fn contains(&self, byte: u8) -> bool {
+        let [a, b, c] = *self;
+        byte == a || byte == b || byte == c
+    }
+}
+
+impl ByteSet for [u8; 4] {
+    ghost members = { λ s. s };
+
+    #[inline(always)]
+    fn contains(&self, byte: u8) -> bool {
+        let [a, b, c, d] = *self;
+        byte == a || byte == b || byte == c || byte == d
+    }
+}
+
+impl SmallArraySet for [u8; 2] {}
+
+impl SmallArraySet for [u8; 3] {}
+
+impl SmallArraySet for [u8; 4] {}
+
+impl ByteSearcher for ByteBitmap {
+    ghost use Rattle.regex_pattern_front.specs.ByteSets.{byte_bitmap_bytes};
+
+    ghost stands_at = { λ s bytes. holds_at (byte_bitmap_bytes s) bytes };
+
+    #[inline(always)]
+    fn find_in(&self, bytes: &[u8]) -> Option<usize> {
+        find_member(self, bytes)
+    }
+}
+
+impl ByteSearcher for [u8; 1] {
+    ghost stands_at = { λ s bytes. holds_at s bytes };
+
+    #[inline(always)]
+    fn find_in(&self, bytes: &[u8]) -> Option<usize> {
+        find_member(self, bytes)
+    }
+}
+
+impl ByteSearcher for [u8; 2] {
+    ghost stands_at = { λ s bytes. holds_at s bytes };
+
+    #[inline(always)]
+    fn find_in(&self, bytes: &[u8]) -> Option<usize> {
+        find_member(self, bytes)
+    }
+}
+
+impl ByteSearcher for [u8; 3] {
+    ghost stands_at = { λ s bytes. holds_at s bytes };
+
+    #[inline(always)]
+    fn find_in(&self, bytes: &[u8]) -> Option<usize> {
+        find_member(self, bytes)
+    }
+}
+
+// The first index of a byte of the set.
+#[inline(always)]
+fn find_member<S: ByteSet>(set: &S, bytes: &[u8]) -> Option<usize>
+    ensures { FindsFirst (holds_at (S.members set.now) bytes.now) (length bytes.now) result }
+{
+    let mut at = 0;
+    while at < bytes.len() {
+        if set.contains(bytes[at]) {
+            return Some(at);
+        }
+        at += 1;
+    }
+    None
+}

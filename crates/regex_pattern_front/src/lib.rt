@@ -4,5 +4,8 @@
 pub mod bytesearch;
 pub mod codepointset;
 pub mod flags;
+pub mod folding;
 pub mod ir;
+pub mod parse;
+mod reader;
 pub mod types;

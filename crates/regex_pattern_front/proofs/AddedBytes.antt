@@ -1,0 +1,62 @@
+-- A loop that adds the bytes that pass a test to a set, in order.
+use Rattle.std.proofs.Common.{◌≡◌, ℕ, ◌+◌, ◌≤◌, Bool, true, false, ◌&&◌, ◌||◌, List, refl, sym, ◌∙◌, arith, inl, inr}
+use Rattle.std.specs.Prelude.{nat_lt, ◌==◌}
+use Rattle.std.proofs.lemmas.Bool.{cases_eq, cases_lt, ne_eqb, eq-eqb, lt-ltb, le-ltb}
+use Rattle.regex_meaning.specs.Lists.{contains}
+use Rattle.regex_meaning.specs.StartPredicate.{bytes_where}
+use Rattle.regex_pattern_front.proofs.ByteLemmas.{contains-bytes_where, bytes_where-same}
+
+-- the old bytes, and those below n that pass
+abbrev pub with_bytes_below : (old : List ℕ) (test : ℕ → Bool) (n : ℕ) → List ℕ
+with_bytes_below old test n = bytes_where (λ b. contains old b || (nat_lt b n && test b))
+
+or-none : (t : Bool) → (t || false) ≡ t
+or-none true = refl
+or-none false = refl
+
+pub with_bytes-none : (p test : ℕ → Bool) → bytes_where p ≡ with_bytes_below (bytes_where p) test 0
+with_bytes-none p test =
+    bytes_where-same _ _ (λ b h. rw (contains-bytes_where p b h, le-ltb b 0 (omega arith)) (sym (or-none (p b))))
+
+pub with_bytes-more : (old now next : List ℕ) (test : ℕ → Bool) (n : ℕ) → test n ≡ true
+    → now ≡ with_bytes_below old test n → next ≡ bytes_where (λ b. b == n || contains now b) → next ≡ with_bytes_below old test (n + 1)
+with_bytes-more old now next test n t e f =
+    f ∙ bytes_where-same _ _ (λ b h. rw (e, contains-bytes_where (λ b. contains old b || (nat_lt b n && test b)) b h) (at b))
+  where
+    absorbed : (x : Bool) → true ≡ (x || true)
+    absorbed true = refl
+    absorbed false = refl
+
+    at : (b : ℕ) → (b == n || (contains old b || (nat_lt b n && test b))) ≡ (contains old b || (nat_lt b (n + 1) && test b))
+    at b =
+        elim (cases_eq b n) [
+          | inl same ↦ rw (same, eq-eqb n n refl, lt-ltb n (n + 1) (omega arith), t) (absorbed (contains old n))
+          | inr ne ↦ rw (ne_eqb b n ne)
+              (elim (cases_lt b n) [
+                | inl below ↦ rw (lt-ltb b n below, lt-ltb b (n + 1) (omega arith))
+                | inr above ↦ rw (le-ltb b n above, le-ltb b (n + 1) (omega arith))
+              ])
+        ]
+
+pub with_bytes-same : (old now : List ℕ) (test : ℕ → Bool) (n : ℕ) → test n ≡ false
+    → now ≡ with_bytes_below old test n → now ≡ with_bytes_below old test (n + 1)
+with_bytes-same old now test n t e = e ∙ bytes_where-same _ _ (λ b h. at b)
+  where
+    off : (x : Bool) → false ≡ (x && false)
+    off true = refl
+    off false = refl
+
+    at : (b : ℕ) → (contains old b || (nat_lt b n && test b)) ≡ (contains old b || (nat_lt b (n + 1) && test b))
+    at b =
+        elim (cases_eq b n) [
+          | inl same ↦ rw (same, le-ltb n n (omega arith), lt-ltb n (n + 1) (omega arith), t)
+          | inr ne ↦
+              elim (cases_lt b n) [
+                | inl below ↦ rw (lt-ltb b n below, lt-ltb b (n + 1) (omega arith))
+                | inr above ↦ rw (le-ltb b n above, le-ltb b (n + 1) (omega arith))
+              ]
+        ]
+
+pub with_bytes-all : (old : List ℕ) (test : ℕ → Bool) (n : ℕ) → 256 ≤ n
+    → with_bytes_below old test n ≡ bytes_where (λ b. contains old b || test b)
+with_bytes-all old test n enough = bytes_where-same _ _ (λ b h. rw (lt-ltb b n (omega arith)))

@@ -1,0 +1,5 @@
+use Rattle.regex_pattern_front.proofs.ByteLemmas.{bits-none}
+use Rattle.regex_pattern_front.proofs.bytesearch.AsciiBitmapDefault.default.Goals as goal
+
+pub returns : goal.returns
+returns c = bits-none

@@ -1,0 +1,5 @@
+use Rattle.regex_pattern_front.proofs.ByteLemmas.{table-none}
+use Rattle.regex_pattern_front.proofs.bytesearch.ByteBitmapDefault.default.Goals as goal
+
+pub returns : goal.returns
+returns c = table-none

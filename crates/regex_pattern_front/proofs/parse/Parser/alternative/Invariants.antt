@@ -1,0 +1,8 @@
+use Rattle.std.proofs.Common.{◌≤◌, length}
+use Rattle.regex_pattern_front.proofs.parse.Parser.alternative.Given as goal
+
+abbrev pub invariant-loop-c : goal.invariant-loop-c
+invariant-loop-c l = length l.self.reader.rest.now ≤ length l.fn.self.reader.rest.now
+
+abbrev pub decreases-loop-c : goal.decreases-loop-c
+decreases-loop-c l = length l.self.reader.rest.now

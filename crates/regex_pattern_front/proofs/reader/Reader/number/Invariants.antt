@@ -1,0 +1,8 @@
+use Rattle.std.proofs.Common.{◌<◌, length}
+use Rattle.regex_pattern_front.proofs.reader.Reader.number.Given as goal
+
+abbrev pub invariant-loop-digit : goal.invariant-loop-digit
+invariant-loop-digit l = length l.self.rest.now < length l.fn.self.rest.now
+
+abbrev pub decreases-loop-digit : goal.decreases-loop-digit
+decreases-loop-digit l = length l.self.rest.now

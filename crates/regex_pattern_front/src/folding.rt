@@ -1,0 +1,143 @@
+//! The case of code points, and how they begin in UTF-8.
+
+ghost use Rattle.std.specs.Prelude.{◌≡◌, ◌≤◌, ◌||◌, ℕ, Bool, Some, IfOk, [], ◌∷◌, ◌++◌, slice_get, encode_utf8, if◌then◌else◌, ◌==◌};
+ghost use Rattle.regex_meaning.specs.Lists.{contains};
+ghost use Rattle.regex_meaning.specs.Text.{fold_code_point, expand_code_point, all_with_fold, nonascii_with_fold, nonascii_folds_to_ascii_word_char, to_lowercase, to_uppercase};
+ghost use Rattle.regex_meaning.specs.StartPredicate.{bytes_where, begun_by, meet};
+ghost use Rattle.regex_pattern_front.specs.ByteSets.{byte_bitmap_bytes};
+ghost use Rattle.regex_pattern_front.specs.Intervals.{interval_of, as_list};
+
+use crate::bytesearch::ByteBitmap;
+use crate::codepointset::Interval;
+use std::alloc::{AllocError, Global};
+
+/// What stands for a code point where case does not count. With `unicode` it is the lowercase letter of
+/// ASCII, also for U+017F and U+212A; without it is the uppercase one. Any other code point is itself
+/// (ECMA-262, 21.2.2.8.2 `Canonicalize`, over the letters that fold to ASCII).
+#[inline]
+#[tactic(auto, unfolding(regex_meaning::specs::Text::fold_code_point))]
+pub fn fold_code_point(c: u32, unicode: bool) -> u32
+    ensures { result ≡ fold_code_point unicode c }
+{
+    if !unicode {
+        return to_uppercase(c);
+    }
+    match c {
+        0x017F => 's' as u32,
+        0x212A => 'k' as u32,
+        _ => to_lowercase(c),
+    }
+}
+
+#[inline]
+fn to_lowercase(c: u32) -> u32
+    ensures { result ≡ to_lowercase c }
+{
+    if 0x41 <= c && c <= 0x5A { c + 0x20 } else { c }
+}
+
+#[inline]
+fn to_uppercase(c: u32) -> u32
+    ensures { result ≡ to_uppercase c }
+{
+    if 0x61 <= c && c <= 0x7A { c - 0x20 } else { c }
+}
+
+/// The code points that a code point of a pattern stands for, rising: with `icase` all that have its fold,
+/// else itself alone.
+#[tactic(auto, unfolding(regex_meaning::specs::Text::expand_code_point))]
+pub fn expand_code_point(
+    alloc: Global,
+    c: u32,
+    icase: bool,
+    unicode: bool,
+) -> Result<Vec<u32>, AllocError>
+    ensures { IfOk result (λ members. members.items ≡ expand_code_point c icase unicode) }
+{
+    if icase {
+        all_with_fold(alloc, fold_code_point(c, unicode), unicode)
+    } else {
+        Ok(vec![in alloc; c]?)
+    }
+}
+
+// All code points with this fold, rising.
+fn all_with_fold(alloc: Global, folded: u32, unicode: bool) -> Result<Vec<u32>, AllocError>
+    ensures { IfOk result (λ members. members.items ≡ all_with_fold unicode folded) }
+{
+    let upper = to_uppercase(folded);
+    let lower = to_lowercase(folded);
+    let mut members = vec![in alloc; upper]?;
+    if lower != upper {
+        members.push(lower)?;
+    }
+    if unicode && folded == 's' as u32 {
+        members.push(0x017F)?;
+    } else if unicode && folded == 'k' as u32 {
+        members.push(0x212A)?;
+    }
+    Ok(members)
+}
+
+/// Whether a code point beyond ASCII folds to a word character of ASCII: U+017F and U+212A do.
+#[inline]
+pub fn nonascii_folds_to_ascii_word_char(c: u32) -> bool
+    ensures { result ≡ nonascii_folds_to_ascii_word_char c }
+{
+    c == 0x017F || c == 0x212A
+}
+
+/// The first byte of a code point in UTF-8.
+pub fn utf8_first_byte(c: u32) -> u8
+    requires { c ≤ 0x10_FFFF }
+    ensures { slice_get (encode_utf8 c) 0 ≡ Some result }
+{
+    if c < 0x80 {
+        c as u8
+    } else if c < 0x800 {
+        (0xC0 + (c >> 6)) as u8
+    } else if c < 0x1_0000 {
+        (0xE0 + (c >> 12)) as u8
+    } else {
+        (0xF0 + (c >> 18)) as u8
+    }
+}
+
+/// Adds the first bytes of the interval's code points, up to U+10FFFF.
+pub fn add_utf8_first_bytes_to_bitmap(interval: Interval, bitmap: &mut ByteBitmap)
+    ensures { byte_bitmap_bytes bitmap.new ≡ bytes_where (λ b. contains (byte_bitmap_bytes bitmap.old) b || meet (begun_by b) (interval_of interval ∷ [])) }
+{
+    for byte in 0..=u8::MAX {
+        if may_begin(byte, interval) {
+            bitmap.set(byte);
+        }
+    }
+}
+
+// Whether UTF-8 of a code point of the interval begins with this byte.
+fn may_begin(byte: u8, interval: Interval) -> bool
+    ensures { result ≡ meet (begun_by byte) (interval_of interval ∷ []) }
+{
+    let Some(begun) = begun_by(byte) else {
+        return false;
+    };
+    interval.first <= interval.last && begun.first <= interval.last && interval.first <= begun.last
+}
+
+// The code points whose UTF-8 begins with this byte; none for a byte that begins none.
+fn begun_by(byte: u8) -> Option<Interval>
+    ensures { as_list result ≡ begun_by byte }
+{
+    let b = u32::from(byte);
+    let (first, last) = match byte {
+        0..=0x7F => (b, b),
+        0xC2..=0xDF => ((b - 0xC0) * 0x40, (b - 0xC0) * 0x40 + 0x3F),
+        0xE0 => (0x800, 0xFFF),
+        0xE1..=0xEF => ((b - 0xE0) * 0x1000, (b - 0xE0) * 0x1000 + 0xFFF),
+        0xF0 => (0x1_0000, 0x3_FFFF),
+        0xF1..=0xF3 => ((b - 0xF0) * 0x4_0000, (b - 0xF0) * 0x4_0000 + 0x3_FFFF),
+        0xF4 => (0x10_0000, 0x10_FFFF),
+        _ => return None,
+    };
+    Some(Interval { first, last })
+}

@@ -10,19 +10,19 @@ use Rattle.regex_meaning.specs.Find.{Found, no_groups, first_of, match_at, first
 use Rattle.regex_meaning.proofs.Onward.{outcomes-onward}
 
 -- the answer of a test is known in each branch
-if-cases : {A : Type 0} (P : A → Type 0) (b : Bool) (x y : A) → (b ≡ true → P x) → (b ≡ false → P y) → P (if b then x else y)
+pub if-cases : {A : Type 0} (P : A → Type 0) (b : Bool) (x y : A) → (b ≡ true → P x) → (b ≡ false → P y) → P (if b then x else y)
 if-cases P true x y h k = h refl
 if-cases P false x y h k = k refl
 
-below : (x y : ℕ) → nat_lt x y ≡ true → x < y
+pub below : (x y : ℕ) → nat_lt x y ≡ true → x < y
 below x y h = ltb→lt x y (rw h tt)
 
-not_below : (x y : ℕ) → nat_lt x y ≡ false → y ≤ x
+pub not_below : (x y : ℕ) → nat_lt x y ≡ false → y ≤ x
 not_below x y h = nltb→le x y (rw h tt)
 
 module _ (root : Node) (text : Text) where
   -- the match, if any, stands at or behind the place, and ends in the text
-  abbrev StandsFrom : ℕ → Option Found → Type 0
+  abbrev pub StandsFrom : ℕ → Option Found → Type 0
   StandsFrom place None = Unit {0}
   StandsFrom place (Some m) = (place ≤ m.start) × (m.start ≤ m.end) × (m.end ≤ last_place text)
 
@@ -47,8 +47,18 @@ module _ (root : Node) (text : Text) where
       (stands-first_of place _ (omega arith) (outcomes-onward text root rightwards place (no_groups root)))
       (stands-later place _ (stands-among places (place + 1) (omega arith)))
 
-  stands-first : (place : ℕ) → StandsFrom place (first_match root text place)
+  pub stands-first : (place : ℕ) → StandsFrom place (first_match root text place)
   stands-first place = stands-among (last_place text + 1 - place) place (omega arith)
+
+  pub first-unfolds : (place : ℕ) → place ≤ last_place text
+      → first_match root text place ≡ option_or (match_at root text place) (first_match root text (place + 1))
+  unfolding first_match_among
+  first-unfolds place h =
+      let more : last_place text + 1 - place ≡ suc (last_place text + 1 - (place + 1)) = omega arith in rw more refl
+
+  pub first-past : (place : ℕ) → last_place text < place → first_match root text place ≡ None
+  unfolding first_match_among
+  first-past place h = let none : last_place text + 1 - place ≡ 0 = omega arith in rw none refl
 
   -- behind the place, if anywhere
   abbrev GoesOn : ℕ → Option ℕ → Type 0

@@ -82,7 +82,7 @@ module _ (text : Text) (d : Direction) where
         (if nat_lt k r.most then flat_map (λ o. repeat text r d (k + 1) o.end o.groups) (filter (counts r k place) (r.body place groups)) else [])
         (if nat_le r.least k then record { end = place; groups = groups } ∷ [] else [])
     unfolding rounds
-    repeat-unfolds k place groups = rw add-one
+    repeat-unfolds k place groups = rw (add-one (missing k place))
         (ap (λ (again : List Outcome). preferred r.greedy (if nat_lt k r.most then again else []) (if nat_le r.least k then record { end = place; groups = groups } ∷ [] else []))
         (flat_map-filter_same (counts r k place)
         (λ o. rounds r (missing k place) (k + 1) o.end o.groups) (λ o. repeat text r d (k + 1) o.end o.groups) (r.body place groups)

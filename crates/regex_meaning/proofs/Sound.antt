@@ -1,10 +1,11 @@
 -- Wherever a tree has an outcome, its start predicate holds.
 use Rattle.std.proofs.Common.{◌≡◌, ◌≢◌, ℕ, zero, suc, ◌+◌, ◌-◌, ◌<◌, ◌≤◌, Bool, true, false, not, ◌&&◌, List, [], ◌∷◌, map, length, drop, filter, flat_map, refl, ap, sym, subst, ◌∙◌, arith}
-use Rattle.std.specs.Prelude.{if◌then◌else◌, nat_lt, nat_le, nat_eq, ◌==◌, encode_utf8_all, slice_get, slice_range, chars, IsTrue}
+use Rattle.std.specs.Prelude.{if◌then◌else◌, nat_lt, nat_le, nat_eq, ◌==◌, encode_utf8_all, bytes_eq, slice_get, slice_range, chars, IsTrue}
 use Rattle.std.specs.Str.{is_utf8}
 use Rattle.std.specs.List.{list_all}
 use Rattle.std.proofs.lemmas.Slice.Eq.{bytes_eq-Decides}
 use lib.Pointwise.{pointwise}
+use lib.Utf8.{scalars}
 use Rattle.regex_meaning.specs.Lists.{contains}
 use Rattle.regex_meaning.specs.Laws.{Each}
 use Rattle.regex_meaning.specs.Tree.{Quantifier, Node, empty, goal, char, char_set, byte_set, byte_sequence, cat, end_of_cat, alt, bracket, string_set, match_any, match_any_except_line_terminator, anchor, start_of_line, word_boundary, capture_group, back_ref, lookaround, loop, loop_1_char_body, every, Tree}
@@ -116,7 +117,8 @@ module _ (text : Text) (of_chars : OfChars text) where
       let e : p + n - p ≡ n = omega arith in
       let stands = and-right (nat_le n (last_place text - p)) (pointwise nat_eq (chars (b ∷ bs)) (slice_range text.characters p (p + n))) t in
       let found = spelled-bytes (chars (b ∷ bs)) (drop p text.characters) (rw e at stands) in
-      let spelt = (bytes_eq-Decides (encode_utf8_all (chars (b ∷ bs))) (b ∷ bs)).0 (and-right _ _ u) in
+      let spelt = (bytes_eq-Decides (encode_utf8_all (chars (b ∷ bs))) (b ∷ bs)).0
+      (and-right (scalars (chars (b ∷ bs))) (bytes_eq (encode_utf8_all (chars (b ∷ bs))) (b ∷ bs)) u) in
       (omega arith, rw spelt at found))
 
   then-begin : (a b : Beginning) (p : ℕ) (o : Outcome) (later : List Outcome) → Says a (bytes_from text p) p o.end

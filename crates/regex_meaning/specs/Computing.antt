@@ -4,10 +4,12 @@ use Rattle.std.specs.List.{list_all}
 use Rattle.regex_meaning.specs.Lists.{numbers_from}
 use Rattle.std.specs.Str.{chars}
 use Rattle.regex_meaning.specs.Tree.{Intervals, BracketContents, Quantifier, Lookaround, Node, Flags}
-use Rattle.regex_meaning.specs.Text.{Text, rightwards, fold_code_point, expand_code_point}
+use Rattle.regex_meaning.specs.Text.{Text, utf8_text, rightwards, fold_code_point, expand_code_point}
 use Rattle.regex_meaning.specs.Outcomes.{Outcome, outcomes, rounds, Groups}
 use Rattle.regex_meaning.specs.Find.{Found, no_groups, match_list, first_match_among, matches_from}
-use Rattle.regex_meaning.specs.Names.{Answer, answers_from}
+use Rattle.regex_meaning.specs.Names.{Answer, answers_from, named_group}
+use Rattle.regex_meaning.specs.Answers.{next_start}
+use Rattle.regex_meaning.specs.Replace.{expansion, replaced}
 use Rattle.regex_meaning.specs.StartPredicate.{StartPredicate, start_predicate, beginning, bytes_where, may_start}
 use Rattle.regex_meaning.specs.Ticks.{ticked, ticked_rounds, need, needs}
 use Rattle.std.specs.Char.{encode_utf8 as encode}
@@ -35,6 +37,22 @@ matches root text start = map as_found (answers_from root text start)
 unfoldable pub first : Node → Text → ℕ → List Found
 unfolding answers_from match_list first_match_among matches_from outcomes rounds fold_code_point expand_code_point chars
 first root text start = map as_found (take 1 (answers_from root text start))
+
+-- where the list goes on behind the first match from an offset
+unfoldable pub goes_on_at : Node → Text → ℕ → Option ℕ
+unfolding first_match_among outcomes rounds fold_code_point expand_code_point chars
+goes_on_at root text start = next_start root text start
+
+-- the ranges of a name in all matches from the start
+unfoldable pub named : Node → Text → (name : List ℕ) → List (Option (ℕ × ℕ))
+unfolding answers_from match_list first_match_among matches_from outcomes rounds fold_code_point expand_code_point chars
+named root text name = map (λ m. named_group m name) (answers_from root text 0)
+
+-- the text with at most `count` matches replaced
+unfoldable pub replaced_by : (count : ℕ) → Node → (text replacement : List ℕ) → List ℕ
+unfolding answers_from match_list first_match_among matches_from outcomes rounds fold_code_point expand_code_point chars replaced expansion
+replaced_by count root text replacement =
+    replaced text 0 (map (λ m. (m, expansion text m replacement)) (take count (answers_from root (utf8_text text false) 0)))
 
 abbrev pub no_flags : Flags
 no_flags = record { icase = false; multiline = false; dot_all = false; no_opt = false; unicode = false; unicode_sets = false }

@@ -10,6 +10,7 @@ pub mod WellFormed
 pub mod Layout
 pub mod Laws
 pub mod Names
+pub mod Answers
 pub mod Replace
 pub mod Flags
 pub mod Computing

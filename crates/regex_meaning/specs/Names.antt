@@ -61,24 +61,15 @@ ids_where test id (name ∷ names) = if test name then id ∷ ids_where test (id
 abbrev pub ids_named : Answer → List ℕ → List ℕ
 ids_named m name = ids_where (bytes_eq name) 0 m.names
 
--- the range of the first of these groups, whether it matched or not
-abbrev pub range_of_first : Answer → List ℕ → Option (ℕ × ℕ)
-range_of_first m [] = None
-range_of_first m (id ∷ ids) = group_range m.captures id
-
 -- the first range that is there among these groups
 abbrev pub first_range : Answer → List ℕ → Option (ℕ × ℕ)
 first_range m [] = None
 first_range m (id ∷ ids) = option_or (group_range m.captures id) (first_range m ids)
 
+-- the first range that is there among the groups of the name, in order of id; none of the empty name
 abbrev pub named_group : Answer → List ℕ → Option (ℕ × ℕ)
 named_group m [] = None
-named_group m (c ∷ name) = range_of_first m (ids_named m (c ∷ name))
-
--- the same from the change of `named_group` on
-abbrev pub named_group_that_matched : Answer → List ℕ → Option (ℕ × ℕ)
-named_group_that_matched m [] = None
-named_group_that_matched m (c ∷ name) = first_range m (ids_named m (c ∷ name))
+named_group m (c ∷ name) = first_range m (ids_named m (c ∷ name))
 
 -- the names that are not empty, each where it stands first
 abbrev pub first_appearances : (before : List (List ℕ)) → List (List ℕ) → List (List ℕ)
@@ -88,5 +79,6 @@ first_appearances before ((c ∷ name) ∷ names) =
     if list_any (bytes_eq (c ∷ name)) before then first_appearances before names
     else (c ∷ name) ∷ first_appearances ((c ∷ name) ∷ before) names
 
+-- each of these names with the range of its first group that matched
 abbrev pub named_groups : Answer → List (List ℕ × Option (ℕ × ℕ))
 named_groups m = map (λ name. (name, first_range m (ids_named m name))) (first_appearances [] m.names)

@@ -25,11 +25,11 @@ ends_in_goal goal = true
 ends_in_goal (cat first rest) = if is_end_of_cat rest then ends_in_goal first else ends_in_goal rest
 ends_in_goal _ = false
 
--- 1: there is exactly one `Goal`, and it is last
+-- there is exactly one `Goal`, and it is last
 abbrev pub goal_is_last : Node → Bool
 goal_is_last root = goal_count root == 1 && ends_in_goal root
 
--- 2: each number below the number of groups is the id of exactly one group
+-- each number below the number of groups is the id of exactly one group
 abbrev pub each_id_stands_once : Node → Bool
 each_id_stands_once root =
     let ids = group_ids root in
@@ -42,13 +42,13 @@ encloses start_group end_group contents =
     let named = numbers_from start_group (end_group - start_group) in
     nat_le start_group end_group && list_all (contains named) ids && list_all (contains ids) named
 
--- 3: each loop and each lookaround names exactly the groups inside it
+-- each loop and each lookaround names exactly the groups inside it
 abbrev pub names_the_groups_inside : Node → Bool
 names_the_groups_inside (lookaround l contents) = encloses l.start_group l.end_group contents
 names_the_groups_inside (loop q start_group end_group loopee) = encloses start_group end_group loopee
 names_the_groups_inside _ = true
 
--- 4: each backreference is to one of n groups, which count from 1
+-- each backreference is to one of n groups, which count from 1
 abbrev pub refers_to_a_group : (n : ℕ) → Node → Bool
 refers_to_a_group n (back_ref group icase) = nat_le 1 group && nat_le group n
 refers_to_a_group n _ = true
@@ -60,7 +60,7 @@ is_in_order q = if_given q.max
     if_given None = true
     if_given (Some max) = nat_le q.min max
 
--- 5: no minimum is above its maximum
+-- no minimum is above its maximum
 abbrev pub has_order_in_quantifier : Node → Bool
 has_order_in_quantifier (loop q start_group end_group loopee) = is_in_order q
 has_order_in_quantifier (loop_1_char_body q loopee) = is_in_order q
@@ -76,17 +76,17 @@ is_one_character match_any_except_line_terminator = true
 is_one_character (byte_sequence bytes) = length (chars bytes) == 1
 is_one_character _ = false
 
--- 6: the body of a one-character loop is one
+-- the body of a one-character loop is one
 abbrev pub has_one_character_body : Node → Bool
 has_one_character_body (loop_1_char_body q loopee) = is_one_character loopee
 has_one_character_body _ = true
 
--- 7: each byte sequence is the UTF-8 of at least one character
+-- each byte sequence is the UTF-8 of at least one character
 abbrev pub has_text_in_sequence : Node → Bool
 has_text_in_sequence (byte_sequence bytes) = nat_lt 0 (length bytes) && is_utf8 bytes
 has_text_in_sequence _ = true
 
--- 8: sets hold at most four, bytes are ASCII, and the code points of strings are at most U+10FFFF
+-- sets hold at most four, bytes are ASCII, and the code points of strings are at most U+10FFFF
 abbrev pub fits_instructions : Node → Bool
 fits_instructions (byte_set members) = nat_le (length members) 4 && list_all (λ b. nat_lt b 128) members
 fits_instructions (char_set members) = nat_le (length members) 4

@@ -1,7 +1,7 @@
 // The meaning of patterns: definitions that contracts cite, and laws of theirs.
 #![tactic(auto)]
 
-ghost use Rattle.regex_meaning.specs.Laws.{PairsAreOutcomes, RepeatUnfolds, OutcomesGoOn, MatchListUnfolds, PredicateIsSound, TestIsClauses};
+ghost use Rattle.regex_meaning.specs.Laws.{PairsAreOutcomes, RepeatUnfolds, OutcomesGoOn, MatchListUnfolds, FirstMatchUnfolds, PlacesHaveOffsets, EncodingsAreTexts, AnswersGoOn, ListGoesOnAhead, AnswersStandInText, NamesAgree, PredicateIsSound, TestIsClauses, OutcomesKeepGroups, OutcomesStayInText, AnswersAreRanges, AnswersStandInOrder, AnswersAreFew, AnswersResume, WholeMatchesChangeNothing, FlagsReadBack, EscapeIsInjective};
 
 // The ticks of a search are put among its outcomes, and change none of them.
 pub fn ticks_change_nothing()
@@ -18,9 +18,89 @@ pub fn outcomes_go_on()
     ensures { OutcomesGoOn }
 {}
 
+// No outcome gains or loses a group.
+pub fn outcomes_keep_groups()
+    ensures { OutcomesKeepGroups }
+{}
+
+// Outcomes and their groups stay within the text.
+pub fn outcomes_stay_in_text()
+    ensures { OutcomesStayInText }
+{}
+
 // The list of matches goes on from behind the first one.
 pub fn matches_go_on()
     ensures { MatchListUnfolds }
+{}
+
+// The first match stands at the place itself, or else at or behind the next one.
+pub fn first_matches_unfold()
+    ensures { FirstMatchUnfolds }
+{}
+
+// Places and their offsets are in the same order, one for one.
+pub fn places_have_offsets()
+    ensures { PlacesHaveOffsets }
+{}
+
+// The texts of the four encodings are texts.
+pub fn encodings_are_texts()
+    ensures { EncodingsAreTexts }
+{}
+
+// The list of answers goes on from where the first one says.
+pub fn answers_go_on()
+    ensures { AnswersGoOn }
+{}
+
+// The list goes on at a boundary ahead.
+pub fn list_goes_on_ahead()
+    ensures { ListGoesOnAhead }
+{}
+
+// The first answer is a range of whole characters, not before the start.
+pub fn answers_stand_in_text()
+    ensures { AnswersStandInText }
+{}
+
+// Every range of an answer is one of whole characters, and there is an entry for each group.
+pub fn answers_are_ranges()
+    ensures { AnswersAreRanges }
+{}
+
+// Starts of answers rise, and no two answers overlap.
+pub fn answers_stand_in_order()
+    ensures { AnswersStandInOrder }
+{}
+
+// There is at most one answer more than characters.
+pub fn answers_are_few()
+    ensures { AnswersAreFew }
+{}
+
+// A search from the end of a match that is not empty gives the rest of the list.
+pub fn answers_resume()
+    ensures { AnswersResume }
+{}
+
+// A name's range is the one that stands with it among all names.
+pub fn names_agree()
+    ensures { NamesAgree }
+{}
+
+// Matches replaced by themselves give the text back.
+pub fn whole_matches_change_nothing()
+    ensures { WholeMatchesChangeNothing }
+{}
+
+// The flags of displayed flags are these, but for `no_opt`.
+pub fn flags_read_back()
+    ensures { FlagsReadBack }
+{}
+
+// No two texts are escaped alike.
+pub fn escape_is_injective()
+    ensures { EscapeIsInjective }
 {}
 
 // The start predicate of a well-formed tree is sound.

@@ -1,7 +1,7 @@
 -- Programs and the trees whose code they are.
 use Rattle.std.specs.Prelude.{ℕ, ◌^◌, ◌-◌, List, [], ◌∷◌, None, refl, true, false}
-use Rattle.regex_meaning.specs.Tree.{goal, char, byte_sequence, cat, end_of_cat, alt, lookaround, loop}
-use Rattle.regex_meaning.specs.Layout.{Insn, Goal, Char, Alt, Jump, EnterLoop, LoopAgain, ByteSeq, Lookbehind, Program, Mark, IsCode}
+use Rattle.regex_meaning.specs.Tree.{goal, char, byte_sequence, cat, end_of_cat, alt, lookaround, loop, loop_1_char_body}
+use Rattle.regex_meaning.specs.Layout.{Insn, Goal, Char, Alt, Jump, EnterLoop, LoopAgain, Loop1CharBody, ByteSeq, Lookbehind, Program, Mark, IsCode}
 use Rattle.regex_meaning.specs.StartPredicate.{start_arbitrary}
 use Rattle.regex_meaning.specs.Computing.{times, look, no_flags}
 
@@ -30,3 +30,8 @@ behind : IsCode (program (Lookbehind false 0 0 4 ∷ ByteSeq (113 ∷ []) ∷ By
     (cat (lookaround (look false true 0 0) (byte_sequence (97 ∷ 98 ∷ 99 ∷ 100 ∷ 101 ∷ 102 ∷ 103 ∷ 104 ∷ 105 ∷ 106 ∷ 107 ∷ 108 ∷ 109 ∷ 110 ∷ 111 ∷ 112 ∷ 113 ∷ []))) (cat goal end_of_cat)) (mark 0 0) (mark 5 0)
 unfolding IsCode
 behind = (mark 4 0, (mark 3 0, refl, (refl, (refl, refl)), (refl, refl)), (mark 5 0, (refl, refl), refl))
+
+one_character_loop : IsCode (program (Loop1CharBody 0 (2 ^ 64 - 1) true ∷ Char 97 ∷ Goal ∷ [])) false
+    (cat (loop_1_char_body (times 0 None true) (char 97)) (cat goal end_of_cat)) (mark 0 0) (mark 3 0)
+unfolding IsCode
+one_character_loop = (mark 2 0, (refl, (refl, refl)), (mark 3 0, (refl, refl), refl))

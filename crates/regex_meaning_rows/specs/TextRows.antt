@@ -3,7 +3,7 @@ use Rattle.std.specs.Prelude.{◌≡◌, ◌++◌, ◌==◌, Bool, filter, map, 
 use Rattle.regex_meaning.specs.Lists.{numbers_from}
 use Rattle.regex_meaning.specs.Text.{is_unit_boundary, expand_code_point, fold_code_point}
 use Rattle.regex_meaning.specs.Outcomes.{Groups}
-use Rattle.regex_meaning.specs.Names.{Answer, named_group, named_group_that_matched, named_groups}
+use Rattle.regex_meaning.specs.Names.{Answer, group, named_group, named_groups}
 use Rattle.regex_meaning.specs.Replace.{expansion, replaced}
 use Rattle.regex_meaning.specs.Flags.{flags_text, flags_of_text, escape, special}
 
@@ -57,17 +57,52 @@ by_name : expansion (codes "xa") (record { range = (1, 2); captures = Some (1, 2
 unfolding expansion
 by_name = refl
 
-least_id : named_group two (codes "n") ≡ None
-least_id = refl
-
-that_matched : named_group_that_matched two (codes "n") ≡ Some (0, 1)
+that_matched : named_group two (codes "n") ≡ Some (0, 1)
 that_matched = refl
+
+of_the_empty_name : named_group two [] ≡ None
+of_the_empty_name = refl
+
+of_no_group : named_group two (codes "m") ≡ None
+of_no_group = refl
+
+-- both groups of the name matched: the first one counts
+abbrev both : Answer
+both = record { range = (0, 2); captures = Some (0, 1) ∷ Some (1, 2) ∷ []; names = codes "n" ∷ codes "n" ∷ [] }
+
+first_that_matched : named_group both (codes "n") ≡ Some (0, 1)
+first_that_matched = refl
 
 all_names : named_groups two ≡ (codes "n", Some (0, 1)) ∷ []
 all_names = refl
 
+truncated : named_group (record two { captures = None ∷ [] }) (codes "n") ≡ None
+truncated = refl
+
 cut_off : named_groups (record two { captures = [] }) ≡ (codes "n", None) ∷ []
 cut_off = refl
+
+-- a match of a group that is there and of one that is not, and what is asked of it
+abbrev one_of_two : Answer
+one_of_two = record { range = (0, 1); captures = Some (0, 1) ∷ None ∷ []; names = codes "n" ∷ [] ∷ [] }
+
+groups : map (group one_of_two) (0 ∷ 1 ∷ 2 ∷ 3 ∷ []) ≡ (Some (0, 1) ∷ Some (0, 1) ∷ None ∷ None ∷ [])
+groups = refl
+
+-- the same without its captures
+groups_cut_off : map (group (record one_of_two { captures = [] })) (0 ∷ 1 ∷ []) ≡ (Some (0, 1) ∷ None ∷ [])
+groups_cut_off = refl
+
+name_cut_off : named_group (record one_of_two { captures = [] }) (codes "n") ≡ None
+name_cut_off = refl
+
+flags : flags_of_text (codes "gimuy") ≡ record { icase = true; multiline = true; dot_all = false; no_opt = false; unicode = true; unicode_sets = false }
+unfolding flags_of_text
+flags = refl
+
+no_letters : flags_text (flags_of_text []) ≡ []
+unfolding flags_text flags_of_text
+no_letters = refl
 
 letters : flags_text (flags_of_text (codes "gimuy")) ≡ codes "miu"
 unfolding flags_text flags_of_text
@@ -76,6 +111,10 @@ letters = refl
 escaped_text : escape (codes "a^b$c.d|e?f*g+h(i)j[k]l{m}n\\o") ≡ codes "a\\^b\\$c\\.d\\|e\\?f\\*g\\+h\\(i\\)j\\[k\\]l\\{m\\}n\\\\o"
 unfolding escape
 escaped_text = refl
+
+escaped_nothing : escape [] ≡ []
+unfolding escape
+escaped_nothing = refl
 
 fourteen : special ≡ 92 ∷ 94 ∷ 36 ∷ 46 ∷ 124 ∷ 63 ∷ 42 ∷ 43 ∷ 40 ∷ 41 ∷ 91 ∷ 93 ∷ 123 ∷ 125 ∷ []
 fourteen = refl

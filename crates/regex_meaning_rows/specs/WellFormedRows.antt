@@ -6,146 +6,146 @@ use Rattle.std.specs.Str.{is_utf8, chars}
 use Rattle.std.specs.Char.{encode_utf8 as encode}
 use Rattle.regex_meaning.specs.Computing.{times, look}
 
-row24a : is_well_formed (char 97) ≡ false
+no_goal : is_well_formed (char 97) ≡ false
 unfolding is_well_formed is_utf8 chars encode
-row24a = refl
+no_goal = refl
 
-row24b : is_well_formed (cat (capture_group 0 [] (char 97)) (cat (capture_group 0 [] (char 97)) (cat goal end_of_cat))) ≡ false
+same_id_twice : is_well_formed (cat (capture_group 0 [] (char 97)) (cat (capture_group 0 [] (char 97)) (cat goal end_of_cat))) ≡ false
 unfolding is_well_formed is_utf8 chars encode
-row24b = refl
+same_id_twice = refl
 
-row24c : is_well_formed (cat (back_ref 1 false) (cat goal end_of_cat)) ≡ false
+no_such_group : is_well_formed (cat (back_ref 1 false) (cat goal end_of_cat)) ≡ false
 unfolding is_well_formed is_utf8 chars encode
-row24c = refl
+no_such_group = refl
 
-row24d : is_well_formed (cat (byte_sequence (195 ∷ [])) (cat goal end_of_cat)) ≡ false
+cut_sequence : is_well_formed (cat (byte_sequence (195 ∷ [])) (cat goal end_of_cat)) ≡ false
 unfolding is_well_formed is_utf8 chars encode
-row24d = refl
+cut_sequence = refl
 
-row24e : is_well_formed (cat (loop (times 2 (Some 1) true) 0 0 (char 97)) (cat goal end_of_cat)) ≡ false
+minimum_above_maximum : is_well_formed (cat (loop (times 2 (Some 1) true) 0 0 (char 97)) (cat goal end_of_cat)) ≡ false
 unfolding is_well_formed is_utf8 chars encode
-row24e = refl
+minimum_above_maximum = refl
 
-r12_1a : is_well_formed (cat goal (cat (char 97) end_of_cat)) ≡ false
+goal_first : is_well_formed (cat goal (cat (char 97) end_of_cat)) ≡ false
 unfolding is_well_formed is_utf8 chars encode
-r12_1a = refl
+goal_first = refl
 
-r12_1b : is_well_formed (alt goal goal) ≡ false
+two_goals : is_well_formed (alt goal goal) ≡ false
 unfolding is_well_formed is_utf8 chars encode
-r12_1b = refl
+two_goals = refl
 
-r12_1c : is_well_formed end_of_cat ≡ false
+nothing_at_all : is_well_formed end_of_cat ≡ false
 unfolding is_well_formed is_utf8 chars encode
-r12_1c = refl
+nothing_at_all = refl
 
-r12_2 : is_well_formed (cat (capture_group 0 [] (char 97)) (cat (capture_group 2 [] (char 97)) (cat goal end_of_cat))) ≡ false
+id_left_out : is_well_formed (cat (capture_group 0 [] (char 97)) (cat (capture_group 2 [] (char 97)) (cat goal end_of_cat))) ≡ false
 unfolding is_well_formed is_utf8 chars encode
-r12_2 = refl
+id_left_out = refl
 
-r12_3a : is_well_formed (cat (loop (times 0 None true) 0 0 (capture_group 0 [] (char 97))) (cat goal end_of_cat)) ≡ false
+group_not_named : is_well_formed (cat (loop (times 0 None true) 0 0 (capture_group 0 [] (char 97))) (cat goal end_of_cat)) ≡ false
 unfolding is_well_formed is_utf8 chars encode
-r12_3a = refl
+group_not_named = refl
 
-r12_3b : is_well_formed (cat (loop (times 0 None true) 0 1 (char 97)) (cat goal end_of_cat)) ≡ false
+group_not_inside : is_well_formed (cat (loop (times 0 None true) 0 1 (char 97)) (cat goal end_of_cat)) ≡ false
 unfolding is_well_formed is_utf8 chars encode
-r12_3b = refl
+group_not_inside = refl
 
-r12_3c : is_well_formed (cat (loop (times 0 None true) 1 0 (char 97)) (cat goal end_of_cat)) ≡ false
+range_reversed : is_well_formed (cat (loop (times 0 None true) 1 0 (char 97)) (cat goal end_of_cat)) ≡ false
 unfolding is_well_formed is_utf8 chars encode
-r12_3c = refl
+range_reversed = refl
 
-r12_3d : is_well_formed (cat (lookaround (look false false 0 1) (char 97)) (cat goal end_of_cat)) ≡ false
+look_names_too_much : is_well_formed (cat (lookaround (look false false 0 1) (char 97)) (cat goal end_of_cat)) ≡ false
 unfolding is_well_formed is_utf8 chars encode
-r12_3d = refl
+look_names_too_much = refl
 
-r12_4a : is_well_formed (cat (back_ref 0 false) (cat (capture_group 0 [] (char 97)) (cat goal end_of_cat))) ≡ false
+group_zero : is_well_formed (cat (back_ref 0 false) (cat (capture_group 0 [] (char 97)) (cat goal end_of_cat))) ≡ false
 unfolding is_well_formed is_utf8 chars encode
-r12_4a = refl
+group_zero = refl
 
-r12_4b : is_well_formed (cat (back_ref 2 false) (cat (capture_group 0 [] (char 97)) (cat goal end_of_cat))) ≡ false
+group_past_the_last : is_well_formed (cat (back_ref 2 false) (cat (capture_group 0 [] (char 97)) (cat goal end_of_cat))) ≡ false
 unfolding is_well_formed is_utf8 chars encode
-r12_4b = refl
+group_past_the_last = refl
 
-r12_5 : is_well_formed (cat (loop_1_char_body (times 3 (Some 2) true) (char 97)) (cat goal end_of_cat)) ≡ false
+one_character_order : is_well_formed (cat (loop_1_char_body (times 3 (Some 2) true) (char 97)) (cat goal end_of_cat)) ≡ false
 unfolding is_well_formed is_utf8 chars encode
-r12_5 = refl
+one_character_order = refl
 
-r12_6a : is_well_formed (cat (loop_1_char_body (times 0 None true) (cat (char 97) end_of_cat)) (cat goal end_of_cat)) ≡ false
+body_is_cat : is_well_formed (cat (loop_1_char_body (times 0 None true) (cat (char 97) end_of_cat)) (cat goal end_of_cat)) ≡ false
 unfolding is_well_formed is_utf8 chars encode
-r12_6a = refl
+body_is_cat = refl
 
-r12_6b : is_well_formed (cat (loop_1_char_body (times 0 None true) empty) (cat goal end_of_cat)) ≡ false
+body_is_empty : is_well_formed (cat (loop_1_char_body (times 0 None true) empty) (cat goal end_of_cat)) ≡ false
 unfolding is_well_formed is_utf8 chars encode
-r12_6b = refl
+body_is_empty = refl
 
-r12_6c : is_well_formed (cat (loop_1_char_body (times 0 None true) (byte_sequence (97 ∷ 98 ∷ []))) (cat goal end_of_cat)) ≡ false
+body_of_two : is_well_formed (cat (loop_1_char_body (times 0 None true) (byte_sequence (97 ∷ 98 ∷ []))) (cat goal end_of_cat)) ≡ false
 unfolding is_well_formed is_utf8 chars encode
-r12_6c = refl
+body_of_two = refl
 
-r12_7a : is_well_formed (cat (byte_sequence []) (cat goal end_of_cat)) ≡ false
+empty_sequence : is_well_formed (cat (byte_sequence []) (cat goal end_of_cat)) ≡ false
 unfolding is_well_formed is_utf8 chars encode
-r12_7a = refl
+empty_sequence = refl
 
-r12_7b : is_well_formed (cat (byte_sequence (192 ∷ 128 ∷ [])) (cat goal end_of_cat)) ≡ false
+overlong_sequence : is_well_formed (cat (byte_sequence (192 ∷ 128 ∷ [])) (cat goal end_of_cat)) ≡ false
 unfolding is_well_formed is_utf8 chars encode
-r12_7b = refl
+overlong_sequence = refl
 
-r12_7c : is_well_formed (cat (byte_sequence (237 ∷ 160 ∷ 128 ∷ [])) (cat goal end_of_cat)) ≡ false
+surrogate_sequence : is_well_formed (cat (byte_sequence (237 ∷ 160 ∷ 128 ∷ [])) (cat goal end_of_cat)) ≡ false
 unfolding is_well_formed is_utf8 chars encode
-r12_7c = refl
+surrogate_sequence = refl
 
-r12_8a : is_well_formed (cat (byte_set (1 ∷ 2 ∷ 3 ∷ 4 ∷ 5 ∷ [])) (cat goal end_of_cat)) ≡ false
+five_bytes : is_well_formed (cat (byte_set (1 ∷ 2 ∷ 3 ∷ 4 ∷ 5 ∷ [])) (cat goal end_of_cat)) ≡ false
 unfolding is_well_formed is_utf8 chars encode
-r12_8a = refl
+five_bytes = refl
 
-r12_8b : is_well_formed (cat (byte_set (128 ∷ [])) (cat goal end_of_cat)) ≡ false
+byte_past_ascii : is_well_formed (cat (byte_set (128 ∷ [])) (cat goal end_of_cat)) ≡ false
 unfolding is_well_formed is_utf8 chars encode
-r12_8b = refl
+byte_past_ascii = refl
 
-r12_8c : is_well_formed (cat (char_set (1 ∷ 2 ∷ 3 ∷ 4 ∷ 5 ∷ [])) (cat goal end_of_cat)) ≡ false
+five_characters : is_well_formed (cat (char_set (1 ∷ 2 ∷ 3 ∷ 4 ∷ 5 ∷ [])) (cat goal end_of_cat)) ≡ false
 unfolding is_well_formed is_utf8 chars encode
-r12_8c = refl
+five_characters = refl
 
-r12_8d : is_well_formed (cat (string_set ((97 ∷ []) ∷ []) false) (cat goal end_of_cat)) ≡ true
+strings_of_ascii : is_well_formed (cat (string_set ((97 ∷ []) ∷ []) false) (cat goal end_of_cat)) ≡ true
 unfolding is_well_formed is_utf8 chars encode
-r12_8d = refl
+strings_of_ascii = refl
 
-r12_8e : is_well_formed (cat (string_set ((0x110000 ∷ []) ∷ []) false) (cat goal end_of_cat)) ≡ false
+string_past_unicode : is_well_formed (cat (string_set ((0x110000 ∷ []) ∷ []) false) (cat goal end_of_cat)) ≡ false
 unfolding is_well_formed is_utf8 chars encode
-r12_8e = refl
+string_past_unicode = refl
 
-ok1 : is_well_formed (cat (lookaround (look false false 5 5) (char 97)) (cat goal end_of_cat)) ≡ true
+look_past_the_last_group : is_well_formed (cat (lookaround (look false false 5 5) (char 97)) (cat goal end_of_cat)) ≡ true
 unfolding is_well_formed is_utf8 chars encode
-ok1 = refl
+look_past_the_last_group = refl
 
-ok2 : is_well_formed (cat (cat (capture_group 0 [] (alt (cat (capture_group 1 [] (cat (char 97) end_of_cat)) end_of_cat) (cat (capture_group 2 [] (cat (char 97) (cat (char 98) end_of_cat))) end_of_cat))) (cat (capture_group 3 [] (alt (cat (capture_group 4 [] (cat (char 99) end_of_cat)) end_of_cat) (cat (capture_group 5 [] (cat (char 98) (cat (char 99) end_of_cat))) end_of_cat))) end_of_cat)) (cat goal end_of_cat)) ≡ true
+nested_groups : is_well_formed (cat (cat (capture_group 0 [] (alt (cat (capture_group 1 [] (cat (char 97) end_of_cat)) end_of_cat) (cat (capture_group 2 [] (cat (char 97) (cat (char 98) end_of_cat))) end_of_cat))) (cat (capture_group 3 [] (alt (cat (capture_group 4 [] (cat (char 99) end_of_cat)) end_of_cat) (cat (capture_group 5 [] (cat (char 98) (cat (char 99) end_of_cat))) end_of_cat))) end_of_cat)) (cat goal end_of_cat)) ≡ true
 unfolding is_well_formed is_utf8 chars encode
-ok2 = refl
+nested_groups = refl
 
-ok3 : is_well_formed (cat (cat (loop (times 2 None true) 0 1 (alt (cat (lookaround (look false false 0 1) (cat (capture_group 0 [] (cat (loop_1_char_body (times 1 None true) (char 97)) end_of_cat)) end_of_cat)) (cat (loop_1_char_body (times 0 None true) (char 97)) (cat (char 98) (cat (back_ref 1 false) end_of_cat)))) (cat (loop_1_char_body (times 2 (Some 3) true) (char 120)) end_of_cat))) end_of_cat) (cat goal end_of_cat)) ≡ true
+loop_with_look : is_well_formed (cat (cat (loop (times 2 None true) 0 1 (alt (cat (lookaround (look false false 0 1) (cat (capture_group 0 [] (cat (loop_1_char_body (times 1 None true) (char 97)) end_of_cat)) end_of_cat)) (cat (loop_1_char_body (times 0 None true) (char 97)) (cat (char 98) (cat (back_ref 1 false) end_of_cat)))) (cat (loop_1_char_body (times 2 (Some 3) true) (char 120)) end_of_cat))) end_of_cat) (cat goal end_of_cat)) ≡ true
 unfolding is_well_formed is_utf8 chars encode
-ok3 = refl
+loop_with_look = refl
 
-ok4 : is_well_formed (cat (loop_1_char_body (times 0 None true) (byte_sequence (195 ∷ 169 ∷ []))) (cat (cat goal end_of_cat) end_of_cat)) ≡ true
+sequence_of_one_character : is_well_formed (cat (loop_1_char_body (times 0 None true) (byte_sequence (195 ∷ 169 ∷ []))) (cat (cat goal end_of_cat) end_of_cat)) ≡ true
 unfolding is_well_formed is_utf8 chars encode
-ok4 = refl
+sequence_of_one_character = refl
 
-ok5 : is_well_formed goal ≡ true
+goal_alone : is_well_formed goal ≡ true
 unfolding is_well_formed is_utf8 chars encode
-ok5 = refl
+goal_alone = refl
 
-ok6 : is_well_formed (cat (byte_sequence (195 ∷ 169 ∷ 226 ∷ 130 ∷ 172 ∷ 240 ∷ 159 ∷ 152 ∷ 128 ∷ [])) (cat (byte_sequence (244 ∷ 143 ∷ 191 ∷ 191 ∷ [])) (cat goal end_of_cat))) ≡ true
+wide_sequences : is_well_formed (cat (byte_sequence (195 ∷ 169 ∷ 226 ∷ 130 ∷ 172 ∷ 240 ∷ 159 ∷ 152 ∷ 128 ∷ [])) (cat (byte_sequence (244 ∷ 143 ∷ 191 ∷ 191 ∷ [])) (cat goal end_of_cat))) ≡ true
 unfolding is_well_formed is_utf8 chars encode
-ok6 = refl
+wide_sequences = refl
 
-no7 : is_well_formed (cat (byte_sequence (244 ∷ 144 ∷ 128 ∷ 128 ∷ [])) (cat goal end_of_cat)) ≡ false
+sequence_past_unicode : is_well_formed (cat (byte_sequence (244 ∷ 144 ∷ 128 ∷ 128 ∷ [])) (cat goal end_of_cat)) ≡ false
 unfolding is_well_formed is_utf8 chars encode
-no7 = refl
+sequence_past_unicode = refl
 
-no7b : is_well_formed (cat (byte_sequence (224 ∷ 128 ∷ 128 ∷ [])) (cat goal end_of_cat)) ≡ false
+overlong_sequence_of_three : is_well_formed (cat (byte_sequence (224 ∷ 128 ∷ 128 ∷ [])) (cat goal end_of_cat)) ≡ false
 unfolding is_well_formed is_utf8 chars encode
-no7b = refl
+overlong_sequence_of_three = refl
 
-no7c : is_well_formed (cat (byte_sequence (128 ∷ [])) (cat goal end_of_cat)) ≡ false
+lone_continuation : is_well_formed (cat (byte_sequence (128 ∷ [])) (cat goal end_of_cat)) ≡ false
 unfolding is_well_formed is_utf8 chars encode
-no7c = refl
+lone_continuation = refl

@@ -1,0 +1,5 @@
+use Rattle.regex_meaning.proofs.TextOut.{escape-injective}
+use Rattle.regex_meaning.proofs.escape_is_injective.Goals as goal
+
+pub returns : goal.returns
+returns c = escape-injective

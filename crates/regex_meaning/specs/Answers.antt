@@ -1,0 +1,30 @@
+-- What a search answers from an offset, and where it goes on.
+use Rattle.std.specs.Prelude.{ℕ, List, [], ◌∷◌, option_map, option_and_then, Option, Some, None}
+use Rattle.regex_meaning.specs.Tree.{Node}
+use Rattle.regex_meaning.specs.Text.{Text}
+use Rattle.regex_meaning.specs.Offsets.{offset, place_at}
+use Rattle.regex_meaning.specs.Find.{Found, first_match, place_behind}
+use Rattle.regex_meaning.specs.Names.{Answer, answer, answers_from}
+
+module _ (root : Node) (text : Text) where
+  -- the first match from an offset on; none where that is no boundary or stands past the end
+  abbrev pub first_found : (start : ℕ) → Option Found
+  first_found start = option_and_then (first_match root text) (place_at text start)
+
+  -- the same in offsets
+  abbrev pub first_answer : (start : ℕ) → Option Answer
+  first_answer start = option_map (answer root text) (first_found start)
+
+  -- the offset from which the list goes on behind that match
+  abbrev pub next_start : (start : ℕ) → Option ℕ
+  next_start start = option_map (offset text) (option_and_then (place_behind root text) (first_found start))
+
+  -- the answers from an offset on, if there is one
+  abbrev pub answers_on : (next : Option ℕ) → List Answer
+  answers_on None = []
+  answers_on (Some start) = answers_from root text start
+
+  -- an answer, and those from where the list goes on
+  abbrev pub answer_then_list : Option Answer → (next : Option ℕ) → List Answer
+  answer_then_list None next = []
+  answer_then_list (Some m) next = m ∷ answers_on next

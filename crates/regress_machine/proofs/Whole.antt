@@ -1,0 +1,188 @@
+-- What the code of a whole tree finds.
+use Rattle.std.proofs.Common.{◌≡◌, ℕ, zero, suc, ◌+◌, ◌-◌, ◌<◌, ◌≤◌, List, [], ◌∷◌, length, map, replicate, Option, Some, None, Bool, true, false, refl, ap, ◌∙◌, sym, subst, arith, eqb-true}
+use Rattle.std.proofs.lemmas.List.{length-replicate}
+use Rattle.std.specs.Prelude.{option_map, if◌then◌else◌, ◌==◌}
+use Rattle.regex_meaning.specs.Laws.{Each}
+use Rattle.regex_meaning.specs.Tree.{Node, empty, goal, char, char_set, byte_set, byte_sequence, cat, end_of_cat, alt, bracket, string_set, match_any, match_any_except_line_terminator, anchor, word_boundary, capture_group, back_ref, lookaround, loop, loop_1_char_body, group_ids, Tree}
+use Rattle.regex_meaning.specs.Text.{Text, Direction, rightwards, last_place}
+use Rattle.regex_meaning.specs.Offsets.{IsText, offset}
+use Rattle.regex_meaning.specs.Outcomes.{Groups, Outcome, direction_of, outcomes}
+use Rattle.regex_meaning.specs.Find.{no_groups}
+use Rattle.regex_meaning.specs.Ticks.{Item, tick, pair, and_then, ticked, items_at}
+use Rattle.regex_meaning.specs.WellFormed.{goal_count, is_end_of_cat, ends_in_goal}
+use Rattle.regex_meaning.specs.Layout.{Program, Mark, next, start, IsCode, Goal, anchor_insn, word_boundary_insn, BackRef}
+use Rattle.regress_machine.specs.Machine.{LoopData, State, running, nothing, search}
+use Rattle.regress_machine.specs.Finds.{initial, end_in_offsets, end_of, first_pair, CanSearch, turns_at, FindsFirst}
+use Rattle.regress_machine.proofs.Search.{search_enough}
+use Rattle.regress_machine.proofs.Yields.{Ending, EndIs, found_first, Yields, yields_same, yields_end}
+use Rattle.regress_machine.proofs.Nodes.{state_at, RangeFits, Enters, act_at, Finds, Rising, nothing_finds, cat_finds, alt_finds}
+use Rattle.regress_machine.proofs.Sets.{char_finds, char_set_finds, match_any_finds, match_any_except_line_terminator_finds, bracket_finds, insns_rising, char_rising, char_set_rising, match_any_rising, match_any_except_line_terminator_rising, bracket_rising}
+use Rattle.regress_machine.proofs.Groups.{anchor_finds, word_boundary_finds, back_ref_finds, capture_group_finds}
+use Rattle.regress_machine.proofs.Looks.{lookaround_finds}
+use Rattle.regress_machine.proofs.Loops.{loop_finds, loop_rising}
+use Rattle.regress_machine.proofs.Ready.{Ready, root_ready, left_true, right_true}
+
+and_then-itself : (items : List Item) → and_then items (λ o. pair o ∷ []) ≡ items
+and_then-itself [] = refl
+and_then-itself (tick ∷ items) = ap (λ (l : List Item). tick ∷ l) (and_then-itself items)
+and_then-itself (pair o ∷ items) = ap (λ (l : List Item). pair o ∷ l) (and_then-itself items)
+
+-- a node that ends in a goal has one
+goal_inside : (node : Node) → ends_in_goal node ≡ true → 1 ≤ goal_count node
+goal_inside goal h = omega arith
+goal_inside (cat first rest) h = by (is_end_of_cat rest) h (goal_inside first) (goal_inside rest)
+  where
+    by : (b : Bool) → (if b then ends_in_goal first else ends_in_goal rest) ≡ true → (ends_in_goal first ≡ true → 1 ≤ goal_count first)
+        → (ends_in_goal rest ≡ true → 1 ≤ goal_count rest) → 1 ≤ goal_count first + goal_count rest
+    by true h f r = let a = f h in omega arith
+    by false h f r = let a = r h in omega arith
+goal_inside _ h = cc
+
+module _ (program : Program) (text : Text) (is_text : IsText text) where
+  -- the mark's number of loops does not fall
+  tree_rising : (behind : Bool) (node : Node) → Ready program.groups node → Rising program text is_text behind node
+  unfolding IsCode
+  tree_rising behind empty r m n code = let e = ap (λ (m : Mark). m.loop) code in omega (arith, e)
+  tree_rising behind goal r m n code = insns_rising program text is_text (Goal ∷ []) m n code
+  tree_rising behind (char c) r m n code = char_rising program text is_text behind c m n code
+  tree_rising behind (char_set members) r m n code = char_set_rising program text is_text behind members m n code
+  tree_rising behind (byte_set members) r m n code = absurd r
+  tree_rising behind (byte_sequence bytes) r m n code = absurd r
+  tree_rising behind (cat first rest) r m n code =
+      let a = tree_rising behind first r.0 m code.0 code.1 in let b = tree_rising behind rest r.1 code.0 n code.2 in omega (arith, a, b)
+  tree_rising behind end_of_cat r m n code = let e = ap (λ (m : Mark). m.loop) code in omega (arith, e)
+  tree_rising behind (alt left right) r m n code =
+      let a = tree_rising behind left r.0 (next m) code.0 code.2 in let b = tree_rising behind right r.1 (next code.0) n code.4 in omega (arith, a, b)
+  tree_rising behind (bracket contents) r m n code = bracket_rising program text is_text behind contents m n code
+  tree_rising behind (string_set strings icase) r m n code = absurd r
+  tree_rising behind match_any r m n code = match_any_rising program text is_text behind m n code
+  tree_rising behind match_any_except_line_terminator r m n code = match_any_except_line_terminator_rising program text is_text behind m n code
+  tree_rising behind (anchor type multiline) r m n code = insns_rising program text is_text (anchor_insn type multiline ∷ []) m n code
+  tree_rising behind (word_boundary invert unicode_icase) r m n code = insns_rising program text is_text (word_boundary_insn invert unicode_icase ∷ []) m n code
+  tree_rising behind (capture_group id name contents) r m n code =
+      let a = tree_rising behind contents r.2 (next m) code.0 code.2 in let e = ap (λ (m : Mark). m.loop) code.3.1 in omega (arith, a, e)
+  tree_rising behind (back_ref group icase) r m n code = insns_rising program text is_text (BackRef (group - 1) icase ∷ []) m n code
+  tree_rising behind (lookaround l contents) r m n code =
+      let a = tree_rising l.backwards contents r (next m) code.0 code.2 in let e = ap (λ (m : Mark). m.loop) code.3.1 in omega (arith, a, e)
+  tree_rising behind (loop q first end loopee) r m n code =
+      loop_rising program text is_text behind q first end loopee (tree_rising behind loopee r.1) m n code
+  tree_rising behind (loop_1_char_body q loopee) r m n code = absurd r
+
+  -- the code of a node without a goal
+  tree_finds : (d : Direction) (behind : Bool) (node : Node) → Ready program.groups node → goal_count node ≡ 0 → Finds program text is_text d behind node
+  unfolding IsCode ticked outcomes
+  tree_finds d behind empty r h E m n p g s ls k code enters on = nothing_finds program text is_text d E m n p [] g s ls k code enters on
+  tree_finds d behind goal r h E m n p g s ls k code enters on = cc
+  tree_finds d behind (char c) r h E m n p g s ls k code enters on = char_finds program text is_text d behind c E m n p g s ls k code enters on
+  tree_finds d behind (char_set members) r h E m n p g s ls k code enters on = char_set_finds program text is_text d behind members E m n p g s ls k code enters on
+  tree_finds d behind (byte_set members) r h E m n p g s ls k code enters on = absurd r
+  tree_finds d behind (byte_sequence bytes) r h E m n p g s ls k code enters on = absurd r
+  tree_finds d behind (cat first rest) r h E m n p g s ls k code enters on =
+      cat_finds program text is_text d behind first rest (tree_rising behind first r.0) (tree_rising behind rest r.1)
+      (tree_finds d behind first r.0 (omega arith)) (tree_finds d behind rest r.1 (omega arith)) E m n p g s ls k code enters on
+  tree_finds d behind end_of_cat r h E m n p g s ls k code enters on = nothing_finds program text is_text d E m n p [] g s ls k code enters on
+  tree_finds d behind (alt left right) r h E m n p g s ls k code enters on =
+      alt_finds program text is_text d behind left right (tree_rising behind left r.0) (tree_rising behind right r.1)
+      (tree_finds d behind left r.0 (omega arith)) (tree_finds d behind right r.1 (omega arith)) E m n p g s ls k code enters on
+  tree_finds d behind (bracket contents) r h E m n p g s ls k code enters on = bracket_finds program text is_text d behind contents E m n p g s ls k code enters on
+  tree_finds d behind (string_set strings icase) r h E m n p g s ls k code enters on = absurd r
+  tree_finds d behind match_any r h E m n p g s ls k code enters on = match_any_finds program text is_text d behind E m n p g s ls k code enters on
+  tree_finds d behind match_any_except_line_terminator r h E m n p g s ls k code enters on =
+      match_any_except_line_terminator_finds program text is_text d behind E m n p g s ls k code enters on
+  tree_finds d behind (anchor type multiline) r h E m n p g s ls k code enters on = anchor_finds program text is_text d behind type multiline E m n p g s ls k code enters on
+  tree_finds d behind (word_boundary invert unicode_icase) r h E m n p g s ls k code enters on =
+      word_boundary_finds program text is_text d behind invert unicode_icase E m n p g s ls k code enters on
+  tree_finds d behind (capture_group id name contents) r h E m n p g s ls k code enters on =
+      capture_group_finds program text is_text d behind id name contents (tree_finds d behind contents r.2 h) E m n p g s ls k
+      (subst (λ x. id < x) (sym enters.groups) r.0) r.1 code enters on
+  tree_finds d behind (back_ref group icase) r h E m n p g s ls k code enters on =
+      back_ref_finds program text is_text d behind group icase E m n p g s ls k (subst (λ x. group - 1 < x) (sym enters.groups) r) code enters on
+  tree_finds d behind (lookaround l contents) r h E m n p g s ls k code enters on =
+      lookaround_finds program text is_text d behind l contents (tree_finds (direction_of l) l.backwards contents r h) E m n p g s ls k code enters on
+  tree_finds d behind (loop q first end loopee) r h E m n p g s ls k code enters on =
+      loop_finds program text is_text d behind q first end loopee (tree_finds d behind loopee r.1 h) (tree_rising behind loopee r.1) E m n p g s ls k
+      (λ i le less. subst (λ x. i < x) (sym enters.groups) (r.0 i le less)) code enters on
+  tree_finds d behind (loop_1_char_body q loopee) r h E m n p g s ls k code enters on = absurd r
+
+  -- an outcome and a state at its end
+  abbrev pub AtEnd : Ending
+  AtEnd o t = end_of t ≡ end_in_offsets text o
+
+  -- the code of a node that ends in the goal
+  root_finds : (node : Node) → Ready program.groups node → ends_in_goal node ≡ true → goal_count node ≡ 1
+      → (m n : Mark) (p : ℕ) (g : Groups) (s : List ℕ) (ls : List LoopData) → IsCode program false node m n → Enters program text is_text p g s ls n.loop
+      → Yields program text rightwards AtEnd (running (state_at program text is_text m.insn p g s ls) ∷ []) (ticked text node rightwards p g)
+  unfolding IsCode ticked outcomes
+  root_finds goal r h one m n p g s ls code enters =
+      let t = state_at program text is_text m.insn p g s ls in
+      yields_end program text rightwards AtEnd t (record { end = p; groups = g }) (act_at program text is_text rightwards t Goal code.0) refl
+  root_finds (cat first end_of_cat) r h one m n p g s ls code enters =
+      let e = ap (λ (m : Mark). m.loop) code.2 in
+      yields_same program text rightwards AtEnd _ _ _ (sym (and_then-itself (ticked text first rightwards p g)))
+      (root_finds first r.0 h (omega arith) m code.0 p g s ls code.1
+      (record { inside = enters.inside; fit = enters.fit; groups = enters.groups; starts = enters.starts; loops = omega (arith, e, enters.loops) }))
+  root_finds (cat first rest) r h one m n p g s ls code enters =
+      let some = goal_inside rest h in
+      let rising = tree_rising false rest r.1 code.0 n code.2 in
+      tree_finds rightwards false first r.0 (omega arith) AtEnd m code.0 p g s ls (λ o. ticked text rest rightwards o.end o.groups) code.1
+      (record { inside = enters.inside; fit = enters.fit; groups = enters.groups; starts = enters.starts; loops = omega (arith, rising, enters.loops) })
+      (record {
+        at = λ o s' ls' reached kept.
+            root_finds rest r.1 h (omega arith) code.0 n o.end o.groups s' ls' code.2
+            (record {
+              inside = reached.inside;
+              fit = reached.fit;
+              groups = reached.same_groups ∙ enters.groups;
+              starts = kept.starts_length ∙ enters.starts ∙ sym reached.same_groups;
+              loops = omega (arith, kept.loops_length, enters.loops);
+            });
+      })
+  root_finds _ r h one m n p g s ls code enters = cc
+
+Each-replicate : {X : Type 0} (P : X → Type 0) (n : ℕ) (x : X) → P x → Each P (replicate n x)
+Each-replicate P zero x h = tt
+Each-replicate P (suc n) x h = (h, Each-replicate P n x h)
+
+map-replicate : {X Y : Type 0} (f : X → Y) (n : ℕ) (x : X) → map f (replicate n x) ≡ replicate n (f x)
+map-replicate f zero x = refl
+map-replicate f (suc n) x = ap (λ l. f x ∷ l) (map-replicate f n x)
+
+same_end : (text : Text) (first : Option Outcome) (e : Option State) → EndIs (λ o t. end_of t ≡ end_in_offsets text o) first e
+    → option_map end_of e ≡ option_map (end_in_offsets text) first
+same_end text None e is = ap (option_map end_of) is
+same_end text (Some o) e is = ap (option_map end_of) is.1 ∙ ap Some is.2
+
+pub searches-find : (program : Program) (tree : Tree) (text : Text) → CanSearch program tree text → (place : ℕ) → place ≤ last_place text
+    → FindsFirst program tree text place
+unfolding search
+searches-find program tree text can place inside =
+    let root = tree.root in
+    let none : Option (ℕ × ℕ) = None in
+    let n = length (group_ids root) in
+    let same : program.groups ≡ n = can.code.groups in
+    let g = no_groups root in
+    let starts : List ℕ = replicate program.groups 0 in
+    let fresh : LoopData = record { iters = 0; entry = 0 } in
+    let loops = replicate program.loops fresh in
+    let len_g : length g ≡ program.groups = length-replicate n none ∙ sym same in
+    let len_s : length starts ≡ program.groups = length-replicate program.groups 0 in
+    let len_l : length loops ≡ program.loops = length-replicate program.loops fresh in
+    let ready = subst (λ n. Ready n root) (sym same) (root_ready root can.well_formed can.run) in
+    let last : Mark = record { insn = length program.insns; loop = program.loops; bracket = length program.brackets } in
+    let items = items_at tree text place in
+    let y = root_finds program text can.is_text root ready (right_true (goal_count root == 1) (ends_in_goal root) can.well_formed.goal_last)
+    (eqb-true (goal_count root) 1 (left_true (goal_count root == 1) (ends_in_goal root) can.well_formed.goal_last)) start last place g starts loops can.code.code
+    (record { inside = inside; fit = Each-replicate (RangeFits program text can.is_text) n none tt; groups = len_g; starts = len_s ∙ sym len_g; loops = omega (arith, len_l) }) in
+    let s0 = state_at program text can.is_text 0 place g starts loops in
+    let begins : s0 ≡ initial program (offset text place) =
+    ap (λ h. record s0 { groups = h }) (map-replicate (option_map (λ (r : ℕ × ℕ). (offset text r.0, offset text r.1))) n none ∙ ap (λ n. replicate n none) (sym same)) in
+    let a = y.finds 0 [] nothing refl in
+    let found = found_first (AtEnd program text can.is_text) items a.1.0 a.1.2 in
+    record {
+      found = a.1.0;
+      searches =
+          subst (λ s. search program text (turns_at tree text place) rightwards (running s ∷ []) ≡ Some a.1.0) begins
+          (search_enough program text a.0 (turns_at tree text place) rightwards (running s0 ∷ []) a.1.0 a.1.1 (omega (arith, found.0)));
+      steps = found.0;
+      end = same_end text (first_pair items) a.1.0.end found.1;
+    }

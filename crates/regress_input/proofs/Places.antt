@@ -1,21 +1,9 @@
 -- Places of a text and their offsets.
-use Rattle.std.proofs.Common.{◌≡◌, ℕ, zero, suc, ◌+◌, ◌-◌, ◌<◌, ◌≤◌, ◌⊎◌, inl, inr, Bool, true, false, cond, IsTrue, List, [], ◌∷◌, length, get_or, take, drop, map, slice_get, slice_index, position, nat_eq, nat_lt, Option, Some, None, is_some, option_map, option_and_then, refl, sym, ◌∙◌, ap, subst, arith, lt-ltb, eq-eqb, eqb-true, ne_eqb, add-one, eq-or-lt_of_le}
+use Rattle.std.proofs.Common.{◌≡◌, ℕ, zero, suc, ◌+◌, ◌-◌, ◌<◌, ◌≤◌, ◌⊎◌, inl, inr, Bool, true, false, cond, IsTrue, List, [], ◌∷◌, length, get_or, take, drop, map, slice_get, slice_index, position, nat_eq, nat_lt, Option, Some, None, is_some, option_map, option_and_then, refl, sym, ◌∙◌, ap, subst, arith, lt-ltb, eq-eqb, eqb-true, ne_eqb, add-one, le_refl}
 use Rattle.std.proofs.lemmas.Option.{slice_get_within, some_pair_parts}
-use Rattle.std.proofs.lemmas.List.Quantifiers.{position-Some}
-use Rattle.std.proofs.lemmas.List.Sums.{position_or_len_is}
-use Rattle.std.specs.List.{position_or_len}
+use Rattle.regex_meaning.proofs.TextLemmas.{offset-less, offset-le, place_at-offset, offset-place_at}
 use Rattle.regex_meaning.specs.Text.{Text, Direction, rightwards, leftwards, next_character, moved, last_place}
 use Rattle.regex_meaning.specs.Offsets.{Rises, IsText, offset, units, place_at, IsBoundary, read_at, read}
-
--- a rising list rises between any two places
-pub rises_between : (xs : List ℕ) → Rises xs → (i j : ℕ) → i < j → j < length xs → get_or xs i 0 < get_or xs j 0
-rises_between [] r i j l m = absurd (omega arith)
-rises_between (x ∷ []) r i zero l m = absurd (omega arith)
-rises_between (x ∷ []) r i (suc j) l m = absurd (omega arith)
-rises_between (x ∷ y ∷ more) r i zero l m = absurd (omega arith)
-rises_between (x ∷ y ∷ more) r zero (suc zero) l m = r.0
-rises_between (x ∷ y ∷ more) r zero (suc (suc j)) l m = let rest : y < get_or (y ∷ more) (suc j) 0 = rises_between (y ∷ more) r.1 0 (suc j) (omega arith) (omega arith) in omega (arith, r.0)
-rises_between (x ∷ y ∷ more) r (suc i) (suc j) l m = rises_between (y ∷ more) r.1 i j (omega arith) (omega arith)
 
 -- a boundary has a place, which has its offset
 pub record HasPlace (text : Text) (at place : ℕ) : Type 0 where
@@ -25,8 +13,8 @@ pub record HasPlace (text : Text) (at place : ℕ) : Type 0 where
 
 pub place_found : (text : Text) → IsText text → (at place : ℕ) → place_at text at ≡ Some place → HasPlace text at place
 place_found text t at place e =
-    let all = position-Some (nat_eq at) text.offsets place 0 e in
-    record { found = e; within = omega (arith, all.0, t.each_place); offset_is = sym (eqb-true at (get_or text.offsets place 0) all.1) }
+    let here = offset-place_at text at place t e in
+    record { found = e; within = here.1; offset_is = here.0 }
 
 -- what a test of an option that passes says
 some_of : {A : Type 0} (o : Option A) → IsTrue (is_some o) → (x : A) × (o ≡ Some x)
@@ -39,37 +27,16 @@ place_of_boundary text t at b = let o = some_of (place_at text at) b in (o.0, pl
 pub boundary_of_place : (text : Text) (at place : ℕ) → place_at text at ≡ Some place → IsBoundary text at
 boundary_of_place text at place e = ap is_some e
 
--- each place is found at its offset
-pub place_at-offset : (text : Text) → IsText text → (place : ℕ) → place ≤ last_place text → place_at text (offset text place) ≡ Some place
-place_at-offset text t place l =
-    let at : ℕ = offset text place in
-    let first : position_or_len (nat_eq at) text.offsets ≡ place = position_or_len_is (nat_eq at) text.offsets place 0 (omega (arith, t.each_place)) (λ k m. ne_eqb at (get_or text.offsets k 0) (λ e. absurd (omega (arith, rises_between text.offsets t.rises k place m (omega (arith, t.each_place)))))) (λ m. eq-eqb at (get_or text.offsets place 0) refl) in
-    let inside : place < length text.offsets = omega (arith, t.each_place) in
-    let test : nat_lt place (length text.offsets) ≡ true = lt-ltb _ _ inside in
-    ap (λ n. cond (nat_lt n (length text.offsets)) (Some n) None) first ∙ ap (λ b. cond b (Some place) None) test
-
--- offsets rise with places
-pub offset_less : (text : Text) → IsText text → (p q : ℕ) → p < q → q ≤ last_place text → offset text p < offset text q
-offset_less text t p q l m = rises_between text.offsets t.rises p q l (omega (arith, t.each_place))
-
 -- a read from a boundary is the read from its place
 pub read-place : (text : Text) (d : Direction) (at place : ℕ) → place_at text at ≡ Some place → read text d at ≡ read_at text d place
 read-place text d at place e = ap (λ o. option_and_then (read_at text d) o) e
 
 -- ---- Where a read goes
 
--- a place on the way is no further than the right end
-pub offset_inside : (text : Text) → IsText text → (p : ℕ) → p ≤ last_place text → offset text p ≤ units text
-offset_inside text t p l = by (eq-or-lt_of_le l)
-  where
-    by : (p ≡ last_place text) ⊎ (p < last_place text) → offset text p ≤ units text
-    by (inl e) = omega (arith, ap (offset text) e)
-    by (inr m) = omega (arith, offset_less text t p (last_place text) m (omega arith))
-
 pub boundary_inside : (text : Text) → IsText text → (at : ℕ) → IsBoundary text at → at ≤ units text
 boundary_inside text t at b =
     let p = place_of_boundary text t at b in
-    omega (arith, offset_inside text t p.0 p.1.within, p.1.offset_is)
+    omega (arith, offset-le text p.0 (last_place text) t p.1.within (le_refl _), p.1.offset_is)
 
 -- a read to the right: the character, and the two places
 pub record StepRight (text : Text) (at c to : ℕ) : Type 0 where
@@ -92,7 +59,7 @@ same_pair : (a b x y : ℕ) → Some (pair a b) ≡ Some (pair x y) → (a ≡ x
 same_pair a b x y e = some_pair_parts a x b y e
 
 placed : (text : Text) → IsText text → (p : ℕ) → p ≤ last_place text → HasPlace text (offset text p) p
-placed text t p l = record { found = place_at-offset text t p l; within = l; offset_is = refl }
+placed text t p l = record { found = place_at-offset text p t l; within = l; offset_is = refl }
 
 pub step_right : (text : Text) → IsText text → (at c to : ℕ) → read text rightwards at ≡ Some (c, to) → StepRight text at c to
 step_right text t at c to e = by (place_at text at) refl e
@@ -129,7 +96,7 @@ step_left text t at c to e = by (place_at text at) refl e
 pub right_ahead : (text : Text) → IsText text → (at c to : ℕ) → read text rightwards at ≡ Some (c, to) → at < to
 right_ahead text t at c to e =
     let s = step_right text t at c to e in
-    omega (arith, offset_less text t s.place (suc s.place) (omega arith) s.upto.within, s.from.offset_is, s.upto.offset_is)
+    omega (arith, offset-less text s.place (suc s.place) t (omega arith) s.upto.within, s.from.offset_is, s.upto.offset_is)
 
 pub right_boundary : (text : Text) → IsText text → (at c to : ℕ) → read text rightwards at ≡ Some (c, to) → IsBoundary text to
 right_boundary text t at c to e = let s = step_right text t at c to e in boundary_of_place text to (suc s.place) s.upto.found
@@ -137,7 +104,7 @@ right_boundary text t at c to e = let s = step_right text t at c to e in boundar
 pub left_ahead : (text : Text) → IsText text → (at c to : ℕ) → read text leftwards at ≡ Some (c, to) → to < at
 left_ahead text t at c to e =
     let s = step_left text t at c to e in
-    omega (arith, offset_less text t s.place (suc s.place) (omega arith) s.from.within, s.from.offset_is, s.upto.offset_is)
+    omega (arith, offset-less text s.place (suc s.place) t (omega arith) s.from.within, s.from.offset_is, s.upto.offset_is)
 
 pub left_boundary : (text : Text) → IsText text → (at c to : ℕ) → read text leftwards at ≡ Some (c, to) → IsBoundary text to
 left_boundary text t at c to e = let s = step_left text t at c to e in boundary_of_place text to s.place s.upto.found
@@ -181,10 +148,10 @@ before_boundary text t at to e = let r = past text leftwards at to e in left_bou
 -- ---- The ends
 pub start_boundary : (text : Text) → IsText text → (at : ℕ) → at ≡ 0 → IsBoundary text at
 start_boundary text t at e =
-    let found : place_at text at ≡ Some 0 = ap (place_at text) (e ∙ sym t.from_zero) ∙ place_at-offset text t 0 (omega arith) in
+    let found : place_at text at ≡ Some 0 = ap (place_at text) (e ∙ sym t.from_zero) ∙ place_at-offset text 0 t (omega arith) in
     boundary_of_place text at 0 found
 
 pub end_boundary : (text : Text) → IsText text → (at : ℕ) → at ≡ units text → IsBoundary text at
 end_boundary text t at e =
-    let found : place_at text at ≡ Some (last_place text) = ap (place_at text) e ∙ place_at-offset text t (last_place text) (omega arith) in
+    let found : place_at text at ≡ Some (last_place text) = ap (place_at text) e ∙ place_at-offset text (last_place text) t (omega arith) in
     boundary_of_place text at (last_place text) found

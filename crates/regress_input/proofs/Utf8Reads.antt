@@ -7,7 +7,7 @@ use Rattle.regex_meaning.specs.Text.{Text, utf8_text, rightwards, leftwards, fol
 use Rattle.regex_meaning.specs.Offsets.{IsText, IsBoundary, units, read}
 use Rattle.regress_input.specs.Utf8.{StandsAt, EndsAt}
 use Rattle.regress_input.proofs.Spelled.{ReadsRight, ReadsLeft, reads_right, reads_left, at_end, before_character, at_start, behind_character}
-use Rattle.regex_meaning.proofs.Rising.{len_utf8-positive, utf8_units-length}
+use Rattle.regex_meaning.proofs.UnitLemmas.{utf8_text-units}
 
 -- a byte that continues a character
 abbrev pub Follows : ℕ → Type 0
@@ -190,6 +190,9 @@ scalar_among [] k c s e = absurd (cc)
 scalar_among (d ∷ cs) zero c s e = let same : d ≡ c = cc in ap scalar (sym same) ∙ (scalar_first d (scalars cs) s).0
 scalar_among (d ∷ cs) (suc k) c s e = scalar_among cs k c (scalar_first d (scalars cs) s).1 e
 
+len_utf8-positive : (c : ℕ) → 0 < len_utf8 c
+len_utf8-positive c = omega (arith, (len_utf8_bounds c).0)
+
 spelled_by : (bytes : List ℕ) → IsUtf8 bytes → flat_map encode (chars bytes) ≡ bytes
 spelled_by bytes u = sym (encodes-flat_map (chars bytes)) ∙ encodes-chars bytes u
 
@@ -232,7 +235,7 @@ module _ (bytes : List ℕ) (unicode : Bool) (is_utf8 : ∥ IsUtf8 bytes ∥₁)
 
   -- the length of the text is that of its bytes
   pub units-bytes : units text ≡ length bytes
-  units-bytes = utf8_units-length bytes unicode u
+  units-bytes = utf8_text-units bytes unicode u
 
   pub boundary_inside : (at : ℕ) → IsBoundary text at → at ≤ length bytes
   boundary_inside at b = elim (right at b) [ at_the_end e r ↦ omega arith | character_behind c s l i r ↦ omega arith ]

@@ -3,7 +3,8 @@
 ghost use Rattle.std.specs.Prelude.{◌≡◌, ◌<◌, ◌≤◌, ◌^◌, ℕ, option_map, IfSome, IfNone, if◌then◌else◌, nat_le, length, IsUtf8, Some, None, ◌+◌};
 ghost use Rattle.regex_meaning.specs.Text.{Text, rightwards, leftwards, utf8_text};
 ghost use Rattle.regex_meaning.specs.Offsets.{IsText, IsBoundary, units, read};
-ghost use Rattle.regex_meaning.proofs.Rising.{utf8_is_text, utf8_units_fit};
+ghost use Rattle.regex_meaning.proofs.TextLemmas.{utf8_text-IsText};
+ghost use Rattle.regex_meaning.proofs.UnitLemmas.{utf8_text-fits};
 
 use crate::position::{DefPosition, IndexPosition, PositionType};
 use crate::utf8;
@@ -102,9 +103,9 @@ impl<'a> InputIndexer for Utf8Input<'a> {
 
     ghost text = { λ it. utf8_text it.input.now it.unicode };
 
-    ghost is_text = { λ it. utf8_is_text it.input.now it.unicode };
+    ghost is_text = { λ it. utf8_text-IsText it.input.now it.unicode };
 
-    ghost offsets_fit = { λ it. utf8_units_fit it.input.now it.unicode it.is_utf8 it.fits };
+    ghost offsets_fit = { λ it. utf8_text-fits it.input.now it.unicode it.is_utf8 it.fits };
 
     #[inline(always)]
     fn left_end(&self) -> DefPosition<'a> {

@@ -1,7 +1,7 @@
 use Rattle.std.proofs.Common.{◌≡◌, sym, Some, arith}
 use Rattle.regex_meaning.specs.Text.{utf8_text, rightwards}
 use Rattle.regex_meaning.specs.Offsets.{read}
-use Rattle.regex_meaning.proofs.Rising.{utf8_is_text}
+use Rattle.regex_meaning.proofs.TextLemmas.{utf8_text-IsText}
 use Rattle.regress_input.proofs.Places.{pair, boundary_inside, right_ahead, right_boundary}
 use Rattle.regress_input.proofs.Utf8Reads.{stands_at, read-end, read-character}
 use Rattle.regress_input.proofs.indexing.Utf8InputInputIndexer.next_right.Goals as goal
@@ -13,7 +13,7 @@ returns-then-pos-bytes-clause-read c =
 
 pub returns-then-pos-bytes-clause-inside : goal.returns-then-pos-bytes-clause-inside
 returns-then-pos-bytes-clause-inside c =
-    let it = c.args.self.now in boundary_inside _ (utf8_is_text it.input.now it.unicode) _ c.requires
+    let it = c.args.self.now in boundary_inside _ (utf8_text-IsText it.input.now it.unicode) _ c.requires
 
 pub character_at-c-requires : goal.character_at-c-requires
 character_at-c-requires c =
@@ -30,12 +30,12 @@ pub returns-clause-read : goal.returns-clause-read
 returns-clause-read c = sym (reads c)
 
 pub returns-clause-ahead : goal.returns-clause-ahead
-returns-clause-ahead c = let it = c.args.self.now in right_ahead _ (utf8_is_text it.input.now it.unicode) _ _ _ (reads c)
+returns-clause-ahead c = let it = c.args.self.now in right_ahead _ (utf8_text-IsText it.input.now it.unicode) _ _ _ (reads c)
 
 pub returns-clause-boundary : goal.returns-clause-boundary
-returns-clause-boundary c = let it = c.args.self.now in right_boundary _ (utf8_is_text it.input.now it.unicode) _ _ _ (reads c)
+returns-clause-boundary c = let it = c.args.self.now in right_boundary _ (utf8_text-IsText it.input.now it.unicode) _ _ _ (reads c)
 
 pub returns-clause-inside : goal.returns-clause-inside
 returns-clause-inside c =
     let it = c.args.self.now in
-    boundary_inside _ (utf8_is_text it.input.now it.unicode) _ (right_boundary _ (utf8_is_text it.input.now it.unicode) _ _ _ (reads c))
+    boundary_inside _ (utf8_text-IsText it.input.now it.unicode) _ (right_boundary _ (utf8_text-IsText it.input.now it.unicode) _ _ _ (reads c))

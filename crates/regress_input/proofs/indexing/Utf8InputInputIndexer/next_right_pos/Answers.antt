@@ -1,7 +1,7 @@
 use Rattle.std.proofs.Common.{◌≡◌, sym, ◌∙◌, ap, Some, option_map}
 use Rattle.regex_meaning.specs.Text.{utf8_text, rightwards}
 use Rattle.regex_meaning.specs.Offsets.{read}
-use Rattle.regex_meaning.proofs.Rising.{utf8_is_text}
+use Rattle.regex_meaning.proofs.TextLemmas.{utf8_text-IsText}
 use Rattle.regress_input.proofs.Places.{boundary_inside, past_ahead, past_boundary}
 use Rattle.regress_input.proofs.Utf8Reads.{stands_at, read-end, read-past}
 use Rattle.regress_input.proofs.indexing.Utf8InputInputIndexer.next_right_pos.Goals as goal
@@ -26,12 +26,12 @@ pub returns-clause-read : goal.returns-clause-read
 returns-clause-read c = reads c
 
 pub returns-clause-ahead : goal.returns-clause-ahead
-returns-clause-ahead c = let it = c.args.self.now in past_ahead _ (utf8_is_text it.input.now it.unicode) _ _ (sym (reads c))
+returns-clause-ahead c = let it = c.args.self.now in past_ahead _ (utf8_text-IsText it.input.now it.unicode) _ _ (sym (reads c))
 
 pub returns-clause-boundary : goal.returns-clause-boundary
-returns-clause-boundary c = let it = c.args.self.now in past_boundary _ (utf8_is_text it.input.now it.unicode) _ _ (sym (reads c))
+returns-clause-boundary c = let it = c.args.self.now in past_boundary _ (utf8_text-IsText it.input.now it.unicode) _ _ (sym (reads c))
 
 pub returns-clause-inside : goal.returns-clause-inside
 returns-clause-inside c =
     let it = c.args.self.now in
-    boundary_inside _ (utf8_is_text it.input.now it.unicode) _ (past_boundary _ (utf8_is_text it.input.now it.unicode) _ _ (sym (reads c)))
+    boundary_inside _ (utf8_text-IsText it.input.now it.unicode) _ (past_boundary _ (utf8_text-IsText it.input.now it.unicode) _ _ (sym (reads c)))

@@ -1,7 +1,7 @@
 use Rattle.std.proofs.Common.{◌≡◌, sym, ◌∙◌}
 use Rattle.regex_meaning.specs.Text.{utf8_text}
 use Rattle.regex_meaning.specs.Offsets.{units}
-use Rattle.regex_meaning.proofs.Rising.{utf8_is_text}
+use Rattle.regex_meaning.proofs.TextLemmas.{utf8_text-IsText}
 use Rattle.regress_input.proofs.Places.{end_boundary}
 use Rattle.regress_input.proofs.Utf8Reads.{units-bytes}
 use Rattle.regress_input.proofs.indexing.Utf8InputInputIndexer.right_end.Goals as goal
@@ -13,4 +13,4 @@ pub returns-clause-offset : goal.returns-clause-offset
 returns-clause-offset c = at_end c
 
 pub returns-clause-boundary : goal.returns-clause-boundary
-returns-clause-boundary c = let it = c.args.self.now in end_boundary _ (utf8_is_text it.input.now it.unicode) _ (at_end c)
+returns-clause-boundary c = let it = c.args.self.now in end_boundary _ (utf8_text-IsText it.input.now it.unicode) _ (at_end c)

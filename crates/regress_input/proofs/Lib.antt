@@ -2,3 +2,5 @@ pub mod Places
 pub mod Spelled
 pub mod Utf8Reads
 pub mod Moves
+pub mod Slices
+pub mod Utf8Slices

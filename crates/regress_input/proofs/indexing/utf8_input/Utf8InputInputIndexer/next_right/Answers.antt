@@ -4,7 +4,7 @@ use Rattle.regex_meaning.specs.Offsets.{read}
 use Rattle.regex_meaning.proofs.TextLemmas.{utf8_text-IsText}
 use Rattle.regress_input.proofs.Places.{pair, boundary_inside, right_ahead, right_boundary}
 use Rattle.regress_input.proofs.Utf8Reads.{stands_at, read-end, read-character}
-use Rattle.regress_input.proofs.indexing.Utf8InputInputIndexer.next_right.Goals as goal
+use Rattle.regress_input.proofs.indexing.utf8_input.Utf8InputInputIndexer.next_right.Goals as goal
 
 pub returns-then-pos-bytes-clause-read : goal.returns-then-pos-bytes-clause-read
 returns-then-pos-bytes-clause-read c =

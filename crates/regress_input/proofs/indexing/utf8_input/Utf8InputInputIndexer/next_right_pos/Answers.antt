@@ -4,7 +4,7 @@ use Rattle.regex_meaning.specs.Offsets.{read}
 use Rattle.regex_meaning.proofs.TextLemmas.{utf8_text-IsText}
 use Rattle.regress_input.proofs.Places.{boundary_inside, past_ahead, past_boundary}
 use Rattle.regress_input.proofs.Utf8Reads.{stands_at, read-end, read-past}
-use Rattle.regress_input.proofs.indexing.Utf8InputInputIndexer.next_right_pos.Goals as goal
+use Rattle.regress_input.proofs.indexing.utf8_input.Utf8InputInputIndexer.next_right_pos.Goals as goal
 
 pub returns-then-at-bytes-clause-read : goal.returns-then-at-bytes-clause-read
 returns-then-at-bytes-clause-read c =

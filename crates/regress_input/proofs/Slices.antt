@@ -17,7 +17,7 @@ same_option None (Some x) f g = g x refl
 same_option (Some x) p f g = sym (f x refl)
 
 -- what a choice that was made tells
-chosen : (b : Bool) (to x : ℕ) → cond b (Some to) None ≡ Some x → (b ≡ true) × (x ≡ to)
+pub chosen : (b : Bool) (to x : ℕ) → cond b (Some to) None ≡ Some x → (b ≡ true) × (x ≡ to)
 chosen true to x e = (refl, cc)
 chosen false to x e = absurd (cc)
 
@@ -57,24 +57,24 @@ pub record StandBefore (us ys : List ℕ) (at to : ℕ) : Type 0 where
   pub fits : length ys ≤ at
   pub are : slice_range us (at - length ys) at ≡ ys
 
-past_bytes-right : (us ys : List ℕ) (at to : ℕ) → past_bytes us ys rightwards at ≡ Some to → StandBehind us ys at to
+pub past_bytes-right : (us ys : List ℕ) (at to : ℕ) → past_bytes us ys rightwards at ≡ Some to → StandBehind us ys at to
 past_bytes-right us ys at to e =
     let made = chosen (nat_le (at + length ys) (length us) && pointwise nat_eq (slice_range us at (at + length ys)) ys) (at + length ys) to e in
     let tests = both_true (nat_le (at + length ys) (length us)) (pointwise nat_eq (slice_range us at (at + length ys)) ys) made.0 in
     record { to_is = made.1; fits = leb-true _ _ tests.0; are = (bytes_decides (slice_range us at (at + length ys)) ys).0 tests.1 }
 
-right-past_bytes : (us ys : List ℕ) (at to : ℕ) → StandBehind us ys at to → past_bytes us ys rightwards at ≡ Some to
+pub right-past_bytes : (us ys : List ℕ) (at to : ℕ) → StandBehind us ys at to → past_bytes us ys rightwards at ≡ Some to
 right-past_bytes us ys at to h =
     choose (nat_le (at + length ys) (length us) && pointwise nat_eq (slice_range us at (at + length ys)) ys) (at + length ys)
     (and_true _ _ (le-leb _ _ h.fits) ((bytes_decides (slice_range us at (at + length ys)) ys).1 h.are)) ∙ ap Some (sym h.to_is)
 
-past_bytes-left : (us ys : List ℕ) (at to : ℕ) → past_bytes us ys leftwards at ≡ Some to → StandBefore us ys at to
+pub past_bytes-left : (us ys : List ℕ) (at to : ℕ) → past_bytes us ys leftwards at ≡ Some to → StandBefore us ys at to
 past_bytes-left us ys at to e =
     let made = chosen (nat_le (length ys) at && pointwise nat_eq (slice_range us (at - length ys) at) ys) (at - length ys) to e in
     let tests = both_true (nat_le (length ys) at) (pointwise nat_eq (slice_range us (at - length ys) at) ys) made.0 in
     record { to_is = made.1; fits = leb-true _ _ tests.0; are = (bytes_decides (slice_range us (at - length ys) at) ys).0 tests.1 }
 
-left-past_bytes : (us ys : List ℕ) (at to : ℕ) → StandBefore us ys at to → past_bytes us ys leftwards at ≡ Some to
+pub left-past_bytes : (us ys : List ℕ) (at to : ℕ) → StandBefore us ys at to → past_bytes us ys leftwards at ≡ Some to
 left-past_bytes us ys at to h =
     choose (nat_le (length ys) at && pointwise nat_eq (slice_range us (at - length ys) at) ys) (at - length ys)
     (and_true _ _ (le-leb _ _ h.fits) ((bytes_decides (slice_range us (at - length ys) at) ys).1 h.are)) ∙ ap Some (sym h.to_is)

@@ -56,7 +56,7 @@ encode_four c l =
 below_top : (c : ℕ) → IsScalar c → c < 1114112
 below_top c s = ⊎_elim (λ h. omega arith) (λ h. h.1) (scalar_cases c s)
 
-order : (m n : ℕ) → (m < n) ⊎ (n ≤ m)
+pub order : (m n : ℕ) → (m < n) ⊎ (n ≤ m)
 order m n = by (ltb m n) refl
   where
     by : (b : Bool) → ltb m n ≡ b → (m < n) ⊎ (n ≤ m)
@@ -286,7 +286,7 @@ scalar_first d b s = by (scalar d) refl s
     by false t s' = absurd (cc)
     by true t s' = (t, s')
 
-scalar_among : (cs : List ℕ) (k c : ℕ) → scalars cs ≡ true → slice_get cs k ≡ Some c → IsScalar c
+pub scalar_among : (cs : List ℕ) (k c : ℕ) → scalars cs ≡ true → slice_get cs k ≡ Some c → IsScalar c
 scalar_among [] k c s e = absurd (cc)
 scalar_among (d ∷ cs) zero c s e = let same : d ≡ c = cc in ap scalar (sym same) ∙ (scalar_first d (scalars cs) s).0
 scalar_among (d ∷ cs) (suc k) c s e = scalar_among cs k c (scalar_first d (scalars cs) s).1 e

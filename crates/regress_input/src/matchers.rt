@@ -46,7 +46,7 @@ pub fn backref_icase<Input: InputIndexer, Dir: Direction>(
     let start = orig_range.start;
     let end = orig_range.end;
     let (mut at, stop) = if Dir::FORWARD { (start, end) } else { (end, start) };
-    while at != stop {
+    'each: while at != stop {
         let Some(c1) = cursor::next(input, dir, &mut at) else {
             return false;
         };

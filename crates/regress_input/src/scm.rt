@@ -11,7 +11,7 @@ ghost use Rattle.regress_input.specs.Reading.{way, led_to, past_if};
 
 use crate::cursor::{self, Direction};
 use crate::front::{ByteArraySet, ByteSet, SmallArraySet};
-use crate::indexing::{CharProperties, ElementType, InputIndexer};
+use crate::indexing::{CharProperties, CodeUnits, ElementType, InputIndexer};
 
 /// How many members a character set has.
 const MAX_CHAR_SET_LENGTH: usize = 4;
@@ -180,6 +180,7 @@ impl<'a, const N: usize, Input: InputIndexer, Dir: Direction> SingleCharMatcher<
 
     #[inline(always)]
     fn matches(&self, input: &Input, dir: Dir, pos: &mut Input::Position) -> bool {
-        cursor::try_match_lit(input, dir, pos, self.0)
+        let bytes = self.0;
+        input.match_bytes(dir, pos, bytes)
     }
 }

@@ -1,11 +1,11 @@
 -- Characters that are compared one by one.
-use Rattle.std.proofs.Common.{◌≡◌, ℕ, zero, suc, ◌+◌, ◌-◌, ◌<◌, ◌≤◌, ◌≢◌, ◌⊎◌, inl, inr, List, [], ◌∷◌, ◌++◌, ◌&&◌, length, take, drop, slice_get, slice_range, Bool, true, false, cond, if◌then◌else◌, nat_le, Option, Some, None, option_map, refl, sym, ◌∙◌, ap, ap₂, subst, arith, le-leb, leb-true, add-one, length-take, length-drop}
+use Rattle.std.proofs.Common.{◌≡◌, ℕ, zero, suc, ◌+◌, ◌-◌, ◌<◌, ◌≤◌, ◌≢◌, ◌⊎◌, inl, inr, List, [], ◌∷◌, ◌++◌, ◌&&◌, length, take, drop, slice_get, slice_range, Bool, true, false, not, cond, nat_eq, eq-eqb, eqb-true, if◌then◌else◌, nat_le, Option, Some, None, option_map, refl, sym, ◌∙◌, ap, ap₂, subst, arith, le-leb, leb-true, add-one, length-take, length-drop}
 use lib.Pointwise.{pointwise}
 use Rattle.std.proofs.lemmas.Option.{slice_get_within}
 use Rattle.regex_meaning.specs.Text.{Text, Direction, rightwards, leftwards, next_character, moved, last_place, characters_left, characters_beside}
 use Rattle.regex_meaning.specs.Offsets.{IsText, IsBoundary, offset, units, read, place_at}
-use Rattle.regex_meaning.proofs.TextLemmas.{offset-injective, place-le}
-use Rattle.regress_input.specs.Reading.{place, characters_between, past_spelled}
+use Rattle.regex_meaning.proofs.TextLemmas.{offset-injective, offset-less, offset-le, place-le}
+use Rattle.regress_input.specs.Reading.{way, place, characters_between, past_spelled}
 use Rattle.regress_input.proofs.Places.{HasPlace, place_of_boundary, pair, StepRight, StepLeft, step_right, step_left, read-place}
 use Rattle.regress_input.proofs.Slices.{place_is}
 
@@ -413,3 +413,43 @@ module _ (text : Text) (same : ℕ → ℕ → Bool) where
           found_is = found_run d at stop pos found c n.0 n.1 (run d n.0 (moved text d 1 c.from) (moved text d 1 c.there))
           (run-some d n.0 c.from c.there x y a.0 k.0 ∙ ap (λ (b : Bool). if b then run d n.0 (moved text d 1 c.from) (moved text d 1 c.there) else None) f);
         }
+
+    -- where a loop in either direction begins
+    pub starts : (forward : Bool) (at from to a stop : ℕ) → IsBoundary text at → IsBoundary text from → IsBoundary text to → from ≤ to
+        → ((a ≡ from) × (stop ≡ to) × (forward ≡ true)) ⊎ ((a ≡ to) × (stop ≡ from) × (forward ≡ false))
+        → Comparing (way forward) a stop at (past_spelled text same (characters_between text from to) (way forward) at)
+    starts forward at from to a stop b f t l (inl (x, y, z)) =
+        subst (λ d. Comparing (way d) a stop at (past_spelled text same (characters_between text from to) (way d) at)) (sym z)
+        (subst (λ m. Comparing rightwards m stop at (past_spelled text same (characters_between text from to) rightwards at)) (sym x)
+        (subst (λ m. Comparing rightwards from m at (past_spelled text same (characters_between text from to) rightwards at)) (sym y)
+        (start_right at from to b f t l)))
+    starts forward at from to a stop b f t l (inr (x, y, z)) =
+        subst (λ d. Comparing (way d) a stop at (past_spelled text same (characters_between text from to) (way d) at)) (sym z)
+        (subst (λ m. Comparing leftwards m stop at (past_spelled text same (characters_between text from to) leftwards at)) (sym x)
+        (subst (λ m. Comparing leftwards to m at (past_spelled text same (characters_between text from to) leftwards at)) (sym y)
+        (start_left at from to b f t l)))
+
+    -- each step takes one nearer to the stop
+    pub nearer : (d : Direction) (at stop pos : ℕ) (found : Option ℕ) (x at' pos' : ℕ) → Comparing d at stop pos found → Comparing d at' stop pos' found → at ≢ stop
+        → read text d at ≡ Some (pair x at') → (at' - stop) + (stop - at') < (at - stop) + (stop - at)
+    nearer rightwards at stop pos found x at' pos' c c' ne r =
+        let s = step_right text is_text at x at' r in
+        let less : at < at' = omega (arith, offset-less text s.place (suc s.place) is_text (omega arith) s.upto.within, s.from.offset_is, s.upto.offset_is) in
+        let order : at' ≤ stop = omega (arith, offset-le text c'.from (moved text rightwards c'.count c'.from) is_text (omega arith) c'.stops.within, c'.at_from.offset_is, c'.stops.offset_is) in
+        omega arith
+    nearer leftwards at stop pos found x at' pos' c c' ne r =
+        let s = step_left text is_text at x at' r in
+        let less : at' < at = omega (arith, offset-less text s.place (suc s.place) is_text (omega arith) s.from.within, s.from.offset_is, s.upto.offset_is) in
+        let order : stop ≤ at' = omega (arith, offset-le text (moved text leftwards c'.count c'.from) c'.from is_text (omega arith) c'.at_from.within, c'.at_from.offset_is, c'.stops.offset_is) in
+        omega arith
+
+-- what the loop's test tells
+pub unequal : (x y : ℕ) (b e : Bool) → b ≡ not e → e ≡ nat_eq x y → b ≡ true → x ≢ y
+unequal x y b e f g h z = absurd (no (sym (g ∙ eq-eqb x y z)))
+  where
+    no : true ≡ e → ⊥
+    no t = let p : b ≡ false = f ∙ ap not (sym t) in cc
+
+pub equal : (x y : ℕ) (b e : Bool) → b ≡ not e → e ≡ nat_eq x y → b ≡ false → x ≡ y
+equal x y b true f g h = eqb-true x y (sym g)
+equal x y b false f g h = absurd (cc)

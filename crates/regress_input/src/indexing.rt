@@ -2,15 +2,17 @@
 
 ghost use Rattle.std.specs.Prelude.{◌≡◌, ◌<◌, ◌≤◌, ◌^◌, ◌==◌, nat_eq, ℕ, Bool, true, false, option_map, IfSome, IfNone, IsTrue, if◌then◌else◌, Some, None, ◌+◌};
 ghost use Rattle.regex_meaning.specs.Text.{Text, rightwards, leftwards, is_word_char, is_line_terminator};
+ghost use Rattle.regex_meaning.specs.Tree.{bracket};
+ghost use Rattle.regex_meaning.specs.Outcomes.{accepts};
 ghost use Rattle.regex_meaning.specs.Offsets.{IsText, IsBoundary, units, read};
-ghost use Rattle.regex_pattern_front.specs.Searching.{FindsFirst};
+ghost use Rattle.regex_pattern_front.specs.TreeOf.{contents_of};
 ghost use Rattle.regress_input.specs.Reading.{way, led_to, same_fold, character, past, characters_between, past_spelled, part, bytes_of, IsInUtf8, byte_beside, units_on, past_bytes, IsFoundFrom};
 
 mod utf8_input;
 
 pub use self::utf8_input::{UTF8CharProperties, Utf8Input};
 
-use crate::front::{ByteSearcher, nonascii_folds_to_ascii_word_char};
+use crate::front::{BracketContents, ByteSearcher, nonascii_folds_to_ascii_word_char};
 use crate::position::{Direction, PositionType};
 use std::fmt::Debug;
 use std::ops::Range;
@@ -69,6 +71,15 @@ pub trait CharProperties {
     {
         let c = c.as_u32();
         c == 0x0A || c == 0x0D || c == 0x2028 || c == 0x2029
+    }
+
+    /// Whether it is in the set, or with `invert` in its complement.
+    #[inline(always)]
+    fn bracket(bc: &BracketContents, c: Self::Element) -> bool
+        ensures { result ≡ accepts (bracket (contents_of bc.now)) (Self.Element.number c) }
+    {
+        let inside = bc.cps.contains(c.as_u32());
+        if bc.invert { !inside } else { inside }
     }
 }
 

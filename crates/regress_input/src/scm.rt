@@ -3,14 +3,15 @@
 ghost use Rattle.std.specs.Prelude.{◌≡◌, ◌<◌, ◌==◌, ℕ, Bool, true, not, List, All, IsTrue, encode_utf8, ⊤};
 ghost use Rattle.std.specs.Char.{IsScalar};
 ghost use Rattle.regex_meaning.specs.Lists.{contains};
-ghost use Rattle.regex_meaning.specs.Tree.{byte_sequence};
+ghost use Rattle.regex_meaning.specs.Tree.{bracket, byte_sequence};
 ghost use Rattle.regex_meaning.specs.Text.{is_line_terminator};
 ghost use Rattle.regex_meaning.specs.Outcomes.{accepts};
 ghost use Rattle.regex_meaning.specs.Offsets.{IsBoundary};
+ghost use Rattle.regex_pattern_front.specs.TreeOf.{contents_of};
 ghost use Rattle.regress_input.specs.Reading.{way, led_to, past_if};
 
 use crate::cursor::{self, Direction};
-use crate::front::{ByteArraySet, ByteSet, SmallArraySet};
+use crate::front::{BracketContents, ByteArraySet, ByteSet, SmallArraySet};
 use crate::indexing::{CharProperties, CodeUnits, ElementType, InputIndexer};
 
 /// How many members a character set has.
@@ -70,6 +71,23 @@ fn contains_char(chars: &[u32; MAX_CHAR_SET_LENGTH], c: u32) -> bool
 {
     let [first, second, third, fourth] = *chars;
     c == first || c == second || c == third || c == fourth
+}
+
+/// Any character of a class.
+pub struct Bracket<'a> {
+    pub bc: &'a BracketContents,
+}
+
+impl<'a, Input: InputIndexer, Dir: Direction> SingleCharMatcher<Input, Dir> for Bracket<'a> {
+    ghost accepted = { λ m. accepts (bracket (contents_of m.bc.now)) };
+
+    #[inline(always)]
+    fn matches(&self, input: &Input, dir: Dir, pos: &mut Input::Position) -> bool {
+        match cursor::next(input, dir, pos) {
+            Some(c) => Input::CharProps::bracket(self.bc, c),
+            None => false,
+        }
+    }
 }
 
 /// Any character.

@@ -1,20 +1,9 @@
 -- Places of a text and their offsets.
-use Rattle.std.proofs.Common.{◌≡◌, ℕ, zero, suc, ◌+◌, ◌-◌, ◌<◌, ◌≤◌, ◌⊎◌, inl, inr, Bool, true, false, cond, IsTrue, List, [], ◌∷◌, length, get_or, take, drop, map, slice_get, slice_index, position, nat_eq, nat_lt, Option, Some, None, is_some, option_map, option_and_then, refl, sym, ◌∙◌, ap, subst, arith, lt-ltb, eq-eqb, eqb-true, eqb→eq, ne_eqb}
-use Rattle.std.proofs.lemmas.List.Quantifiers.{position-Some}
-use Rattle.std.proofs.lemmas.List.Sums.{position_or_len_is}
-use Rattle.std.specs.List.{position_or_len}
+use Rattle.std.proofs.Common.{◌≡◌, ℕ, zero, suc, ◌+◌, ◌-◌, ◌<◌, ◌≤◌, ◌⊎◌, inl, inr, Bool, true, false, cond, IsTrue, List, [], ◌∷◌, length, get_or, take, drop, map, slice_get, slice_index, position, nat_eq, nat_lt, Option, Some, None, is_some, option_map, option_and_then, refl, sym, ◌∙◌, ap, subst, arith, lt-ltb, eq-eqb, eqb-true, ne_eqb, add-one, le_refl}
+use Rattle.std.proofs.lemmas.Option.{slice_get_within, some_pair_parts}
+use Rattle.regex_meaning.proofs.TextLemmas.{offset-less, offset-le, place_at-offset, offset-place_at}
 use Rattle.regex_meaning.specs.Text.{Text, Direction, rightwards, leftwards, next_character, moved, last_place}
 use Rattle.regex_meaning.specs.Offsets.{Rises, IsText, offset, units, place_at, IsBoundary, read_at, read}
-
--- a rising list rises between any two places
-pub rises_between : (xs : List ℕ) → Rises xs → (i j : ℕ) → i < j → j < length xs → get_or xs i 0 < get_or xs j 0
-rises_between [] r i j l m = absurd (omega arith)
-rises_between (x ∷ []) r i zero l m = absurd (omega arith)
-rises_between (x ∷ []) r i (suc j) l m = absurd (omega arith)
-rises_between (x ∷ y ∷ more) r i zero l m = absurd (omega arith)
-rises_between (x ∷ y ∷ more) r zero (suc zero) l m = r.0
-rises_between (x ∷ y ∷ more) r zero (suc (suc j)) l m = let rest : y < get_or (y ∷ more) (suc j) 0 = rises_between (y ∷ more) r.1 0 (suc j) (omega arith) (omega arith) in omega (arith, r.0)
-rises_between (x ∷ y ∷ more) r (suc i) (suc j) l m = rises_between (y ∷ more) r.1 i j (omega arith) (omega arith)
 
 -- a boundary has a place, which has its offset
 pub record HasPlace (text : Text) (at place : ℕ) : Type 0 where
@@ -24,8 +13,8 @@ pub record HasPlace (text : Text) (at place : ℕ) : Type 0 where
 
 pub place_found : (text : Text) → IsText text → (at place : ℕ) → place_at text at ≡ Some place → HasPlace text at place
 place_found text t at place e =
-    let all = position-Some (nat_eq at) text.offsets place 0 e in
-    record { found = e; within = omega (arith, all.0, t.each_place); offset_is = sym (eqb-true at (get_or text.offsets place 0) all.1) }
+    let here = offset-place_at text at place t e in
+    record { found = e; within = here.1; offset_is = here.0 }
 
 -- what a test of an option that passes says
 some_of : {A : Type 0} (o : Option A) → IsTrue (is_some o) → (x : A) × (o ≡ Some x)
@@ -38,19 +27,131 @@ place_of_boundary text t at b = let o = some_of (place_at text at) b in (o.0, pl
 pub boundary_of_place : (text : Text) (at place : ℕ) → place_at text at ≡ Some place → IsBoundary text at
 boundary_of_place text at place e = ap is_some e
 
--- each place is found at its offset
-pub place_at-offset : (text : Text) → IsText text → (place : ℕ) → place ≤ last_place text → place_at text (offset text place) ≡ Some place
-place_at-offset text t place l =
-    let at : ℕ = offset text place in
-    let first : position_or_len (nat_eq at) text.offsets ≡ place = position_or_len_is (nat_eq at) text.offsets place 0 (omega (arith, t.each_place)) (λ k m. ne_eqb at (get_or text.offsets k 0) (λ e. absurd (omega (arith, rises_between text.offsets t.rises k place m (omega (arith, t.each_place)))))) (λ m. eq-eqb at (get_or text.offsets place 0) refl) in
-    let inside : place < length text.offsets = omega (arith, t.each_place) in
-    let test : nat_lt place (length text.offsets) ≡ true = lt-ltb _ _ inside in
-    ap (λ n. cond (nat_lt n (length text.offsets)) (Some n) None) first ∙ ap (λ b. cond b (Some place) None) test
-
--- offsets rise with places
-pub offset_less : (text : Text) → IsText text → (p q : ℕ) → p < q → q ≤ last_place text → offset text p < offset text q
-offset_less text t p q l m = rises_between text.offsets t.rises p q l (omega (arith, t.each_place))
-
 -- a read from a boundary is the read from its place
 pub read-place : (text : Text) (d : Direction) (at place : ℕ) → place_at text at ≡ Some place → read text d at ≡ read_at text d place
 read-place text d at place e = ap (λ o. option_and_then (read_at text d) o) e
+
+-- ---- Where a read goes
+
+pub boundary_inside : (text : Text) → IsText text → (at : ℕ) → IsBoundary text at → at ≤ units text
+boundary_inside text t at b =
+    let p = place_of_boundary text t at b in
+    omega (arith, offset-le text p.0 (last_place text) t p.1.within (le_refl _), p.1.offset_is)
+
+-- a read to the right: the character, and the two places
+pub record StepRight (text : Text) (at c to : ℕ) : Type 0 where
+  pub place : ℕ
+  pub from : HasPlace text at place
+  pub character : slice_get text.characters place ≡ Some c
+  pub upto : HasPlace text to (suc place)
+
+-- a read to the left
+pub record StepLeft (text : Text) (at c to : ℕ) : Type 0 where
+  pub place : ℕ
+  pub from : HasPlace text at (suc place)
+  pub character : slice_get text.characters place ≡ Some c
+  pub upto : HasPlace text to place
+
+abbrev pub pair : ℕ → ℕ → ℕ × ℕ
+pair a b = (a, b)
+
+same_pair : (a b x y : ℕ) → Some (pair a b) ≡ Some (pair x y) → (a ≡ x) × (b ≡ y)
+same_pair a b x y e = some_pair_parts a x b y e
+
+placed : (text : Text) → IsText text → (p : ℕ) → p ≤ last_place text → HasPlace text (offset text p) p
+placed text t p l = record { found = place_at-offset text p t l; within = l; offset_is = refl }
+
+pub step_right : (text : Text) → IsText text → (at c to : ℕ) → read text rightwards at ≡ Some (c, to) → StepRight text at c to
+step_right text t at c to e = by (place_at text at) refl e
+  where
+    by : (o : Option ℕ) → place_at text at ≡ o → option_and_then (read_at text rightwards) o ≡ Some (c, to) → StepRight text at c to
+    by None f e' = absurd (cc)
+    by (Some k) f e' = go (slice_get text.characters k) refl e'
+      where
+        go : (o : Option ℕ) → slice_get text.characters k ≡ o → option_map (λ d. pair d (offset text (k + 1))) o ≡ Some (pair c to) → StepRight text at c to
+        go None g e'' = absurd (cc)
+        go (Some d) g e'' =
+            let both = same_pair d (offset text (k + 1)) c to e'' in
+            let within : suc k ≤ last_place text = omega (arith, slice_get_within text.characters k d g) in
+            let to_is : offset text (suc k) ≡ to = ap (offset text) (sym (add-one k)) ∙ both.1 in
+            record { place = k; from = place_found text t at k f; character = g ∙ ap Some both.0; upto = subst (λ n. HasPlace text n (suc k)) to_is (placed text t (suc k) within) }
+
+pub step_left : (text : Text) → IsText text → (at c to : ℕ) → read text leftwards at ≡ Some (c, to) → StepLeft text at c to
+step_left text t at c to e = by (place_at text at) refl e
+  where
+    by : (o : Option ℕ) → place_at text at ≡ o → option_and_then (read_at text leftwards) o ≡ Some (c, to) → StepLeft text at c to
+    by None f e' = absurd (cc)
+    by (Some zero) f e' = absurd (cc)
+    by (Some (suc j)) f e' = go (slice_get text.characters j) refl e'
+      where
+        go : (o : Option ℕ) → slice_get text.characters j ≡ o → option_map (λ d. pair d (offset text (suc j - 1))) o ≡ Some (pair c to) → StepLeft text at c to
+        go None g e'' = absurd (cc)
+        go (Some d) g e'' =
+            let both = same_pair d (offset text (suc j - 1)) c to e'' in
+            let within : j ≤ last_place text = omega (arith, slice_get_within text.characters j d g) in
+            let back : suc j - 1 ≡ j = omega arith in
+            let to_is : offset text j ≡ to = ap (offset text) (sym back) ∙ both.1 in
+            record { place = j; from = place_found text t at (suc j) f; character = g ∙ ap Some both.0; upto = subst (λ n. HasPlace text n j) to_is (placed text t j within) }
+
+pub right_ahead : (text : Text) → IsText text → (at c to : ℕ) → read text rightwards at ≡ Some (c, to) → at < to
+right_ahead text t at c to e =
+    let s = step_right text t at c to e in
+    omega (arith, offset-less text s.place (suc s.place) t (omega arith) s.upto.within, s.from.offset_is, s.upto.offset_is)
+
+pub right_boundary : (text : Text) → IsText text → (at c to : ℕ) → read text rightwards at ≡ Some (c, to) → IsBoundary text to
+right_boundary text t at c to e = let s = step_right text t at c to e in boundary_of_place text to (suc s.place) s.upto.found
+
+pub left_ahead : (text : Text) → IsText text → (at c to : ℕ) → read text leftwards at ≡ Some (c, to) → to < at
+left_ahead text t at c to e =
+    let s = step_left text t at c to e in
+    omega (arith, offset-less text s.place (suc s.place) t (omega arith) s.from.within, s.from.offset_is, s.upto.offset_is)
+
+pub left_boundary : (text : Text) → IsText text → (at c to : ℕ) → read text leftwards at ≡ Some (c, to) → IsBoundary text to
+left_boundary text t at c to e = let s = step_left text t at c to e in boundary_of_place text to s.place s.upto.found
+
+-- the reads are inverse to each other
+pub right_then_left : (text : Text) → IsText text → (at c to : ℕ) → read text rightwards at ≡ Some (c, to) → read text leftwards to ≡ Some (c, at)
+right_then_left text t at c to e =
+    let s = step_right text t at c to e in
+    let back : suc s.place - 1 ≡ s.place = omega arith in
+    read-place text leftwards to (suc s.place) s.upto.found
+    ∙ ap (option_map (λ d. (d, offset text (suc s.place - 1)))) s.character
+    ∙ ap (λ n. Some (c, n)) (ap (offset text) back ∙ s.from.offset_is)
+
+pub left_then_right : (text : Text) → IsText text → (at c to : ℕ) → read text leftwards at ≡ Some (c, to) → read text rightwards to ≡ Some (c, at)
+left_then_right text t at c to e =
+    let s = step_left text t at c to e in
+    read-place text rightwards to s.place s.upto.found
+    ∙ ap (option_map (λ d. (d, offset text (s.place + 1)))) s.character
+    ∙ ap (λ n. Some (c, n)) (ap (offset text) (add-one s.place) ∙ s.from.offset_is)
+
+-- ---- The same of the offset alone
+past : (text : Text) (d : Direction) (at to : ℕ) → option_map (λ r. r.1) (read text d at) ≡ Some to → (c : ℕ) × (read text d at ≡ Some (pair c to))
+past text d at to e = by (read text d at) refl e
+  where
+    by : (o : Option (ℕ × ℕ)) → read text d at ≡ o → option_map {T = ℕ × ℕ} (λ r. r.1) o ≡ Some to → (c : ℕ) × (read text d at ≡ Some (pair c to))
+    by None f e' = absurd (cc)
+    by (Some r) f e' = let same : r.1 ≡ to = cc in (r.0, f ∙ ap (λ n. Some (pair r.0 n)) same)
+
+pub past_ahead : (text : Text) → IsText text → (at to : ℕ) → option_map (λ r. r.1) (read text rightwards at) ≡ Some to → at < to
+past_ahead text t at to e = let r = past text rightwards at to e in right_ahead text t at r.0 to r.1
+
+pub past_boundary : (text : Text) → IsText text → (at to : ℕ) → option_map (λ r. r.1) (read text rightwards at) ≡ Some to → IsBoundary text to
+past_boundary text t at to e = let r = past text rightwards at to e in right_boundary text t at r.0 to r.1
+
+pub before_ahead : (text : Text) → IsText text → (at to : ℕ) → option_map (λ r. r.1) (read text leftwards at) ≡ Some to → to < at
+before_ahead text t at to e = let r = past text leftwards at to e in left_ahead text t at r.0 to r.1
+
+pub before_boundary : (text : Text) → IsText text → (at to : ℕ) → option_map (λ r. r.1) (read text leftwards at) ≡ Some to → IsBoundary text to
+before_boundary text t at to e = let r = past text leftwards at to e in left_boundary text t at r.0 to r.1
+
+-- ---- The ends
+pub start_boundary : (text : Text) → IsText text → (at : ℕ) → at ≡ 0 → IsBoundary text at
+start_boundary text t at e =
+    let found : place_at text at ≡ Some 0 = ap (place_at text) (e ∙ sym t.from_zero) ∙ place_at-offset text 0 t (omega arith) in
+    boundary_of_place text at 0 found
+
+pub end_boundary : (text : Text) → IsText text → (at : ℕ) → at ≡ units text → IsBoundary text at
+end_boundary text t at e =
+    let found : place_at text at ≡ Some (last_place text) = ap (place_at text) e ∙ place_at-offset text (last_place text) t (omega arith) in
+    boundary_of_place text at (last_place text) found

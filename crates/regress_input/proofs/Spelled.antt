@@ -4,8 +4,15 @@ use Rattle.std.proofs.lemmas.List.Concat.{flat_map-append}
 use Rattle.std.proofs.lemmas.Option.{slice_get_within, get_or_from_slice_get}
 use Rattle.regex_meaning.specs.Text.{Text, Direction, rightwards, leftwards, offsets_from}
 use Rattle.regex_meaning.specs.Offsets.{Rises, IsText, offset, IsBoundary, place_at, read}
-use Rattle.regex_meaning.proofs.Rising.{text_of, is_text}
+use Rattle.regex_meaning.proofs.TextLemmas.{offsets-rise, length-offsets, first-offset}
 use Rattle.regress_input.proofs.Places.{HasPlace, place_of_boundary, read-place}
+
+-- characters with these widths
+abbrev pub text_of : (width : ℕ → ℕ) → List ℕ → (unicode : Bool) → (fold : ℕ → ℕ) → Text
+text_of width cs unicode fold = record { characters = cs; offsets = offsets_from 0 (map width cs); unicode = unicode; fold = fold }
+
+pub is_text : (width : ℕ → ℕ) (positive : (c : ℕ) → 0 < width c) (cs : List ℕ) (unicode : Bool) (fold : ℕ → ℕ) → IsText (text_of width cs unicode fold)
+is_text width positive cs unicode fold = record { from_zero = first-offset width cs 0; rises = offsets-rise width cs 0 positive; each_place = length-offsets width cs 0 }
 
 module _ (spell : ℕ → List ℕ) (width : ℕ → ℕ) (sized : (c : ℕ) → length (spell c) ≡ width c) where
   -- the units of the characters

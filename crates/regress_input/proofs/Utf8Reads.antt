@@ -6,8 +6,9 @@ use lib.Utf8.{scalar, scalars, encode, encodes, next, scalar_cases}
 use Rattle.regex_meaning.specs.Text.{Text, utf8_text, rightwards, leftwards, fold_char}
 use Rattle.regex_meaning.specs.Offsets.{IsText, IsBoundary, units, read}
 use Rattle.regress_input.specs.Utf8.{StandsAt, EndsAt}
+use Rattle.regress_input.specs.Reading.{bytes_of}
 use Rattle.regress_input.proofs.Spelled.{ReadsRight, ReadsLeft, reads_right, reads_left, at_end, before_character, at_start, behind_character}
-use Rattle.regex_meaning.proofs.Rising.{len_utf8-positive, utf8_units-length}
+use Rattle.regex_meaning.proofs.UnitLengths.{utf8_text-units}
 
 -- a byte that continues a character
 abbrev pub Follows : ℕ → Type 0
@@ -55,7 +56,7 @@ encode_four c l =
 below_top : (c : ℕ) → IsScalar c → c < 1114112
 below_top c s = ⊎_elim (λ h. omega arith) (λ h. h.1) (scalar_cases c s)
 
-order : (m n : ℕ) → (m < n) ⊎ (n ≤ m)
+pub order : (m n : ℕ) → (m < n) ⊎ (n ≤ m)
 order m n = by (ltb m n) refl
   where
     by : (b : Bool) → ltb m n ≡ b → (m < n) ⊎ (n ≤ m)
@@ -174,23 +175,126 @@ is_four bytes at c s m = elim (bytes_at bytes at c s) [
   | four l n h i f g k e ↦ (e, omega arith)
 ]
 
-encodes-flat_map : (cs : List ℕ) → encodes cs ≡ flat_map encode cs
+-- ---- The same from where the character ends
+
+-- the bytes of a character, from its last one on to the left
+data Back (bytes : List ℕ) (end start c : ℕ) : Type 0 where
+  one_back : end ≡ start + 1 → end ≤ length bytes → get_or bytes (end - 1) 0 < 128 → get_or bytes (end - 1) 0 ≡ c → Back bytes end start c
+  two_back : end ≡ start + 2 → end ≤ length bytes → 128 ≤ get_or bytes (end - 1) 0 → 192 ≤ get_or bytes (end - 2) 0
+      → c + 12416 ≡ get_or bytes (end - 2) 0 * 64 + get_or bytes (end - 1) 0 → Back bytes end start c
+  three_back : end ≡ start + 3 → end ≤ length bytes → 128 ≤ get_or bytes (end - 1) 0 → get_or bytes (end - 2) 0 < 192 → 192 ≤ get_or bytes (end - 3) 0
+      → c + 925824 ≡ get_or bytes (end - 3) 0 * 4096 + get_or bytes (end - 2) 0 * 64 + get_or bytes (end - 1) 0 → Back bytes end start c
+  four_back : end ≡ start + 4 → end ≤ length bytes → 128 ≤ get_or bytes (end - 1) 0 → get_or bytes (end - 2) 0 < 192 → get_or bytes (end - 3) 0 < 192
+      → c + 63447168 ≡ get_or bytes (end - 4) 0 * 262144 + get_or bytes (end - 3) 0 * 4096 + get_or bytes (end - 2) 0 * 64 + get_or bytes (end - 1) 0 → Back bytes end start c
+
+back : (bytes : List ℕ) (end start c : ℕ) → EndsAt bytes end start c → Back bytes end start c
+back bytes end start c s = elim (bytes_at bytes start c s.stands) [
+    | one l n h e ↦
+      let z : get_or bytes (end - 1) 0 ≡ get_or bytes start 0 = at_same (end - 1) start (omega (arith, s.ends)) in
+      one_back (omega (arith, s.ends)) (omega (arith, s.ends)) (omega arith) (z ∙ e)
+    | two l n h i f e ↦
+      let y : get_or bytes (end - 2) 0 ≡ get_or bytes start 0 = at_same (end - 2) start (omega (arith, s.ends)) in
+      let z : get_or bytes (end - 1) 0 ≡ get_or bytes (start + 1) 0 = at_same (end - 1) (start + 1) (omega (arith, s.ends)) in
+      two_back (omega (arith, s.ends)) (omega (arith, s.ends)) (omega arith) (omega arith) (omega arith)
+    | three l n h i f g e ↦
+      let x : get_or bytes (end - 3) 0 ≡ get_or bytes start 0 = at_same (end - 3) start (omega (arith, s.ends)) in
+      let y : get_or bytes (end - 2) 0 ≡ get_or bytes (start + 1) 0 = at_same (end - 2) (start + 1) (omega (arith, s.ends)) in
+      let z : get_or bytes (end - 1) 0 ≡ get_or bytes (start + 2) 0 = at_same (end - 1) (start + 2) (omega (arith, s.ends)) in
+      three_back (omega (arith, s.ends)) (omega (arith, s.ends)) (omega arith) (omega arith) (omega arith) (omega arith)
+    | four l n h i f g k e ↦
+      let w : get_or bytes (end - 4) 0 ≡ get_or bytes start 0 = at_same (end - 4) start (omega (arith, s.ends)) in
+      let x : get_or bytes (end - 3) 0 ≡ get_or bytes (start + 1) 0 = at_same (end - 3) (start + 1) (omega (arith, s.ends)) in
+      let y : get_or bytes (end - 2) 0 ≡ get_or bytes (start + 2) 0 = at_same (end - 2) (start + 2) (omega (arith, s.ends)) in
+      let z : get_or bytes (end - 1) 0 ≡ get_or bytes (start + 3) 0 = at_same (end - 1) (start + 3) (omega (arith, s.ends)) in
+      four_back (omega (arith, s.ends)) (omega (arith, s.ends)) (omega arith) (omega arith) (omega arith) (omega arith)
+  ]
+  where
+    at_same : (i j : ℕ) → i ≡ j → get_or bytes i 0 ≡ get_or bytes j 0
+    at_same i j e = ap (λ n. get_or bytes n 0) e
+
+-- a character ends there
+abbrev Ends : List ℕ → ℕ → Type 0
+Ends bytes end = (start : ℕ) × (c : ℕ) × EndsAt bytes end start c
+
+pub last_inside : (bytes : List ℕ) (end : ℕ) → Ends bytes end → (1 ≤ end) × (end ≤ length bytes)
+last_inside bytes end (start, c, s) = elim (back bytes end start c s) [
+    | one_back e l h i ↦ (omega arith, l)
+    | two_back e l h i f ↦ (omega arith, l)
+    | three_back e l h i f g ↦ (omega arith, l)
+    | four_back e l h i f g ↦ (omega arith, l) ]
+
+pub second_back : (bytes : List ℕ) (end : ℕ) → Ends bytes end → 128 ≤ get_or bytes (end - 1) 0 → 2 ≤ end
+second_back bytes end (start, c, s) m = elim (back bytes end start c s) [
+    | one_back e l h i ↦ absurd (omega arith)
+    | two_back e l h i f ↦ omega arith
+    | three_back e l h i f g ↦ omega arith
+    | four_back e l h i f g ↦ omega arith ]
+
+pub third_back : (bytes : List ℕ) (end : ℕ) → Ends bytes end → 128 ≤ get_or bytes (end - 1) 0 → get_or bytes (end - 2) 0 < 192 → 3 ≤ end
+third_back bytes end (start, c, s) m n = elim (back bytes end start c s) [
+    | one_back e l h i ↦ absurd (omega arith)
+    | two_back e l h i f ↦ absurd (omega arith)
+    | three_back e l h i f g ↦ omega arith
+    | four_back e l h i f g ↦ omega arith ]
+
+pub fourth_back : (bytes : List ℕ) (end : ℕ) → Ends bytes end → 128 ≤ get_or bytes (end - 1) 0 → get_or bytes (end - 2) 0 < 192 → get_or bytes (end - 3) 0 < 192 → 4 ≤ end
+fourth_back bytes end (start, c, s) m n o = elim (back bytes end start c s) [
+    | one_back e l h i ↦ absurd (omega arith)
+    | two_back e l h i f ↦ absurd (omega arith)
+    | three_back e l h i f g ↦ absurd (omega arith)
+    | four_back e l h i f g ↦ omega arith ]
+
+pub back_one : (bytes : List ℕ) (end start c : ℕ) → EndsAt bytes end start c → get_or bytes (end - 1) 0 < 128 → (get_or bytes (end - 1) 0 ≡ c) × (end - 1 ≡ start)
+back_one bytes end start c s m = elim (back bytes end start c s) [
+    | one_back e l h i ↦ (i, omega arith)
+    | two_back e l h i f ↦ absurd (omega arith)
+    | three_back e l h i f g ↦ absurd (omega arith)
+    | four_back e l h i f g ↦ absurd (omega arith) ]
+
+pub back_two : (bytes : List ℕ) (end start c : ℕ) → EndsAt bytes end start c → 128 ≤ get_or bytes (end - 1) 0 → 192 ≤ get_or bytes (end - 2) 0
+    → (c + 12416 ≡ get_or bytes (end - 2) 0 * 64 + get_or bytes (end - 1) 0) × (end - 2 ≡ start)
+back_two bytes end start c s m n = elim (back bytes end start c s) [
+    | one_back e l h i ↦ absurd (omega arith)
+    | two_back e l h i f ↦ (f, omega arith)
+    | three_back e l h i f g ↦ absurd (omega arith)
+    | four_back e l h i f g ↦ absurd (omega arith) ]
+
+pub back_three : (bytes : List ℕ) (end start c : ℕ) → EndsAt bytes end start c → 128 ≤ get_or bytes (end - 1) 0 → get_or bytes (end - 2) 0 < 192 → 192 ≤ get_or bytes (end - 3) 0
+    → (c + 925824 ≡ get_or bytes (end - 3) 0 * 4096 + get_or bytes (end - 2) 0 * 64 + get_or bytes (end - 1) 0) × (end - 3 ≡ start)
+back_three bytes end start c s m n o = elim (back bytes end start c s) [
+    | one_back e l h i ↦ absurd (omega arith)
+    | two_back e l h i f ↦ absurd (omega arith)
+    | three_back e l h i f g ↦ (g, omega arith)
+    | four_back e l h i f g ↦ absurd (omega arith) ]
+
+pub back_four : (bytes : List ℕ) (end start c : ℕ) → EndsAt bytes end start c → 128 ≤ get_or bytes (end - 1) 0 → get_or bytes (end - 2) 0 < 192 → get_or bytes (end - 3) 0 < 192
+    → (c + 63447168 ≡ get_or bytes (end - 4) 0 * 262144 + get_or bytes (end - 3) 0 * 4096 + get_or bytes (end - 2) 0 * 64 + get_or bytes (end - 1) 0) × (end - 4 ≡ start)
+back_four bytes end start c s m n o = elim (back bytes end start c s) [
+    | one_back e l h i ↦ absurd (omega arith)
+    | two_back e l h i f ↦ absurd (omega arith)
+    | three_back e l h i f g ↦ absurd (omega arith)
+    | four_back e l h i f g ↦ (g, omega arith) ]
+
+pub encodes-flat_map : (cs : List ℕ) → encodes cs ≡ flat_map encode cs
 encodes-flat_map [] = refl
 encodes-flat_map (c ∷ cs) = ap (λ l. encode c ++ l) (encodes-flat_map cs)
 
-scalar_first : (d : ℕ) (b : Bool) → scalar d && b ≡ true → (scalar d ≡ true) × (b ≡ true)
+pub scalar_first : (d : ℕ) (b : Bool) → scalar d && b ≡ true → (scalar d ≡ true) × (b ≡ true)
 scalar_first d b s = by (scalar d) refl s
   where
     by : (a : Bool) → scalar d ≡ a → a && b ≡ true → (scalar d ≡ true) × (b ≡ true)
     by false t s' = absurd (cc)
     by true t s' = (t, s')
 
-scalar_among : (cs : List ℕ) (k c : ℕ) → scalars cs ≡ true → slice_get cs k ≡ Some c → IsScalar c
+pub scalar_among : (cs : List ℕ) (k c : ℕ) → scalars cs ≡ true → slice_get cs k ≡ Some c → IsScalar c
 scalar_among [] k c s e = absurd (cc)
 scalar_among (d ∷ cs) zero c s e = let same : d ≡ c = cc in ap scalar (sym same) ∙ (scalar_first d (scalars cs) s).0
 scalar_among (d ∷ cs) (suc k) c s e = scalar_among cs k c (scalar_first d (scalars cs) s).1 e
 
-spelled_by : (bytes : List ℕ) → IsUtf8 bytes → flat_map encode (chars bytes) ≡ bytes
+pub len_utf8-positive : (c : ℕ) → 0 < len_utf8 c
+len_utf8-positive c = omega (arith, (len_utf8_bounds c).0)
+
+pub spelled_by : (bytes : List ℕ) → IsUtf8 bytes → flat_map encode (chars bytes) ≡ bytes
 spelled_by bytes u = sym (encodes-flat_map (chars bytes)) ∙ encodes-chars bytes u
 
 -- what is read to the right of a boundary
@@ -232,10 +336,17 @@ module _ (bytes : List ℕ) (unicode : Bool) (is_utf8 : ∥ IsUtf8 bytes ∥₁)
 
   -- the length of the text is that of its bytes
   pub units-bytes : units text ≡ length bytes
-  units-bytes = utf8_units-length bytes unicode u
+  units-bytes = utf8_text-units bytes unicode u
 
   pub boundary_inside : (at : ℕ) → IsBoundary text at → at ≤ length bytes
   boundary_inside at b = elim (right at b) [ at_the_end e r ↦ omega arith | character_behind c s l i r ↦ omega arith ]
+
+  -- the bytes of the text are these
+  pub bytes-of-text : bytes_of text ≡ bytes
+  bytes-of-text = encodes-chars bytes u
+
+  pub read-start : (at : ℕ) → IsBoundary text at → at ≡ 0 → read text leftwards at ≡ None
+  read-start at b e = elim (left at b) [ at_the_start z r ↦ r | character_before start c s l i r ↦ absurd (omega arith) ]
 
   -- as the code sees the bytes
   module _ (bs : List ℕ) (same : bs ≡ bytes) where
@@ -260,3 +371,19 @@ module _ (bytes : List ℕ) (unicode : Bool) (is_utf8 : ∥ IsUtf8 bytes ∥₁)
       | at_the_end e r ↦ absurd (n (omega (arith, e, ap length same)))
       | character_behind c s l i r ↦ let past = is c (subst (λ l. StandsAt l at c) (sym same) s) in ap Some past ∙ sym (ap (option_map (λ v. v.1)) r)
     ]
+
+    -- a boundary that is not the left end has a character before it
+    pub ends_at : (at : ℕ) → IsBoundary text at → at ≢ 0 → (start : ℕ) × (c : ℕ) × EndsAt bs at start c
+    ends_at at b n = elim (left at b) [
+        at_the_start e r ↦ absurd (n e)
+        | character_before start c s l i r ↦ (start, c, subst (λ l. EndsAt l at start c) (sym same) s) ]
+
+    pub read-character-left : (at x y : ℕ) → IsBoundary text at → at ≢ 0 → ((start c : ℕ) → EndsAt bs at start c → (x ≡ c) × (y ≡ start)) → Some (x, y) ≡ read text leftwards at
+    read-character-left at x y b n is = elim (left at b) [
+        at_the_start e r ↦ absurd (n e)
+        | character_before start c s l i r ↦ let both = is start c (subst (λ l. EndsAt l at start c) (sym same) s) in ap₂ (λ v w. Some (v, w)) both.0 both.1 ∙ sym r ]
+
+    pub read-before : (at y : ℕ) → IsBoundary text at → at ≢ 0 → ((start c : ℕ) → EndsAt bs at start c → y ≡ start) → Some y ≡ option_map (λ r. r.1) (read text leftwards at)
+    read-before at y b n is = elim (left at b) [
+        at_the_start e r ↦ absurd (n e)
+        | character_before start c s l i r ↦ let past = is start c (subst (λ l. EndsAt l at start c) (sym same) s) in ap Some past ∙ sym (ap (option_map (λ v. v.1)) r) ]

@@ -1,1 +1,3 @@
 pub mod Utf8
+pub mod Reading
+pub mod InUtf8

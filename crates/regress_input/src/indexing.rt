@@ -1,145 +1,283 @@
 //! Inputs: texts that are read a character at a time.
 
-ghost use Rattle.std.specs.Prelude.{◌≡◌, ◌<◌, ◌≤◌, ◌^◌, ℕ, option_map, IfSome, IfNone, if◌then◌else◌, nat_le, length, IsUtf8, Some, None, ◌+◌};
-ghost use Rattle.regex_meaning.specs.Text.{Text, rightwards, leftwards, utf8_text};
+ghost use Rattle.std.specs.Prelude.{◌≡◌, ◌<◌, ◌≤◌, ◌^◌, ◌==◌, nat_eq, ℕ, Bool, true, false, option_map, IfSome, IfNone, IsTrue, if◌then◌else◌, Some, None, ◌+◌};
+ghost use Rattle.regex_meaning.specs.Text.{Text, rightwards, leftwards, is_word_char, is_line_terminator};
+ghost use Rattle.regex_meaning.specs.Tree.{bracket};
+ghost use Rattle.regex_meaning.specs.Outcomes.{accepts};
 ghost use Rattle.regex_meaning.specs.Offsets.{IsText, IsBoundary, units, read};
-ghost use Rattle.regex_meaning.proofs.Rising.{utf8_is_text, utf8_units_fit};
+ghost use Rattle.regex_pattern_front.specs.TreeOf.{contents_of};
+ghost use Rattle.regress_input.specs.Reading.{way, led_to, same_fold, character, past, characters_between, past_spelled, part, bytes_of, IsInUtf8, byte_beside, units_on, past_bytes, IsFoundFrom};
 
-use crate::position::{DefPosition, IndexPosition, PositionType};
-use crate::utf8;
+mod utf8_input;
+
+pub use self::utf8_input::{UTF8CharProperties, Utf8Input};
+
+use crate::front::{BracketContents, ByteSearcher, nonascii_folds_to_ascii_word_char};
+use crate::position::{Direction, PositionType};
+use std::fmt::Debug;
+use std::ops::Range;
 
 /// A character of an input. Contracts see its number.
-pub trait ElementType: Copy {
+pub trait ElementType: Copy + Debug + Ord {
     ghost number: { Self → ℕ };
+
+    // Whether a number is that of an element.
+    ghost is_number: { ℕ → Bool };
+
+    /// The element with this number; none where the number is that of none.
+    fn try_from(code: u32) -> Option<Self>
+        ensures { option_map (λ e. number e) result ≡ (if is_number code then Some code else None) };
 
     /// The number of the character.
     fn as_u32(self) -> u32
         ensures { result ≡ number self };
+
+    ghost equal: { (a b : Self) → Self.eq a b ≡ (number a == number b) };
+
+    ghost same: { (a b : Self) → number a ≡ number b → a ≡ b };
 }
 
-impl ElementType for char {
-    ghost number = { λ c. c };
+/// What an encoding says of its characters: their fold, and the classes that patterns name.
+pub trait CharProperties {
+    type Element: ElementType;
 
+    ghost folded: { (unicode : Bool) → ℕ → ℕ };
+
+    /// What stands for a character where case does not count (ECMA-262, 21.2.2.8.2).
+    fn fold(c: Self::Element, unicode: bool) -> Self::Element
+        ensures { Self.Element.number result ≡ folded unicode (Self.Element.number c) };
+
+    /// Whether it is a letter or a digit of ASCII, or `_` (ECMA-262, 21.2.2.6.2).
     #[inline(always)]
-    fn as_u32(self) -> u32 {
-        self as u32
+    fn is_word_char(c: Self::Element) -> bool
+        ensures { result ≡ is_word_char false (Self.Element.number c) }
+    {
+        let c = c.as_u32();
+        0x61 <= c && c <= 0x7A || 0x41 <= c && c <= 0x5A || 0x30 <= c && c <= 0x39 || c == 0x5F
+    }
+
+    /// The same where case does not count and folds are those of the flag `u`.
+    #[inline(always)]
+    fn is_word_char_unicode_icase(c: Self::Element) -> bool
+        ensures { result ≡ is_word_char true (Self.Element.number c) }
+    {
+        Self::is_word_char(c) || nonascii_folds_to_ascii_word_char(c.as_u32())
+    }
+
+    /// Whether it ends a line (ECMA-262, 11.3).
+    #[inline(always)]
+    fn is_line_terminator(c: Self::Element) -> bool
+        ensures { result ≡ is_line_terminator (Self.Element.number c) }
+    {
+        let c = c.as_u32();
+        c == 0x0A || c == 0x0D || c == 0x2028 || c == 0x2029
+    }
+
+    /// Whether it is in the set, or with `invert` in its complement.
+    #[inline(always)]
+    fn bracket(bc: &BracketContents, c: Self::Element) -> bool
+        ensures { result ≡ accepts (bracket (contents_of bc.now)) (Self.Element.number c) }
+    {
+        let inside = bc.cps.contains(c.as_u32());
+        if bc.invert { !inside } else { inside }
     }
 }
 
+/// The units in which offsets count.
+pub trait CodeUnits {
+    ghost ARE_BYTES: { Bool };
+
+    /// Whether they are bytes.
+    const ARE_BYTES: bool;
+}
+
+/// Units that are bytes.
+pub struct ByteUnits;
+
+/// Units of 16 bits.
+pub struct WideUnits;
+
+impl CodeUnits for ByteUnits {
+    ghost ARE_BYTES = { true };
+
+    const ARE_BYTES: bool = true;
+}
+
+impl CodeUnits for WideUnits {
+    ghost ARE_BYTES = { false };
+
+    const ARE_BYTES: bool = false;
+}
+
 /// A text that can be read from any boundary. Contracts see the text.
-pub trait InputIndexer: Copy {
+pub trait InputIndexer: Copy + Debug {
     type Element: ElementType;
+
+    type CharProps: CharProperties<Element = Self::Element>;
 
     type Position: PositionType;
 
+    type Units: CodeUnits;
+
+    /// Whether units are bytes, so that the text may be read a byte at a time. It is what `Units` says.
+    const CODE_UNITS_ARE_BYTES: bool = Self::Units::ARE_BYTES;
+
     ghost text: { Self → Text };
+
+    /// Whether characters are folded as with the flag `u`.
+    fn unicode(&self) -> bool
+        ensures { result ≡ (text self.now).unicode };
+
+    /// What stands for a character where case does not count.
+    fn fold(&self, c: Self::Element) -> Self::Element
+        ensures { Self.Element.number result ≡ (text self.now).fold (Self.Element.number c) };
+
+    /// Whether two characters are the same, or have the same fold.
+    #[inline(always)]
+    fn fold_equals(&self, c1: Self::Element, c2: Self::Element) -> bool
+        ensures { result ≡ same_fold (text self.now).fold (Self.Element.number c1) (Self.Element.number c2) }
+    {
+        c1.as_u32() == c2.as_u32() || self.fold(c1).as_u32() == self.fold(c2).as_u32()
+    }
 
     /// The left end.
     fn left_end(&self) -> Self::Position
-        ensures { Self.Position.offset result ≡ 0 };
+        ensures offset { Self.Position.offset result ≡ 0 }
+        ensures boundary { IsBoundary (text self.now) (Self.Position.offset result) };
 
     /// The right end.
     fn right_end(&self) -> Self::Position
-        ensures { Self.Position.offset result ≡ units (text self.now) };
+        ensures offset { Self.Position.offset result ≡ units (text self.now) }
+        ensures boundary { IsBoundary (text self.now) (Self.Position.offset result) };
 
     /// The offset of a position, in units.
     fn pos_to_offset(&self, pos: Self::Position) -> usize
         ensures { result ≡ Self.Position.offset pos };
 
+    /// The text between two boundaries. Its positions count from its own left end.
+    fn subinput(&self, range: Range<Self::Position>) -> Self
+        requires from { IsBoundary (text self.now) (Self.Position.offset range.start) }
+        requires to { IsBoundary (text self.now) (Self.Position.offset range.end) }
+        requires in_order { Self.Position.offset range.start ≤ Self.Position.offset range.end }
+        ensures { text result ≡ part (text self.now) (Self.Position.offset range.start) (Self.Position.offset range.end) };
+
     /// The character to the right, and the position past it; at the right end none, and the position stays.
     fn next_right(&self, pos: &mut Self::Position) -> Option<Self::Element>
         requires { IsBoundary (text self.now) (Self.Position.offset pos.old) }
         ensures read { option_map (λ e. (Self.Element.number e, Self.Position.offset pos.new)) result ≡ read (text self.now) rightwards (Self.Position.offset pos.old) }
-        ensures stays { IfNone result (pos.new ≡ pos.old) };
+        ensures stays { IfNone result (pos.new ≡ pos.old) }
+        ensures ahead { IfSome result (λ _. Self.Position.offset pos.old < Self.Position.offset pos.new) }
+        ensures boundary { IsBoundary (text self.now) (Self.Position.offset pos.new) }
+        ensures inside { Self.Position.offset pos.new ≤ units (text self.now) };
+
+    /// The character to the left, and the position before it; at the left end none, and the position stays.
+    fn next_left(&self, pos: &mut Self::Position) -> Option<Self::Element>
+        requires { IsBoundary (text self.now) (Self.Position.offset pos.old) }
+        ensures read { option_map (λ e. (Self.Element.number e, Self.Position.offset pos.new)) result ≡ read (text self.now) leftwards (Self.Position.offset pos.old) }
+        ensures stays { IfNone result (pos.new ≡ pos.old) }
+        ensures ahead { IfSome result (λ _. Self.Position.offset pos.new < Self.Position.offset pos.old) }
+        ensures boundary { IsBoundary (text self.now) (Self.Position.offset pos.new) }
+        ensures inside { Self.Position.offset pos.new ≤ units (text self.now) };
 
     /// The position past the character to the right; none at the right end.
     fn next_right_pos(&self, pos: Self::Position) -> Option<Self::Position>
         requires { IsBoundary (text self.now) (Self.Position.offset pos) }
-        ensures { option_map (λ p. Self.Position.offset p) result ≡ option_map (λ r. r.1) (read (text self.now) rightwards (Self.Position.offset pos)) };
+        ensures read { option_map (λ p. Self.Position.offset p) result ≡ past (text self.now) rightwards (Self.Position.offset pos) }
+        ensures ahead { IfSome result (λ p. Self.Position.offset pos < Self.Position.offset p) }
+        ensures boundary { IfSome result (λ p. IsBoundary (text self.now) (Self.Position.offset p)) }
+        ensures inside { IfSome result (λ p. Self.Position.offset p ≤ units (text self.now)) };
+
+    /// The position before the character to the left; none at the left end.
+    fn next_left_pos(&self, pos: Self::Position) -> Option<Self::Position>
+        requires { IsBoundary (text self.now) (Self.Position.offset pos) }
+        ensures read { option_map (λ p. Self.Position.offset p) result ≡ past (text self.now) leftwards (Self.Position.offset pos) }
+        ensures ahead { IfSome result (λ p. Self.Position.offset p < Self.Position.offset pos) }
+        ensures boundary { IfSome result (λ p. IsBoundary (text self.now) (Self.Position.offset p)) }
+        ensures inside { IfSome result (λ p. Self.Position.offset p ≤ units (text self.now)) };
+
+    /// The character to the right.
+    #[inline(always)]
+    fn peek_right(&self, pos: Self::Position) -> Option<Self::Element>
+        requires { IsBoundary (text self.now) (Self.Position.offset pos) }
+        ensures { option_map (λ e. Self.Element.number e) result ≡ character (text self.now) rightwards (Self.Position.offset pos) }
+    {
+        let mut at = pos;
+        self.next_right(&mut at)
+    }
+
+    /// The character to the left.
+    #[inline(always)]
+    fn peek_left(&self, pos: Self::Position) -> Option<Self::Element>
+        requires { IsBoundary (text self.now) (Self.Position.offset pos) }
+        ensures { option_map (λ e. Self.Element.number e) result ≡ character (text self.now) leftwards (Self.Position.offset pos) }
+    {
+        let mut at = pos;
+        self.next_left(&mut at)
+    }
+
+    /// The byte to the right of any byte offset; none at the right end.
+    fn peek_byte_right(&self, pos: Self::Position) -> Option<u8>
+        requires bytes { IsTrue Self.Units.ARE_BYTES }
+        requires inside { Self.Position.offset pos ≤ units (text self.now) }
+        ensures { result ≡ byte_beside (bytes_of (text self.now)) rightwards (Self.Position.offset pos) };
+
+    /// The byte to the left of any byte offset; none at the left end.
+    fn peek_byte_left(&self, pos: Self::Position) -> Option<u8>
+        requires bytes { IsTrue Self.Units.ARE_BYTES }
+        requires inside { Self.Position.offset pos ≤ units (text self.now) }
+        ensures { result ≡ byte_beside (bytes_of (text self.now)) leftwards (Self.Position.offset pos) };
 
     /// The position `amt` units to the right, where that is not past the right end.
     fn try_move_right(&self, pos: Self::Position, amt: usize) -> Option<Self::Position>
         requires { Self.Position.offset pos ≤ units (text self.now) }
-        ensures { option_map (λ p. Self.Position.offset p) result ≡ (if nat_le (Self.Position.offset pos + amt) (units (text self.now)) then Some (Self.Position.offset pos + amt) else None) };
+        ensures { option_map (λ p. Self.Position.offset p) result ≡ units_on (units (text self.now)) rightwards amt (Self.Position.offset pos) };
+
+    /// The position `amt` units to the left, where that is not past the left end.
+    fn try_move_left(&self, pos: Self::Position, amt: usize) -> Option<Self::Position>
+        requires { Self.Position.offset pos ≤ units (text self.now) }
+        ensures { option_map (λ p. Self.Position.offset p) result ≡ units_on (units (text self.now)) leftwards amt (Self.Position.offset pos) };
+
+    /// The first position, from any byte offset on, at which the bytes stand that are looked for.
+    fn find_bytes<Search: ByteSearcher>(
+        &self,
+        pos: Self::Position,
+        search: &Search,
+    ) -> Option<Self::Position>
+        requires bytes { IsTrue Self.Units.ARE_BYTES }
+        requires inside { Self.Position.offset pos ≤ units (text self.now) }
+        ensures { IsFoundFrom (Search.stands_at search.now) (bytes_of (text self.now)) (Self.Position.offset pos) (option_map (λ p. Self.Position.offset p) result) };
+
+    /// Whether the characters of a range stand on the direction's side of a boundary, read left to right. Then the
+    /// position is behind them, and else it is not specified.
+    fn subrange_eq<Dir: Direction>(
+        &self,
+        dir: Dir,
+        pos: &mut Self::Position,
+        range: Range<Self::Position>,
+    ) -> bool
+        requires at { IsBoundary (text self.now) (Self.Position.offset pos.old) }
+        requires from { IsBoundary (text self.now) (Self.Position.offset range.start) }
+        requires to { IsBoundary (text self.now) (Self.Position.offset range.end) }
+        requires in_order { Self.Position.offset range.start ≤ Self.Position.offset range.end }
+        ensures { led_to result (Self.Position.offset pos.new) ≡ past_spelled (text self.now) nat_eq (characters_between (text self.now) (Self.Position.offset range.start) (Self.Position.offset range.end)) (way Dir.FORWARD) (Self.Position.offset pos.old) };
+
+    /// Whether these bytes stand on the direction's side of any byte offset, read left to right. Then the position is
+    /// behind them, and else it is not specified.
+    fn match_bytes<Dir: Direction>(
+        &self,
+        dir: Dir,
+        pos: &mut Self::Position,
+        bytes: &[u8],
+    ) -> bool
+        requires bytes { IsTrue Self.Units.ARE_BYTES }
+        requires inside { Self.Position.offset pos.old ≤ units (text self.now) }
+        ensures { led_to result (Self.Position.offset pos.new) ≡ past_bytes (bytes_of (text self.now)) bytes.now (way Dir.FORWARD) (Self.Position.offset pos.old) };
 
     ghost is_text: { (it : Self) → IsText (text it) };
 
     // Offsets fit, and may be added to.
     ghost offsets_fit: { (it : Self) → units (text it) < 2 ^ 64 };
-}
 
-/// A text in UTF-8.
-#[derive(Clone, Copy, Debug)]
-pub struct Utf8Input<'a> {
-    input: &'a str,
-    unicode: bool,
-    ghost is_utf8: { ∥ IsUtf8 input.now ∥₁ },
-    ghost fits: { length input.now < 2 ^ 64 },
-}
-
-impl<'a> Utf8Input<'a> {
-    /// The characters of `input`, folded as with the flag `u` where `unicode` is set.
-    #[inline(always)]
-    pub fn new(input: &'a str, unicode: bool) -> Self
-        ensures { ⟦<Utf8Input<'a> as InputIndexer>⟧.text result ≡ utf8_text input.now unicode }
-    {
-        Utf8Input { input, unicode }
-    }
-}
-
-impl<'a> InputIndexer for Utf8Input<'a> {
-    type Element = char;
-
-    type Position = DefPosition<'a>;
-
-    ghost text = { λ it. utf8_text it.input.now it.unicode };
-
-    ghost is_text = { λ it. utf8_is_text it.input.now it.unicode };
-
-    ghost offsets_fit = { λ it. utf8_units_fit it.input.now it.unicode it.is_utf8 it.fits };
-
-    #[inline(always)]
-    fn left_end(&self) -> DefPosition<'a> {
-        IndexPosition::new(0)
-    }
-
-    #[inline(always)]
-    fn right_end(&self) -> DefPosition<'a> {
-        IndexPosition::new(self.input.len())
-    }
-
-    #[inline(always)]
-    fn pos_to_offset(&self, pos: DefPosition<'a>) -> usize {
-        pos.offset
-    }
-
-    #[inline(always)]
-    fn next_right(&self, pos: &mut DefPosition<'a>) -> Option<char> {
-        let bytes = self.input.as_bytes();
-        if pos.offset == bytes.len() {
-            return None;
-        }
-        let (c, end) = utf8::character_at(bytes, pos.offset);
-        pos.offset = end;
-        Some(c)
-    }
-
-    #[inline(always)]
-    fn next_right_pos(&self, pos: DefPosition<'a>) -> Option<DefPosition<'a>> {
-        let at = pos.offset;
-        let bytes = self.input.as_bytes();
-        if at == bytes.len() {
-            return None;
-        }
-        let end = utf8::end_of_character(bytes, at);
-        Some(IndexPosition::new(end))
-    }
-
-    #[inline(always)]
-    fn try_move_right(&self, pos: DefPosition<'a>, amt: usize) -> Option<DefPosition<'a>> {
-        if self.input.len() - pos.offset < amt {
-            return None;
-        }
-        Some(IndexPosition::new(pos.offset + amt))
-    }
+    // Where units are bytes, they are those of UTF-8.
+    ghost in_utf8: { (it : Self) → IsTrue Self.Units.ARE_BYTES → IsInUtf8 (text it) };
 }

@@ -1,6 +1,13 @@
 //! Texts that are read a character at a time, in four encodings and two directions.
 #![tactic(auto)]
 
+pub mod cursor;
+pub mod front;
 pub mod indexing;
+pub mod matchers;
 pub mod position;
+pub mod scm;
+#[cfg(test)]
+mod tests;
+mod units;
 mod utf8;

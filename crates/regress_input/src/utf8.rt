@@ -46,6 +46,45 @@ pub(crate) fn end_of_character(bytes: &[u8], at: usize) -> usize
     }
 }
 
+/// The character that ends at an offset, and where it begins.
+#[inline(always)]
+pub(crate) fn character_before(bytes: &[u8], end: usize) -> (char, usize)
+    requires { (start : ℕ) × (c : ℕ) × EndsAt bytes.now end start c }
+    ensures { (start c : ℕ) → EndsAt bytes.now end start c → (result.0 ≡ c) × (result.1 ≡ start) }
+{
+    let last = bytes[end - 1];
+    if last < 0x80 {
+        return (last as char, end - 1);
+    }
+    let second = bytes[end - 2];
+    if second >= 0xC0 {
+        return (character_of_two(second, last), end - 2);
+    }
+    let third = bytes[end - 3];
+    if third >= 0xC0 {
+        return (character_of_three(third, second, last), end - 3);
+    }
+    (character_of_four(bytes[end - 4], third, second, last), end - 4)
+}
+
+/// Where the character begins that ends at an offset.
+#[inline(always)]
+pub(crate) fn start_of_character(bytes: &[u8], end: usize) -> usize
+    requires { (start : ℕ) × (c : ℕ) × EndsAt bytes.now end start c }
+    ensures { (start c : ℕ) → EndsAt bytes.now end start c → result ≡ start }
+{
+    let last = bytes[end - 1];
+    if last < 0x80 {
+        return end - 1;
+    }
+    let second = bytes[end - 2];
+    if second >= 0xC0 {
+        return end - 2;
+    }
+    let third = bytes[end - 3];
+    if third >= 0xC0 { end - 3 } else { end - 4 }
+}
+
 // The characters that such bytes spell. A lead byte has a fixed part, and so has each of the others; together these
 // come to the number that is taken off.
 

@@ -2,7 +2,7 @@ use Rattle.std.proofs.Common.{◌≡◌, ◌⊎◌, inl, inr, ℕ, ◌<◌, leng
 use Rattle.regex_meaning.specs.Text.{Text, utf8_text, last_place}
 use Rattle.regex_meaning.specs.Offsets.{IsText, IsBoundary, units}
 use Rattle.regex_meaning.proofs.TextLemmas.{offset-IsBoundary, utf8_text-IsText}
-use Rattle.regex_meaning.proofs.Rising.{utf8_units-length}
+use Rattle.regex_meaning.proofs.UnitLengths.{utf8_text-units}
 use Rattle.regress_search.proofs.tests.listing.Goals as goal
 
 may_begin : (text : Text) → IsText text → (n : ℕ) → units text ≡ n → (start : ℕ) → (start ≡ 0) ⊎ ((start ≡ n) ⊎ (n < start)) → IsBoundary text start ⊎ (units text < start)
@@ -18,6 +18,6 @@ new-matches-requires c =
     (utf8_text input.input.now input.unicode)
     (utf8_text-IsText input.input.now input.unicode)
     (length text)
-    (ap units c.in_ok-executor.ensures.text ∙ utf8_units-length text _ c.utf8.text)
+    (ap units c.in_ok-executor.ensures.text ∙ utf8_text-units text _ c.utf8.text)
     c.args.start
     c.requires.start

@@ -1,0 +1,14 @@
+use Rattle.std.proofs.Common.{sym, ◌∙◌, ap, arith}
+use Rattle.regex_meaning.specs.Text.{rightwards}
+use Rattle.regress_input.specs.Reading.{units_on}
+use Rattle.regress_input.proofs.Utf8Reads.{units-bytes}
+use Rattle.regress_input.proofs.indexing.utf8_input.Utf8InputInputIndexer.try_move_right.Goals as goal
+
+pub moved_right-to-requires : goal.moved_right-to-requires
+moved_right-to-requires c = let it = c.args.self.now in omega (arith, units-bytes it.input.now it.unicode it.is_utf8)
+
+pub returns : goal.returns
+returns c =
+    let it = c.args.self.now in
+    c.position_at.ensures ∙ c.moved_right-to.ensures
+    ∙ ap (λ n. units_on n rightwards c.args.amt c.args.pos.offset) (sym (units-bytes it.input.now it.unicode it.is_utf8))

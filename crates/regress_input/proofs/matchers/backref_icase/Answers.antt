@@ -1,0 +1,76 @@
+use Rattle.std.proofs.Common.{◌≡◌, ◌≢◌, inl, inr, sym, ◌∙◌, ap, Some, None, option_map, true, false}
+use Rattle.regex_meaning.specs.Offsets.{read}
+use Rattle.regress_input.specs.Reading.{way, same_fold}
+use Rattle.regress_input.proofs.Places.{pair}
+use Rattle.regress_input.proofs.Compare.{Comparing, starts, stopped, none_at, none_there, differs, goes_on, nearer, unequal, equal}
+use Rattle.regress_input.proofs.matchers.backref_icase.Goals as goal
+use Rattle.regress_input.proofs.matchers.backref_icase.Goals.{then-FORWARD, else-FORWARD}
+
+pub each-init : goal.each-init
+each-init g c =
+    let input = c.args.input.now in
+    let text = g.Input.InputIndexer.text input in
+    let offset = g.Input.Position.PositionType.offset in
+    starts text (same_fold text.fold) (g.met.Input.InputIndexer.is_text input) g.Dir.Direction.FORWARD
+    (offset c.args.pos.now) (offset c.args.orig_range.start) (offset c.args.orig_range.end) (offset c.if-FORWARD.at.0) (offset c.if-FORWARD.at.1)
+    c.requires.at c.requires.from c.requires.to c.requires.in_order
+    (elim c.if-FORWARD.branch [
+      | then-FORWARD w ↦ inl (ap (λ p. offset p.0) w.at-is, ap (λ p. offset p.1) w.at-is, sym c.FORWARD.ensures ∙ w.if-FORWARD.true)
+      | else-FORWARD w ↦ inr (ap (λ p. offset p.0) w.at-is, ap (λ p. offset p.1) w.at-is, sym c.FORWARD.ensures ∙ w.if-FORWARD.false)
+    ])
+
+pub returns-in_default : goal.returns-in_default
+returns-in_default g c =
+    let input = c.args.input.now in
+    let text = g.Input.InputIndexer.text input in
+    let offset = g.Input.Position.PositionType.offset in
+    let ne : offset c.each.at ≢ offset c.if-FORWARD.at.1 = unequal _ _ _ _ c.ne.ensures (g.met.Input.Position.PositionType.equal c.each.at c.if-FORWARD.at.1) c.each-test.true in
+    let none : read text (way g.Dir.Direction.FORWARD) (offset c.each.at) ≡ None =
+    sym c.next.ensures.read ∙ ap (option_map (λ e. pair (g.Input.Element.ElementType.number e) (offset c.next.new.pos))) c.in_default.is in
+    sym (none_at text (same_fold text.fold) (g.met.Input.InputIndexer.is_text input) (way g.Dir.Direction.FORWARD) _ _ _ _ c.each.invariant ne none)
+
+pub returns-in_default-next : goal.returns-in_default-next
+returns-in_default-next g c =
+    let input = c.args.input.now in
+    let text = g.Input.InputIndexer.text input in
+    let offset = g.Input.Position.PositionType.offset in
+    let ne : offset c.each.at ≢ offset c.if-FORWARD.at.1 = unequal _ _ _ _ c.ne.ensures (g.met.Input.Position.PositionType.equal c.each.at c.if-FORWARD.at.1) c.each-test.true in
+    let none : read text (way g.Dir.Direction.FORWARD) (offset c.each.pos) ≡ None =
+    sym c.next-in-each.ensures.read ∙ ap (option_map (λ e. pair (g.Input.Element.ElementType.number e) (offset c.next-in-each.new.pos))) c.in_default-next.is in
+    sym (none_there text (same_fold text.fold) (g.met.Input.InputIndexer.is_text input) (way g.Dir.Direction.FORWARD) _ _ _ _ c.each.invariant ne none)
+
+pub returns-then-not-fold_equals : goal.returns-then-not-fold_equals
+returns-then-not-fold_equals g c =
+    let input = c.args.input.now in
+    let text = g.Input.InputIndexer.text input in
+    let offset = g.Input.Position.PositionType.offset in
+    let ne : offset c.each.at ≢ offset c.if-FORWARD.at.1 = unequal _ _ _ _ c.ne.ensures (g.met.Input.Position.PositionType.equal c.each.at c.if-FORWARD.at.1) c.each-test.true in
+    sym (differs text (same_fold text.fold) (g.met.Input.InputIndexer.is_text input) (way g.Dir.Direction.FORWARD) _ _ _ _ _ _ _ _ c.each.invariant ne
+    (sym c.in-Some.ensures.read) (sym c.in-Some-next.ensures.read) (sym c.fold_equals.ensures ∙ c.if-not-fold_equals.true))
+
+pub each-preserved : goal.each-preserved
+each-preserved g c =
+    let input = c.args.input.now in
+    let text = g.Input.InputIndexer.text input in
+    let offset = g.Input.Position.PositionType.offset in
+    let ne : offset c.each.at ≢ offset c.if-FORWARD.at.1 = unequal _ _ _ _ c.ne.ensures (g.met.Input.Position.PositionType.equal c.each.at c.if-FORWARD.at.1) c.each-test.true in
+    goes_on text (same_fold text.fold) (g.met.Input.InputIndexer.is_text input) (way g.Dir.Direction.FORWARD) _ _ _ _ _ _ _ _ c.each.invariant ne
+    (sym c.in-Some.ensures.read) (sym c.in-Some-next.ensures.read) (sym c.fold_equals.ensures ∙ c.if-not-fold_equals.false)
+
+pub each-smaller : goal.each-smaller
+each-smaller g c =
+    let input = c.args.input.now in
+    let text = g.Input.InputIndexer.text input in
+    let offset = g.Input.Position.PositionType.offset in
+    let ne : offset c.each.at ≢ offset c.if-FORWARD.at.1 = unequal _ _ _ _ c.ne.ensures (g.met.Input.Position.PositionType.equal c.each.at c.if-FORWARD.at.1) c.each-test.true in
+    let on = goes_on text (same_fold text.fold) (g.met.Input.InputIndexer.is_text input) (way g.Dir.Direction.FORWARD) _ _ _ _ _ _ _ _ c.each.invariant ne
+    (sym c.in-Some.ensures.read) (sym c.in-Some-next.ensures.read) (sym c.fold_equals.ensures ∙ c.if-not-fold_equals.false) in
+    nearer text (same_fold text.fold) (g.met.Input.InputIndexer.is_text input) (way g.Dir.Direction.FORWARD) _ _ _ _ _ _ _ c.each.invariant on ne (sym c.in-Some.ensures.read)
+
+pub returns : goal.returns
+returns g c =
+    let input = c.args.input.now in
+    let text = g.Input.InputIndexer.text input in
+    let offset = g.Input.Position.PositionType.offset in
+    sym (stopped text (same_fold text.fold) (g.met.Input.InputIndexer.is_text input) (way g.Dir.Direction.FORWARD) _ _ _ _ c.each.invariant
+    (equal _ _ _ _ c.ne.ensures (g.met.Input.Position.PositionType.equal c.each.at c.if-FORWARD.at.1) c.each-test.false))

@@ -1,0 +1,98 @@
+-- What reading from an offset gives.
+use Rattle.std.specs.Prelude.{◌≡◌, ℕ, zero, suc, ◌+◌, ◌-◌, Bool, true, false, ◌&&◌, ◌||◌, List, length, map, Option, Some, None, option_map, option_and_then, unwrap_or, if◌then◌else◌, nat_le, nat_eq, ◌==◌, slice_get, slice_range, encode_utf8_all, drop, IsTrue, IsUtf8}
+use lib.Pointwise.{pointwise}
+use Rattle.std.specs.Char.{len_utf8}
+use Rattle.regex_pattern_front.specs.Searching.{FindsFirst}
+use Rattle.regex_meaning.specs.Text.{Text, Direction, rightwards, leftwards, offsets_from, characters_left, characters_beside, moved}
+use Rattle.regex_meaning.specs.Offsets.{offset, place_at, read}
+
+-- the way of a direction
+abbrev pub way : (forward : Bool) → Direction
+way true = rightwards
+way false = leftwards
+
+-- what a matcher answers, and the position that it leaves, as one value
+abbrev pub led_to : (matches : Bool) → (at : ℕ) → Option ℕ
+led_to matches at = if matches then Some at else None
+
+-- the test of fold equality
+abbrev pub same_fold : (ℕ → ℕ) → ℕ → ℕ → Bool
+same_fold fold c d = c == d || fold c == fold d
+
+module _ (text : Text) where
+  -- the next character alone
+  abbrev pub character : Direction → (at : ℕ) → Option ℕ
+  character direction at = option_map (λ r. r.0) (read text direction at)
+
+  -- the offset past it alone
+  abbrev pub past : Direction → (at : ℕ) → Option ℕ
+  past direction at = option_map (λ r. r.1) (read text direction at)
+
+  -- the offset past the next character, if it passes the test
+  abbrev pub past_if : (test : ℕ → Bool) → Direction → (at : ℕ) → Option ℕ
+  past_if test direction at = option_and_then (λ r. if test r.0 then Some r.1 else None) (read text direction at)
+
+  -- the place of a boundary
+  abbrev pub place : (at : ℕ) → ℕ
+  place at = unwrap_or (place_at text at) 0
+
+  -- the characters between two boundaries
+  abbrev pub characters_between : (from to : ℕ) → List ℕ
+  characters_between from to = slice_range text.characters (place from) (place to)
+
+  -- the offset behind such characters on the direction's side, read left to right, if they stand there
+  abbrev pub past_spelled : (same : ℕ → ℕ → Bool) → List ℕ → Direction → (at : ℕ) → Option ℕ
+  past_spelled same cs direction at =
+      let n = length cs in
+      if nat_le n (characters_left text direction (place at)) && pointwise same cs (characters_beside text direction n (place at))
+      then Some (offset text (moved text direction n (place at))) else None
+
+  -- the text between two boundaries, with offsets from 0
+  abbrev pub part : (from to : ℕ) → Text
+  part from to = record {
+    characters = characters_between from to;
+    offsets = map (λ at. at - from) (slice_range text.offsets (place from) (place to + 1));
+    unicode = text.unicode;
+    fold = text.fold;
+  }
+
+  -- ---- Texts whose units are bytes
+
+  -- the bytes of the text in UTF-8
+  abbrev pub bytes_of : List ℕ
+  bytes_of = encode_utf8_all text.characters
+
+-- Offsets are those of the characters' bytes.
+pub record IsInUtf8 (text : Text) : Type 0 where
+  pub bytes : IsUtf8 (bytes_of text)
+  pub offsets : text.offsets ≡ offsets_from 0 (map len_utf8 text.characters)
+
+-- the next byte in the direction
+abbrev pub byte_beside : (bytes : List ℕ) → Direction → (at : ℕ) → Option ℕ
+byte_beside bytes rightwards at = slice_get bytes at
+byte_beside bytes leftwards zero = None
+byte_beside bytes leftwards (suc at) = slice_get bytes at
+
+-- so many units on, if they are there
+abbrev pub units_on : (all : ℕ) → Direction → (n at : ℕ) → Option ℕ
+units_on all rightwards n at = if nat_le (at + n) all then Some (at + n) else None
+units_on all leftwards n at = if nat_le n at then Some (at - n) else None
+
+-- the offset behind these units on the direction's side, if they stand there
+abbrev pub past_bytes : (all : List ℕ) → (bytes : List ℕ) → Direction → (at : ℕ) → Option ℕ
+past_bytes all bytes rightwards at =
+    let to = at + length bytes in
+    if nat_le to (length all) && pointwise nat_eq (slice_range all at to) bytes then Some to else None
+past_bytes all bytes leftwards at =
+    let to = at - length bytes in
+    if nat_le (length bytes) at && pointwise nat_eq (slice_range all to at) bytes then Some to else None
+
+-- The first offset from this one on at which what is looked for stands in the bytes that are left.
+abbrev pub IsFoundFrom : (stands_at : List ℕ → ℕ → Bool) → (all : List ℕ) → (at : ℕ) → Option ℕ → Type 0
+IsFoundFrom stands_at all at found =
+    (index : Option ℕ) × FindsFirst (stands_at (drop at all)) (length (drop at all)) index × (found ≡ option_map (λ i. at + i) index)
+
+-- one unit on
+abbrev pub one_on : Direction → (at : ℕ) → ℕ
+one_on rightwards at = at + 1
+one_on leftwards at = at - 1

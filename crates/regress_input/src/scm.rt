@@ -1,0 +1,204 @@
+//! Matchers of a single character.
+
+ghost use Rattle.std.specs.Prelude.{◌≡◌, ◌<◌, ◌==◌, ℕ, Bool, true, not, List, All, IsTrue, encode_utf8, ⊤};
+ghost use Rattle.std.specs.Char.{IsScalar};
+ghost use Rattle.regex_meaning.specs.Lists.{contains};
+ghost use Rattle.regex_meaning.specs.Tree.{bracket, byte_sequence};
+ghost use Rattle.regex_meaning.specs.Text.{is_line_terminator};
+ghost use Rattle.regex_meaning.specs.Outcomes.{accepts};
+ghost use Rattle.regex_meaning.specs.Offsets.{IsBoundary};
+ghost use Rattle.regex_pattern_front.specs.TreeOf.{contents_of};
+ghost use Rattle.regress_input.specs.Reading.{way, led_to, past_if};
+
+use crate::cursor::{self, Direction};
+use crate::front::{BracketContents, ByteArraySet, ByteSet, SmallArraySet};
+use crate::indexing::{CharProperties, CodeUnits, ElementType, InputIndexer};
+
+/// How many members a character set has.
+const MAX_CHAR_SET_LENGTH: usize = 4;
+
+/// A matcher of one character. Contracts see which characters it accepts, and what it asks of its input and of itself.
+pub trait SingleCharMatcher<Input: InputIndexer, Dir: Direction> {
+    ghost can_match: { Self → Type 0 } = { λ _. ⊤ };
+
+    ghost accepted: { Self → ℕ → Bool };
+
+    /// Whether the next character in the direction is accepted. Then the position is past it, and else it is not
+    /// specified.
+    fn matches(&self, input: &Input, dir: Dir, pos: &mut Input::Position) -> bool
+        requires can { can_match self.now }
+        requires at { IsBoundary (Input.text input.now) (Input.Position.offset pos.old) }
+        ensures { led_to result (Input.Position.offset pos.new) ≡ past_if (Input.text input.now) (accepted self.now) (way Dir.FORWARD) (Input.Position.offset pos.old) };
+}
+
+/// One character.
+pub struct Char<Input: InputIndexer> {
+    pub c: Input::Element,
+}
+
+impl<Input: InputIndexer, Dir: Direction> SingleCharMatcher<Input, Dir> for Char<Input> {
+    ghost accepted = { λ m d. Input.Element.number m.c == d };
+
+    #[inline(always)]
+    fn matches(&self, input: &Input, dir: Dir, pos: &mut Input::Position) -> bool {
+        match cursor::next(input, dir, pos) {
+            Some(c) => c.as_u32() == self.c.as_u32(),
+            None => false,
+        }
+    }
+}
+
+/// Any of four characters, some of which may be the same.
+pub struct CharSet<'a> {
+    pub chars: &'a [u32; MAX_CHAR_SET_LENGTH],
+}
+
+impl<'a, Input: InputIndexer, Dir: Direction> SingleCharMatcher<Input, Dir> for CharSet<'a> {
+    ghost accepted = { λ m. contains m.chars.now };
+
+    #[inline(always)]
+    fn matches(&self, input: &Input, dir: Dir, pos: &mut Input::Position) -> bool {
+        match cursor::next(input, dir, pos) {
+            Some(c) => contains_char(self.chars, c.as_u32()),
+            None => false,
+        }
+    }
+}
+
+#[inline(always)]
+fn contains_char(chars: &[u32; MAX_CHAR_SET_LENGTH], c: u32) -> bool
+    ensures { result ≡ contains chars.now c }
+{
+    let [first, second, third, fourth] = *chars;
+    c == first || c == second || c == third || c == fourth
+}
+
+/// Any character of a class.
+pub struct Bracket<'a> {
+    pub bc: &'a BracketContents,
+}
+
+impl<'a, Input: InputIndexer, Dir: Direction> SingleCharMatcher<Input, Dir> for Bracket<'a> {
+    ghost accepted = { λ m. accepts (bracket (contents_of m.bc.now)) };
+
+    #[inline(always)]
+    fn matches(&self, input: &Input, dir: Dir, pos: &mut Input::Position) -> bool {
+        match cursor::next(input, dir, pos) {
+            Some(c) => Input::CharProps::bracket(self.bc, c),
+            None => false,
+        }
+    }
+}
+
+/// Any character.
+pub struct MatchAny {}
+
+impl MatchAny {
+    pub fn new() -> Self {
+        MatchAny {}
+    }
+}
+
+impl<Input: InputIndexer, Dir: Direction> SingleCharMatcher<Input, Dir> for MatchAny {
+    ghost accepted = { λ _ _. true };
+
+    #[inline(always)]
+    fn matches(&self, input: &Input, dir: Dir, pos: &mut Input::Position) -> bool {
+        cursor::next(input, dir, pos).is_some()
+    }
+}
+
+/// Any character but those that end a line.
+pub struct MatchAnyExceptLineTerminator {}
+
+impl MatchAnyExceptLineTerminator {
+    pub fn new() -> Self {
+        MatchAnyExceptLineTerminator {}
+    }
+}
+
+impl<Input: InputIndexer, Dir: Direction> SingleCharMatcher<Input, Dir>
+    for MatchAnyExceptLineTerminator
+{
+    ghost accepted = { λ _ d. not (is_line_terminator d) };
+
+    #[inline(always)]
+    fn matches(&self, input: &Input, dir: Dir, pos: &mut Input::Position) -> bool {
+        match cursor::next(input, dir, pos) {
+            Some(c) => !Input::CharProps::is_line_terminator(c),
+            None => false,
+        }
+    }
+}
+
+/// Any character of a set of ASCII bytes.
+pub struct MatchByteSet<'a, Bytes: ByteSet> {
+    pub bytes: &'a Bytes,
+}
+
+impl<'a, Input: InputIndexer, Dir: Direction, Bytes: ByteSet> SingleCharMatcher<Input, Dir>
+    for MatchByteSet<'a, Bytes>
+{
+    ghost can_match = { λ m. All (λ b. b < 128) (Bytes.members m.bytes.now) };
+
+    ghost accepted = { λ m. contains (Bytes.members m.bytes.now) };
+
+    #[inline(always)]
+    fn matches(&self, input: &Input, dir: Dir, pos: &mut Input::Position) -> bool {
+        if Input::Units::ARE_BYTES {
+            match cursor::next_byte(input, dir, pos) {
+                Some(byte) => self.bytes.contains(byte),
+                None => false,
+            }
+        } else {
+            match cursor::next(input, dir, pos) {
+                Some(c) => contains_number(self.bytes, c.as_u32()),
+                None => false,
+            }
+        }
+    }
+}
+
+#[inline(always)]
+fn contains_number<Bytes: ByteSet>(bytes: &Bytes, c: u32) -> bool
+    requires { All (λ b. b < 128) (Bytes.members bytes.now) }
+    ensures { result ≡ contains (Bytes.members bytes.now) c }
+{
+    c < 0x80 && bytes.contains(c as u8)
+}
+
+/// The same of an array that is held directly. It asks units that are bytes.
+pub struct MatchByteArraySet<ArraySet: SmallArraySet>(pub ByteArraySet<ArraySet>);
+
+impl<Input: InputIndexer, Dir: Direction, ArraySet: SmallArraySet> SingleCharMatcher<Input, Dir>
+    for MatchByteArraySet<ArraySet>
+{
+    ghost can_match = { λ m. IsTrue Input.Units.ARE_BYTES × All (λ b. b < 128) (ArraySet.members m.0.0) };
+
+    ghost accepted = { λ m. contains (ArraySet.members m.0.0) };
+
+    #[inline(always)]
+    fn matches(&self, input: &Input, dir: Dir, pos: &mut Input::Position) -> bool {
+        match cursor::next_byte(input, dir, pos) {
+            Some(byte) => self.0.contains(byte),
+            None => false,
+        }
+    }
+}
+
+/// The character of which these are the bytes. It asks units that are bytes.
+pub struct MatchByteSeq<'a, const N: usize>(pub &'a [u8; N]);
+
+impl<'a, const N: usize, Input: InputIndexer, Dir: Direction> SingleCharMatcher<Input, Dir>
+    for MatchByteSeq<'a, N>
+{
+    ghost can_match = { λ m. IsTrue Input.Units.ARE_BYTES × ((c : ℕ) × IsScalar c × (m.0.now ≡ encode_utf8 c)) };
+
+    ghost accepted = { λ m. accepts (byte_sequence m.0.now) };
+
+    #[inline(always)]
+    fn matches(&self, input: &Input, dir: Dir, pos: &mut Input::Position) -> bool {
+        let bytes = self.0;
+        input.match_bytes(dir, pos, bytes)
+    }
+}

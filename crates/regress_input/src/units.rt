@@ -1,0 +1,139 @@
+//! Units of a text, read one by one or a range at a time.
+
+ghost use Rattle.std.specs.Prelude.{◌≡◌, ◌≤◌, ℕ, length, drop, option_map};
+ghost use Rattle.regex_meaning.specs.Text.{rightwards, leftwards};
+ghost use Rattle.regress_input.specs.Reading.{way, led_to, byte_beside, units_on, past_bytes, IsFoundFrom};
+
+use crate::front::ByteSearcher;
+use crate::position::{IndexPosition, PositionType};
+
+/// The byte to the right of an offset.
+#[inline(always)]
+pub(crate) fn unit_right(bytes: &[u8], at: usize) -> Option<u8>
+    requires { at ≤ length bytes.now }
+    ensures { result ≡ byte_beside bytes.now rightwards at }
+{
+    if at == bytes.len() {
+        None
+    } else {
+        Some(bytes[at])
+    }
+}
+
+/// The byte to the left of an offset.
+#[inline(always)]
+pub(crate) fn unit_left(bytes: &[u8], at: usize) -> Option<u8>
+    requires { at ≤ length bytes.now }
+    ensures { result ≡ byte_beside bytes.now leftwards at }
+{
+    if at == 0 {
+        None
+    } else {
+        Some(bytes[at - 1])
+    }
+}
+
+/// The offset behind these bytes on the side that is read, if they stand there.
+#[inline(always)]
+pub(crate) fn past_units(all: &[u8], forward: bool, at: usize, bytes: &[u8]) -> Option<usize>
+    requires { at ≤ length all.now }
+    ensures { result ≡ past_bytes all.now bytes.now (way forward) at }
+{
+    if forward {
+        past_right(all, at, bytes)
+    } else {
+        past_left(all, at, bytes)
+    }
+}
+
+#[inline(always)]
+fn past_right(all: &[u8], at: usize, bytes: &[u8]) -> Option<usize>
+    requires { at ≤ length all.now }
+    ensures { result ≡ past_bytes all.now bytes.now rightwards at }
+{
+    if all.len() - at < bytes.len() {
+        return None;
+    }
+    let end = at + bytes.len();
+    if &all[at..end] == bytes { Some(end) } else { None }
+}
+
+#[inline(always)]
+fn past_left(all: &[u8], at: usize, bytes: &[u8]) -> Option<usize>
+    requires { at ≤ length all.now }
+    ensures { result ≡ past_bytes all.now bytes.now leftwards at }
+{
+    if at < bytes.len() {
+        return None;
+    }
+    let start = at - bytes.len();
+    if &all[start..at] == bytes { Some(start) } else { None }
+}
+
+/// The first offset, from this one on, at which the bytes stand that are looked for.
+#[inline(always)]
+pub(crate) fn find_from<Search: ByteSearcher>(all: &[u8], at: usize, search: &Search) -> Option<usize>
+    requires { at ≤ length all.now }
+    ensures { IsFoundFrom (Search.stands_at search.now) all.now at result }
+{
+    let found = search.find_in(rest_from(all, at))?;
+    Some(at + found)
+}
+
+#[inline(always)]
+fn rest_from(all: &[u8], at: usize) -> &[u8]
+    requires { at ≤ length all.now }
+    ensures { result.now ≡ drop at all.now }
+{
+    &all[at..]
+}
+
+/// Moves the position to the offset, and says whether there is one.
+#[inline(always)]
+pub(crate) fn leave_at<'a>(pos: &mut IndexPosition<'a>, to: Option<usize>) -> bool
+    ensures { led_to result (⟦<IndexPosition<'a> as PositionType>⟧.offset pos.new) ≡ to }
+{
+    match to {
+        Some(offset) => {
+            pos.offset = offset;
+            true
+        }
+        None => false,
+    }
+}
+
+/// The position with this offset, if there is one.
+#[inline(always)]
+pub(crate) fn position_at<'a>(offset: Option<usize>) -> Option<IndexPosition<'a>>
+    ensures { option_map (λ p. ⟦<IndexPosition<'a> as PositionType>⟧.offset p) result ≡ offset }
+{
+    match offset {
+        Some(offset) => Some(IndexPosition::new(offset)),
+        None => None,
+    }
+}
+
+/// The offset so many units to the right in a text of this length, if it is not past the end.
+#[inline(always)]
+pub(crate) fn moved_right(len: usize, at: usize, amt: usize) -> Option<usize>
+    requires { at ≤ len }
+    ensures { result ≡ units_on len rightwards amt at }
+{
+    if len - at < amt {
+        None
+    } else {
+        Some(at + amt)
+    }
+}
+
+/// The offset so many units to the left, if there are so many.
+#[inline(always)]
+pub(crate) fn moved_left(at: usize, amt: usize) -> Option<usize>
+    ensures { (len : ℕ) → result ≡ units_on len leftwards amt at }
+{
+    if at < amt {
+        None
+    } else {
+        Some(at - amt)
+    }
+}

@@ -1,2 +1,5 @@
 pub mod ByteLemmas
 pub mod AddedBytes
+pub mod IntervalLemmas
+pub mod NodeLemmas
+pub mod OptimizedLemmas

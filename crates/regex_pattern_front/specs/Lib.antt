@@ -2,3 +2,4 @@ pub mod Intervals
 pub mod TreeOf
 pub mod ByteSets
 pub mod Searching
+pub mod Optimized

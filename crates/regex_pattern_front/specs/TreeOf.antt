@@ -1,5 +1,5 @@
 -- The pattern tree without its pointers.
-use Rattle.std.specs.Prelude.{ℕ, List, [], map, string_bytes, Option, Some, None, String}
+use Rattle.std.specs.Prelude.{◌∷◌, ℕ, List, [], map, string_bytes, Option, Some, None, String}
 use Rattle.regex_meaning.specs.Tree as tree
 use Rattle.regex_pattern_front.specs.declared.ir.AnchorType.{AnchorType}
 use Rattle.regex_pattern_front.specs.declared.ir.AnchorType.TheVariants.{StartOfLine, EndOfLine}
@@ -50,6 +50,11 @@ unfoldable mutual
   pub nodes_of : {m : _} → Row_of-Node m → tree.Node
   nodes_of end_of-Node = tree.end_of_cat
   nodes_of (more_of-Node child rest) = tree.cat (node_of child) (nodes_of rest)
+
+-- the nodes one after another
+abbrev pub cat_of : List Node → tree.Node
+cat_of [] = tree.end_of_cat
+cat_of (node ∷ nodes) = tree.cat (node_of node) (cat_of nodes)
 
 abbrev pub flags_of : Flags → tree.Flags
 flags_of f = record {

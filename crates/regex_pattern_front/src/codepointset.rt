@@ -1,9 +1,16 @@
 //! Sets of code points.
 
-ghost use Rattle.std.specs.Prelude.{ℕ, List, map};
-ghost use Rattle.regex_pattern_front.specs.Intervals.{interval_of, AreInOrder};
+ghost use Rattle.std.specs.Prelude.{◌≡◌, ℕ, ◌+◌, ◌<◌, ◌≤◌, ◌&&◌, Bool, not, List, [], ◌∷◌, map, filter, nat_le, IfOk, if◌then◌else◌};
+ghost use Rattle.std.specs.List.{All};
+ghost use Rattle.std.specs.List.Sorted.{IsNonDecreasingBy, IsPermutation};
+ghost use Rattle.regex_meaning.specs.Outcomes.{in_intervals};
+ghost use Rattle.regex_pattern_front.specs.Intervals.{interval_of, AreInOrder, holds_some, merged, gaps};
 
+use std::alloc::{AllocError, Global};
 use std::marker::Model;
+
+/// The greatest code point.
+pub const CODE_POINT_MAX: u32 = 0x10_FFFF;
 
 /// The code points from `first` to `last`, both counted in.
 #[derive(Clone, Copy, Debug, PartialEq, Eq)]
@@ -28,4 +35,149 @@ impl Model for CodePointSet {
     ghost view = { λ s. map interval_of s.intervals.items };
 
     ghost invariant = { λ s. AreInOrder (map interval_of s.intervals.items) };
+}
+
+impl CodePointSet {
+    /// The empty set.
+    pub fn new(alloc: Global) -> Self
+        ensures { result ≡ [] }
+    {
+        CodePointSet {
+            intervals: Vec::new(alloc),
+        }
+    }
+
+    /// The numbers of these intervals, which may stand in any order, meet, or be empty.
+    pub fn from_intervals(alloc: Global, intervals: &[Interval]) -> Result<Self, AllocError>
+        ensures { IfOk result (λ s. (c : ℕ) → in_intervals s c ≡ in_intervals (map interval_of intervals.now) c) }
+    {
+        let sorted = sorted(alloc, intervals)?;
+        match sorted.split_first() {
+            None => Ok(CodePointSet::new(alloc)),
+            Some((first, others)) => Ok(CodePointSet {
+                intervals: merge(alloc, *first, others)?,
+            }),
+        }
+    }
+
+    /// The intervals, rising.
+    pub fn intervals(&self) -> &[Interval]
+        ensures { map interval_of result.now ≡ self.now }
+    {
+        &self.intervals
+    }
+
+    /// Whether a number is in the set.
+    pub fn contains(&self, c: u32) -> bool
+        ensures { result ≡ in_intervals self.now c }
+    {
+        contains(&self.intervals, c)
+    }
+
+    /// The code points that are not in the set.
+    pub fn inverted(&self) -> Result<Self, AllocError>
+        ensures { IfOk result (λ s. (c : ℕ) → in_intervals s c ≡ (nat_le c 0x10_FFFF && not (in_intervals self.now c))) }
+    {
+        Ok(CodePointSet {
+            intervals: gaps(*self.intervals.allocator(), &self.intervals)?,
+        })
+    }
+
+    /// The same set once more.
+    pub fn clone(&self) -> Result<Self, AllocError>
+        ensures { IfOk result (λ s. s ≡ self.now) }
+    {
+        Ok(CodePointSet {
+            intervals: self.intervals.clone()?,
+        })
+    }
+}
+
+// The intervals that hold a number, by their first.
+fn sorted(alloc: Global, intervals: &[Interval]) -> Result<Vec<Interval>, AllocError>
+    ensures hold { IfOk result (λ v. All (λ i. i.first ≤ i.last) v.items) }
+    ensures rise { IfOk result (λ v. IsNonDecreasingBy (λ (i : _). i.first) v.items) }
+    ensures same { IfOk result (λ v. (c : ℕ) → in_intervals (map interval_of v.items) c ≡ in_intervals (map interval_of intervals.now) c) }
+{
+    let mut holding = holding(alloc, intervals)?;
+    holding.sort_unstable_by_key(|i| i.first);
+    Ok(holding)
+}
+
+// The intervals that hold a number.
+fn holding(alloc: Global, intervals: &[Interval]) -> Result<Vec<Interval>, AllocError>
+    ensures { IfOk result (λ v. v.items ≡ filter holds_some intervals.now) }
+{
+    let mut holding = Vec::new(alloc);
+    for interval in intervals {
+        if interval.first <= interval.last {
+            holding.push(*interval)?;
+        }
+    }
+    Ok(holding)
+}
+
+// The intervals with those that meet or touch made one, where each begins at or after the one before.
+fn merge(alloc: Global, first: Interval, others: &[Interval]) -> Result<Vec<Interval>, AllocError>
+    ensures { IfOk result (λ v. v.items ≡ merged first others.now) }
+{
+    let mut intervals = Vec::new(alloc);
+    let mut current = first;
+    for next in others {
+        if next.first.saturating_sub(1) <= current.last {
+            current.last = current.last.max(next.last);
+        } else {
+            intervals.push(current)?;
+            current = *next;
+        }
+    }
+    intervals.push(current)?;
+    Ok(intervals)
+}
+
+// What stands between the intervals, up to the greatest code point.
+fn gaps(alloc: Global, intervals: &[Interval]) -> Result<Vec<Interval>, AllocError>
+    ensures { IfOk result (λ v. v.items ≡ gaps 0 intervals.now) }
+{
+    let mut gaps = Vec::new(alloc);
+    let mut next = 0;
+    for interval in intervals {
+        if next < interval.first {
+            gaps.push(Interval {
+                first: next,
+                last: CODE_POINT_MAX.min(interval.first - 1),
+            })?;
+        }
+        if interval.last >= CODE_POINT_MAX {
+            return Ok(gaps);
+        }
+        next = interval.last + 1;
+    }
+    gaps.push(Interval {
+        first: next,
+        last: CODE_POINT_MAX,
+    })?;
+    Ok(gaps)
+}
+
+// By halves: intervals below `low` end before the number, those from `high` on begin after it.
+#[inline]
+fn contains(intervals: &[Interval], c: u32) -> bool
+    requires { AreInOrder (map interval_of intervals.now) }
+    ensures { result ≡ in_intervals (map interval_of intervals.now) c }
+{
+    let mut low = 0;
+    let mut high = intervals.len();
+    while low < high {
+        let middle = low + (high - low) / 2;
+        let interval = intervals[middle];
+        if interval.last < c {
+            low = middle + 1;
+        } else if c < interval.first {
+            high = middle;
+        } else {
+            return true;
+        }
+    }
+    false
 }

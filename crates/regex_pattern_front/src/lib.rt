@@ -6,6 +6,7 @@ pub mod codepointset;
 pub mod flags;
 pub mod folding;
 pub mod ir;
+pub mod optimizer;
 pub mod parse;
 mod reader;
 pub mod types;

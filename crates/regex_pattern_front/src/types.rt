@@ -1,6 +1,9 @@
 //! Names that several modules share.
 
+ghost use Rattle.std.specs.Prelude.{◌≡◌, IfOk};
+
 use crate::codepointset::CodePointSet;
+use std::alloc::AllocError;
 
 /// The number of a capturing group, from 0 on in order of opening.
 pub type CaptureGroupID = u16;
@@ -16,4 +19,16 @@ pub const MAX_CAPTURE_GROUPS: usize = 65535;
 pub struct BracketContents {
     pub invert: bool,
     pub cps: CodePointSet,
+}
+
+impl BracketContents {
+    /// The same class once more.
+    pub fn clone(&self) -> Result<Self, AllocError>
+        ensures { IfOk result (λ b. b ≡ self.now) }
+    {
+        Ok(BracketContents {
+            invert: self.invert,
+            cps: self.cps.clone()?,
+        })
+    }
 }

@@ -2,4 +2,5 @@ pub mod NodeLemmas
 pub mod EmitLemmas
 pub mod CodeLemmas
 pub mod SupportedLemmas
+pub mod TextLemmas
 pub mod Weights

@@ -53,3 +53,7 @@ both_first false b h = h
 pub both_second : (a b : Bool) → IsTrue (a && b) → IsTrue b
 both_second true b h = h
 both_second false b h = cc
+
+pub false_by_not : (b : Bool) → (b ≡ true → ⊥) → b ≡ false
+false_by_not true h = absurd (h refl)
+false_by_not false h = refl

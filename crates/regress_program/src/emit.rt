@@ -7,11 +7,14 @@ ghost use Rattle.regress_program.specs.Code.{compiled};
 ghost use Rattle.regress_program.specs.declared.emit.EmitError.TheVariants.{Unsupported, NotWellFormed, TooManyGroups, TooManyLoops, TooManyInstructions};
 ghost use Rattle.regress_program.specs.Refusals.{IsRefused, FitsLimits};
 
+mod brackets;
 mod emitter;
+mod leaves;
 mod supported;
 mod tally;
 #[cfg(test)]
 mod tests;
+mod texts;
 mod wellformed;
 
 use crate::emit::emitter::{Emitter, Mode};

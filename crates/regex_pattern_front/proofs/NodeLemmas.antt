@@ -1,0 +1,102 @@
+-- Nodes as trees.
+use Rattle.std.proofs.Common.{◌≡◌, Bool, false, List, [], ◌∷◌, ℕ, suc, ◌<◌, ap, ◌∙◌, refl, arith, length, get_or, sym, Vec, Global, Box, Option, String}
+use Rattle.regex_meaning.specs.Tree as tree
+use Rattle.regex_pattern_front.specs.TreeOf.{node_of, nodes_of, cat_of}
+use Rattle.regex_pattern_front.specs.Optimized.{reads_one_character, optimized}
+use Rattle.regex_pattern_front.specs.declared.ir.Node.{Node, Row_of-Node, end_of-Node, more_of-Node, items-the_row-Node, items_hidden-the_row-Node-0, Cat', Alt', CaptureGroup', LookaroundAssertion', Loop', Loop1CharBody'}
+use Rattle.regex_pattern_front.specs.declared.ir.Node.TheVariants.{Empty, Goal, Char, CharSet, ByteSet, ByteSequence, Cat, Alt, Bracket, StringSet, MatchAny, MatchAnyExceptLineTerminator, Anchor, WordBoundary, CaptureGroup, BackRef, LookaroundAssertion, Loop, Loop1CharBody, rolls-Cat, rolls-Alt, rolls-CaptureGroup, rolls-LookaroundAssertion, rolls-Loop, rolls-Loop1CharBody}
+use Rattle.regex_pattern_front.specs.declared.ir.Node.TheOpen.{Node-F}
+use Rattle.regex_pattern_front.specs.declared.ir.Node.TheViews.{roll-Node}
+use Rattle.regex_pattern_front.specs.declared.ir.Quantifier.{Quantifier}
+use Rattle.std.specs.declared.ops.Range.{Range}
+use denote.Hole.Carrier.{roll}
+use Rattle.regex_pattern_front.specs.declared.ir.Node.TheFolds.{ind-Node}
+use Rattle.regex_pattern_front.specs.declared.types.BracketContents.{BracketContents}
+
+row_is : (n : _) (row : Row_of-Node n) → nodes_of row ≡ cat_of (items-the_row-Node n row)
+unfolding nodes_of
+row_is n end_of-Node = refl
+row_is n (more_of-Node node rest) = ap (λ t. tree.cat (node_of node) t) (row_is _ rest)
+
+abbrev row_in : Node → (n : _) × Row_of-Node n
+row_in (Cat' _ row) = (_, row)
+row_in _ = (_, end_of-Node)
+
+pub node_of-Cat : (nodes : Vec Node Global) → node_of (Cat nodes) ≡ cat_of nodes.items
+unfolding node_of
+node_of-Cat nodes =
+    let row = row_in (Cat nodes) in
+    row_is row.0 row.1 ∙ ap cat_of (items_hidden-the_row-Node-0 nodes)
+
+pub reads-other : (node : Node)
+    → ((c : ℕ) → node ≡ Char c → ⊥) → ((v : Vec ℕ Global) → node ≡ CharSet v → ⊥) → ((v : Vec ℕ Global) → node ≡ ByteSet v → ⊥)
+    → ((b : BracketContents) → node ≡ Bracket b → ⊥) → (node ≡ MatchAny → ⊥) → (node ≡ MatchAnyExceptLineTerminator → ⊥)
+    → reads_one_character (node_of node) ≡ false
+unfolding node_of
+reads-other (Char c) h1 h2 h3 h4 h5 h6 = absurd (h1 c refl)
+reads-other (CharSet v) h1 h2 h3 h4 h5 h6 = absurd (h2 v refl)
+reads-other (ByteSet v) h1 h2 h3 h4 h5 h6 = absurd (h3 v refl)
+reads-other (Bracket b) h1 h2 h3 h4 h5 h6 = absurd (h4 b refl)
+reads-other MatchAny h1 h2 h3 h4 h5 h6 = absurd (h5 refl)
+reads-other MatchAnyExceptLineTerminator h1 h2 h3 h4 h5 h6 = absurd (h6 refl)
+reads-other Empty h1 h2 h3 h4 h5 h6 = refl
+reads-other Goal h1 h2 h3 h4 h5 h6 = refl
+reads-other (ByteSequence v) h1 h2 h3 h4 h5 h6 = refl
+reads-other (Cat' shape row) h1 h2 h3 h4 h5 h6 = no_row _ row
+  where
+    no_row : (n : _) (row : Row_of-Node n) → reads_one_character (nodes_of row) ≡ false
+    no_row n end_of-Node = refl
+    no_row n (more_of-Node node rest) = refl
+reads-other (Alt' p l q r) h1 h2 h3 h4 h5 h6 = refl
+reads-other (StringSet a i) h1 h2 h3 h4 h5 h6 = refl
+reads-other (Anchor a m) h1 h2 h3 h4 h5 h6 = refl
+reads-other (WordBoundary i u) h1 h2 h3 h4 h5 h6 = refl
+reads-other (CaptureGroup' i p n name) h1 h2 h3 h4 h5 h6 = refl
+reads-other (BackRef g i) h1 h2 h3 h4 h5 h6 = refl
+reads-other (LookaroundAssertion' n b s e p c) h1 h2 h3 h4 h5 h6 = refl
+reads-other (Loop' p l q e) h1 h2 h3 h4 h5 h6 = refl
+reads-other (Loop1CharBody' p l q) h1 h2 h3 h4 h5 h6 = refl
+
+-- the children one by one
+pub optimized-children : (xs ys : List Node) → length xs ≡ length ys
+    → ((k : ℕ) (d : Node) → k < length ys → node_of (get_or xs k d) ≡ optimized (node_of (get_or ys k d))) → cat_of xs ≡ optimized (cat_of ys)
+unfolding optimized
+optimized-children [] [] same each = refl
+optimized-children [] (y ∷ ys) same each = absurd (omega arith)
+optimized-children (x ∷ xs) [] same each = absurd (omega arith)
+optimized-children (x ∷ xs) (y ∷ ys) same each =
+    rw (each 0 x (omega arith), optimized-children xs ys (omega arith) (λ k d h. each (suc k) d (omega arith)))
+
+-- a node without nodes inside
+pub record HasNone (n : Node) : Type 0 where
+  pub not_Cat : (v : Vec Node Global) → n ≡ Cat v → ⊥
+  pub not_Alt : (l r : Box Node Global) → n ≡ Alt l r → ⊥
+  pub not_CaptureGroup : (id : ℕ) (contents : Box Node Global) (name : Option (String Global)) → n ≡ CaptureGroup id contents name → ⊥
+  pub not_LookaroundAssertion : (negate backwards : Bool) (s e : ℕ) (contents : Box Node Global) → n ≡ LookaroundAssertion negate backwards s e contents → ⊥
+  pub not_Loop : (loopee : Box Node Global) (q : Quantifier) (groups : Range ℕ) → n ≡ Loop loopee q groups → ⊥
+  pub not_Loop1CharBody : (loopee : Box Node Global) (q : Quantifier) → n ≡ Loop1CharBody loopee q → ⊥
+
+optimized-rolled : (x : Node-F Node) → HasNone (roll-Node x) → node_of (roll-Node x) ≡ optimized (node_of (roll-Node x))
+unfolding node_of optimized roll-Node roll
+optimized-rolled Node-F.Empty h = refl
+optimized-rolled Node-F.Goal h = refl
+optimized-rolled (Node-F.Char c) h = refl
+optimized-rolled (Node-F.CharSet v) h = refl
+optimized-rolled (Node-F.ByteSet v) h = refl
+optimized-rolled (Node-F.ByteSequence v) h = refl
+optimized-rolled (Node-F.Cat v) h = absurd (h.not_Cat v (sym (rolls-Cat v)))
+optimized-rolled (Node-F.Alt l r) h = absurd (h.not_Alt l r (sym (rolls-Alt l r)))
+optimized-rolled (Node-F.Bracket b) h = refl
+optimized-rolled (Node-F.StringSet a i) h = refl
+optimized-rolled Node-F.MatchAny h = refl
+optimized-rolled Node-F.MatchAnyExceptLineTerminator h = refl
+optimized-rolled (Node-F.Anchor a m) h = refl
+optimized-rolled (Node-F.WordBoundary i u) h = refl
+optimized-rolled (Node-F.CaptureGroup i n name) h = absurd (h.not_CaptureGroup i n name (sym (rolls-CaptureGroup i n name)))
+optimized-rolled (Node-F.BackRef g i) h = refl
+optimized-rolled (Node-F.LookaroundAssertion n b s e c) h = absurd (h.not_LookaroundAssertion n b s e c (sym (rolls-LookaroundAssertion n b s e c)))
+optimized-rolled (Node-F.Loop l q e) h = absurd (h.not_Loop l q e (sym (rolls-Loop l q e)))
+optimized-rolled (Node-F.Loop1CharBody l q) h = absurd (h.not_Loop1CharBody l q (sym (rolls-Loop1CharBody l q)))
+
+pub optimized-leaf : (n : Node) → HasNone n → node_of n ≡ optimized (node_of n)
+optimized-leaf = ind-Node (λ n. HasNone n → node_of n ≡ optimized (node_of n)) (λ x y is. optimized-rolled x)

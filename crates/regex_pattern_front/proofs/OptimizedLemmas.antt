@@ -1,0 +1,258 @@
+-- Optimizing keeps trees well formed, and their outcomes.
+use Rattle.std.proofs.Common.{◌≡◌, ℕ, zero, suc, ◌-◌, Bool, true, false, ◌&&◌, List, [], ◌∷◌, length, refl, ap, arith}
+use mathlib.Core.Path.{fun_ext}
+use Rattle.std.specs.Prelude.{if◌then◌else◌, nat_le}
+use Rattle.std.specs.List.{list_all}
+use Rattle.regex_meaning.specs.Lists.{contains, numbers_from}
+use Rattle.regex_meaning.specs.Tree.{Quantifier, Node, empty, goal, char, char_set, byte_set, byte_sequence, cat, end_of_cat, alt, bracket, string_set, match_any, match_any_except_line_terminator, anchor, word_boundary, capture_group, back_ref, lookaround, loop, loop_1_char_body, group_ids, every}
+use Rattle.regex_meaning.specs.Text.{Text, Direction}
+use Rattle.regex_meaning.specs.Outcomes.{Groups, Outcome, outcomes}
+use Rattle.regex_meaning.specs.WellFormed.{goal_count, is_end_of_cat, ends_in_goal, encloses, names_the_groups_inside, refers_to_a_group, has_order_in_quantifier, is_one_character, has_one_character_body, has_text_in_sequence, fits_instructions, IsWellFormed}
+use Rattle.regex_meaning.proofs.WellFormedLemmas.{well_formed-iff}
+use Rattle.regex_pattern_front.specs.Optimized.{reads_one_character, optimized, OptimizedIsWellFormed, OptimizedHasSameOutcomes}
+
+-- ---- What is read off a tree
+
+goal_count-optimized : (n : Node) → goal_count (optimized n) ≡ goal_count n
+unfolding optimized
+goal_count-optimized (cat first rest) = rw (goal_count-optimized first, goal_count-optimized rest)
+goal_count-optimized (alt left right) = rw (goal_count-optimized left, goal_count-optimized right)
+goal_count-optimized (capture_group id name contents) = goal_count-optimized contents
+goal_count-optimized (lookaround l contents) = goal_count-optimized contents
+goal_count-optimized (loop q s e loopee) = go (reads_one_character loopee) (goal_count-optimized loopee)
+  where
+    go : (r : Bool) → goal_count (optimized loopee) ≡ goal_count loopee
+        → goal_count (if r then loop_1_char_body q loopee else loop q s e (optimized loopee)) ≡ goal_count loopee
+    go true h = refl
+    go false h = h
+goal_count-optimized (loop_1_char_body q loopee) = goal_count-optimized loopee
+goal_count-optimized _ = refl
+
+group_ids-optimized : (n : Node) → group_ids (optimized n) ≡ group_ids n
+unfolding optimized
+group_ids-optimized (cat first rest) = rw (group_ids-optimized first, group_ids-optimized rest)
+group_ids-optimized (alt left right) = rw (group_ids-optimized left, group_ids-optimized right)
+group_ids-optimized (capture_group id name contents) = ap (λ ids. id ∷ ids) (group_ids-optimized contents)
+group_ids-optimized (lookaround l contents) = group_ids-optimized contents
+group_ids-optimized (loop q s e loopee) = go (reads_one_character loopee) (group_ids-optimized loopee)
+  where
+    go : (r : Bool) → group_ids (optimized loopee) ≡ group_ids loopee
+        → group_ids (if r then loop_1_char_body q loopee else loop q s e (optimized loopee)) ≡ group_ids loopee
+    go true h = refl
+    go false h = h
+group_ids-optimized (loop_1_char_body q loopee) = group_ids-optimized loopee
+group_ids-optimized _ = refl
+
+is_end_of_cat-optimized : (n : Node) → is_end_of_cat (optimized n) ≡ is_end_of_cat n
+unfolding optimized
+is_end_of_cat-optimized (loop q s e loopee) = go (reads_one_character loopee)
+  where
+    go : (r : Bool) → is_end_of_cat (if r then loop_1_char_body q loopee else loop q s e (optimized loopee)) ≡ false
+    go true = refl
+    go false = refl
+is_end_of_cat-optimized _ = refl
+
+ends_in_goal-optimized : (n : Node) → ends_in_goal (optimized n) ≡ ends_in_goal n
+unfolding optimized
+ends_in_goal-optimized (cat first rest) = rw (is_end_of_cat-optimized rest, ends_in_goal-optimized first, ends_in_goal-optimized rest)
+ends_in_goal-optimized (loop q s e loopee) = go (reads_one_character loopee)
+  where
+    go : (r : Bool) → ends_in_goal (if r then loop_1_char_body q loopee else loop q s e (optimized loopee)) ≡ false
+    go true = refl
+    go false = refl
+ends_in_goal-optimized _ = refl
+
+one_character-optimized : (n : Node) → is_one_character n ≡ true → optimized n ≡ n
+unfolding optimized
+one_character-optimized (cat first rest) h = grind arith
+one_character-optimized (alt left right) h = grind arith
+one_character-optimized (capture_group id name contents) h = grind arith
+one_character-optimized (lookaround l contents) h = grind arith
+one_character-optimized (loop q s e loopee) h = grind arith
+one_character-optimized (loop_1_char_body q loopee) h = grind arith
+one_character-optimized _ h = refl
+
+is_one-reads : (n : Node) → reads_one_character n ≡ true → is_one_character n ≡ true
+is_one-reads (char c) h = refl
+is_one-reads (char_set members) h = refl
+is_one-reads (byte_set members) h = refl
+is_one-reads (bracket contents) h = refl
+is_one-reads match_any h = refl
+is_one-reads match_any_except_line_terminator h = refl
+is_one-reads _ h = grind arith
+
+-- ---- Tests of each node
+
+left : (a b : Bool) → (a && b) ≡ true → a ≡ true
+left true b h = refl
+left false b h = h
+
+right : (a b : Bool) → (a && b) ≡ true → b ≡ true
+right true b h = h
+right false b h = grind arith
+
+both : (a b : Bool) → a ≡ true → b ≡ true → (a && b) ≡ true
+both true b h k = k
+both false b h k = grind arith
+
+-- a test that holds of the optimized node where it holds of the node holds of each one
+module _ (test : Node → Bool) (keeps : (n : Node) → test n ≡ true → test (optimized n) ≡ true) where
+  every-optimized : (n : Node) → every test n ≡ true → every test (optimized n) ≡ true
+  unfolding optimized
+  every-optimized (cat first rest) h =
+      both _ _
+      (both _ _ (keeps (cat first rest) (left (test (cat first rest)) _ (left _ (every test rest) h))) (every-optimized first (right (test (cat first rest)) _ (left _ (every test rest) h))))
+      (every-optimized rest (right _ (every test rest) h))
+  every-optimized (alt first rest) h =
+      both _ _
+      (both _ _ (keeps (alt first rest) (left (test (alt first rest)) _ (left _ (every test rest) h))) (every-optimized first (right (test (alt first rest)) _ (left _ (every test rest) h))))
+      (every-optimized rest (right _ (every test rest) h))
+  every-optimized (capture_group id name contents) h =
+      both _ _ (keeps (capture_group id name contents) (left _ (every test contents) h)) (every-optimized contents (right _ (every test contents) h))
+  every-optimized (lookaround l contents) h =
+      both _ _ (keeps (lookaround l contents) (left _ (every test contents) h)) (every-optimized contents (right _ (every test contents) h))
+  every-optimized (loop q s e loopee) h =
+      go (reads_one_character loopee) (keeps (loop q s e loopee) (left _ (every test loopee) h)) (right _ (every test loopee) h)
+      (every-optimized loopee (right _ (every test loopee) h))
+    where
+      go : (r : Bool) → test (if r then loop_1_char_body q loopee else loop q s e (optimized loopee)) ≡ true → every test loopee ≡ true → every test (optimized loopee) ≡ true
+          → every test (if r then loop_1_char_body q loopee else loop q s e (optimized loopee)) ≡ true
+      go true here below inside = both _ _ here below
+      go false here below inside = both _ _ here inside
+  every-optimized (loop_1_char_body q loopee) h =
+      both _ _ (keeps (loop_1_char_body q loopee) (left _ (every test loopee) h)) (every-optimized loopee (right _ (every test loopee) h))
+  every-optimized empty h = h
+  every-optimized goal h = h
+  every-optimized (char c) h = h
+  every-optimized (char_set members) h = h
+  every-optimized (byte_set members) h = h
+  every-optimized (byte_sequence bytes) h = h
+  every-optimized end_of_cat h = h
+  every-optimized (bracket contents) h = h
+  every-optimized (string_set strings icase) h = h
+  every-optimized match_any h = h
+  every-optimized match_any_except_line_terminator h = h
+  every-optimized (anchor type multiline) h = h
+  every-optimized (word_boundary invert unicode_icase) h = h
+  every-optimized (back_ref group icase) h = h
+
+-- a test that does not look at loops
+of_loop : (test : Node → Bool) (q : Quantifier) (s e : ℕ) (loopee : Node) (r : Bool)
+    → (r ≡ true → test (loop_1_char_body q loopee) ≡ true) → test (loop q s e (optimized loopee)) ≡ true
+    → test (if r then loop_1_char_body q loopee else loop q s e (optimized loopee)) ≡ true
+of_loop test q s e loopee true h k = h refl
+of_loop test q s e loopee false h k = k
+
+names-optimized : (n : Node) → names_the_groups_inside n ≡ true → names_the_groups_inside (optimized n) ≡ true
+unfolding optimized
+names-optimized (lookaround l contents) h = rw (group_ids-optimized contents) h
+names-optimized (loop q s e loopee) h =
+    of_loop names_the_groups_inside q s e loopee (reads_one_character loopee) (λ _. refl) (rw (group_ids-optimized loopee) h)
+names-optimized _ h = refl
+
+refers-optimized : (count : ℕ) (n : Node) → refers_to_a_group count n ≡ true → refers_to_a_group count (optimized n) ≡ true
+unfolding optimized
+refers-optimized count (loop q s e loopee) h = of_loop (refers_to_a_group count) q s e loopee (reads_one_character loopee) (λ _. refl) refl
+refers-optimized count (back_ref group icase) h = h
+refers-optimized count _ h = refl
+
+quantifiers-optimized : (n : Node) → has_order_in_quantifier n ≡ true → has_order_in_quantifier (optimized n) ≡ true
+unfolding optimized
+quantifiers-optimized (loop q s e loopee) h = of_loop has_order_in_quantifier q s e loopee (reads_one_character loopee) (λ _. h) h
+quantifiers-optimized (loop_1_char_body q loopee) h = h
+quantifiers-optimized _ h = refl
+
+bodies-optimized : (n : Node) → has_one_character_body n ≡ true → has_one_character_body (optimized n) ≡ true
+unfolding optimized
+bodies-optimized (loop q s e loopee) h = go (reads_one_character loopee) refl
+  where
+    go : (r : Bool) → reads_one_character loopee ≡ r → has_one_character_body (if r then loop_1_char_body q loopee else loop q s e (optimized loopee)) ≡ true
+    go true k = is_one-reads loopee k
+    go false k = refl
+bodies-optimized (loop_1_char_body q loopee) h = rw (one_character-optimized loopee h) h
+bodies-optimized _ h = refl
+
+sequences-optimized : (n : Node) → has_text_in_sequence n ≡ true → has_text_in_sequence (optimized n) ≡ true
+unfolding optimized
+sequences-optimized (loop q s e loopee) h = of_loop has_text_in_sequence q s e loopee (reads_one_character loopee) (λ _. refl) refl
+sequences-optimized (byte_sequence bytes) h = h
+sequences-optimized _ h = refl
+
+sets-optimized : (n : Node) → fits_instructions n ≡ true → fits_instructions (optimized n) ≡ true
+unfolding optimized
+sets-optimized (loop q s e loopee) h = of_loop fits_instructions q s e loopee (reads_one_character loopee) (λ _. refl) refl
+sets-optimized (byte_set members) h = h
+sets-optimized (char_set members) h = h
+sets-optimized (string_set strings icase) h = h
+sets-optimized _ h = refl
+
+pub well_formed-optimized : OptimizedIsWellFormed
+well_formed-optimized root h =
+    let w : IsWellFormed root = (well_formed-iff root).0 h in
+    (well_formed-iff (optimized root)).1 (record {
+      goal_last = rw (goal_count-optimized root, ends_in_goal-optimized root) w.goal_last;
+      ids = rw (group_ids-optimized root) w.ids;
+      enclosed = every-optimized names_the_groups_inside names-optimized root w.enclosed;
+      references = rw (group_ids-optimized root) (every-optimized (refers_to_a_group (length (group_ids root))) (refers-optimized (length (group_ids root))) root w.references);
+      quantifiers = every-optimized has_order_in_quantifier quantifiers-optimized root w.quantifiers;
+      bodies = every-optimized has_one_character_body bodies-optimized root w.bodies;
+      sequences = every-optimized has_text_in_sequence sequences-optimized root w.sequences;
+      sets = every-optimized fits_instructions sets-optimized root w.sets;
+    })
+
+-- ---- Outcomes
+
+no_ids : (n : Node) → reads_one_character n ≡ true → group_ids n ≡ []
+no_ids (char c) h = refl
+no_ids (char_set members) h = refl
+no_ids (byte_set members) h = refl
+no_ids (bracket contents) h = refl
+no_ids match_any h = refl
+no_ids match_any_except_line_terminator h = refl
+no_ids _ h = grind arith
+
+nothing_named : (first count : ℕ) → list_all (contains []) (numbers_from first count) ≡ true → count ≡ 0
+nothing_named first zero h = refl
+nothing_named first (suc count) h = grind arith
+
+encloses_none : (s e : ℕ) (n : Node) → group_ids n ≡ [] → encloses s e n ≡ true → e - s ≡ 0
+encloses_none s e n none h = nothing_named s (e - s) (right (nat_le s e && list_all (contains (numbers_from s (e - s))) []) _ (rw none at h))
+
+module _ (text : Text) where
+  fun_ext3 : (F G : Direction → ℕ → Groups → List Outcome) → ((d : Direction) (p : ℕ) (g : Groups) → F d p g ≡ G d p g) → F ≡ G
+  fun_ext3 F G h = fun_ext (λ d. fun_ext (λ p. fun_ext (λ g. h d p g)))
+
+  same : (n : Node) → every names_the_groups_inside n ≡ true → outcomes text (optimized n) ≡ outcomes text n
+  unfolding optimized outcomes
+  same (cat first rest) h =
+      fun_ext3 _ _ (λ d p g. rw (same first (right (names_the_groups_inside (cat first rest)) _ (left _ (every names_the_groups_inside rest) h)), same rest (right _ (every names_the_groups_inside rest) h)))
+  same (alt first rest) h =
+      fun_ext3 _ _ (λ d p g. rw (same first (right (names_the_groups_inside (alt first rest)) _ (left _ (every names_the_groups_inside rest) h)), same rest (right _ (every names_the_groups_inside rest) h)))
+  same (capture_group id name contents) h = fun_ext3 _ _ (λ d p g. rw (same contents h))
+  same (lookaround l contents) h = fun_ext3 _ _ (λ d p g. rw (same contents (right _ (every names_the_groups_inside contents) h)))
+  same (loop q s e loopee) h =
+      go (reads_one_character loopee) refl (same loopee (right _ (every names_the_groups_inside loopee) h))
+    where
+      go : (r : Bool) → reads_one_character loopee ≡ r → outcomes text (optimized loopee) ≡ outcomes text loopee
+          → outcomes text (if r then loop_1_char_body q loopee else loop q s e (optimized loopee)) ≡ outcomes text (loop q s e loopee)
+      go true k inside =
+          fun_ext3 _ _ (λ d p g. rw (encloses_none s e loopee (no_ids loopee k) (left (encloses s e loopee) (every names_the_groups_inside loopee) h)))
+      go false k inside = fun_ext3 _ _ (λ d p g. rw inside)
+  same (loop_1_char_body q loopee) h = fun_ext3 _ _ (λ d p g. rw (same loopee h))
+  same empty h = refl
+  same goal h = refl
+  same (char c) h = refl
+  same (char_set members) h = refl
+  same (byte_set members) h = refl
+  same (byte_sequence bytes) h = refl
+  same end_of_cat h = refl
+  same (bracket contents) h = refl
+  same (string_set strings icase) h = refl
+  same match_any h = refl
+  same match_any_except_line_terminator h = refl
+  same (anchor type multiline) h = refl
+  same (word_boundary invert unicode_icase) h = refl
+  same (back_ref group icase) h = refl
+
+pub outcomes-optimized : OptimizedHasSameOutcomes
+outcomes-optimized root h text d p g = ap (λ F. F d p g) (same text root ((well_formed-iff root).0 h).enclosed)

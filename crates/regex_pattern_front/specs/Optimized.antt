@@ -1,0 +1,36 @@
+-- The tree with loops over one character.
+use Rattle.std.specs.Prelude.{◌≡◌, ℕ, Bool, true, false, IsTrue, if◌then◌else◌}
+use Rattle.regex_meaning.specs.Tree.{Node, char, char_set, byte_set, cat, alt, bracket, match_any, match_any_except_line_terminator, capture_group, lookaround, loop, loop_1_char_body}
+use Rattle.regex_meaning.specs.Text.{Text, Direction}
+use Rattle.regex_meaning.specs.Outcomes.{Groups, outcomes}
+use Rattle.regex_meaning.specs.WellFormed.{is_well_formed}
+
+-- the nodes that read one character and accept it or not
+abbrev pub reads_one_character : Node → Bool
+reads_one_character (char c) = true
+reads_one_character (char_set members) = true
+reads_one_character (byte_set members) = true
+reads_one_character (bracket contents) = true
+reads_one_character match_any = true
+reads_one_character match_any_except_line_terminator = true
+reads_one_character _ = false
+
+-- each loop over such a node is a loop over one character
+unfoldable pub optimized : Node → Node
+optimized (cat first rest) = cat (optimized first) (optimized rest)
+optimized (alt left right) = alt (optimized left) (optimized right)
+optimized (capture_group id name contents) = capture_group id name (optimized contents)
+optimized (lookaround l contents) = lookaround l (optimized contents)
+optimized (loop q start_group end_group loopee) =
+    if reads_one_character loopee then loop_1_char_body q loopee else loop q start_group end_group (optimized loopee)
+optimized (loop_1_char_body q loopee) = loop_1_char_body q (optimized loopee)
+optimized node = node
+
+-- optimizing keeps a tree well formed
+abbrev pub OptimizedIsWellFormed : Type 0
+OptimizedIsWellFormed = (root : Node) → IsTrue (is_well_formed root) → IsTrue (is_well_formed (optimized root))
+
+-- and each well-formed tree has the outcomes that it had
+abbrev pub OptimizedHasSameOutcomes : Type 0
+OptimizedHasSameOutcomes = (root : Node) → IsTrue (is_well_formed root)
+    → (text : Text) (direction : Direction) (place : ℕ) (groups : Groups) → outcomes text (optimized root) direction place groups ≡ outcomes text root direction place groups

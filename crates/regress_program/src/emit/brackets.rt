@@ -75,7 +75,5 @@ fn is_ascii(contents: &BracketContents) -> bool
 fn are_ascii(intervals: &[Interval]) -> bool
     ensures { result ≡ list_all (λ i. nat_lt i.last 128 || nat_lt i.last i.first) intervals.now }
 {
-    intervals
-        .iter()
-        .all(|i| i.last < 128 || i.last < i.first)
+    intervals.iter().all(|i| i.last < 128 || i.last < i.first)
 }

@@ -3,11 +3,13 @@ use Rattle.std.proofs.Common.{◌≡◌, ℕ, zero, suc, ◌+◌, ◌-◌, ◌<�
 use Rattle.std.proofs.Math.Seq.{set-append_seam}
 use Rattle.std.proofs.lemmas.List.{length-map, length-reverse}
 use Rattle.regex_meaning.specs.Lists.{numbers_from}
-use Rattle.regex_meaning.specs.Tree.{Node, empty, goal, char, char_set, byte_set, byte_sequence, cat, end_of_cat, alt, bracket, string_set, match_any, match_any_except_line_terminator, anchor, word_boundary, capture_group, back_ref, lookaround, loop, loop_1_char_body}
+use Rattle.regex_meaning.specs.Tree.{BracketContents, Quantifier, Lookaround, Node, empty, goal, char, char_set, byte_set, byte_sequence, cat, end_of_cat, alt, bracket, string_set, match_any, match_any_except_line_terminator, anchor, word_boundary, capture_group, back_ref, lookaround, loop, loop_1_char_body}
+use Rattle.regex_meaning.specs.Outcomes.{most_of, in_intervals}
+use Rattle.regex_meaning.specs.StartPredicate.{bytes_where}
 use Rattle.regex_meaning.specs.Ticks.{chunks}
-use Rattle.regex_meaning.specs.Layout.{Insn, Alt, Jump, LoopAgain, Goal, EndCaptureGroup, ByteSeq, ResetCaptureGroup, ordered}
+use Rattle.regex_meaning.specs.Layout.{Insn, AsciiBracket, Bracket, is_ascii_set, Alt, Jump, EnterLoop, LoopAgain, Loop1CharBody, Goal, BeginCaptureGroup, lookaround_insn, EndCaptureGroup, ByteSeq, ResetCaptureGroup, ordered}
 use Rattle.regress_program.specs.Code.{size, strings_size, loop_count, brackets_of, string_code, strings_code, resets, code_of}
-use Rattle.regress_program.specs.Emitting.{State, HasRoom, with_code, with_insn, with_insn_at}
+use Rattle.regress_program.specs.Emitting.{State, HasRoom, with_code, with_insn, with_insns, with_insn_at, with_loop, with_bracket}
 
 -- ---- States
 
@@ -228,3 +230,185 @@ pub end_fits : (u d : Bool) (a b : Node) (s s1 s2 s3 s4 s5 : State) (x y z : Ins
 unfolding size
 end_fits u d a b s s1 s2 s3 s4 s5 x y z place r e1 e2 e3 e4 e5 =
     omega (arith, r.insns, length-left u d a s s1 s2 s3 x y e1 e2 e3, ap (λ w. length w.insns) e4, length-set s3.insns place z, ap (λ w. length w.insns) e5, length-with_code u d b s4)
+
+-- ---- A part between a head and a tail
+
+with_insn_state : (x : Insn) (s t : State) → t ≡ with_insn x s → (t.loops ≡ s.loops) × (t.brackets ≡ s.brackets)
+with_insn_state x s t e = (ap (λ r. r.loops) e, ap (λ r. r.brackets) e)
+
+-- the code of a node behind one instruction
+after_head : (u d : Bool) (n : Node) (s s1 s2 : State) (x : Insn) → s1 ≡ with_insn x s → s2 ≡ with_code u d n s1
+    → s2.insns ≡ s.insns ++ x ∷ code_of u d n (length s.insns + 1) s.loops (length s.brackets)
+after_head u d n s s1 s2 x e1 e2 =
+    let at = length s.insns in
+    let len : length s1.insns ≡ at + 1 = ap (λ r. length r.insns) e1 ∙ length-with_insn x s in
+    let code = λ (m : ℕ) (l : ℕ) (b : ℕ). code_of u d n m l b in
+    ap (λ r. r.insns) e2
+    ∙ ap (λ m. s1.insns ++ code m s1.loops (length s1.brackets)) len
+    ∙ ap (λ l. s1.insns ++ code (at + 1) l (length s1.brackets)) (ap (λ r. r.loops) e1)
+    ∙ ap (λ bs. s1.insns ++ code (at + 1) s.loops (length bs)) (ap (λ r. r.brackets) e1)
+    ∙ ap (λ is. is ++ code (at + 1) s.loops (length s.brackets)) (ap (λ r. r.insns) e1)
+    ∙ append_assoc s.insns (x ∷ []) (code (at + 1) s.loops (length s.brackets))
+
+-- and one instruction behind it
+between : (u d : Bool) (n : Node) (s s1 s2 s3 : State) (x y : Insn) → s1 ≡ with_insn x s → s2 ≡ with_code u d n s1 → s3 ≡ with_insn y s2
+    → s3.insns ≡ s.insns ++ x ∷ (code_of u d n (length s.insns + 1) s.loops (length s.brackets) ++ y ∷ [])
+between u d n s s1 s2 s3 x y e1 e2 e3 =
+    ap (λ r. r.insns) e3 ∙ ap (λ is. is ++ y ∷ []) (after_head u d n s s1 s2 x e1 e2)
+    ∙ append_assoc s.insns (x ∷ code_of u d n (length s.insns + 1) s.loops (length s.brackets)) (y ∷ [])
+
+pub with_code-capture_group : (u d : Bool) (id : ℕ) (name : List ℕ) (n : Node) (s s1 s2 s3 : State)
+    → s1 ≡ with_insn (BeginCaptureGroup id) s → s2 ≡ with_code u d n s1 → s3 ≡ with_insn (EndCaptureGroup id) s2 → s3 ≡ with_code u d (capture_group id name n) s
+unfolding code_of loop_count brackets_of
+with_code-capture_group u d id name n s s1 s2 s3 e1 e2 e3 =
+    same_state s3 (with_code u d (capture_group id name n) s) (between u d n s s1 s2 s3 (BeginCaptureGroup id) (EndCaptureGroup id) e1 e2 e3)
+    (omega (arith, ap (λ r. r.loops) e1, ap (λ r. r.loops) e2, ap (λ r. r.loops) e3))
+    (ap (λ r. r.brackets) e3 ∙ ap (λ r. r.brackets) e2 ∙ ap (λ r. r.brackets ++ brackets_of n) e1)
+
+pub with_code-loop_1_char_body : (u d : Bool) (q : Quantifier) (n : Node) (s s1 s2 : State)
+    → s1 ≡ with_insn (Loop1CharBody q.min (most_of q) q.greedy) s → s2 ≡ with_code u d n s1 → s2 ≡ with_code u d (loop_1_char_body q n) s
+unfolding code_of loop_count brackets_of
+with_code-loop_1_char_body u d q n s s1 s2 e1 e2 =
+    same_state s2 (with_code u d (loop_1_char_body q n) s) (after_head u d n s s1 s2 (Loop1CharBody q.min (most_of q) q.greedy) e1 e2)
+    (omega (arith, ap (λ r. r.loops) e1, ap (λ r. r.loops) e2))
+    (ap (λ r. r.brackets) e2 ∙ ap (λ r. r.brackets ++ brackets_of n) e1)
+
+pub length-between : (u d : Bool) (n : Node) (s s1 s2 s3 : State) (x y : Insn) → s1 ≡ with_insn x s → s2 ≡ with_code u d n s1 → s3 ≡ with_insn y s2
+    → length s3.insns ≡ length s.insns + size n + 2
+length-between u d n s s1 s2 s3 x y e1 e2 e3 = length-left u d n s s1 s2 s3 x y e1 e2 e3
+
+-- the head is written again once the length is known
+pub with_code-lookaround : (u d : Bool) (l : Lookaround) (n : Node) (s s1 s2 s3 s4 : State) (x : Insn)
+    → s1 ≡ with_insn x s → s2 ≡ with_code u l.backwards n s1 → s3 ≡ with_insn Goal s2 → s4 ≡ with_insn_at (length s.insns) (lookaround_insn l (length s3.insns)) s3
+    → s4 ≡ with_code u d (lookaround l n) s
+unfolding code_of loop_count brackets_of
+with_code-lookaround u d l n s s1 s2 s3 s4 x e1 e2 e3 e4 =
+    let at = length s.insns in
+    let inside = code_of u l.backwards n (at + 1) s.loops (length s.brackets) in
+    let len = length-between u l.backwards n s s1 s2 s3 x Goal e1 e2 e3 in
+    same_state s4 (with_code u d (lookaround l n) s)
+    (ap (λ r. r.insns) e4
+    ∙ ap (λ is. slice_set is at (lookaround_insn l (length s3.insns))) (between u l.backwards n s s1 s2 s3 x Goal e1 e2 e3)
+    ∙ set-append_seam s.insns x (inside ++ Goal ∷ []) (lookaround_insn l (length s3.insns))
+    ∙ ap (λ m. s.insns ++ lookaround_insn l m ∷ (inside ++ Goal ∷ [])) len)
+    (omega (arith, ap (λ r. r.loops) e1, ap (λ r. r.loops) e2, ap (λ r. r.loops) e3, ap (λ r. r.loops) e4))
+    (ap (λ r. r.brackets) e4 ∙ ap (λ r. r.brackets) e3 ∙ ap (λ r. r.brackets) e2 ∙ ap (λ r. r.brackets ++ brackets_of n) e1)
+
+-- ---- Loops
+
+-- the length behind the resets, and behind the whole loop
+length-resets_done : (g e : ℕ) (s s1 s2 s3 : State) (x : Insn) → s1 ≡ with_insn x s → s2 ≡ with_loop s1 → s3 ≡ with_insns (resets g e) s2
+    → length s3.insns ≡ length s.insns + 1 + (e - g)
+length-resets_done g e s s1 s2 s3 x e1 e2 e3 =
+    omega (arith, ap (λ r. length r.insns) e1, length-with_insn x s, ap (λ r. length r.insns) e2, ap (λ r. length r.insns) e3, length-append s2.insns (resets g e), length-resets g e)
+
+pub length-loop : (u d : Bool) (n : Node) (g e : ℕ) (s s1 s2 s3 s4 s5 : State) (x y : Insn) → s1 ≡ with_insn x s → s2 ≡ with_loop s1 → s3 ≡ with_insns (resets g e) s2
+    → s4 ≡ with_code u d n s3 → s5 ≡ with_insn y s4 → length s5.insns ≡ length s.insns + 1 + (e - g) + size n + 1
+length-loop u d n g e s s1 s2 s3 s4 s5 x y e1 e2 e3 e4 e5 =
+    omega (arith, length-resets_done g e s s1 s2 s3 x e1 e2 e3, ap (λ r. length r.insns) e4, length-with_code u d n s3, ap (λ r. length r.insns) e5, length-with_insn y s4)
+
+pub with_code-loop : (u d : Bool) (q : Quantifier) (g e : ℕ) (n : Node) (head : ℕ → Insn) (s s1 s2 s3 s4 s5 s6 : State) (x : Insn)
+    → ((exit : ℕ) → head exit ≡ EnterLoop (record { loop_id = s.loops; min_iters = q.min; max_iters = most_of q; greedy = q.greedy; exit = exit }))
+    → s1 ≡ with_insn x s → s2 ≡ with_loop s1 → s3 ≡ with_insns (resets g e) s2 → s4 ≡ with_code u d n s3 → s5 ≡ with_insn (LoopAgain (length s.insns)) s4
+    → s6 ≡ with_insn_at (length s.insns) (head (length s5.insns)) s5 → s6 ≡ with_code u d (loop q g e n) s
+unfolding code_of loop_count brackets_of
+with_code-loop u d q g e n head s s1 s2 s3 s4 s5 s6 x is_head e1 e2 e3 e4 e5 e6 =
+    let at = length s.insns in
+    let body = at + 1 + (e - g) in
+    let b = length s.brackets in
+    let rs = resets g e in
+    let inside = code_of u d n body (s.loops + 1) b in
+    let again = LoopAgain at in
+    let len3 = length-resets_done g e s s1 s2 s3 x e1 e2 e3 in
+    let loops3 : s3.loops ≡ s.loops + 1 = omega (arith, ap (λ r. r.loops) e1, ap (λ r. r.loops) e2, ap (λ r. r.loops) e3) in
+    let brackets3 : s3.brackets ≡ s.brackets = ap (λ r. r.brackets) e3 ∙ ap (λ r. r.brackets) e2 ∙ ap (λ r. r.brackets) e1 in
+    let insns3 : s3.insns ≡ (s.insns ++ x ∷ []) ++ rs = ap (λ r. r.insns) e3 ∙ ap (λ r. r.insns ++ rs) e2 ∙ ap (λ r. r.insns ++ rs) e1 in
+    let insns4 : s4.insns ≡ ((s.insns ++ x ∷ []) ++ rs) ++ inside =
+    ap (λ r. r.insns) e4
+    ∙ ap (λ m. s3.insns ++ code_of u d n m s3.loops (length s3.brackets)) len3
+    ∙ ap (λ l. s3.insns ++ code_of u d n body l (length s3.brackets)) loops3
+    ∙ ap (λ bs. s3.insns ++ code_of u d n body (s.loops + 1) (length bs)) brackets3
+    ∙ ap (λ is. is ++ inside) insns3 in
+    let insns5 : s5.insns ≡ (((s.insns ++ x ∷ []) ++ rs) ++ inside) ++ again ∷ [] = ap (λ r. r.insns) e5 ∙ ap (λ is. is ++ again ∷ []) insns4 in
+    let flat : (((s.insns ++ x ∷ []) ++ rs) ++ inside) ++ again ∷ [] ≡ s.insns ++ x ∷ (rs ++ (inside ++ again ∷ [])) = simp append_assoc in
+    let len5 = length-loop u d n g e s s1 s2 s3 s4 s5 x again e1 e2 e3 e4 e5 in
+    let rest = rs ++ (inside ++ again ∷ []) in
+    same_state s6 (with_code u d (loop q g e n) s)
+    (ap (λ r. r.insns) e6
+    ∙ ap (λ is. slice_set is at (head (length s5.insns))) (insns5 ∙ flat)
+    ∙ set-append_seam s.insns x rest (head (length s5.insns))
+    ∙ ap (λ m. s.insns ++ head m ∷ rest) len5
+    ∙ ap (λ h. s.insns ++ h ∷ rest) (is_head (body + size n + 1)))
+    (omega (arith, ap (λ r. r.loops) e4, ap (λ r. r.loops) e5, ap (λ r. r.loops) e6))
+    (ap (λ r. r.brackets) e6 ∙ ap (λ r. r.brackets) e5 ∙ ap (λ r. r.brackets) e4 ∙ ap (λ bs. bs ++ brackets_of n) brackets3)
+
+-- ---- Room inside
+
+pub room-group : (id : ℕ) (name : List ℕ) (n : Node) (s t : State) (x : Insn) → HasRoom s (capture_group id name n) → t ≡ with_insn x s → HasRoom t n
+unfolding size loop_count
+room-group id name n s t x r e = record {
+  insns = omega (arith, r.insns, ap (λ y. length y.insns) e, length-with_insn x s);
+  loops = omega (arith, r.loops, ap (λ y. y.loops) e);
+}
+
+pub room-lookaround : (l : Lookaround) (n : Node) (s t : State) (x : Insn) → HasRoom s (lookaround l n) → t ≡ with_insn x s → HasRoom t n
+unfolding size loop_count
+room-lookaround l n s t x r e = record {
+  insns = omega (arith, r.insns, ap (λ y. length y.insns) e, length-with_insn x s);
+  loops = omega (arith, r.loops, ap (λ y. y.loops) e);
+}
+
+pub room-loop_1_char_body : (q : Quantifier) (n : Node) (s t : State) (x : Insn) → HasRoom s (loop_1_char_body q n) → t ≡ with_insn x s → HasRoom t n
+unfolding size loop_count
+room-loop_1_char_body q n s t x r e = record {
+  insns = omega (arith, r.insns, ap (λ y. length y.insns) e, length-with_insn x s);
+  loops = omega (arith, r.loops, ap (λ y. y.loops) e);
+}
+
+pub room-loop : (q : Quantifier) (g h : ℕ) (n : Node) (s s1 s2 s3 : State) (x : Insn) → HasRoom s (loop q g h n)
+    → s1 ≡ with_insn x s → s2 ≡ with_loop s1 → s3 ≡ with_insns (resets g h) s2 → HasRoom s3 n
+unfolding size loop_count
+room-loop q g h n s s1 s2 s3 x r e1 e2 e3 = record {
+  insns = omega (arith, r.insns, length-resets_done g h s s1 s2 s3 x e1 e2 e3);
+  loops = omega (arith, r.loops, ap (λ y. y.loops) e1, ap (λ y. y.loops) e2, ap (λ y. y.loops) e3);
+}
+
+pub loop_fits : (q : Quantifier) (g h : ℕ) (n : Node) (s s1 : State) (x : Insn) → HasRoom s (loop q g h n) → s1 ≡ with_insn x s → s1.loops + 1 < 2 ^ 16
+unfolding loop_count
+loop_fits q g h n s s1 x r e = omega (arith, r.loops, ap (λ y. y.loops) e)
+
+pub end_of_lookaround_fits : (l : Lookaround) (u : Bool) (n : Node) (s s1 s2 s3 : State) (x y : Insn) → HasRoom s (lookaround l n)
+    → s1 ≡ with_insn x s → s2 ≡ with_code u l.backwards n s1 → s3 ≡ with_insn y s2 → length s3.insns < 2 ^ 32
+unfolding size
+end_of_lookaround_fits l u n s s1 s2 s3 x y r e1 e2 e3 = omega (arith, r.insns, length-between u l.backwards n s s1 s2 s3 x y e1 e2 e3)
+
+pub end_of_loop_fits : (u d : Bool) (q : Quantifier) (g h : ℕ) (n : Node) (s s1 s2 s3 s4 s5 : State) (x y : Insn) → HasRoom s (loop q g h n)
+    → s1 ≡ with_insn x s → s2 ≡ with_loop s1 → s3 ≡ with_insns (resets g h) s2 → s4 ≡ with_code u d n s3 → s5 ≡ with_insn y s4 → length s5.insns < 2 ^ 32
+unfolding size
+end_of_loop_fits u d q g h n s s1 s2 s3 s4 s5 x y r e1 e2 e3 e4 e5 = omega (arith, r.insns, length-loop u d n g h s s1 s2 s3 s4 s5 x y e1 e2 e3 e4 e5)
+
+pub room-unnamed : (id : ℕ) (name : List ℕ) (n : Node) (s : State) → HasRoom s (capture_group id name n) → HasRoom s (capture_group id [] n)
+unfolding size loop_count
+room-unnamed id name n s r = record { insns = r.insns; loops = r.loops }
+
+pub code-unnamed : (u d : Bool) (id : ℕ) (name : List ℕ) (n : Node) (s : State) → with_code u d (capture_group id [] n) s ≡ with_code u d (capture_group id name n) s
+unfolding code_of loop_count brackets_of
+code-unnamed u d id name n s = refl
+
+-- ---- Brackets
+
+pub with_code-ascii : (u d : Bool) (contents : BracketContents) (s : State) → is_ascii_set contents ≡ true
+    → with_code u d (bracket contents) s ≡ with_insn (AsciiBracket (bytes_where (in_intervals contents.intervals))) s
+unfolding code_of loop_count brackets_of
+with_code-ascii u d contents s ascii =
+    same_state (with_code u d (bracket contents) s) (with_insn (AsciiBracket (bytes_where (in_intervals contents.intervals))) s)
+    (rw ascii) (omega arith) (rw ascii (append-nil s.brackets))
+
+pub with_code-bracket : (u d : Bool) (contents : BracketContents) (s s1 s2 : State) (index : ℕ) → is_ascii_set contents ≡ false
+    → index ≡ length s.brackets → s1 ≡ with_insn (Bracket index) s → s2 ≡ with_bracket contents s1 → s2 ≡ with_code u d (bracket contents) s
+unfolding code_of loop_count brackets_of
+with_code-bracket u d contents s s1 s2 index ascii i e1 e2 =
+    same_state s2 (with_code u d (bracket contents) s)
+    (rw ascii (ap (λ r. r.insns) e2 ∙ ap (λ r. r.insns) e1 ∙ ap (λ n. s.insns ++ Bracket n ∷ []) i))
+    (omega (arith, ap (λ r. r.loops) e1, ap (λ r. r.loops) e2))
+    (rw ascii (ap (λ r. r.brackets) e2 ∙ ap (λ r. r.brackets ++ contents ∷ []) e1))

@@ -3,7 +3,8 @@ use Rattle.std.proofs.Common.{◌≡◌, ℕ, ◌+◌, ◌<◌, ◌-◌, suc, Bo
 use Rattle.regex_meaning.specs.Tree as tree
 use Rattle.regex_pattern_front.specs.TreeOf.{node_of, nodes_of}
 use Rattle.regex_pattern_front.specs.declared.ir.Node.{Node, Cat, Cat', Row_of-Node, end_of-Node, more_of-Node, items-the_row-Node, items_hidden-the_row-Node-0}
-use Rattle.regex_meaning.specs.WellFormed.{ends_in_goal}
+use Rattle.regex_meaning.specs.WellFormed.{ends_in_goal, is_one_character}
+use Rattle.regex_meaning.specs.StartPredicate.{is_anchored}
 use Rattle.regress_program.specs.Nodes.{cat_of}
 
 row-is : (n : _) (row : Row_of-Node n) → nodes_of row ≡ cat_of (items-the_row-Node n row)
@@ -53,3 +54,22 @@ both_first false b h = h
 pub both_second : (a b : Bool) → IsTrue (a && b) → IsTrue b
 both_second true b h = h
 both_second false b h = cc
+
+pub false_by_not : (b : Bool) → (b ≡ true → ⊥) → b ≡ false
+false_by_not true h = absurd (h refl)
+false_by_not false h = refl
+
+-- a row is no one character
+pub is_one_character-cat_of : (nodes : List Node) → is_one_character (cat_of nodes) ≡ false
+is_one_character-cat_of [] = refl
+is_one_character-cat_of (n ∷ nodes) = refl
+
+-- ---- The first of a row
+
+pub is_anchored-none : (nodes : List Node) → slice_get nodes 0 ≡ None → is_anchored (cat_of nodes) ≡ false
+is_anchored-none [] h = refl
+is_anchored-none (n ∷ nodes) h = cc
+
+pub is_anchored-first : (nodes : List Node) (first : Node) → slice_get nodes 0 ≡ Some first → is_anchored (cat_of nodes) ≡ is_anchored (node_of first)
+is_anchored-first [] first h = cc
+is_anchored-first (n ∷ nodes) first h = cc

@@ -1,11 +1,12 @@
 -- A program that is being made.
-use Rattle.std.specs.Prelude.{ℕ, ◌+◌, ◌<◌, ◌^◌, Bool, List, [], ◌∷◌, ◌++◌, map, length, slice_set}
-use Rattle.regex_meaning.specs.Tree.{BracketContents, Node}
+use Rattle.std.specs.Prelude.{ℕ, ◌+◌, ◌<◌, ◌^◌, Bool, List, [], ◌∷◌, ◌++◌, map, length, slice_set, Vec}
+use Rattle.regex_meaning.specs.Tree.{BracketContents, Lookaround, Node}
 use Rattle.regex_meaning.specs.Layout.{Insn}
 use Rattle.regex_pattern_front.specs.TreeOf.{contents_of}
 use Rattle.regress_program.specs.Insns.{insn_of}
 use Rattle.regress_program.specs.Code.{size, loop_count, brackets_of, code_of}
 use Rattle.regress_program.specs.declared.emit.emitter.Emitter.{Emitter}
+use Rattle.regress_program.specs.declared.emit.emitter.Lookaround as declared
 
 pub record State : Type 0 where
   pub insns : List Insn
@@ -22,6 +23,18 @@ nothing = record { insns = []; loops = 0; brackets = [] }
 abbrev pub with_insn : Insn → State → State
 with_insn x s = record { insns = s.insns ++ x ∷ []; loops = s.loops; brackets = s.brackets }
 
+-- instructions behind what is there
+abbrev pub with_insns : List Insn → State → State
+with_insns xs s = record { insns = s.insns ++ xs; loops = s.loops; brackets = s.brackets }
+
+-- one loop more
+abbrev pub with_loop : State → State
+with_loop s = record { insns = s.insns; loops = s.loops + 1; brackets = s.brackets }
+
+-- one bracket more
+abbrev pub with_bracket : BracketContents → State → State
+with_bracket contents s = record { insns = s.insns; loops = s.loops; brackets = s.brackets ++ contents ∷ [] }
+
 -- another instruction at a place
 abbrev pub with_insn_at : (place : ℕ) → Insn → State → State
 with_insn_at place x s = record { insns = slice_set s.insns place x; loops = s.loops; brackets = s.brackets }
@@ -33,6 +46,13 @@ with_code unicode behind node s = record {
   loops = s.loops + loop_count node;
   brackets = s.brackets ++ brackets_of node;
 }
+
+-- the strings of a set
+abbrev pub code_points_of : {R : Type 0} → List (Vec ℕ R) → List (List ℕ)
+code_points_of strings = map (λ s. s.items) strings
+
+abbrev pub lookaround_of : declared.Lookaround → Lookaround
+lookaround_of l = record { negate = l.negate; backwards = l.backwards; start_group = l.start_group; end_group = l.end_group }
 
 -- The numbers of what the node adds can be held.
 pub record HasRoom (s : State) (node : Node) : Type 0 where

@@ -4,4 +4,6 @@ pub mod Programs
 pub mod Nodes
 pub mod Supported
 pub mod Emitting
+pub mod Ids
+pub mod Spans
 pub mod Refusals

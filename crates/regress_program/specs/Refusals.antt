@@ -1,24 +1,44 @@
 -- Which trees are refused.
-use Rattle.std.specs.Prelude.{◌<◌, ◌≤◌, ◌^◌, IsTrue}
-use Rattle.regex_meaning.specs.Tree.{Node}
+use Rattle.std.specs.Prelude.{ℕ, ◌<◌, ◌≤◌, ◌^◌, length, IsTrue}
+use Rattle.regex_meaning.specs.Tree.{Tree, group_ids}
 use Rattle.regex_meaning.specs.WellFormed.{IsWellFormed}
-use Rattle.regress_program.specs.Code.{size}
+use Rattle.regress_program.specs.Code.{size, loop_count}
 use Rattle.regress_program.specs.Supported.{is_supported}
 use Rattle.regress_program.specs.declared.emit.EmitError.{EmitError}
 use Rattle.regress_program.specs.declared.emit.EmitError.TheVariants.{NotWellFormed, BytesInUnits, TooManyGroups, TooManyLoops, TooManyInstructions, Memory, Unsupported}
 
 -- The tree has a program.
-pub record FitsLimits (root : Node) : Type 0 where
-  pub supported : IsTrue (is_supported root)
-  pub well_formed : IsWellFormed root
-  pub insns : size root < 2 ^ 32
+pub record FitsLimits (tree : Tree) : Type 0 where
+  pub supported : IsTrue (is_supported tree)
+  pub well_formed : IsWellFormed tree.root
+  pub groups : length (group_ids tree.root) < 2 ^ 16
+  pub loops : loop_count tree.root < 2 ^ 16
+  pub insns : size tree.root < 2 ^ 32
+
+pub record HasTooManyGroups (tree : Tree) : Type 0 where
+  pub supported : IsTrue (is_supported tree)
+  pub well_formed : IsWellFormed tree.root
+  pub groups : 2 ^ 16 ≤ length (group_ids tree.root)
+
+pub record HasTooManyLoops (tree : Tree) : Type 0 where
+  pub supported : IsTrue (is_supported tree)
+  pub well_formed : IsWellFormed tree.root
+  pub groups : length (group_ids tree.root) < 2 ^ 16
+  pub loops : 2 ^ 16 ≤ loop_count tree.root
+
+pub record HasTooManyInstructions (tree : Tree) : Type 0 where
+  pub supported : IsTrue (is_supported tree)
+  pub well_formed : IsWellFormed tree.root
+  pub groups : length (group_ids tree.root) < 2 ^ 16
+  pub loops : loop_count tree.root < 2 ^ 16
+  pub insns : 2 ^ 32 ≤ size tree.root
 
 -- the cause of each refusal, where no earlier one is there
-abbrev pub IsRefused : EmitError → Node → Type 0
-IsRefused Unsupported root = ¬ (IsTrue (is_supported root))
-IsRefused NotWellFormed root = IsTrue (is_supported root) × (¬ (IsWellFormed root))
-IsRefused BytesInUnits root = ⊥
-IsRefused TooManyGroups root = ⊥
-IsRefused TooManyLoops root = ⊥
-IsRefused TooManyInstructions root = IsTrue (is_supported root) × IsWellFormed root × (2 ^ 32 ≤ size root)
-IsRefused Memory root = Unit {0}
+abbrev pub IsRefused : EmitError → Tree → Type 0
+IsRefused Unsupported tree = ¬ (IsTrue (is_supported tree))
+IsRefused NotWellFormed tree = IsTrue (is_supported tree) × (¬ (IsWellFormed tree.root))
+IsRefused BytesInUnits tree = ⊥
+IsRefused TooManyGroups tree = HasTooManyGroups tree
+IsRefused TooManyLoops tree = HasTooManyLoops tree
+IsRefused TooManyInstructions tree = HasTooManyInstructions tree
+IsRefused Memory tree = Unit {0}

@@ -1,26 +1,32 @@
 //! From trees to programs.
 
-ghost use Rattle.std.specs.Prelude.{◌≡◌, IfOk, OnOk, IfErr, IsErrOf};
+ghost use Rattle.std.specs.Prelude.{◌≡◌, length, IfOk, OnOk, IfErr, IsErrOf};
+ghost use Rattle.regex_meaning.specs.Tree.{group_ids};
 ghost use Rattle.regex_meaning.specs.Layout.{IsByteCodeOf};
-ghost use Rattle.regex_pattern_front.specs.TreeOf.{node_of, tree_of};
+ghost use Rattle.regex_pattern_front.specs.TreeOf.{tree_of};
 ghost use Rattle.regress_program.specs.Code.{compiled};
 ghost use Rattle.regress_program.specs.declared.emit.EmitError.TheVariants.{Unsupported, NotWellFormed, TooManyGroups, TooManyLoops, TooManyInstructions};
 ghost use Rattle.regress_program.specs.Refusals.{IsRefused, FitsLimits};
 
+mod brackets;
 mod emitter;
+mod ids;
+mod leaves;
 mod supported;
 mod tally;
 #[cfg(test)]
 mod tests;
+mod texts;
 mod wellformed;
 
 use crate::emit::emitter::{Emitter, Mode};
 use crate::emit::supported::is_supported;
 use crate::emit::tally::Tally;
-use crate::emit::wellformed::is_goal_last;
-use crate::insn::{CompiledRegex, StartPredicate};
+pub use crate::emit::wellformed::is_well_formed;
+use crate::insn::CompiledRegex;
+use crate::startpredicate::predicate_without_bytes;
 use regex_pattern_front::ir;
-use regex_pattern_front::ir::Node;
+use regex_pattern_front::types::{LoopID, MAX_CAPTURE_GROUPS};
 use std::alloc::{AllocError, Global};
 use std::snapshot::Snapshot;
 
@@ -63,12 +69,12 @@ impl From<AllocError> for EmitError {
 pub fn emit(alloc: Global, re: &ir::Regex) -> Result<CompiledRegex, EmitError>
     ensures tree { IfOk result (λ p. p ≡ re.now) }
     ensures code { OnOk result (IsByteCodeOf (compiled (tree_of re.now)) (tree_of re.now)) }
-    ensures fits { OnOk result (FitsLimits (tree_of re.now).root) }
-    ensures unsupported { IsErrOf result EmitError.Unsupported → IsRefused Unsupported (tree_of re.now).root }
-    ensures not_well_formed { IsErrOf result EmitError.NotWellFormed → IsRefused NotWellFormed (tree_of re.now).root }
-    ensures too_many_groups { IsErrOf result EmitError.TooManyGroups → IsRefused TooManyGroups (tree_of re.now).root }
-    ensures too_many_loops { IsErrOf result EmitError.TooManyLoops → IsRefused TooManyLoops (tree_of re.now).root }
-    ensures too_many_instructions { IsErrOf result EmitError.TooManyInstructions → IsRefused TooManyInstructions (tree_of re.now).root }
+    ensures fits { OnOk result (FitsLimits (tree_of re.now)) }
+    ensures unsupported { IsErrOf result EmitError.Unsupported → IsRefused Unsupported (tree_of re.now) }
+    ensures not_well_formed { IsErrOf result EmitError.NotWellFormed → IsRefused NotWellFormed (tree_of re.now) }
+    ensures too_many_groups { IsErrOf result EmitError.TooManyGroups → IsRefused TooManyGroups (tree_of re.now) }
+    ensures too_many_loops { IsErrOf result EmitError.TooManyLoops → IsRefused TooManyLoops (tree_of re.now) }
+    ensures too_many_instructions { IsErrOf result EmitError.TooManyInstructions → IsRefused TooManyInstructions (tree_of re.now) }
     ensures no_units { ¬ (IsErrOf result EmitError.BytesInUnits) }
 {
     compile(alloc, re)
@@ -78,10 +84,10 @@ pub fn emit(alloc: Global, re: &ir::Regex) -> Result<CompiledRegex, EmitError>
 fn compile(alloc: Global, re: &ir::Regex) -> Result<CompiledRegex, EmitError>
     ensures tree { IfOk result (λ p. p ≡ re.now) }
     ensures code { OnOk result (IsByteCodeOf (compiled (tree_of re.now)) (tree_of re.now)) }
-    ensures fits { OnOk result (FitsLimits (tree_of re.now).root) }
-    ensures refused { IfErr result (λ e. IsRefused e (tree_of re.now).root) }
+    ensures fits { OnOk result (FitsLimits (tree_of re.now)) }
+    ensures refused { IfErr result (λ e. IsRefused e (tree_of re.now)) }
 {
-    check_limits(&re.node)?;
+    let groups = check_limits(re)?;
     let mut emitter = Emitter::new(alloc);
     let mode = Mode {
         unicode: re.flags.unicode,
@@ -96,30 +102,42 @@ fn compile(alloc: Global, re: &ir::Regex) -> Result<CompiledRegex, EmitError>
     Ok(CompiledRegex {
         insns,
         brackets,
-        start_pred: StartPredicate::Arbitrary,
+        start_pred: predicate_without_bytes(re),
         loops: u32::from(loops),
-        groups: 0,
+        groups,
         group_names: Vec::new(alloc),
         flags: re.flags,
         tree: Snapshot::of(re),
     })
 }
 
-// Whether the tree is one that is compiled.
-fn check_limits(node: &Node) -> Result<(), EmitError>
-    ensures fits { OnOk result (FitsLimits (node_of node.now)) }
-    ensures refused { IfErr result (λ e. IsRefused e (node_of node.now)) }
+// How many groups a tree has, where it is one that is compiled.
+fn check_limits(re: &ir::Regex) -> Result<u32, EmitError>
+    ensures groups { IfOk result (λ n. n ≡ length (group_ids (tree_of re.now).root)) }
+    ensures fits { OnOk result (FitsLimits (tree_of re.now)) }
+    ensures refused { IfErr result (λ e. IsRefused e (tree_of re.now)) }
 {
-    if !is_supported(node) {
+    if !is_supported(re) {
         return Err(EmitError::Unsupported);
     }
-    if !is_goal_last(node) {
+    if !is_well_formed(re) {
         return Err(EmitError::NotWellFormed);
     }
     let mut tally = Tally::new();
-    tally.add(node);
-    if tally.insns > u32::MAX as usize {
+    tally.add(&re.node);
+    let Tally {
+        groups,
+        loops,
+        insns,
+    } = tally;
+    if groups > MAX_CAPTURE_GROUPS {
+        return Err(EmitError::TooManyGroups);
+    }
+    if loops > usize::from(LoopID::MAX) {
+        return Err(EmitError::TooManyLoops);
+    }
+    if insns > u32::MAX as usize {
         return Err(EmitError::TooManyInstructions);
     }
-    Ok(())
+    Ok(groups as u32)
 }

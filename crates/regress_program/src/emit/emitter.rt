@@ -1,24 +1,76 @@
 //! The code of a node, put behind the code so far.
 #![tactic(auto, using(std::proofs::lemmas::Grind::common_steps), unfolding(regex_pattern_front::specs::TreeOf::node_of, crate::specs::Code::code_of, crate::specs::Code::loop_count, crate::specs::Code::brackets_of, crate::specs::Code::size))]
 
-ghost use Rattle.std.specs.Prelude.{◌≡◌, ◌<◌, ◌^◌, length, IfOk, OnOk, IsTrue};
-ghost use Rattle.regex_meaning.specs.Tree.{alt};
-ghost use Rattle.regex_pattern_front.specs.TreeOf.{node_of};
+ghost use Rattle.std.specs.Prelude.{◌≡◌, ◌+◌, ◌-◌, ◌<◌, ◌^◌, [], length, OnOk, IsTrue, if◌then◌else◌};
+ghost use Rattle.regex_meaning.specs.Tree.{alt, capture_group, lookaround, loop as loop_of, loop_1_char_body, every};
+ghost use Rattle.regex_meaning.specs.WellFormed.{fits_instructions};
+ghost use Rattle.regex_meaning.specs.Layout.{lookaround_insn};
+ghost use Rattle.regex_pattern_front.specs.TreeOf.{node_of, quantifier_of};
 ghost use Rattle.regress_program.specs.Insns.{insn_of};
+ghost use Rattle.regress_program.specs.Code.{resets};
 ghost use Rattle.regress_program.specs.Nodes.{cat_of};
-ghost use Rattle.regress_program.specs.Supported.{is_supported};
-ghost use Rattle.regress_program.specs.Emitting.{HasRoom, state_of, with_code, with_insn, with_insn_at, nothing};
+ghost use Rattle.regress_program.specs.Emitting.{HasRoom, state_of, with_code, with_insn, with_insns, with_insn_at, with_loop, nothing, lookaround_of};
 
-use crate::insn::Insn;
-use regex_pattern_front::ir::Node;
-use regex_pattern_front::types::{BracketContents, LoopID};
+use crate::emit::leaves::{anchor_insn, byte_set_insn, char_set_insn, word_boundary_insn};
+use crate::insn::{Insn, LoopFields};
+use regex_pattern_front::ir::{Node, Quantifier};
+use regex_pattern_front::types::{BracketContents, CaptureGroupID, LoopID};
 use std::alloc::{AllocError, Global};
+use std::ops::Range;
 
 /// How nodes are compiled: with Unicode's folds or not, inside a lookbehind or not.
 #[derive(Clone, Copy)]
 pub(crate) struct Mode {
     pub(crate) unicode: bool,
     pub(crate) behind: bool,
+}
+
+impl Mode {
+    // Where the part that comes in turn `at` stands, of so many parts: the last one first inside a lookbehind.
+    pub(crate) fn place(self, at: usize, count: usize) -> usize
+        requires { at < count }
+        ensures value { result ≡ (if self.behind then count - 1 - at else at) }
+        ensures within { result < count }
+    {
+        if self.behind { count - 1 - at } else { at }
+    }
+}
+
+/// What a lookaround says besides its contents.
+#[derive(Clone, Copy)]
+pub(crate) struct Lookaround {
+    pub(crate) negate: bool,
+    pub(crate) backwards: bool,
+    pub(crate) start_group: CaptureGroupID,
+    pub(crate) end_group: CaptureGroupID,
+}
+
+impl Lookaround {
+    fn insn(self, continuation: u32) -> Insn
+        ensures { insn_of result ≡ lookaround_insn (lookaround_of self) continuation }
+    {
+        let Lookaround {
+            negate,
+            backwards,
+            start_group,
+            end_group,
+        } = self;
+        if backwards {
+            Insn::Lookbehind {
+                negate,
+                start_group,
+                end_group,
+                continuation,
+            }
+        } else {
+            Insn::Lookahead {
+                negate,
+                start_group,
+                end_group,
+                continuation,
+            }
+        }
+    }
 }
 
 /// A program that is being made.
@@ -43,7 +95,7 @@ impl Emitter {
     // The code of a node behind the code so far.
     #[cycle(emit)]
     pub(crate) fn emit(&mut self, mode: Mode, node: &Node) -> Result<(), AllocError>
-        requires supported { IsTrue (is_supported (node_of node.now)) }
+        requires sets { IsTrue (every fits_instructions (node_of node.now)) }
         requires room { HasRoom (state_of self.old) (node_of node.now) }
         ensures { OnOk result (state_of self.new ≡ with_code mode.unicode mode.behind (node_of node.now) (state_of self.old)) }
     {
@@ -51,28 +103,58 @@ impl Emitter {
             Node::Empty => Ok(()),
             Node::Goal => self.put(Insn::Goal),
             Node::Char { c } => self.put(Insn::Char(*c)),
-            Node::MatchAny => self.put(Insn::MatchAny),
+            Node::CharSet(members) => self.put(char_set_insn(members)),
+            Node::ByteSet(members) => self.put(byte_set_insn(members)),
+            Node::ByteSequence(bytes) => self.emit_bytes(mode, bytes),
             Node::Cat(nodes) => self.emit_all(mode, nodes),
             Node::Alt(left, right) => self.emit_alt(mode, left, right),
-            Node::CharSet(_)
-            | Node::ByteSet(_)
-            | Node::ByteSequence(_)
-            | Node::Bracket(_)
-            | Node::StringSet { .. }
-            | Node::MatchAnyExceptLineTerminator
-            | Node::Anchor { .. }
-            | Node::WordBoundary { .. }
-            | Node::CaptureGroup { .. }
-            | Node::BackRef { .. }
-            | Node::LookaroundAssertion { .. }
-            | Node::Loop { .. }
-            | Node::Loop1CharBody { .. } => unreachable!(),
+            Node::Bracket(contents) => self.emit_bracket(mode, contents),
+            Node::StringSet {
+                alternatives,
+                icase,
+            } => self.emit_strings(mode, *icase, alternatives),
+            Node::MatchAny => self.put(Insn::MatchAny),
+            Node::MatchAnyExceptLineTerminator => self.put(Insn::MatchAnyExceptLineTerminator),
+            Node::Anchor {
+                anchor_type,
+                multiline,
+            } => self.put(anchor_insn(*anchor_type, *multiline)),
+            Node::WordBoundary {
+                invert,
+                unicode_icase,
+            } => self.put(word_boundary_insn(*invert, *unicode_icase)),
+            Node::CaptureGroup { id, contents, .. } => self.emit_group(mode, *id, contents),
+            Node::BackRef { group, icase } => self.put(Insn::BackRef {
+                group: group.saturating_sub(1),
+                icase: *icase,
+            }),
+            Node::LookaroundAssertion {
+                negate,
+                backwards,
+                start_group,
+                end_group,
+                contents,
+            } => {
+                let look = Lookaround {
+                    negate: *negate,
+                    backwards: *backwards,
+                    start_group: *start_group,
+                    end_group: *end_group,
+                };
+                self.emit_lookaround(mode, look, contents)
+            }
+            Node::Loop {
+                loopee,
+                quant,
+                enclosed_groups,
+            } => self.emit_loop(mode, quant, enclosed_groups, loopee),
+            Node::Loop1CharBody { loopee, quant } => self.emit_loop_1_char(mode, quant, loopee),
         }
     }
 
     #[cycle(emit)]
     fn emit_all(&mut self, mode: Mode, nodes: &[Node]) -> Result<(), AllocError>
-        requires supported { IsTrue (is_supported (cat_of nodes.now)) }
+        requires sets { IsTrue (every fits_instructions (cat_of nodes.now)) }
         requires room { HasRoom (state_of self.old) (cat_of nodes.now) }
         ensures { OnOk result (state_of self.new ≡ with_code mode.unicode mode.behind (cat_of nodes.now) (state_of self.old)) }
     {
@@ -85,8 +167,8 @@ impl Emitter {
     // The jumps are written again once their targets are known.
     #[cycle(emit)]
     fn emit_alt(&mut self, mode: Mode, left: &Node, right: &Node) -> Result<(), AllocError>
-        requires left { IsTrue (is_supported (node_of left.now)) }
-        requires right { IsTrue (is_supported (node_of right.now)) }
+        requires left { IsTrue (every fits_instructions (node_of left.now)) }
+        requires right { IsTrue (every fits_instructions (node_of right.now)) }
         requires room { HasRoom (state_of self.old) (alt (node_of left.now) (node_of right.now)) }
         ensures { OnOk result (state_of self.new ≡ with_code mode.unicode mode.behind (alt (node_of left.now) (node_of right.now)) (state_of self.old)) }
     {
@@ -103,8 +185,119 @@ impl Emitter {
         Ok(())
     }
 
+    #[cycle(emit)]
+    fn emit_group(
+        &mut self,
+        mode: Mode,
+        id: CaptureGroupID,
+        contents: &Node,
+    ) -> Result<(), AllocError>
+        requires sets { IsTrue (every fits_instructions (node_of contents.now)) }
+        requires room { HasRoom (state_of self.old) (capture_group id [] (node_of contents.now)) }
+        ensures { OnOk result (state_of self.new ≡ with_code mode.unicode mode.behind (capture_group id [] (node_of contents.now)) (state_of self.old)) }
+    {
+        self.put(Insn::BeginCaptureGroup(id))?;
+        self.emit(mode, contents)?;
+        self.put(Insn::EndCaptureGroup(id))?;
+        Ok(())
+    }
+
+    // The head is written again once it is known where the search goes on.
+    #[cycle(emit)]
+    fn emit_lookaround(
+        &mut self,
+        mode: Mode,
+        look: Lookaround,
+        contents: &Node,
+    ) -> Result<(), AllocError>
+        requires sets { IsTrue (every fits_instructions (node_of contents.now)) }
+        requires room { HasRoom (state_of self.old) (lookaround (lookaround_of look) (node_of contents.now)) }
+        ensures { OnOk result (state_of self.new ≡ with_code mode.unicode mode.behind (lookaround (lookaround_of look) (node_of contents.now)) (state_of self.old)) }
+    {
+        let head = self.insns.len();
+        self.put(look.insn(0))?;
+        let inside = Mode {
+            unicode: mode.unicode,
+            behind: look.backwards,
+        };
+        self.emit(inside, contents)?;
+        self.put(Insn::Goal)?;
+        let continuation = self.next();
+        self.set(head, look.insn(continuation));
+        Ok(())
+    }
+
+    // The head is written again once its exit is known.
+    #[cycle(emit)]
+    fn emit_loop(
+        &mut self,
+        mode: Mode,
+        quant: &Quantifier,
+        groups: &Range<CaptureGroupID>,
+        loopee: &Node,
+    ) -> Result<(), AllocError>
+        requires sets { IsTrue (every fits_instructions (node_of loopee.now)) }
+        requires room { HasRoom (state_of self.old) (loop_of (quantifier_of quant.now) groups.now.start groups.now.end (node_of loopee.now)) }
+        ensures { OnOk result (state_of self.new ≡ with_code mode.unicode mode.behind (loop_of (quantifier_of quant.now) groups.now.start groups.now.end (node_of loopee.now)) (state_of self.old)) }
+    {
+        let begin = self.next();
+        let mut fields = LoopFields {
+            loop_id: self.loops,
+            min_iters: quant.min,
+            max_iters: quant.max.unwrap_or(usize::MAX),
+            greedy: quant.greedy,
+            exit: 0,
+        };
+        self.put(Insn::EnterLoop(fields))?;
+        self.add_loop();
+        self.put_resets(groups.start, groups.end)?;
+        self.emit(mode, loopee)?;
+        self.put(Insn::LoopAgain { begin })?;
+        fields.exit = self.next();
+        self.set(begin as usize, Insn::EnterLoop(fields));
+        Ok(())
+    }
+
+    #[cycle(emit)]
+    fn emit_loop_1_char(
+        &mut self,
+        mode: Mode,
+        quant: &Quantifier,
+        loopee: &Node,
+    ) -> Result<(), AllocError>
+        requires sets { IsTrue (every fits_instructions (node_of loopee.now)) }
+        requires room { HasRoom (state_of self.old) (loop_1_char_body (quantifier_of quant.now) (node_of loopee.now)) }
+        ensures { OnOk result (state_of self.new ≡ with_code mode.unicode mode.behind (loop_1_char_body (quantifier_of quant.now) (node_of loopee.now)) (state_of self.old)) }
+    {
+        self.put(Insn::Loop1CharBody {
+            min_iters: quant.min,
+            max_iters: quant.max.unwrap_or(usize::MAX),
+            greedy: quant.greedy,
+        })?;
+        self.emit(mode, loopee)?;
+        Ok(())
+    }
+
+    // The clearing of the groups from the first up to the end, which is not counted in.
+    fn put_resets(&mut self, start: CaptureGroupID, end: CaptureGroupID) -> Result<(), AllocError>
+        ensures { OnOk result (state_of self.new ≡ with_insns (resets start end) (state_of self.old)) }
+    {
+        for id in start..end {
+            self.put(Insn::ResetCaptureGroup(id))?;
+        }
+        Ok(())
+    }
+
+    // One loop more.
+    fn add_loop(&mut self)
+        requires { (state_of self.old).loops + 1 < 2 ^ 16 }
+        ensures { state_of self.new ≡ with_loop (state_of self.old) }
+    {
+        self.loops += 1;
+    }
+
     // The number of the next instruction.
-    fn next(&self) -> u32
+    pub(crate) fn next(&self) -> u32
         requires { length (state_of self.now).insns < 2 ^ 32 }
         ensures { result ≡ length (state_of self.now).insns }
     {
@@ -112,7 +305,7 @@ impl Emitter {
     }
 
     // One more instruction.
-    fn put(&mut self, insn: Insn) -> Result<(), AllocError>
+    pub(crate) fn put(&mut self, insn: Insn) -> Result<(), AllocError>
         ensures { OnOk result (state_of self.new ≡ with_insn (insn_of insn) (state_of self.old)) }
     {
         self.insns.push(insn)?;

@@ -1,62 +1,94 @@
 //! What a tree asks of a program.
-#![tactic(auto, unfolding(regex_pattern_front::specs::TreeOf::node_of, crate::specs::Code::size))]
+#![tactic(auto, unfolding(regex_pattern_front::specs::TreeOf::node_of, crate::specs::Code::size, crate::specs::Code::loop_count))]
 
-ghost use Rattle.std.specs.Prelude.{◌≡◌, ◌+◌, ◌-◌, ◌^◌, min, IsTrue};
+ghost use Rattle.std.specs.Prelude.{◌≡◌, ◌+◌, ◌-◌, ◌^◌, length, min};
+ghost use Rattle.regex_meaning.specs.Tree.{group_ids};
 ghost use Rattle.regex_pattern_front.specs.TreeOf.{node_of};
-ghost use Rattle.regress_program.specs.Code.{size};
+ghost use Rattle.regress_program.specs.Code.{size, loop_count};
 ghost use Rattle.regress_program.specs.Nodes.{cat_of};
-ghost use Rattle.regress_program.specs.Supported.{is_supported};
 
+use crate::emit::texts::{chunk_count, strings_size};
 use regex_pattern_front::ir::Node;
 
-/// How many instructions; the count stops at `usize::MAX`.
+/// How many groups, loops and instructions; each count stops at `usize::MAX`.
 #[derive(Drop)]
 pub(crate) struct Tally {
+    pub(crate) groups: usize,
+    pub(crate) loops: usize,
     pub(crate) insns: usize,
 }
 
 impl Tally {
     pub(crate) fn new() -> Tally
-        ensures { result.insns ≡ 0 }
+        ensures groups { result.groups ≡ 0 }
+        ensures loops { result.loops ≡ 0 }
+        ensures insns { result.insns ≡ 0 }
     {
-        Tally { insns: 0 }
+        Tally {
+            groups: 0,
+            loops: 0,
+            insns: 0,
+        }
     }
 
     // Counts a node, too.
     #[cycle(tally)]
     pub(crate) fn add(&mut self, node: &Node)
-        requires { IsTrue (is_supported (node_of node.now)) }
-        ensures { min self.new.insns (2 ^ 64 - 1) ≡ min (self.old.insns + size (node_of node.now)) (2 ^ 64 - 1) }
+        ensures groups { min self.new.groups (2 ^ 64 - 1) ≡ min (self.old.groups + length (group_ids (node_of node.now))) (2 ^ 64 - 1) }
+        ensures loops { min self.new.loops (2 ^ 64 - 1) ≡ min (self.old.loops + loop_count (node_of node.now)) (2 ^ 64 - 1) }
+        ensures insns { min self.new.insns (2 ^ 64 - 1) ≡ min (self.old.insns + size (node_of node.now)) (2 ^ 64 - 1) }
     {
         match node {
-            Node::Goal | Node::Char { .. } | Node::MatchAny => self.add_insns(1),
+            Node::Empty => {}
+            Node::Goal
+            | Node::Char { .. }
+            | Node::CharSet(_)
+            | Node::ByteSet(_)
+            | Node::Bracket(_)
+            | Node::MatchAny
+            | Node::MatchAnyExceptLineTerminator
+            | Node::Anchor { .. }
+            | Node::WordBoundary { .. }
+            | Node::BackRef { .. } => self.add_insns(1),
+            Node::ByteSequence(bytes) => self.add_insns(chunk_count(bytes)),
+            Node::StringSet { alternatives, .. } => self.add_insns(strings_size(alternatives)),
             Node::Cat(nodes) => self.add_all(nodes),
             Node::Alt(left, right) => {
                 self.add_insns(2);
                 self.add(left);
                 self.add(right);
             }
-            Node::Empty
-            | Node::CharSet(_)
-            | Node::ByteSet(_)
-            | Node::ByteSequence(_)
-            | Node::Bracket(_)
-            | Node::StringSet { .. }
-            | Node::MatchAnyExceptLineTerminator
-            | Node::Anchor { .. }
-            | Node::WordBoundary { .. }
-            | Node::CaptureGroup { .. }
-            | Node::BackRef { .. }
-            | Node::LookaroundAssertion { .. }
-            | Node::Loop { .. }
-            | Node::Loop1CharBody { .. } => {}
+            Node::CaptureGroup { contents, .. } => {
+                self.groups = self.groups.saturating_add(1);
+                self.add_insns(2);
+                self.add(contents);
+            }
+            Node::LookaroundAssertion { contents, .. } => {
+                self.add_insns(2);
+                self.add(contents);
+            }
+            Node::Loop {
+                loopee,
+                enclosed_groups,
+                ..
+            } => {
+                self.loops = self.loops.saturating_add(1);
+                let resets = enclosed_groups.end.saturating_sub(enclosed_groups.start);
+                self.add_insns(usize::from(resets) + 2);
+                self.add(loopee);
+            }
+            Node::Loop1CharBody { loopee, .. } => {
+                self.add_insns(1);
+                self.add(loopee);
+            }
         }
     }
 
     #[cycle(tally)]
     fn add_all(&mut self, nodes: &[Node])
-        requires { IsTrue (is_supported (cat_of nodes.now)) }
-        ensures { min self.new.insns (2 ^ 64 - 1) ≡ min (self.old.insns + size (cat_of nodes.now)) (2 ^ 64 - 1) }
+        ensures groups { min self.new.groups (2 ^ 64 - 1) ≡ min (self.old.groups + length (group_ids (cat_of nodes.now))) (2 ^ 64 - 1) }
+        ensures loops { min self.new.loops (2 ^ 64 - 1) ≡ min (self.old.loops + loop_count (cat_of nodes.now)) (2 ^ 64 - 1) }
+        ensures insns { min self.new.insns (2 ^ 64 - 1) ≡ min (self.old.insns + size (cat_of nodes.now)) (2 ^ 64 - 1) }
     {
         for node in nodes {
             self.add(node);
@@ -64,7 +96,9 @@ impl Tally {
     }
 
     fn add_insns(&mut self, count: usize)
-        ensures { min self.new.insns (2 ^ 64 - 1) ≡ min (self.old.insns + count) (2 ^ 64 - 1) }
+        ensures groups { self.new.groups ≡ self.old.groups }
+        ensures loops { self.new.loops ≡ self.old.loops }
+        ensures insns { self.new.insns ≡ min (self.old.insns + count) (2 ^ 64 - 1) }
     {
         self.insns = self.insns.saturating_add(count);
     }

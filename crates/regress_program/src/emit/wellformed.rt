@@ -1,15 +1,56 @@
 //! The trees that are compiled.
 #![tactic(auto, unfolding(regex_pattern_front::specs::TreeOf::node_of))]
 
-ghost use Rattle.std.specs.Prelude.{◌≡◌, ◌+◌, ◌≤◌, min};
-ghost use Rattle.regex_pattern_front.specs.TreeOf.{node_of};
-ghost use Rattle.regex_meaning.specs.WellFormed.{goal_count, ends_in_goal, goal_is_last};
+ghost use Rattle.std.specs.Prelude.{◌≡◌, ◌+◌, ◌≤◌, ◌↔◌, ◌==◌, nat_le, nat_lt, ◌&&◌, min, length, IsTrue};
+ghost use Rattle.std.specs.List.{list_all};
+ghost use Rattle.std.specs.Str.{is_utf8, chars, continuation_len};
+ghost use Rattle.regex_pattern_front.specs.TreeOf.{node_of, quantifier_of};
+ghost use Rattle.regex_meaning.specs.Tree.{every};
+ghost use Rattle.regex_meaning.specs.WellFormed.{goal_count, ends_in_goal, goal_is_last, IsWellFormed, is_one_character as is_one_character_node, is_in_order as is_quantifier_in_order};
 ghost use Rattle.regress_program.specs.Nodes.{cat_of};
+ghost use Rattle.regress_program.specs.Ids.{is_sound_by_itself as is_node_sound};
+ghost use Rattle.regress_program.specs.Emitting.{code_points_of};
 
-use regex_pattern_front::ir::Node;
+use crate::emit::ids::Ids;
+use regex_pattern_front::ir;
+use regex_pattern_front::ir::{Node, Quantifier};
+
+/// Whether a tree can be compiled. Of its nodes:
+///
+/// - exactly one is `Goal`, and it is last: the root, or the last child of the root, and so on;
+/// - each id below the number of groups is that of one group, and no other id is there;
+/// - each loop and each lookaround names exactly the groups inside it;
+/// - each backreference is to a group that is there;
+/// - no minimum is above its maximum;
+/// - the body of a one-character loop is one character;
+/// - each byte sequence is UTF-8 and not empty;
+/// - sets hold at most four, byte sets only bytes below 128, and strings only code points.
+pub fn is_well_formed(re: &ir::Regex) -> bool
+    ensures { IsTrue result ↔ IsWellFormed (node_of re.now.node) }
+{
+    is_root_well_formed(&re.node)
+}
+
+fn is_root_well_formed(root: &Node) -> bool
+    ensures { IsTrue result ↔ IsWellFormed (node_of root.now) }
+{
+    if !is_goal_last(root) {
+        return false;
+    }
+    let mut ids = Ids::none();
+    match ids.gather(root) {
+        None => false,
+        Some(span) => {
+            if span.high as usize > span.count {
+                return false;
+            }
+            is_sound(root, span.count)
+        }
+    }
+}
 
 // Whether there is exactly one `Goal`, and it is last.
-pub(crate) fn is_goal_last(root: &Node) -> bool
+fn is_goal_last(root: &Node) -> bool
     ensures { result ≡ goal_is_last (node_of root.now) }
 {
     count_goals(root, 0) == 1 && is_goal_at_end(root)
@@ -73,6 +114,7 @@ fn is_goal_at_end(node: &Node) -> bool
         | Node::CharSet(_)
         | Node::ByteSet(_)
         | Node::ByteSequence(_)
+        | Node::Alt(..)
         | Node::Bracket(_)
         | Node::StringSet { .. }
         | Node::MatchAny
@@ -83,7 +125,150 @@ fn is_goal_at_end(node: &Node) -> bool
         | Node::BackRef { .. }
         | Node::LookaroundAssertion { .. }
         | Node::Loop { .. }
-        | Node::Loop1CharBody { .. }
-        | Node::Alt(..) => false,
+        | Node::Loop1CharBody { .. } => false,
+    }
+}
+
+// Whether the node and each inside it are sound by themselves, where there are so many groups.
+#[cycle(sound)]
+fn is_sound(node: &Node, groups: usize) -> bool
+    ensures { result ≡ every (is_node_sound groups) (node_of node.now) }
+{
+    match node {
+        Node::Empty
+        | Node::Goal
+        | Node::Char { .. }
+        | Node::Bracket(_)
+        | Node::MatchAny
+        | Node::MatchAnyExceptLineTerminator
+        | Node::Anchor { .. }
+        | Node::WordBoundary { .. } => true,
+        Node::CharSet(members) => members.len() <= 4,
+        Node::ByteSet(members) => members.len() <= 4 && are_ascii(members),
+        Node::ByteSequence(bytes) => is_text(bytes),
+        Node::StringSet { alternatives, .. } => are_code_points(alternatives),
+        Node::BackRef { group, .. } => 1 <= *group && *group as usize <= groups,
+        Node::Cat(nodes) => are_sound(nodes, groups),
+        Node::Alt(left, right) => is_sound(left, groups) && is_sound(right, groups),
+        Node::CaptureGroup { contents, .. } | Node::LookaroundAssertion { contents, .. } => {
+            is_sound(contents, groups)
+        }
+        Node::Loop { loopee, quant, .. } => is_in_order(quant) && is_sound(loopee, groups),
+        Node::Loop1CharBody { loopee, quant } => {
+            is_in_order(quant) && is_one_character(loopee) && is_sound(loopee, groups)
+        }
+    }
+}
+
+#[cycle(sound)]
+fn are_sound(nodes: &[Node], groups: usize) -> bool
+    ensures { result ≡ every (is_node_sound groups) (cat_of nodes.now) }
+{
+    for node in nodes {
+        if !is_sound(node, groups) {
+            return false;
+        }
+    }
+    true
+}
+
+fn are_ascii(bytes: &[u8]) -> bool
+    ensures { result ≡ list_all (λ b. nat_lt b 128) bytes.now }
+{
+    bytes.iter().all(|b| *b < 128)
+}
+
+// Whether the bytes are UTF-8 of at least one character.
+fn is_text(bytes: &[u8]) -> bool
+    ensures { result ≡ (nat_lt 0 (length bytes.now) && is_utf8 bytes.now) }
+{
+    match str::from_utf8(bytes) {
+        Ok(_) => !bytes.is_empty(),
+        Err(_) => false,
+    }
+}
+
+fn are_code_points(strings: &[Vec<u32>]) -> bool
+    ensures { result ≡ list_all (list_all (λ c. nat_le c 0x10_FFFF)) (code_points_of strings.now) }
+{
+    for string in strings {
+        if !holds_code_points(string) {
+            return false;
+        }
+    }
+    true
+}
+
+fn holds_code_points(string: &[u32]) -> bool
+    ensures { result ≡ list_all (λ c. nat_le c 0x10_FFFF) string.now }
+{
+    string.iter().all(|c| *c <= 0x10_FFFF)
+}
+
+fn is_in_order(quant: &Quantifier) -> bool
+    ensures { result ≡ is_quantifier_in_order (quantifier_of quant.now) }
+{
+    match quant.max {
+        None => true,
+        Some(max) => quant.min <= max,
+    }
+}
+
+// Whether the node reads exactly one character.
+fn is_one_character(node: &Node) -> bool
+    ensures { result ≡ is_one_character_node (node_of node.now) }
+{
+    match node {
+        Node::Char { .. }
+        | Node::CharSet(_)
+        | Node::ByteSet(_)
+        | Node::Bracket(_)
+        | Node::MatchAny
+        | Node::MatchAnyExceptLineTerminator => true,
+        Node::ByteSequence(bytes) => char_count(bytes) == 1,
+        Node::Cat(_) => false,
+        Node::Empty
+        | Node::Goal
+        | Node::Alt(..)
+        | Node::StringSet { .. }
+        | Node::Anchor { .. }
+        | Node::WordBoundary { .. }
+        | Node::CaptureGroup { .. }
+        | Node::BackRef { .. }
+        | Node::LookaroundAssertion { .. }
+        | Node::Loop { .. }
+        | Node::Loop1CharBody { .. } => false,
+    }
+}
+
+// How many characters these bytes are in UTF-8.
+fn char_count(bytes: &[u8]) -> usize
+    ensures { result ≡ length (chars bytes.now) }
+{
+    let Some((first, rest)) = bytes.split_first() else {
+        return 0;
+    };
+    let mut left = continuation_count(*first);
+    let mut count = 0;
+    for byte in rest {
+        if left == 0 {
+            count += 1;
+            left = continuation_count(*byte);
+        } else {
+            left -= 1;
+        }
+    }
+    if left == 0 { count + 1 } else { count }
+}
+
+// How many bytes of a character follow its first one.
+fn continuation_count(first: u8) -> u8
+    ensures { result ≡ continuation_len first }
+{
+    match first {
+        0..=127 => 0,
+        128..=223 => 1,
+        224..=239 => 2,
+        _ => 3,
     }
 }

@@ -1,40 +1,45 @@
-use Rattle.std.proofs.Common.{◌≡◌, ◌∙◌, ap, sym, false, arith, length, refl, map, string_bytes}
+use Rattle.std.proofs.Common.{◌≡◌, ◌+◌, ◌∙◌, ap, sym, false, arith, length, refl, map, string_bytes}
 use Rattle.regex_meaning.proofs.WellFormedLemmas.{well_formed-iff}
 use Rattle.regex_pattern_front.specs.TreeOf.{node_of, tree_of}
-use Rattle.regress_program.specs.Code.{compiled, loop_count}
+use Rattle.regress_program.specs.Code.{compiled}
 use Rattle.regress_program.specs.Emitting.{state_of, nothing, with_code}
-use Rattle.regress_program.proofs.SupportedLemmas.{no_groups, no_names, start-arbitrary, no_loops}
+use Rattle.regress_program.proofs.NodeLemmas.{both_first, both_second}
+use Rattle.regress_program.proofs.SupportedLemmas.{unnamed-names}
 use Rattle.regress_program.proofs.CodeLemmas.{compiled-is_code}
 use Rattle.regress_program.proofs.emit.compile.Goals as goal
 
+pub emit-requires-clause-sets : goal.emit-requires-clause-sets
+emit-requires-clause-sets c = c.in_ok-groups.ensures.fits.well_formed.sets
+
 pub emit-requires-clause-room : goal.emit-requires-clause-room
 emit-requires-clause-room c =
-    let root = node_of c.args.re.now.node in
-    let fits = c.in_ok-check_limits.ensures.fits in
-    let none : loop_count root ≡ 0 = no_loops root fits.supported in
+    let fits = c.in_ok-groups.ensures.fits in
     record {
       insns = omega (arith, fits.insns, ap (λ s. length s.insns) c.new-emitter.ensures);
-      loops = omega (arith, ap (λ s. s.loops) c.new-emitter.ensures);
+      loops = omega (arith, fits.loops, ap (λ s. s.loops) c.new-emitter.ensures);
     }
+
+pub predicate_without_bytes-requires : goal.predicate_without_bytes-requires
+predicate_without_bytes-requires c = both_second _ _ c.in_ok-groups.ensures.fits.supported
 
 pub invariant_of-result : goal.invariant_of-result
 unfolding compiled
 invariant_of-result c =
     let re = c.args.re.now in
     let root = node_of re.node in
-    let fits = c.in_ok-check_limits.ensures.fits in
+    let fits = c.in_ok-groups.ensures.fits in
     let of = c.of.ensures in
     let made : state_of c.emit.new.self ≡ with_code re.flags.unicode false root nothing = c.in_ok-emit.ensures ∙ ap (with_code re.flags.unicode false root) c.new-emitter.ensures in
     record {
       insns = rw of (ap (λ s. s.insns) made);
       brackets = rw of (ap (λ s. s.brackets) made);
       loops = rw of (omega (arith, c.from.ensures, ap (λ s. s.loops) made));
-      groups = rw of (sym (ap length (no_groups root fits.supported)));
+      groups = rw of c.in_ok-groups.ensures.groups;
       flags = rw of refl;
-      group_names = rw of (ap (map string_bytes) c.new.ensures.items ∙ sym (no_names root fits.supported));
-      start_pred = rw of (sym (start-arbitrary (tree_of re) fits.supported));
+      group_names = rw of (ap (map string_bytes) c.new.ensures.items ∙ sym (unnamed-names root (both_first _ _ fits.supported)));
+      start_pred = rw of c.predicate_without_bytes.ensures;
       well_formed = rw of ((well_formed-iff root).1 fits.well_formed);
     }
 
 pub returns-clause-code : goal.returns-clause-code
-returns-clause-code c = compiled-is_code (tree_of c.args.re.now) c.in_ok-check_limits.ensures.fits.well_formed
+returns-clause-code c = compiled-is_code (tree_of c.args.re.now) c.in_ok-groups.ensures.fits.well_formed

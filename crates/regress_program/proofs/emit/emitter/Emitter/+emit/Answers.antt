@@ -1,27 +1,27 @@
-use Rattle.std.proofs.Common.{◌≡◌, ◌+◌, ◌<◌, ◌∙◌, ap, sym, IsTrue, rules, drop, length}
+use Rattle.std.proofs.Common.{◌≡◌, ℕ, ◌+◌, ◌<◌, ◌∙◌, ap, [], sym, IsTrue, rules, drop, length}
 use Rattle.std.proofs.lemmas.List.{length-map}
-use Rattle.regex_meaning.specs.Tree.{cat}
-use Rattle.regex_meaning.specs.Layout.{Alt, Jump}
-use Rattle.regex_pattern_front.specs.TreeOf.{node_of}
+use Rattle.regex_meaning.specs.Tree.{cat, every, capture_group}
+use Rattle.regex_meaning.specs.Layout.{Alt, Jump, BeginCaptureGroup, EnterLoop, Goal}
+use Rattle.regex_pattern_front.specs.TreeOf.{node_of, quantifier_of}
 use Rattle.regress_program.specs.Insns.{insn_of}
 use Rattle.regress_program.specs.Nodes.{cat_of}
-use Rattle.regress_program.specs.Supported.{is_supported}
-use Rattle.regress_program.specs.Emitting.{HasRoom, state_of, with_code}
+use Rattle.regex_meaning.specs.WellFormed.{fits_instructions}
+use Rattle.regress_program.specs.Emitting.{HasRoom, state_of, with_code, with_insn_at, lookaround_of}
 use Rattle.regress_program.proofs.NodeLemmas.{node_of-Cat, cat_of-drop, both_first, both_second}
 use Rattle.regress_program.proofs.Weights.{weight, weight-child}
-use Rattle.regress_program.proofs.EmitLemmas.{with_code-cat, with_code-alt, room-first, room-rest, room-right, second_fits, end_fits}
+use Rattle.regress_program.proofs.EmitLemmas.{with_code-cat, with_code-alt, room-first, room-rest, room-right, second_fits, end_fits, with_code-capture_group, with_code-loop_1_char_body, with_code-lookaround, with_code-loop, room-group, room-loop_1_char_body, room-lookaround, room-loop, room-unnamed, end_of_lookaround_fits, end_of_loop_fits}
 use Rattle.regress_program.proofs.emit.emitter.Emitter.+emit.Goals as goal
 
 pub emit-returns-in-Cat : goal.emit-returns-in-Cat
-emit-returns-in-Cat t c = rw (c.in-Cat.is, node_of-Cat c.in-Cat.nodes, ← c.deref.ensures.value) c.emit_all.ensures
+emit-returns-in-Cat t c = rw (c.in-Cat.is, node_of-Cat c.in-Cat.nodes, ← c.deref-in-Cat.ensures.value) c.emit_all.ensures
 
 pub emit-emit_all-requires : goal.emit-emit_all-requires
 emit-emit_all-requires t c =
-    let is : node_of c.args.node.now ≡ cat_of c.deref.result.now = ap node_of c.in-Cat.is ∙ node_of-Cat c.in-Cat.nodes ∙ ap cat_of (sym c.deref.ensures.value) in
-    let same : weight (node_of c.args.node.now) ≡ weight (cat_of c.deref.result.now) = ap weight is in
-    let supported : IsTrue (is_supported (cat_of c.deref.result.now)) = rw is at c.requires.supported in
-    let room : HasRoom (state_of c.args.self.now) (cat_of c.deref.result.now) = rw is at c.requires.room in
-    (search rules, (supported, room))
+    let is : node_of c.args.node.now ≡ cat_of c.deref-in-Cat.result.now = ap node_of c.in-Cat.is ∙ node_of-Cat c.in-Cat.nodes ∙ ap cat_of (sym c.deref-in-Cat.ensures.value) in
+    let same : weight (node_of c.args.node.now) ≡ weight (cat_of c.deref-in-Cat.result.now) = ap weight is in
+    let sets : IsTrue (every fits_instructions (cat_of c.deref-in-Cat.result.now)) = rw is at c.requires.sets in
+    let room : HasRoom (state_of c.args.self.now) (cat_of c.deref-in-Cat.result.now) = rw is at c.requires.room in
+    (search rules, (sets, room))
 
 pub emit-emit_alt-requires : goal.emit-emit_alt-requires
 unfolding node_of weight
@@ -35,7 +35,7 @@ emit_all-emit-requires t c =
     let next = cat_of-drop nodes i n c.loop-node-test.true c.node-item.is in
     let smaller : weight (node_of n) < weight (cat_of nodes) = weight-child nodes i n c.loop-node-test.true c.node-item.is in
     let room : HasRoom (state_of c.loop-node.self) (node_of n) = room-first _ _ _ (rw next at c.loop-node.invariant.room) in
-    let both : IsTrue (is_supported (cat (node_of n) (cat_of (drop (i + 1) nodes)))) = rw next at c.loop-node.invariant.supported in
+    let both : IsTrue (every fits_instructions (cat (node_of n) (cat_of (drop (i + 1) nodes)))) = rw next at c.loop-node.invariant.sets in
     (search rules, (both_first _ _ both, room))
 
 pub emit_all-loop-node-preserved : goal.emit_all-loop-node-preserved
@@ -47,10 +47,10 @@ emit_all-loop-node-preserved t c =
     let rest = cat_of (drop (i + 1) nodes) in
     let u = c.args.mode.unicode in
     let d = c.args.mode.behind in
-    let both : IsTrue (is_supported (cat (node_of n) rest)) = rw next at c.loop-node.invariant.supported in
+    let both : IsTrue (every fits_instructions (cat (node_of n) rest)) = rw next at c.loop-node.invariant.sets in
     let code : with_code u d (cat (node_of n) rest) (state_of c.loop-node.self) ≡ with_code u d (cat_of nodes) (state_of c.args.self.now) = rw next at c.loop-node.invariant.code in
     record {
-      supported = both_second _ _ both;
+      sets = both_second _ _ both;
       room = room-rest u d (state_of c.loop-node.self) (state_of c.emit.new.self) (node_of n) rest (rw next at c.loop-node.invariant.room) c.in_ok-emit.ensures;
       code = ap (with_code u d rest) c.in_ok-emit.ensures ∙ sym (with_code-cat u d (node_of n) rest (state_of c.loop-node.self)) ∙ code;
     }
@@ -88,3 +88,118 @@ emit_alt-returns t c =
     s0 (state_of c.put.new.self) s2 (state_of c.put-2.new.self) (state_of c.set.new.self) (state_of c.emit-2.new.self) (state_of c.set-2.new.self)
     (Alt 0) (Jump 0) c.in_ok-put.ensures c.in_ok-emit.ensures c.in_ok-put-2.ensures
     (rw (← branch, ← c.next-secondary.ensures) c.set.ensures) c.in_ok-emit-2.ensures (rw (← jump, ← c.next-target.ensures) c.set-2.ensures)
+
+pub emit_group-returns : goal.emit_group-returns
+emit_group-returns t c =
+    with_code-capture_group c.args.mode.unicode c.args.mode.behind c.args.id [] (node_of c.args.contents.now)
+    (state_of c.args.self.now) (state_of c.put.new.self) (state_of c.emit.new.self) (state_of c.put-2.new.self)
+    c.in_ok-put.ensures c.in_ok-emit.ensures c.in_ok-put-2.ensures
+
+pub emit_group-emit-requires : goal.emit_group-emit-requires
+unfolding weight
+emit_group-emit-requires t c =
+    let room : HasRoom (state_of c.put.new.self) (node_of c.args.contents.now) =
+    room-group c.args.id [] (node_of c.args.contents.now) (state_of c.args.self.now) (state_of c.put.new.self) (BeginCaptureGroup c.args.id) c.requires.room c.in_ok-put.ensures in
+    search rules
+
+pub emit_loop_1_char-emit-requires : goal.emit_loop_1_char-emit-requires
+unfolding weight
+emit_loop_1_char-emit-requires t c =
+    let room : HasRoom (state_of c.put.new.self) (node_of c.args.loopee.now) =
+    room-loop_1_char_body (quantifier_of c.args.quant.now) (node_of c.args.loopee.now) (state_of c.args.self.now) (state_of c.put.new.self) _ c.requires.room c.in_ok-put.ensures in
+    search rules
+
+pub emit_loop_1_char-returns : goal.emit_loop_1_char-returns
+emit_loop_1_char-returns t c =
+    with_code-loop_1_char_body c.args.mode.unicode c.args.mode.behind (quantifier_of c.args.quant.now) (node_of c.args.loopee.now)
+    (state_of c.args.self.now) (state_of c.put.new.self) (state_of c.emit.new.self)
+    (rw (← c.unwrap_or.ensures) c.in_ok-put.ensures) c.in_ok-emit.ensures
+
+pub emit_lookaround-emit-requires : goal.emit_lookaround-emit-requires
+unfolding weight
+emit_lookaround-emit-requires t c =
+    let room : HasRoom (state_of c.put.new.self) (node_of c.args.contents.now) =
+    room-lookaround (lookaround_of c.args.look) (node_of c.args.contents.now) (state_of c.args.self.now) (state_of c.put.new.self) _ c.requires.room c.in_ok-put.ensures in
+    search rules
+
+pub emit_lookaround-next-continuation-requires : goal.emit_lookaround-next-continuation-requires
+emit_lookaround-next-continuation-requires t c =
+    end_of_lookaround_fits (lookaround_of c.args.look) c.args.mode.unicode (node_of c.args.contents.now)
+    (state_of c.args.self.now) (state_of c.put.new.self) (state_of c.emit.new.self) (state_of c.put-2.new.self) _ Goal
+    c.requires.room c.in_ok-put.ensures c.in_ok-emit.ensures c.in_ok-put-2.ensures
+
+pub emit_lookaround-returns : goal.emit_lookaround-returns
+emit_lookaround-returns t c =
+    let s0 = state_of c.args.self.now in
+    let head : c.len-head.result ≡ length s0.insns = c.len-head.ensures ∙ c.args.self.now.insns.ok.0 ∙ sym (length-map c.args.self.now.insns.items insn_of) in
+    with_code-lookaround c.args.mode.unicode c.args.mode.behind (lookaround_of c.args.look) (node_of c.args.contents.now)
+    s0 (state_of c.put.new.self) (state_of c.emit.new.self) (state_of c.put-2.new.self) (state_of c.set.new.self) _
+    c.in_ok-put.ensures c.in_ok-emit.ensures c.in_ok-put-2.ensures
+    (rw (← head, ← c.next-continuation.ensures, ← c.insn-2.ensures) c.set.ensures)
+
+pub emit_loop-emit-requires : goal.emit_loop-emit-requires
+unfolding weight
+emit_loop-emit-requires t c =
+    let room : HasRoom (state_of c.put_resets.new.self) (node_of c.args.loopee.now) =
+    room-loop (quantifier_of c.args.quant.now) c.args.groups.now.start c.args.groups.now.end (node_of c.args.loopee.now)
+    (state_of c.args.self.now) (state_of c.put.new.self) (state_of c.add_loop.new.self) (state_of c.put_resets.new.self) _
+    c.requires.room c.in_ok-put.ensures c.add_loop.ensures c.in_ok-put_resets.ensures in
+    search rules
+
+pub emit_loop-next-requires : goal.emit_loop-next-requires
+emit_loop-next-requires t c =
+    end_of_loop_fits c.args.mode.unicode c.args.mode.behind (quantifier_of c.args.quant.now) c.args.groups.now.start c.args.groups.now.end (node_of c.args.loopee.now)
+    (state_of c.args.self.now) (state_of c.put.new.self) (state_of c.add_loop.new.self) (state_of c.put_resets.new.self) (state_of c.emit.new.self) (state_of c.put-2.new.self) _ _
+    c.requires.room c.in_ok-put.ensures c.add_loop.ensures c.in_ok-put_resets.ensures c.in_ok-emit.ensures c.in_ok-put-2.ensures
+
+pub emit_loop-returns : goal.emit_loop-returns
+emit_loop-returns t c =
+    let s0 = state_of c.args.self.now in
+    let q = quantifier_of c.args.quant.now in
+    let head = λ (exit : ℕ). EnterLoop (record { loop_id = s0.loops; min_iters = q.min; max_iters = c.unwrap_or.result; greedy = q.greedy; exit = exit }) in
+    let is_head = λ (exit : ℕ). ap (λ (m : ℕ). EnterLoop (record { loop_id = s0.loops; min_iters = q.min; max_iters = m; greedy = q.greedy; exit = exit })) c.unwrap_or.ensures in
+    let begin : c.next-begin.result ≡ length s0.insns = c.next-begin.ensures in
+    with_code-loop c.args.mode.unicode c.args.mode.behind q c.args.groups.now.start c.args.groups.now.end (node_of c.args.loopee.now) head
+    s0 (state_of c.put.new.self) (state_of c.add_loop.new.self) (state_of c.put_resets.new.self) (state_of c.emit.new.self) (state_of c.put-2.new.self) (state_of c.set.new.self)
+    (head 0) is_head c.in_ok-put.ensures c.add_loop.ensures c.in_ok-put_resets.ensures c.in_ok-emit.ensures
+    (rw (← begin) c.in_ok-put-2.ensures) (rw (← begin, ← c.next.ensures) c.set.ensures)
+
+pub emit-emit_group-requires : goal.emit-emit_group-requires
+unfolding node_of weight
+emit-emit_group-requires t c =
+    let is = ap node_of c.in-CaptureGroup.is in
+    let inside = node_of c.in-CaptureGroup.contents.value in
+    let sets : IsTrue (every fits_instructions inside) = rw is at c.requires.sets in
+    let room : HasRoom (state_of c.args.self.now) (capture_group c.in-CaptureGroup.id [] inside) = room-unnamed _ _ _ _ (rw is at c.requires.room) in
+    let smaller : weight (node_of c.args.node.now) ≡ weight inside + 1 = ap weight is in
+    (search rules, (rw c.deref-in-CaptureGroup.ensures sets, rw c.deref-in-CaptureGroup.ensures room))
+
+pub emit-emit_lookaround-requires : goal.emit-emit_lookaround-requires
+unfolding node_of weight
+emit-emit_lookaround-requires t c =
+    let is = ap node_of c.in-LookaroundAssertion.is in
+    let inside = node_of c.in-LookaroundAssertion.contents.value in
+    let sets : IsTrue (every fits_instructions inside) = rw is at c.requires.sets in
+    let room = rw is at c.requires.room in
+    let smaller : weight (node_of c.args.node.now) ≡ weight inside + 1 = ap weight is in
+    (search rules, (rw c.deref-in-LookaroundAssertion.ensures sets, rw c.deref-in-LookaroundAssertion.ensures room))
+
+pub emit-emit_loop-requires : goal.emit-emit_loop-requires
+unfolding node_of weight
+emit-emit_loop-requires t c =
+    let is = ap node_of c.in-Loop.is in
+    let inside = node_of c.in-Loop.loopee.value in
+    let sets : IsTrue (every fits_instructions inside) = rw is at c.requires.sets in
+    let room = rw is at c.requires.room in
+    let smaller : weight (node_of c.args.node.now) ≡ weight inside + 1 = ap weight is in
+    (search rules, (rw c.deref-in-Loop.ensures sets, rw c.deref-in-Loop.ensures room))
+
+pub emit-emit_loop_1_char-requires : goal.emit-emit_loop_1_char-requires
+unfolding node_of weight
+emit-emit_loop_1_char-requires t c =
+    let is = ap node_of c.in-Loop1CharBody.is in
+    let inside = node_of c.in-Loop1CharBody.loopee.value in
+    let sets : IsTrue (every fits_instructions inside) = rw is at c.requires.sets in
+    let room = rw is at c.requires.room in
+    let smaller : weight (node_of c.args.node.now) ≡ weight inside + 1 = ap weight is in
+    (search rules, (rw c.deref-in-Loop1CharBody.ensures sets, rw c.deref-in-Loop1CharBody.ensures room))

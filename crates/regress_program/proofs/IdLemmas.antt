@@ -1,0 +1,598 @@
+-- Distinct ids, their span, and which numbers they are.
+use Rattle.std.proofs.Common.{◌≡◌, ℕ, zero, suc, ◌+◌, ◌-◌, ◌*◌, ◌/◌, ◌%◌, ◌^◌, ◌<◌, ◌≤◌, min, max, Bool, true, false, not, ◌&&◌, ◌||◌, List, [], ◌∷◌, ◌++◌, length, get_or, set, replicate, refl, sym, ap, ◌∙◌, arith, inl, inr, ⊎_elim, length-append, bit_or, w64, get_or-set_same, get_or-set_other}
+use Rattle.std.specs.Prelude.{if◌then◌else◌, nat_eq, nat_lt, nat_le, ◌==◌, ◌⊎◌, count_by}
+use Rattle.std.specs.List.{list_all}
+use Rattle.std.specs.Int.{bit_at}
+use Rattle.std.proofs.lemmas.Bool.{cases_eq, cases_lt, ne_eqb, eq-eqb, eqb-true, lt-ltb, le-ltb, le-leb, leb-true}
+use Rattle.std.proofs.lemmas.List.Sums.{sum_by-cons}
+use Rattle.std.proofs.lemmas.Nat.Bits.{bit_at_set_same, bit_at_set_other, bit_at-zero}
+use Rattle.regex_meaning.specs.Lists.{contains, numbers_from}
+use Rattle.regex_meaning.specs.Tree.{Node, cat, alt, capture_group, lookaround, loop, loop_1_char_body, group_ids, every}
+use Rattle.regex_meaning.specs.WellFormed.{encloses, each_id_stands_once, IsWellFormed, goal_is_last, names_the_groups_inside, refers_to_a_group, has_order_in_quantifier, has_one_character_body, has_text_in_sequence, fits_instructions}
+use Rattle.regex_meaning.proofs.Sound.{all-contains}
+use Rattle.regex_pattern_front.proofs.ByteLemmas.{contains-numbers_from}
+use Rattle.regress_program.specs.Ids.{is_seen, are_fresh, least, past, Span, span_of, joined, is_sound_by_itself}
+use Rattle.regress_program.proofs.NodeLemmas.{both_first, both_second, false_by_not}
+
+-- ---- Tests
+
+pub same_truth : (a b : Bool) → (a ≡ true → b ≡ true) → (b ≡ true → a ≡ true) → a ≡ b
+same_truth true b f g = sym (f refl)
+same_truth false true f g = g refl
+same_truth false false f g = refl
+
+pub both : (a b : Bool) → a ≡ true → b ≡ true → (a && b) ≡ true
+both a b e f = rw (e, f)
+
+or_left : (a b : Bool) → (a || b) ≡ false → a ≡ false
+or_left true b h = h
+or_left false b h = refl
+
+or_right : (a b : Bool) → (a || b) ≡ false → b ≡ false
+or_right true b h = cc
+or_right false b h = h
+
+pub or_either : (a b : Bool) → (a || b) ≡ true → (a ≡ true) ⊎ (b ≡ true)
+or_either true b h = inl refl
+or_either false b h = inr h
+
+or_here : (a b : Bool) → a ≡ true → (a || b) ≡ true
+or_here a b e = rw e
+
+or_there : (a b : Bool) → b ≡ true → (a || b) ≡ true
+or_there true b e = refl
+or_there false b e = e
+
+or_none : (a : Bool) → (a || false) ≡ a
+or_none true = refl
+or_none false = refl
+
+or_assoc : (a b c : Bool) → ((a || b) || c) ≡ (a || (b || c))
+or_assoc true b c = refl
+or_assoc false b c = refl
+
+and_assoc : (a b c : Bool) → ((a && b) && c) ≡ (a && (b && c))
+and_assoc true b c = refl
+and_assoc false b c = refl
+
+neither_of : (a b : Bool) → a ≡ false → b ≡ false → (a || b) ≡ false
+neither_of a b e f = rw (e, f)
+
+not_true : (a : Bool) → not a ≡ true → a ≡ false
+not_true true h = cc
+not_true false h = refl
+
+nat_eq-refl : (n : ℕ) → nat_eq n n ≡ true
+nat_eq-refl n = eq-eqb n n refl
+
+pub false_is_true : false ≡ true → ⊥
+false_is_true h = cc
+
+four : (a b c d : Bool) → ((a && b) && (c && d)) ≡ ((a && c) && (b && d))
+four true true c d = refl
+four true false true d = refl
+four true false false d = refl
+four false b c d = refl
+
+six : (a b c d e f : Bool) → (((a && b) && (c && d)) && (e && f)) ≡ (((a && c) && e) && ((b && d) && f))
+six a b c d e f = ap (λ t. t && (e && f)) (four a b c d) ∙ four (a && c) (b && d) e f
+
+-- ---- The table
+
+pub no_bits : (n k : ℕ) → is_seen (replicate n 0) k ≡ false
+no_bits n k = rw (zeros n (k / 64), bit_at-zero (k % 64))
+  where
+    zeros : (m i : ℕ) → ◌≡◌ {A = ℕ} (get_or (replicate m 0) i 0) 0
+    zeros zero i = refl
+    zeros (suc m) zero = refl
+    zeros (suc m) (suc i) = zeros m i
+
+pub seen-set : (bits : List ℕ) (id k : ℕ) → length bits ≡ 1024 → id < 65536
+    → is_seen (set bits (id / 64) (bit_or (get_or bits (id / 64) 0) (1 * 2 ^ (id % 64) % 2 ^ 64))) k ≡ (is_seen bits k || k == id)
+seen-set bits id k sized h =
+    let v = bit_or (get_or bits (id / 64) 0) (1 * 2 ^ (id % 64) % 2 ^ 64) in
+    ⊎_elim (λ (e : k / 64 ≡ id / 64). same_word v e) (λ (ne : k / 64 ≡ id / 64 → ⊥). other_word v ne) (cases_eq (k / 64) (id / 64))
+  where
+    same_number : (x y : ℕ) → x / 64 ≡ y / 64 → x % 64 ≡ y % 64 → x ≡ y
+    same_number x y p q = omega arith
+
+    same_word : (v : ℕ) → k / 64 ≡ id / 64 → is_seen (set bits (id / 64) (bit_or (get_or bits (id / 64) 0) (1 * 2 ^ (id % 64) % 2 ^ 64))) k ≡ (is_seen bits k || k == id)
+    same_word v e =
+        let within : id / 64 < length bits = omega arith in
+        rw (e, get_or-set_same)
+        (⊎_elim (λ (f : k % 64 ≡ id % 64).
+        rw (f, bit_at_set_same w64 (get_or bits (id / 64) 0) (id % 64) (omega arith), eq-eqb k id (same_number k id e f)) (sym (or_there _ true refl)))
+        (λ (ne : k % 64 ≡ id % 64 → ⊥).
+        rw (bit_at_set_other w64 (get_or bits (id / 64) 0) (id % 64) (omega arith) (k % 64) ne, ne_eqb k id (λ g. ne (ap (λ n. n % 64) g))) (sym (or_none _)))
+        (cases_eq (k % 64) (id % 64)))
+
+    other_word : (v : ℕ) → (k / 64 ≡ id / 64 → ⊥) → is_seen (set bits (id / 64) (bit_or (get_or bits (id / 64) 0) (1 * 2 ^ (id % 64) % 2 ^ 64))) k ≡ (is_seen bits k || k == id)
+    other_word v ne =
+        rw (get_or-set_other, ne_eqb k id (λ g. ne (ap (λ n. n / 64) g))) (sym (or_none _))
+
+-- ---- Fresh ids
+
+pub fresh-same : (f g : ℕ → Bool) (ids : List ℕ) → ((k : ℕ) → f k ≡ g k) → are_fresh f ids ≡ are_fresh g ids
+unfolding are_fresh
+fresh-same f g [] e = refl
+fresh-same f g (id ∷ ids) e = rw (e id, fresh-same (λ k. f k || k == id) (λ k. g k || k == id) ids (λ k. ap (λ b. b || k == id) (e k)))
+
+pub fresh-append : (f : ℕ → Bool) (xs ys : List ℕ) → are_fresh f (xs ++ ys) ≡ (are_fresh f xs && are_fresh (λ k. f k || contains xs k) ys)
+unfolding are_fresh
+fresh-append f [] ys = fresh-same f (λ k. f k || false) ys (λ k. sym (or_none (f k)))
+fresh-append f (x ∷ xs) ys =
+    let g = λ (k : ℕ). f k || k == x in
+    ap (λ b. not (f x) && b) (fresh-append g xs ys ∙ ap (λ b. are_fresh g xs && b)
+    (fresh-same (λ k. g k || contains xs k) (λ k. f k || contains (x ∷ xs) k) ys (λ k. or_assoc (f k) (k == x) (contains xs k))))
+    ∙ sym (and_assoc (not (f x)) (are_fresh g xs) (are_fresh (λ k. f k || contains (x ∷ xs) k) ys))
+
+pub contains-append : (xs ys : List ℕ) (k : ℕ) → contains (xs ++ ys) k ≡ (contains xs k || contains ys k)
+contains-append [] ys k = refl
+contains-append (x ∷ xs) ys k = ap (λ b. nat_eq k x || b) (contains-append xs ys k) ∙ sym (or_assoc (nat_eq k x) (contains xs k) (contains ys k))
+
+fresh-unseen : (ids : List ℕ) (f : ℕ → Bool) (k : ℕ) → are_fresh f ids ≡ true → contains ids k ≡ true → f k ≡ false
+unfolding are_fresh
+fresh-unseen [] f k h c = cc
+fresh-unseen (id ∷ ids) f k h c =
+    let here = not_true (f id) (both_first (not (f id)) (are_fresh (λ j. f j || j == id) ids) h) in
+    ⊎_elim (λ (e : nat_eq k id ≡ true). ap f (eqb-true k id e) ∙ here)
+    (λ (e : contains ids k ≡ true). or_left (f k) (k == id) (fresh-unseen ids (λ j. f j || j == id) k (both_second (not (f id)) (are_fresh (λ j. f j || j == id) ids) h) e))
+    (or_either (nat_eq k id) (contains ids k) c)
+
+fresh-change : (ids : List ℕ) (f g : ℕ → Bool) → are_fresh f ids ≡ true → ((k : ℕ) → contains ids k ≡ true → g k ≡ false) → are_fresh g ids ≡ true
+unfolding are_fresh
+fresh-change [] f g h u = refl
+fresh-change (id ∷ ids) f g h u =
+    let rest = both_second (not (f id)) (are_fresh (λ j. f j || j == id) ids) h in
+    let here : g id ≡ false = u id (or_here (nat_eq id id) (contains ids id) (nat_eq-refl id)) in
+    let later = fresh-change ids (λ j. f j || j == id) (λ j. g j || j == id) rest
+    (λ k c. neither_of (g k) (k == id) (u k (or_there (nat_eq k id) (contains ids k) c)) (or_right (f k) (k == id) (fresh-unseen ids (λ j. f j || j == id) k rest c))) in
+    rw (here, later)
+
+-- ---- How many numbers below n are seen
+
+seen_count : (ℕ → Bool) → ℕ → ℕ
+seen_count f zero = 0
+seen_count f (suc n) = seen_count f n + (if f n then 1 else 0)
+
+one_if : (b : Bool) → (if b then 1 else 0) ≤ 1
+one_if true = omega arith
+one_if false = omega arith
+
+count-le : (f : ℕ → Bool) (n : ℕ) → seen_count f n ≤ n
+unfolding seen_count
+count-le f zero = omega arith
+count-le f (suc n) = omega (arith, count-le f n, one_if (f n))
+
+count-same : (f g : ℕ → Bool) (n : ℕ) → ((k : ℕ) → k < n → f k ≡ g k) → seen_count f n ≡ seen_count g n
+unfolding seen_count
+count-same f g zero e = refl
+count-same f g (suc n) e = rw (count-same f g n (λ k h. e k (omega arith)), e n (omega arith))
+
+-- one that is past n, or seen before, is no new one
+count-past : (f : ℕ → Bool) (id n : ℕ) → n ≤ id → seen_count (λ k. f k || k == id) n ≡ seen_count f n
+count-past f id n h = count-same (λ k. f k || k == id) f n (λ k b. ap (λ t. f k || t) (ne_eqb k id (λ e. absurd (omega arith))) ∙ or_none (f k))
+
+count-again : (f : ℕ → Bool) (id n : ℕ) → f id ≡ true → seen_count (λ k. f k || k == id) n ≡ seen_count f n
+count-again f id n h =
+    count-same (λ k. f k || k == id) f n (λ k b.
+    ⊎_elim (λ (e : k ≡ id). let t : f k ≡ true = ap f e ∙ h in or_here (f k) (k == id) t ∙ sym t)
+    (λ (ne : k ≡ id → ⊥). ap (λ t. f k || t) (ne_eqb k id ne) ∙ or_none (f k)) (cases_eq k id))
+
+count-new : (f : ℕ → Bool) (id n : ℕ) → id < n → f id ≡ false → seen_count (λ k. f k || k == id) n ≡ seen_count f n + 1
+unfolding seen_count
+count-new f id zero h u = absurd (omega arith)
+count-new f id (suc n) h u =
+    ⊎_elim (λ (e : n ≡ id).
+    let below : seen_count (λ k. f k || k == id) n ≡ seen_count f n = count-past f id n (omega arith) in
+    let top : (f n || n == id) ≡ true = or_there (f n) (n == id) (eq-eqb n id e) in
+    let was : f n ≡ false = ap f e ∙ u in
+    rw (below, top, was) (omega arith))
+    (λ (ne : n ≡ id → ⊥).
+    let below : seen_count (λ k. f k || k == id) n ≡ seen_count f n + 1 = count-new f id n (omega (arith, ne)) u in
+    let top : (f n || n == id) ≡ f n = ap (λ t. f n || t) (ne_eqb n id ne) ∙ or_none (f n) in
+    rw (below, top) (omega arith))
+    (cases_eq n id)
+
+count-add : (f : ℕ → Bool) (id n : ℕ) → seen_count (λ k. f k || k == id) n ≤ seen_count f n + 1
+count-add f id n =
+    ⊎_elim (λ (h : id < n). by_seen (f id) refl h) (λ (h : n ≤ id). omega (arith, count-past f id n h)) (cases_lt id n)
+  where
+    by_seen : (t : Bool) → t ≡ f id → id < n → seen_count (λ k. f k || k == id) n ≤ seen_count f n + 1
+    by_seen true e h = omega (arith, count-again f id n (sym e))
+    by_seen false e h = omega (arith, count-new f id n h (sym e))
+
+-- fresh ids below n are as many as there is room for
+fresh-length : (ids : List ℕ) (f : ℕ → Bool) (n : ℕ) → are_fresh f ids ≡ true → past ids ≤ n → length ids + seen_count f n ≤ n
+unfolding are_fresh past
+fresh-length [] f n h p = omega (arith, count-le f n)
+fresh-length (id ∷ ids) f n h p =
+    let new = not_true (f id) (both_first (not (f id)) (are_fresh (λ j. f j || j == id) ids) h) in
+    omega (arith, fresh-length ids (λ j. f j || j == id) n (both_second (not (f id)) (are_fresh (λ j. f j || j == id) ids) h) (omega arith), count-new f id n (omega arith) new)
+
+all_seen : (g : ℕ → Bool) (m : ℕ) → ((q : ℕ) → q < m → g q ≡ true) → m ≤ seen_count g m
+unfolding seen_count
+all_seen g zero e = omega arith
+all_seen g (suc m) e = let top : g m ≡ true = e m (omega arith) in rw top (omega (arith, all_seen g m (λ q h. e q (omega arith))))
+
+-- where each number below n is seen or stands among the ids, there are at least n of them
+covers : (ids : List ℕ) (f : ℕ → Bool) (n : ℕ) → ((q : ℕ) → q < n → (f q || contains ids q) ≡ true) → n ≤ seen_count f n + length ids
+covers [] f n c = omega (arith, all_seen f n (λ q h. sym (or_none (f q)) ∙ c q h))
+covers (id ∷ ids) f n c =
+    omega (arith, covers ids (λ j. f j || j == id) n (λ q h. or_assoc (f q) (q == id) (contains ids q) ∙ c q h), count-add f id n)
+
+-- if so and there are no more, none stands twice, and none is past them
+covers-fresh : (ids : List ℕ) (f : ℕ → Bool) (n : ℕ) → ((q : ℕ) → q < n → (f q || contains ids q) ≡ true) → seen_count f n + length ids ≡ n
+    → (are_fresh f ids ≡ true) × (past ids ≤ n)
+unfolding are_fresh past
+covers-fresh [] f n c e = (refl, omega arith)
+covers-fresh (id ∷ ids) f n c e =
+    ⊎_elim (λ (h : id < n). by_seen (f id) refl h (λ m. covers-fresh ids (λ j. f j || j == id) n rest_is m))
+    (λ (h : n ≤ id). absurd (omega (arith, rest_covers, count-past f id n h))) (cases_lt id n)
+  where
+    rest_is : (q : ℕ) → q < n → ((f q || q == id) || contains ids q) ≡ true
+    rest_is q h = or_assoc (f q) (q == id) (contains ids q) ∙ c q h
+
+    rest_covers : n ≤ seen_count (λ j. f j || j == id) n + length ids
+    rest_covers = covers ids (λ j. f j || j == id) n rest_is
+
+    by_seen : (t : Bool) → t ≡ f id → id < n
+        → (seen_count (λ j. f j || j == id) n + length ids ≡ n → (are_fresh (λ j. f j || j == id) ids ≡ true) × (past ids ≤ n))
+        → ((not (f id) && are_fresh (λ j. f j || j == id) ids) ≡ true) × (max (id + 1) (past ids) ≤ n)
+    by_seen true s h go = absurd (omega (arith, rest_covers, count-again f id n (sym s)))
+    by_seen false s h go =
+        let later = go (omega (arith, count-new f id n h (sym s))) in
+        (both (not (f id)) (are_fresh (λ j. f j || j == id) ids) (ap not (sym s)) later.0, omega (arith, later.1))
+
+count-below : (s n : ℕ) → seen_count (λ k. nat_lt k s) n ≡ min s n
+unfolding seen_count
+count-below s zero = omega arith
+count-below s (suc n) =
+    ⊎_elim (λ (h : n < s). let t : nat_lt n s ≡ true = lt-ltb n s h in rw t (omega (arith, count-below s n)))
+    (λ (h : s ≤ n). let t : nat_lt n s ≡ false = le-ltb n s h in rw t (omega (arith, count-below s n)))
+    (cases_lt n s)
+
+-- ---- Spans
+
+pub same_span : (a b : Span) → a.count ≡ b.count → a.low ≡ b.low → a.high ≡ b.high → a ≡ b
+same_span a b ec el eh =
+    ap (λ x. let r : Span = record { count = x; low = a.low; high = a.high } in r) ec
+    ∙ ap (λ x. let r : Span = record { count = b.count; low = x; high = a.high } in r) el
+    ∙ ap (λ x. let r : Span = record { count = b.count; low = b.low; high = x } in r) eh
+
+none_are_seen : (n : ℕ) → seen_count (λ k. false) n ≡ 0
+unfolding seen_count
+none_are_seen zero = refl
+none_are_seen (suc n) = omega (arith, none_are_seen n)
+
+least-most : (ids : List ℕ) → least ids ≤ 2 ^ 16
+unfolding least
+least-most [] = omega arith
+least-most (id ∷ ids) = omega (arith, least-most ids)
+
+least-append : (xs ys : List ℕ) → least (xs ++ ys) ≡ min (least xs) (least ys)
+unfolding least
+least-append [] ys = omega (arith, least-most ys)
+least-append (x ∷ xs) ys = omega (arith, least-append xs ys)
+
+past-append : (xs ys : List ℕ) → past (xs ++ ys) ≡ max (past xs) (past ys)
+unfolding past
+past-append [] ys = omega arith
+past-append (x ∷ xs) ys = omega (arith, past-append xs ys)
+
+least-le : (ids : List ℕ) (k : ℕ) → contains ids k ≡ true → least ids ≤ k
+unfolding least
+least-le [] k c = cc
+least-le (id ∷ ids) k c =
+    ⊎_elim (λ (e : nat_eq k id ≡ true). omega (arith, eqb-true k id e)) (λ (e : contains ids k ≡ true). omega (arith, least-le ids k e)) (or_either (nat_eq k id) (contains ids k) c)
+
+past-gt : (ids : List ℕ) (k : ℕ) → contains ids k ≡ true → k < past ids
+unfolding past
+past-gt [] k c = cc
+past-gt (id ∷ ids) k c =
+    ⊎_elim (λ (e : nat_eq k id ≡ true). omega (arith, eqb-true k id e)) (λ (e : contains ids k ≡ true). omega (arith, past-gt ids k e)) (or_either (nat_eq k id) (contains ids k) c)
+
+le-least : (ids : List ℕ) (s : ℕ) → s ≤ 2 ^ 16 → ((k : ℕ) → contains ids k ≡ true → s ≤ k) → s ≤ least ids
+unfolding least
+le-least [] s b h = b
+le-least (id ∷ ids) s b h =
+    omega (arith, h id (or_here (nat_eq id id) (contains ids id) (nat_eq-refl id)), le-least ids s b (λ k c. h k (or_there (nat_eq k id) (contains ids k) c)))
+
+past-le : (ids : List ℕ) (e : ℕ) → ((k : ℕ) → contains ids k ≡ true → k < e) → past ids ≤ e
+unfolding past
+past-le [] e h = omega arith
+past-le (id ∷ ids) e h =
+    omega (arith, h id (or_here (nat_eq id id) (contains ids id) (nat_eq-refl id)), past-le ids e (λ k c. h k (or_there (nat_eq k id) (contains ids k) c)))
+
+-- ---- Numbers in a row
+
+numbers-contain : (first count k : ℕ) → contains (numbers_from first count) k ≡ true → (first ≤ k) × (k < first + count)
+numbers-contain first zero k c = cc
+numbers-contain first (suc count) k c =
+    ⊎_elim (λ (e : nat_eq k first ≡ true). let same : k ≡ first = eqb-true k first e in (omega arith, omega arith))
+    (λ (e : contains (numbers_from (first + 1) count) k ≡ true). let rest = numbers-contain (first + 1) count k e in (omega (arith, rest.0), omega (arith, rest.1)))
+    (or_either (nat_eq k first) (contains (numbers_from (first + 1) count) k) c)
+
+list_all-intro : (p : ℕ → Bool) (ids : List ℕ) → ((k : ℕ) → contains ids k ≡ true → p k ≡ true) → list_all p ids ≡ true
+list_all-intro p [] h = refl
+list_all-intro p (id ∷ ids) h =
+    both (p id) (list_all p ids) (h id (or_here (nat_eq id id) (contains ids id) (nat_eq-refl id)))
+    (list_all-intro p ids (λ k c. h k (or_there (nat_eq k id) (contains ids k) c)))
+
+-- ---- Distinct ids of a span
+
+-- where they are as many as the span is wide, each of it is there
+all_there : (ids : List ℕ) (f : ℕ → Bool) (s e q : ℕ) → are_fresh f ids ≡ true → s ≤ least ids → past ids ≤ e → e ≤ length ids + s → s ≤ q → q < e → contains ids q ≡ true
+unfolding are_fresh past
+all_there ids f s e q fresh low high enough above below = by_test (contains ids q) refl
+  where
+    by_test : (t : Bool) → t ≡ contains ids q → t ≡ true
+    by_test true g = refl
+    by_test false g =
+        let seen = λ (k : ℕ). nat_lt k s in
+        let unseen : (k : ℕ) → contains ids k ≡ true → (nat_lt k s || k == q) ≡ false =
+        λ k c. neither_of (nat_lt k s) (k == q) (le-ltb k s (omega (arith, least-le ids k c))) (ne_eqb k q (λ (same : k ≡ q). false_is_true (g ∙ ap (contains ids) (sym same) ∙ c))) in
+        let rest : are_fresh (λ k. nat_lt k s || k == q) ids ≡ true = fresh-change ids f (λ k. nat_lt k s || k == q) fresh unseen in
+        let whole : are_fresh seen (q ∷ ids) ≡ true = both (not (nat_lt q s)) (are_fresh (λ k. nat_lt k s || k == q) ids) (ap not (le-ltb q s above)) rest in
+        absurd (omega (arith, fresh-length (q ∷ ids) seen e whole (omega arith), count-below s e))
+
+as_many : (ids : List ℕ) (f : ℕ → Bool) (s e : ℕ) → are_fresh f ids ≡ true → s ≤ e → ((k : ℕ) → contains ids k ≡ true → s ≤ k) → past ids ≤ e → length ids + s ≤ e
+as_many ids f s e fresh order low high =
+    let seen = λ (k : ℕ). nat_lt k s in
+    let again = fresh-change ids f seen fresh (λ k c. le-ltb k s (low k c)) in
+    omega (arith, fresh-length ids seen e again high, count-below s e)
+
+pub encloses-fills : (contents : Node) (f : ℕ → Bool) (s e : ℕ) → s ≤ 2 ^ 16 → e ≤ 2 ^ 16 → are_fresh f (group_ids contents) ≡ true
+    → (nat_le s e && (min (length (group_ids contents)) (2 ^ 64 - 1) == (e - s)) && nat_le s (least (group_ids contents)) && nat_le (past (group_ids contents)) e) ≡ encloses s e contents
+encloses-fills contents f s e bs be fresh =
+    let ids = group_ids contents in
+    let named = numbers_from s (e - s) in
+    let count = min (length ids) (2 ^ 64 - 1) == (e - s) in
+    same_truth (nat_le s e && count && nat_le s (least ids) && nat_le (past ids) e) (encloses s e contents)
+    (λ h.
+    let h3 = both_first (nat_le s e && count && nat_le s (least ids)) (nat_le (past ids) e) h in
+    let h2 = both_first (nat_le s e && count) (nat_le s (least ids)) h3 in
+    let order : s ≤ e = leb-true s e (both_first (nat_le s e) count h2) in
+    let many : min (length ids) (2 ^ 64 - 1) ≡ e - s = eqb-true _ _ (both_second (nat_le s e) count h2) in
+    let low : s ≤ least ids = leb-true s (least ids) (both_second (nat_le s e && count) (nat_le s (least ids)) h3) in
+    let high : past ids ≤ e = leb-true (past ids) e (both_second (nat_le s e && count && nat_le s (least ids)) (nat_le (past ids) e) h) in
+    both (nat_le s e && list_all (contains named) ids) (list_all (contains ids) named)
+    (both (nat_le s e) (list_all (contains named) ids) (le-leb s e order)
+    (list_all-intro (contains named) ids (λ k c. contains-numbers_from k s (e - s) (omega (arith, least-le ids k c)) (omega (arith, past-gt ids k c)))))
+    (list_all-intro (contains ids) named (λ q c. let within = numbers-contain s (e - s) q c in all_there ids f s e q fresh low high (omega arith) within.0 (omega (arith, within.1)))))
+    (λ h.
+    let h2 = both_first (nat_le s e && list_all (contains named) ids) (list_all (contains ids) named) h in
+    let order : s ≤ e = leb-true s e (both_first (nat_le s e) (list_all (contains named) ids) h2) in
+    let inside = λ (k : ℕ) (c : contains ids k ≡ true). numbers-contain s (e - s) k (all-contains (contains named) ids k (both_second (nat_le s e) (list_all (contains named) ids) h2) c) in
+    let there = λ (q : ℕ) (c : contains named q ≡ true). all-contains (contains ids) named q (both_second (nat_le s e && list_all (contains named) ids) (list_all (contains ids) named) h) c in
+    let low : s ≤ least ids = le-least ids s bs (λ k c. (inside k c).0) in
+    let high : past ids ≤ e = past-le ids e (λ k c. omega (arith, (inside k c).1)) in
+    let most : length ids + s ≤ e = as_many ids f s e fresh order (λ k c. (inside k c).0) high in
+    let seen = λ (k : ℕ). nat_lt k s in
+    let fewest : e ≤ seen_count seen e + length ids =
+    covers ids seen e (λ q b. ⊎_elim (λ (g : q < s). or_here (nat_lt q s) (contains ids q) (lt-ltb q s g))
+    (λ (g : s ≤ q). or_there (nat_lt q s) (contains ids q) (there q (contains-numbers_from q s (e - s) g (omega arith)))) (cases_lt q s)) in
+    let many : min (length ids) (2 ^ 64 - 1) ≡ e - s = omega (arith, count-below s e) in
+    both (nat_le s e && count && nat_le s (least ids)) (nat_le (past ids) e)
+    (both (nat_le s e && count) (nat_le s (least ids)) (both (nat_le s e) count (le-leb s e order) (eq-eqb _ _ many)) (le-leb s (least ids) low))
+    (le-leb (past ids) e high))
+
+-- ---- Each id once
+
+count-none : (q : ℕ) (ids : List ℕ) → contains ids q ≡ false → count_by (nat_eq q) ids ≡ 0
+count-none q [] h = refl
+count-none q (id ∷ ids) h =
+    let here : nat_eq q id ≡ false = or_left (nat_eq q id) (contains ids q) h in
+    rw here (count-none q ids (or_right (nat_eq q id) (contains ids q) h))
+
+count_by-first : (q id : ℕ) (ids : List ℕ) → count_by (nat_eq q) (id ∷ ids) ≡ (if nat_eq q id then 1 else 0) + count_by (nat_eq q) ids
+count_by-first q id ids = sum_by-cons (λ x. if nat_eq q x then 1 else 0) id ids
+
+count-one : (q : ℕ) (ids : List ℕ) (f : ℕ → Bool) → are_fresh f ids ≡ true → contains ids q ≡ true → count_by (nat_eq q) ids ≡ 1
+unfolding are_fresh
+count-one q [] f h c = cc
+count-one q (id ∷ ids) f h c =
+    let later = both_second (not (f id)) (are_fresh (λ j. f j || j == id) ids) h in
+    by_test (nat_eq q id) refl (fresh-unseen ids (λ j. f j || j == id) q later) (count-one q ids (λ j. f j || j == id) later)
+  where
+    by_test : (t : Bool) → t ≡ nat_eq q id → (contains ids q ≡ true → (f q || q == id) ≡ false) → (contains ids q ≡ true → count_by (nat_eq q) ids ≡ 1) → count_by (nat_eq q) (id ∷ ids) ≡ 1
+    by_test true e unseen go =
+        let gone : contains ids q ≡ false = false_by_not (contains ids q) (λ there. false_is_true (sym (unseen there) ∙ or_there (f q) (q == id) (sym e))) in
+        count_by-first q id ids ∙ rw (← e) (omega (arith, count-none q ids gone))
+    by_test false e unseen go =
+        let there : contains ids q ≡ true = ap (λ t. t || contains ids q) e ∙ c in
+        count_by-first q id ids ∙ rw (← e) (omega (arith, go there))
+
+pub each_once : (root : Node) (f : ℕ → Bool) → are_fresh f (group_ids root) ≡ true → past (group_ids root) ≤ length (group_ids root) → each_id_stands_once root ≡ true
+each_once root f fresh high =
+    let ids = group_ids root in
+    list_all-intro (λ id. count_by (nat_eq id) ids == 1) (numbers_from 0 (length ids))
+    (λ q c. let within = numbers-contain 0 (length ids) q c in
+    eq-eqb _ 1 (count-one q ids f fresh (all_there ids f 0 (length ids) q fresh (omega arith) high (omega arith) (omega arith) (omega (arith, within.1)))))
+
+pub once_each : (root : Node) → each_id_stands_once root ≡ true → (are_fresh (λ k. false) (group_ids root) ≡ true) × (past (group_ids root) ≤ length (group_ids root))
+once_each root h =
+    let ids = group_ids root in
+    let none = λ (k : ℕ). false in
+    covers-fresh ids none (length ids)
+    (λ q b. there q (eqb-true _ 1 (all-contains (λ id. count_by (nat_eq id) ids == 1) (numbers_from 0 (length ids)) q h (contains-numbers_from q 0 (length ids) (omega arith) (omega arith)))))
+    (omega (arith, none_seen (length ids)))
+  where
+    there : (q : ℕ) → count_by (nat_eq q) (group_ids root) ≡ 1 → contains (group_ids root) q ≡ true
+    there q e = by_test (contains (group_ids root) q) refl
+      where
+        by_test : (t : Bool) → t ≡ contains (group_ids root) q → t ≡ true
+        by_test true g = refl
+        by_test false g = absurd (omega (arith, e, count-none q (group_ids root) (sym g)))
+
+    none_seen : (n : ℕ) → seen_count (λ k. false) n ≡ 0
+    none_seen n = none_are_seen n
+
+-- ---- Both spans
+
+pub span-append : (xs ys : List ℕ) → joined (span_of xs) (span_of ys) ≡ span_of (xs ++ ys)
+span-append xs ys =
+    same_span (joined (span_of xs) (span_of ys)) (span_of (xs ++ ys)) (omega (arith, length-append xs ys)) (sym (least-append xs ys)) (sym (past-append xs ys))
+
+pub span-one : (id : ℕ) → id < 2 ^ 16 → span_of (id ∷ []) ≡ record { count = 1; low = id; high = id + 1 }
+unfolding least past
+span-one id h = same_span (span_of (id ∷ [])) (record { count = 1; low = id; high = id + 1 }) (omega arith) (omega arith) (omega arith)
+
+-- ---- What is found of two parts
+
+pub found_both : (f : ℕ → Bool) (xs ys : List ℕ) (p q : Bool)
+    → ((are_fresh f xs && p) && (are_fresh (λ k. f k || contains xs k) ys && q)) ≡ (are_fresh f (xs ++ ys) && (p && q))
+found_both f xs ys p q = shuffle (are_fresh f xs) p (are_fresh (λ k. f k || contains xs k) ys) q ∙ ap (λ b. b && (p && q)) (sym (fresh-append f xs ys))
+  where
+    shuffle : (a b c d : Bool) → ((a && b) && (c && d)) ≡ ((a && c) && (b && d))
+    shuffle true true c d = refl
+    shuffle true false true d = refl
+    shuffle true false false d = refl
+    shuffle false b c d = refl
+
+-- the first part decides, where it fails
+pub first_fails : (f : ℕ → Bool) (xs ys : List ℕ) (p q : Bool) → false ≡ (are_fresh f xs && p) → false ≡ (are_fresh f (xs ++ ys) && (p && q))
+first_fails f xs ys p q h = ap (λ b. b && (are_fresh (λ k. f k || contains xs k) ys && q)) h ∙ found_both f xs ys p q
+
+-- and else the second
+pub second_decides : (f g : ℕ → Bool) (xs ys : List ℕ) (p q t : Bool) → true ≡ (are_fresh f xs && p) → ((k : ℕ) → g k ≡ (f k || contains xs k))
+    → t ≡ (are_fresh g ys && q) → t ≡ (are_fresh f (xs ++ ys) && (p && q))
+second_decides f g xs ys p q t h same e =
+    e ∙ ap (λ b. b && q) (fresh-same g (λ k. f k || contains xs k) ys same)
+    ∙ ap (λ b. b && (are_fresh (λ k. f k || contains xs k) ys && q)) h ∙ found_both f xs ys p q
+
+pub seen_both : (f g h : ℕ → Bool) (xs ys : List ℕ) → ((k : ℕ) → g k ≡ (f k || contains xs k)) → ((k : ℕ) → h k ≡ (g k || contains ys k))
+    → (k : ℕ) → h k ≡ (f k || contains (xs ++ ys) k)
+seen_both f g h xs ys a b k =
+    b k ∙ ap (λ t. t || contains ys k) (a k) ∙ or_assoc (f k) (contains xs k) (contains ys k) ∙ ap (λ t. f k || t) (sym (contains-append xs ys k))
+
+pub one_fresh : (f : ℕ → Bool) (id : ℕ) (ids : List ℕ) (p : Bool) (t : Bool) (g : ℕ → Bool) → true ≡ not (f id) → ((k : ℕ) → g k ≡ (f k || k == id))
+    → t ≡ (are_fresh g ids && p) → t ≡ (are_fresh f (id ∷ ids) && p)
+unfolding are_fresh
+one_fresh f id ids p t g h same e =
+    e ∙ ap (λ b. b && p) (fresh-same g (λ k. f k || k == id) ids same ∙ ap (λ b. b && are_fresh (λ k. f k || k == id) ids) h)
+
+pub one_seen_before : (f : ℕ → Bool) (id : ℕ) (ids : List ℕ) (p : Bool) → false ≡ not (f id) → false ≡ (are_fresh f (id ∷ ids) && p)
+unfolding are_fresh
+one_seen_before f id ids p h = ap (λ b. (b && are_fresh (λ k. f k || k == id) ids) && p) h
+
+pub span-cons : (id : ℕ) (ids : List ℕ) → id < 2 ^ 16 → joined (record { count = 1; low = id; high = id + 1 }) (span_of ids) ≡ span_of (id ∷ ids)
+unfolding least past
+span-cons id ids h =
+    same_span (joined (record { count = 1; low = id; high = id + 1 }) (span_of ids)) (span_of (id ∷ ids)) (omega arith) refl refl
+
+pub joined_same : (a a' b b' : Span) → a ≡ a' → b ≡ b' → joined a b ≡ joined a' b'
+joined_same a a' b b' e f = ap (λ x. joined x b) e ∙ ap (joined a') f
+
+pub joined-assoc : (a b c : Span) → joined (joined a b) c ≡ joined a (joined b c)
+joined-assoc a b c = same_span (joined (joined a b) c) (joined a (joined b c)) (omega arith) (omega arith) (omega arith)
+
+-- what the first fields say of a test of the span
+pub fills-encloses : (contents : Node) (f : ℕ → Bool) (s e count low high : ℕ) (t p : Bool) → s < 2 ^ 16 → e < 2 ^ 16
+    → true ≡ (are_fresh f (group_ids contents) && p) → count ≡ min (length (group_ids contents)) (2 ^ 64 - 1) → low ≡ least (group_ids contents) → high ≡ past (group_ids contents)
+    → t ≡ (nat_le s e && (count == (e - s)) && nat_le s low && nat_le high e) → t ≡ (are_fresh f (group_ids contents) && (encloses s e contents && p))
+fills-encloses contents f s e count low high t p bs be found ec el eh et =
+    let fresh = both_first (are_fresh f (group_ids contents)) p (sym found) in
+    let named = both_second (are_fresh f (group_ids contents)) p (sym found) in
+    let filled = encloses-fills contents f s e (omega arith) (omega arith) fresh in
+    et ∙ ap (λ n. nat_le s e && (n == (e - s)) && nat_le s low && nat_le high e) ec
+    ∙ ap (λ n. nat_le s e && (min (length (group_ids contents)) (2 ^ 64 - 1) == (e - s)) && nat_le s n && nat_le high e) el
+    ∙ ap (λ n. nat_le s e && (min (length (group_ids contents)) (2 ^ 64 - 1) == (e - s)) && nat_le s (least (group_ids contents)) && nat_le n e) eh
+    ∙ filled ∙ sym (rw (fresh, named) (and_true (encloses s e contents)))
+  where
+    and_true : (b : Bool) → (b && true) ≡ b
+    and_true true = refl
+    and_true false = refl
+
+-- ---- Tests of each node
+
+every-and : (f g : Node → Bool) (n : Node) → every (λ x. f x && g x) n ≡ (every f n && every g n)
+every-and f g (cat a b) = rw (every-and f g a, every-and f g b) (six (f (cat a b)) (g (cat a b)) (every f a) (every g a) (every f b) (every g b))
+every-and f g (alt a b) = rw (every-and f g a, every-and f g b) (six (f (alt a b)) (g (alt a b)) (every f a) (every g a) (every f b) (every g b))
+every-and f g (capture_group id name n) = rw (every-and f g n) (four (f (capture_group id name n)) (g (capture_group id name n)) (every f n) (every g n))
+every-and f g (lookaround l n) = rw (every-and f g n) (four (f (lookaround l n)) (g (lookaround l n)) (every f n) (every g n))
+every-and f g (loop q s e n) = rw (every-and f g n) (four (f (loop q s e n)) (g (loop q s e n)) (every f n) (every g n))
+every-and f g (loop_1_char_body q n) = rw (every-and f g n) (four (f (loop_1_char_body q n)) (g (loop_1_char_body q n)) (every f n) (every g n))
+every-and f g n = refl
+
+pub every-sound : (m : ℕ) (n : Node) → every (is_sound_by_itself m) n
+    ≡ (every (refers_to_a_group m) n && every has_order_in_quantifier n && every has_one_character_body n && every has_text_in_sequence n && every fits_instructions n)
+every-sound m n =
+    every-and (λ x. refers_to_a_group m x && has_order_in_quantifier x && has_one_character_body x && has_text_in_sequence x) fits_instructions n
+    ∙ ap (λ b. b && every fits_instructions n)
+    (every-and (λ x. refers_to_a_group m x && has_order_in_quantifier x && has_one_character_body x) has_text_in_sequence n
+    ∙ ap (λ b. b && every has_text_in_sequence n)
+    (every-and (λ x. refers_to_a_group m x && has_order_in_quantifier x) has_one_character_body n
+    ∙ ap (λ b. b && every has_one_character_body n) (every-and (refers_to_a_group m) has_order_in_quantifier n)))
+
+-- ---- The whole test
+
+pub sound_is_well_formed : (root : Node) (f : ℕ → Bool) (count : ℕ) → goal_is_last root ≡ true → true ≡ (are_fresh f (group_ids root) && every names_the_groups_inside root)
+    → count ≡ length (group_ids root) → past (group_ids root) ≤ count → every (is_sound_by_itself count) root ≡ true → IsWellFormed root
+sound_is_well_formed root f count last found many high sound =
+    let fresh = both_first (are_fresh f (group_ids root)) (every names_the_groups_inside root) (sym found) in
+    let named = both_second (are_fresh f (group_ids root)) (every names_the_groups_inside root) (sym found) in
+    let r = every (refers_to_a_group count) root in
+    let o = every has_order_in_quantifier root in
+    let b = every has_one_character_body root in
+    let t = every has_text_in_sequence root in
+    let s = every fits_instructions root in
+    let all : (r && o && b && t && s) ≡ true = sym (every-sound count root) ∙ sound in
+    let all4 = both_first (r && o && b && t) s all in
+    let all3 = both_first (r && o && b) t all4 in
+    let all2 = both_first (r && o) b all3 in
+    record {
+      goal_last = last;
+      ids = each_once root f fresh (omega arith);
+      enclosed = named;
+      references = sym (ap (λ n. every (refers_to_a_group n) root) many) ∙ both_first r o all2;
+      quantifiers = both_second r o all2;
+      bodies = both_second (r && o) b all3;
+      sequences = both_second (r && o && b) t all4;
+      sets = both_second (r && o && b && t) s all;
+    }
+
+pub well_formed_is_sound : (root : Node) (count : ℕ) → count ≡ length (group_ids root) → IsWellFormed root → every (is_sound_by_itself count) root ≡ true
+well_formed_is_sound root count many w =
+    let r = every (refers_to_a_group count) root in
+    let o = every has_order_in_quantifier root in
+    let b = every has_one_character_body root in
+    let t = every has_text_in_sequence root in
+    let s = every fits_instructions root in
+    let refers : r ≡ true = ap (λ n. every (refers_to_a_group n) root) many ∙ w.references in
+    every-sound count root ∙ both (r && o && b && t) s (both (r && o && b) t (both (r && o) b (both r o refers w.quantifiers) w.bodies) w.sequences) w.sets
+
+pub well_formed_is_found : (root : Node) (f : ℕ → Bool) → ((k : ℕ) → f k ≡ false) → IsWellFormed root → (are_fresh f (group_ids root) && every names_the_groups_inside root) ≡ true
+well_formed_is_found root f none w =
+    both (are_fresh f (group_ids root)) (every names_the_groups_inside root) (fresh-same f (λ k. false) (group_ids root) none ∙ (once_each root w.ids).0) w.enclosed
+
+pub well_formed_has_room : (root : Node) → IsWellFormed root → past (group_ids root) ≤ length (group_ids root)
+well_formed_has_room root w = (once_each root w.ids).1
+
+-- so many ids can be counted
+pub few_ids : (root : Node) (f : ℕ → Bool) (p : Bool) → true ≡ (are_fresh f (group_ids root) && p) → past (group_ids root) ≤ 65536 → length (group_ids root) ≤ 65536
+few_ids root f p found high =
+    omega (arith, fresh-length (group_ids root) f 65536 (both_first (are_fresh f (group_ids root)) p (sym found)) high)
+
+pub joined-none : (ids : List ℕ) → joined (record { count = 0; low = 65536; high = 0 }) (span_of ids) ≡ span_of ids
+joined-none ids = same_span (joined (record { count = 0; low = 65536; high = 0 }) (span_of ids)) (span_of ids) (omega arith) (omega (arith, least-most ids)) (omega arith)
+
+pub joined-last : (s : Span) → s.count < 2 ^ 64 → s.low ≤ 65536 → joined s (span_of []) ≡ s
+unfolding least past
+joined-last s c l = same_span (joined s (span_of [])) s (omega arith) (omega arith) (omega arith)
+
+pub seen_next : (f g h : ℕ → Bool) (xs ys all : List ℕ) → ((k : ℕ) → g k ≡ (f k || contains xs k)) → ((k : ℕ) → (f k || contains (xs ++ ys) k) ≡ (h k || contains all k))
+    → (k : ℕ) → (g k || contains ys k) ≡ (h k || contains all k)
+seen_next f g h xs ys all a b k =
+    ap (λ t. t || contains ys k) (a k) ∙ or_assoc (f k) (contains xs k) (contains ys k) ∙ ap (λ t. f k || t) (sym (contains-append xs ys k)) ∙ b k
+
+pub some_bytes : (bytes : List ℕ) (b : Bool) → b ≡ true → not (length bytes == 0) ≡ (nat_lt 0 (length bytes) && b)
+some_bytes [] b e = refl
+some_bytes (x ∷ bytes) b e =
+    let some : nat_lt 0 (length (x ∷ bytes)) ≡ true = lt-ltb 0 (length (x ∷ bytes)) (omega arith) in
+    let more : (length (x ∷ bytes) == 0) ≡ false = ne_eqb (length (x ∷ bytes)) 0 (λ h. absurd (omega arith)) in
+    ap not more ∙ sym (both (nat_lt 0 (length (x ∷ bytes))) b some e)
+
+pub and_false : (a b : Bool) → b ≡ false → (a && b) ≡ false
+and_false true b e = e
+and_false false b e = refl

@@ -1,0 +1,10 @@
+use Rattle.std.proofs.Common.{◌≡◌, map, drop}
+use Rattle.regex_meaning.specs.Ticks.{chunks}
+use Rattle.regex_meaning.specs.Layout.{ByteSeq, ordered}
+use Rattle.regress_program.specs.Emitting.{state_of, with_insns}
+use Rattle.regress_program.proofs.emit.emitter.Emitter.emit_bytes.Given as goal
+
+abbrev pub invariant-loop-at : goal.invariant-loop-at
+invariant-loop-at l =
+    with_insns (map ByteSeq (drop l.at (ordered l.mode.behind (chunks l.bytes)))) (state_of l.self)
+    ≡ with_insns (map ByteSeq (ordered l.mode.behind (chunks l.bytes))) (state_of l.initial.self)

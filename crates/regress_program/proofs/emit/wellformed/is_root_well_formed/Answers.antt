@@ -1,0 +1,30 @@
+use Rattle.std.proofs.Common.{◌≡◌, ◌+◌, ◌≤◌, true, false, length, ◌∙◌, ap, sym, arith}
+use Rattle.regex_meaning.specs.Tree.{group_ids}
+use Rattle.regex_pattern_front.specs.TreeOf.{node_of}
+use Rattle.regress_program.specs.Ids.{is_seen, past}
+use Rattle.regress_program.proofs.IdLemmas.{sound_is_well_formed, well_formed_is_sound, well_formed_is_found, well_formed_has_room, few_ids, false_is_true}
+use Rattle.regress_program.proofs.emit.wellformed.is_root_well_formed.Goals as goal
+
+pub returns-in-None : goal.returns-in-None
+returns-in-None c =
+    let root = node_of c.args.root.now in
+    (λ h. absurd (false_is_true h), λ w. absurd (false_is_true (c.in-None.ensures.found ∙ well_formed_is_found root (is_seen c.none-ids.result.bits) c.none-ids.ensures w)))
+
+pub returns-then-span : goal.returns-then-span
+returns-then-span c =
+    let root = node_of c.args.root.now in
+    let span = c.in-Some.ensures.span in
+    let few = few_ids root (is_seen c.none-ids.result.bits) _ c.in-Some.ensures.found (omega (arith, ap (λ s. s.high) span, c.in-Some.ensures.bounded)) in
+    (λ h. absurd (false_is_true h), λ w. absurd (omega (arith, well_formed_has_room root w, few, ap (λ s. s.high) span, ap (λ s. s.count) span, c.if-span.true)))
+
+pub returns-else-span : goal.returns-else-span
+returns-else-span c =
+    let root = node_of c.args.root.now in
+    let span = c.in-Some.ensures.span in
+    let few = few_ids root (is_seen c.none-ids.result.bits) _ c.in-Some.ensures.found (omega (arith, ap (λ s. s.high) span, c.in-Some.ensures.bounded)) in
+    let count : c.in-Some.span.count ≡ length (group_ids root) = omega (arith, few, ap (λ s. s.count) span) in
+    let high : past (group_ids root) ≤ c.in-Some.span.count = omega (arith, ap (λ s. s.high) span, c.if-span.false) in
+    let last = sym c.is_goal_last.ensures ∙ c.if-not-is_goal_last.false in (
+      λ h. sound_is_well_formed root (is_seen c.none-ids.result.bits) c.in-Some.span.count last c.in-Some.ensures.found count high (sym c.is_sound.ensures ∙ h),
+      λ w. c.is_sound.ensures ∙ well_formed_is_sound root c.in-Some.span.count count w,
+    )

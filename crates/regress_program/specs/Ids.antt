@@ -1,0 +1,40 @@
+-- The ids of groups, as a test of trees reads them.
+use Rattle.std.specs.Prelude.{ℕ, ◌+◌, ◌-◌, ◌^◌, ◌/◌, ◌%◌, Bool, true, not, ◌&&◌, ◌||◌, List, [], ◌∷◌, length, min, max, nat_le, ◌==◌, slice_index}
+use Rattle.std.specs.Int.{bit_at}
+use Rattle.regex_meaning.specs.Tree.{Node}
+use Rattle.regex_meaning.specs.WellFormed.{refers_to_a_group, has_order_in_quantifier, has_one_character_body, has_text_in_sequence, fits_instructions}
+
+-- 64 ids to a word, the lowest bit first
+abbrev pub is_seen : List ℕ → ℕ → Bool
+is_seen bits id = bit_at (slice_index bits (id / 64)) (id % 64) == 1
+
+-- none of the ids is seen, and none stands twice
+unfoldable pub are_fresh : (seen : ℕ → Bool) → List ℕ → Bool
+are_fresh seen [] = true
+are_fresh seen (id ∷ ids) = not (seen id) && are_fresh (λ k. seen k || k == id) ids
+
+unfoldable pub least : List ℕ → ℕ
+least [] = 2 ^ 16
+least (id ∷ ids) = min id (least ids)
+
+-- one past the greatest
+unfoldable pub past : List ℕ → ℕ
+past [] = 0
+past (id ∷ ids) = max (id + 1) (past ids)
+
+pub record Span : Type 0 where
+  pub count : ℕ
+  pub low : ℕ
+  pub high : ℕ
+
+-- how many ids there are, the least of them, and one past the greatest; the count stops at 2^64 - 1
+abbrev pub span_of : List ℕ → Span
+span_of ids = record { count = min (length ids) (2 ^ 64 - 1); low = least ids; high = past ids }
+
+abbrev pub joined : Span → Span → Span
+joined a b = record { count = min (a.count + b.count) (2 ^ 64 - 1); low = min a.low b.low; high = max a.high b.high }
+
+-- what is asked of a node by itself, where there are so many groups
+abbrev pub is_sound_by_itself : (groups : ℕ) → Node → Bool
+is_sound_by_itself groups node =
+    refers_to_a_group groups node && has_order_in_quantifier node && has_one_character_body node && has_text_in_sequence node && fits_instructions node

@@ -1,0 +1,79 @@
+//! The code of brackets.
+
+ghost use Rattle.std.specs.Prelude.{◌≡◌, ◌||◌, nat_lt, OnOk, MatchOption, IsTrue};
+ghost use Rattle.std.specs.List.{list_all};
+ghost use Rattle.regex_meaning.specs.Tree.{bracket};
+ghost use Rattle.regex_meaning.specs.Layout.{is_ascii_set};
+ghost use Rattle.regex_meaning.specs.Outcomes.{in_intervals};
+ghost use Rattle.regex_meaning.specs.StartPredicate.{bytes_where};
+ghost use Rattle.regex_pattern_front.specs.TreeOf.{contents_of};
+ghost use Rattle.regex_pattern_front.specs.ByteSets.{ascii_bitmap_bytes};
+ghost use Rattle.regress_program.specs.Emitting.{state_of, with_code, with_bracket};
+
+use crate::emit::emitter::{Emitter, Mode};
+use crate::insn::Insn;
+use regex_pattern_front::bytesearch::AsciiBitmap;
+use regex_pattern_front::codepointset::Interval;
+use regex_pattern_front::types::BracketContents;
+use std::alloc::AllocError;
+
+impl Emitter {
+    // A set of bytes below 128 stands in the instruction, any other beside the code.
+    pub(crate) fn emit_bracket(
+        &mut self,
+        mode: Mode,
+        contents: &BracketContents,
+    ) -> Result<(), AllocError>
+        ensures { OnOk result (state_of self.new ≡ with_code mode.unicode mode.behind (bracket (contents_of contents.now)) (state_of self.old)) }
+    {
+        match ascii_bitmap(contents) {
+            Some(bitmap) => {
+                self.put(Insn::AsciiBracket(bitmap))?;
+                Ok(())
+            }
+            None => {
+                let index = self.brackets.len();
+                self.put(Insn::Bracket(index))?;
+                self.add_bracket(contents)?;
+                Ok(())
+            }
+        }
+    }
+
+    // One bracket more beside the code.
+    fn add_bracket(&mut self, contents: &BracketContents) -> Result<(), AllocError>
+        ensures { OnOk result (state_of self.new ≡ with_bracket (contents_of contents.now) (state_of self.old)) }
+    {
+        self.brackets.push(contents.clone()?)?;
+        Ok(())
+    }
+}
+
+// The set as one of bytes below 128, if it is one.
+fn ascii_bitmap(contents: &BracketContents) -> Option<AsciiBitmap>
+    ensures { MatchOption result (¬ (IsTrue (is_ascii_set (contents_of contents.now)))) (λ bitmap. IsTrue (is_ascii_set (contents_of contents.now)) × (ascii_bitmap_bytes bitmap ≡ bytes_where (in_intervals (contents_of contents.now).intervals))) }
+{
+    if !is_ascii(contents) {
+        return None;
+    }
+    let mut bitmap = AsciiBitmap::default();
+    for byte in 0..128 {
+        if contents.cps.contains(u32::from(byte)) {
+            bitmap.set(byte);
+        }
+    }
+    Some(bitmap)
+}
+
+// Whether the set holds bytes below 128 alone.
+fn is_ascii(contents: &BracketContents) -> bool
+    ensures { result ≡ is_ascii_set (contents_of contents.now) }
+{
+    !contents.invert && are_ascii(contents.cps.intervals())
+}
+
+fn are_ascii(intervals: &[Interval]) -> bool
+    ensures { result ≡ list_all (λ i. nat_lt i.last 128 || nat_lt i.last i.first) intervals.now }
+{
+    intervals.iter().all(|i| i.last < 128 || i.last < i.first)
+}

@@ -1,0 +1,108 @@
+//! The instructions of nodes that have one.
+
+ghost use Rattle.std.specs.Prelude.{◌≡◌, ◌<◌, ◌≤◌, length};
+ghost use Rattle.regex_meaning.specs.Layout as layout;
+ghost use Rattle.regex_pattern_front.specs.TreeOf.{anchor_of};
+ghost use Rattle.regress_program.specs.Insns.{insn_of};
+
+use crate::insn::Insn;
+use regex_pattern_front::bytesearch::ByteArraySet;
+use regex_pattern_front::ir::AnchorType;
+
+// One character of a set: its members, the first one again where there are fewer than four.
+pub(crate) fn char_set_insn(members: &[u32]) -> Insn
+    requires { length members.now ≤ 4 }
+    ensures { insn_of result ≡ layout.char_set_insn members.now }
+{
+    match members {
+        [] => Insn::JustFail,
+        [a] => Insn::CharSet([*a, *a, *a, *a]),
+        [a, b] => Insn::CharSet([*a, *b, *a, *a]),
+        [a, b, c] => Insn::CharSet([*a, *b, *c, *a]),
+        [a, b, c, d] => Insn::CharSet([*a, *b, *c, *d]),
+        _ => unreachable!(),
+    }
+}
+
+// A code point of a string, by its spellings.
+pub(crate) fn spelling_insn(members: &[u32]) -> Insn
+    requires { length members.now ≤ 4 }
+    ensures { insn_of result ≡ layout.spelling_insn members.now }
+{
+    match members {
+        [c] => Insn::Char(*c),
+        _ => char_set_insn(members),
+    }
+}
+
+// One byte of a set.
+pub(crate) fn byte_set_insn(members: &[u8]) -> Insn
+    requires { length members.now ≤ 4 }
+    ensures { insn_of result ≡ layout.byte_set_insn members.now }
+{
+    match members {
+        [] => Insn::JustFail,
+        [a] => Insn::ByteSeq1([*a]),
+        [a, b] => Insn::ByteSet2(ByteArraySet([*a, *b])),
+        [a, b, c] => Insn::ByteSet3(ByteArraySet([*a, *b, *c])),
+        [a, b, c, d] => Insn::ByteSet4(ByteArraySet([*a, *b, *c, *d])),
+        _ => unreachable!(),
+    }
+}
+
+// These bytes, of which there are 1 to 16.
+pub(crate) fn byte_seq_insn(bytes: &[u8]) -> Insn
+    requires some { 0 < length bytes.now }
+    requires few { length bytes.now ≤ 16 }
+    ensures { insn_of result ≡ layout.ByteSeq bytes.now }
+{
+    match bytes.len() {
+        1 => Insn::ByteSeq1(array(bytes)),
+        2 => Insn::ByteSeq2(array(bytes)),
+        3 => Insn::ByteSeq3(array(bytes)),
+        4 => Insn::ByteSeq4(array(bytes)),
+        5 => Insn::ByteSeq5(array(bytes)),
+        6 => Insn::ByteSeq6(array(bytes)),
+        7 => Insn::ByteSeq7(array(bytes)),
+        8 => Insn::ByteSeq8(array(bytes)),
+        9 => Insn::ByteSeq9(array(bytes)),
+        10 => Insn::ByteSeq10(array(bytes)),
+        11 => Insn::ByteSeq11(array(bytes)),
+        12 => Insn::ByteSeq12(array(bytes)),
+        13 => Insn::ByteSeq13(array(bytes)),
+        14 => Insn::ByteSeq14(array(bytes)),
+        15 => Insn::ByteSeq15(array(bytes)),
+        _ => Insn::ByteSeq16(array(bytes)),
+    }
+}
+
+fn array<const N: usize>(bytes: &[u8]) -> [u8; N]
+    requires { length bytes.now ≡ N }
+    ensures { result ≡ bytes.now }
+{
+    match <[u8; N]>::try_from(bytes) {
+        Ok(array) => array,
+        Err(_) => unreachable!(),
+    }
+}
+
+// `^` or `$`.
+pub(crate) fn anchor_insn(anchor_type: AnchorType, multiline: bool) -> Insn
+    ensures { insn_of result ≡ layout.anchor_insn (anchor_of anchor_type) multiline }
+{
+    match anchor_type {
+        AnchorType::StartOfLine => Insn::StartOfLine { multiline },
+        AnchorType::EndOfLine => Insn::EndOfLine { multiline },
+    }
+}
+
+// `\b` or `\B`.
+pub(crate) fn word_boundary_insn(invert: bool, unicode_icase: bool) -> Insn
+    ensures { insn_of result ≡ layout.word_boundary_insn invert unicode_icase }
+{
+    if unicode_icase {
+        Insn::WordBoundaryUnicodeICase { invert }
+    } else {
+        Insn::WordBoundary { invert }
+    }
+}

@@ -7,7 +7,8 @@ ghost use Rattle.regex_meaning.specs.WellFormed.{is_well_formed};
 ghost use Rattle.regex_pattern_front.specs.TreeOf.{tree_of};
 ghost use Rattle.regress_program.specs.Code.{compiled};
 ghost use Rattle.regress_program.specs.Insns.{insn_of};
-ghost use Rattle.regress_program.specs.Supported.{is_supported};
+ghost use Rattle.regress_machine.specs.Bytes.{ReadsBytes, reads_bytes};
+ghost use Rattle.std.specs.List.{list_all};
 ghost use Rattle.regress_machine.specs.Machine.{act, act_on, read_one};
 ghost use Rattle.regress_machine.specs.Finds.{initial, end_of};
 ghost use Rattle.regress_search.specs.Attempts.{end_from, offset_behind};
@@ -57,7 +58,31 @@ struct Searched<'r, Input: InputIndexer> {
     input: Input,
     ghost unicode: { (Input.text input).unicode ≡ (tree_of program.now).flags.unicode },
     ghost well_formed: { IsTrue (is_well_formed (tree_of program.now).root) },
-    ghost supported: { IsTrue (is_supported (tree_of program.now).root) },
+    ghost small: { IsTrue (list_all is_small (compiled (tree_of program.now)).insns) },
+    ghost bytes: { IsTrue (reads_bytes (tree_of program.now).root) → ReadsBytes (Input.text input) },
+}
+
+/// Whether this executor runs each instruction of a program. So far it runs those of characters, any character,
+/// rows and alternatives.
+pub fn can_run(re: &CompiledRegex) -> bool
+    ensures { result ≡ list_all is_small (compiled (tree_of re.now)).insns }
+{
+    for insn in re.insns() {
+        if !runs(*insn) {
+            return false;
+        }
+    }
+    true
+}
+
+// Whether the executor runs this instruction.
+fn runs(insn: Insn) -> bool
+    ensures { result ≡ is_small (insn_of insn) }
+{
+    matches!(
+        insn,
+        Insn::Goal | Insn::Char(_) | Insn::MatchAny | Insn::Alt { .. } | Insn::Jump { .. }
+    )
 }
 
 /// Runs a program over a text by copies of whole states.
@@ -323,9 +348,9 @@ impl<'r, Input: InputIndexer> MatchProducer for PikeVMExecutor<'r, Input> {
 }
 
 impl<'r, 't> PikeVMExecutor<'r, Utf8Input<'t>> {
-    /// Searches `text` with the program `re`.
+    /// Searches `text` with the program `re`, whose instructions this executor runs (`can_run`).
     pub fn new(re: &'r CompiledRegex, text: &'t str) -> Result<Self, AllocError>
-        requires { IsTrue (is_supported (tree_of re.now).root) }
+        requires { IsTrue (list_all is_small (compiled (tree_of re.now)).insns) }
         ensures root { IfOk result (λ e. ⟦<PikeVMExecutor<'r, Utf8Input<'t>> as MatchProducer>⟧.root e ≡ (tree_of re.now).root) }
         ensures text { IfOk result (λ e. ⟦<PikeVMExecutor<'r, Utf8Input<'t>> as MatchProducer>⟧.text e ≡ utf8_text text.now (tree_of re.now).flags.unicode) }
     {

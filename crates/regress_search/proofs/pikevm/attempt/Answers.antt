@@ -3,7 +3,7 @@ use Rattle.regex_pattern_front.specs.TreeOf.{tree_of}
 use Rattle.regress_program.specs.Code.{compiled}
 use Rattle.regress_machine.specs.Machine.{running}
 use Rattle.regress_search.specs.States.{state_of, next_of}
-use Rattle.regress_search.proofs.Small.{program-small, can-search}
+use Rattle.regress_search.proofs.Small.{get-small, can-search}
 use Rattle.regress_search.proofs.Remains.{Remains, remains-begin, remains-can, left-popped, left-none, left-went, left-forked, left-ended, popped-none}
 use Rattle.regress_search.proofs.pikevm.attempt.Goals as goal
 
@@ -15,7 +15,7 @@ search-init g c =
     let offset = g.Input.Position.PositionType.offset in
     rw c.clear.ensures.items (subst (λ s. Remains program tree text (offset c.args.pos) (running s ∷ [])) (sym c.in_ok-state.ensures)
     (remains-begin program tree text (offset c.args.pos)
-    (can-search tree text c.args.searched.now.well_formed c.args.searched.now.supported (g.met.Input.InputIndexer.is_text c.args.searched.now.input) c.args.searched.now.unicode) c.requires))
+    (can-search tree text c.args.searched.now.well_formed (g.met.Input.InputIndexer.is_text c.args.searched.now.input) c.args.searched.now.unicode c.args.searched.now.bytes) c.requires))
 
 pub take_turn-requires-clause-can : goal.take_turn-requires-clause-can
 take_turn-requires-clause-can g c =
@@ -23,10 +23,10 @@ take_turn-requires-clause-can g c =
     let program = compiled tree in
     let text = g.Input.InputIndexer.text c.args.searched.now.input in
     let offset = g.Input.Position.PositionType.offset in
-    remains-can program tree text (offset c.args.pos) (state_of offset c.search.state) _ c.search.invariant (program-small tree c.args.searched.now.supported)
+    remains-can program tree text (offset c.args.pos) (state_of offset c.search.state) _ c.search.invariant (get-small program.insns c.args.searched.now.small)
 
 pub take_turn-requires-clause-small : goal.take_turn-requires-clause-small
-take_turn-requires-clause-small g c = program-small (tree_of c.args.searched.now.program.now) c.args.searched.now.supported
+take_turn-requires-clause-small g c = get-small (compiled (tree_of c.args.searched.now.program.now)).insns c.args.searched.now.small
 
 pub returns-in_default : goal.returns-in_default
 returns-in_default g c =

@@ -2,10 +2,12 @@
 
 ghost use Rattle.std.specs.Prelude.{◌≡◌, ◌⊎◌, ◌<◌, IfOk, IsTrue, length};
 ghost use Rattle.regex_pattern_front.specs.TreeOf.{tree_of};
-ghost use Rattle.regress_program.specs.Supported.{is_supported};
+ghost use Rattle.std.specs.List.{list_all};
+ghost use Rattle.regress_program.specs.Code.{compiled};
+ghost use Rattle.regress_search.specs.States.{is_small};
 
 use crate::exec::{Match, Matches};
-use crate::pikevm::PikeVMExecutor;
+use crate::pikevm::{PikeVMExecutor, can_run};
 use regex_pattern_front::flags::Flags;
 use regex_pattern_front::ir::{Node, Regex};
 use regress_input::indexing::Utf8Input;
@@ -16,18 +18,22 @@ use std::test::Fail;
 
 // The program of a tree.
 fn program(alloc: Global, node: Node) -> Result<CompiledRegex, Fail>
-    ensures { IfOk result (λ p. IsTrue (is_supported (tree_of p).root)) }
+    ensures { IfOk result (λ p. IsTrue (list_all is_small (compiled (tree_of p)).insns)) }
 {
     let tree = Regex {
         node,
         flags: Flags::default(),
     };
-    Ok(emit(alloc, &tree)?)
+    let re = emit(alloc, &tree)?;
+    if !can_run(&re) {
+        return Err(Fail::from("a program that is not run"));
+    }
+    Ok(re)
 }
 
 // The ranges that the list yields from a start on, and whether it has then ended for good.
 fn listing(re: &CompiledRegex, text: &str, start: usize) -> Result<String, Fail>
-    requires supported { IsTrue (is_supported (tree_of re.now).root) }
+    requires supported { IsTrue (list_all is_small (compiled (tree_of re.now)).insns) }
     requires start { (start ≡ 0) ⊎ ((start ≡ length text.now) ⊎ (length text.now < start)) }
 {
     let executor = PikeVMExecutor::<Utf8Input>::new(re, text)?;

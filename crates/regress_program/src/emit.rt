@@ -45,7 +45,7 @@ pub enum EmitError {
     TooManyInstructions,
     /// A growth was refused.
     Memory,
-    /// A node stands in the tree that is not compiled yet.
+    /// The tree is not compiled yet: a group has a name, or a text has to start with given bytes.
     Unsupported,
 }
 

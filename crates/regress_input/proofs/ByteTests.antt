@@ -59,11 +59,15 @@ last_byte bytes end start c s = by (order (get_or bytes (end - 1) 0) 128)
     by : (get_or bytes (end - 1) 0 < 128) ⊎ (128 ≤ get_or bytes (end - 1) 0)
         → ((get_or bytes (end - 1) 0 ≡ c) × (end - 1 ≡ start)) ⊎ ((128 ≤ get_or bytes (end - 1) 0) × (128 ≤ c))
     by (inl h) = inl (back_one bytes end start c s h)
-    by (inr h) = inr (h, elim (bytes_at bytes start c s.stands) [
+    by (inr h) = inr (
+      h,
+      elim (bytes_at bytes start c s.stands) [
         | one l n m e ↦ let same : get_or bytes (end - 1) 0 ≡ get_or bytes start 0 = (let i : end - 1 ≡ start = omega (arith, s.ends) in ap (λ k. get_or bytes k 0) i) in absurd (omega arith)
         | two l n m o f e ↦ wide c (omega arith)
         | three l n m o f g e ↦ wide c (omega arith)
-        | four l n m o f g k e ↦ wide c (omega arith) ])
+        | four l n m o f g k e ↦ wide c (omega arith)
+      ],
+    )
 
 module _ (text : Text) (is_text : IsText text) (w : IsInUtf8 text) where
   abbrev cs : List ℕ
@@ -109,18 +113,21 @@ module _ (text : Text) (is_text : IsText text) (w : IsInUtf8 text) where
   -- no byte is there only at the end
   pub no_byte : (f : ℕ → Bool) (d : Direction) (at : ℕ) → IsBoundary text at → byte_beside bytes d at ≡ None → past_if text f d at ≡ None
   no_byte f rightwards at b e = elim (right at b) [
-      | at_end z r ↦ none_at f rightwards at r
-      | before_character k c rest g s l r ↦
-        let some : at < length bytes = omega (arith, len_utf8-positive c) in absurd (absent some) ]
+    | at_end z r ↦ none_at f rightwards at r
+    | before_character k c rest g s l r ↦
+        let some : at < length bytes = omega (arith, len_utf8-positive c) in absurd (absent some)
+  ]
     where
       absent : at < length bytes → ⊥
       absent l = let got = slice_get-get_or bytes at 0 l in cc
   no_byte f leftwards zero b e = elim (left zero b) [
-      | at_start z r ↦ none_at f leftwards zero r
-      | behind_character k c start rest g s m l r ↦ absurd (omega (arith, len_utf8-positive c)) ]
+    | at_start z r ↦ none_at f leftwards zero r
+    | behind_character k c start rest g s m l r ↦ absurd (omega (arith, len_utf8-positive c))
+  ]
   no_byte f leftwards (suc n) b e = elim (left (suc n) b) [
-      | at_start z r ↦ absurd (omega arith)
-      | behind_character k c start rest g s m l r ↦ let inside : n < length bytes = omega arith in absurd (absent inside) ]
+    | at_start z r ↦ absurd (omega arith)
+    | behind_character k c start rest g s m l r ↦ let inside : n < length bytes = omega arith in absurd (absent inside)
+  ]
     where
       absent : n < length bytes → ⊥
       absent l = let got = slice_get-get_or bytes n 0 l in cc
@@ -129,10 +136,11 @@ module _ (text : Text) (is_text : IsText text) (w : IsInUtf8 text) where
   pub byte_in_set : (members : List ℕ) → All (λ b. b < 128) members → (d : Direction) (at byte to : ℕ) → IsBoundary text at
       → Some byte ≡ byte_beside bytes d at → to ≡ one_on d at → led_to (contains members byte) to ≡ past_if text (contains members) d at
   byte_in_set members h rightwards at byte to b e t = elim (right at b) [
-      | at_end z r ↦ absurd (none z)
-      | before_character k c rest g s l r ↦
+    | at_end z r ↦ absurd (none z)
+    | before_character k c rest g s l r ↦
         let stands : StandsAt bytes at c = record { scalar = scalar_among cs k c in_scalars g; rest = rest; spelled = s } in
-        both c r (bytes_at bytes at c stands) ]
+        both c r (bytes_at bytes at c stands)
+  ]
     where
       none : at ≡ length bytes → ⊥
       none z = let past = slice_get_past bytes at (omega arith) in cc
@@ -157,10 +165,11 @@ module _ (text : Text) (is_text : IsText text) (w : IsInUtf8 text) where
       both c r (four l n m o f g k e') = high c r (omega arith) (omega arith) (omega arith)
   byte_in_set members h leftwards zero byte to b e t = absurd (cc)
   byte_in_set members h leftwards (suc n) byte to b e t = elim (left (suc n) b) [
-      | at_start z r ↦ absurd (omega arith)
-      | behind_character k c start rest g s m l r ↦
+    | at_start z r ↦ absurd (omega arith)
+    | behind_character k c start rest g s m l r ↦
         let ends : EndsAt bytes (suc n) start c = record { stands = record { scalar = scalar_among cs k c in_scalars g; rest = rest; spelled = s }; ends = m } in
-        both c start r l (last_byte bytes (suc n) start c ends) ]
+        both c start r l (last_byte bytes (suc n) start c ends)
+  ]
     where
       byte_is : suc n ≤ length bytes → byte ≡ get_or bytes (suc n - 1) 0
       byte_is l =
@@ -203,12 +212,13 @@ module _ (text : Text) (is_text : IsText text) (w : IsInUtf8 text) where
 
     pub literal_accepts : (d : Direction) (at : ℕ) → IsBoundary text at → past_bytes bytes literal d at ≡ past_if text (accepts (byte_sequence literal)) d at
     literal_accepts rightwards at b = elim (right at b) [
-        | at_end z r ↦ same_option (past_bytes bytes literal rightwards at) (past_if text (accepts (byte_sequence literal)) rightwards at)
+      | at_end z r ↦ same_option (past_bytes bytes literal rightwards at) (past_if text (accepts (byte_sequence literal)) rightwards at)
           (λ to e. let h = past_bytes-right bytes literal at to e in absurd (omega (arith, h.fits, long, len_utf8-positive c)))
           (λ to e. absurd (none to (sym (none_at (accepts (byte_sequence literal)) rightwards at r) ∙ e)))
-        | before_character k d rest g s l r ↦ same_option (past_bytes bytes literal rightwards at) (past_if text (accepts (byte_sequence literal)) rightwards at)
+      | before_character k d rest g s l r ↦ same_option (past_bytes bytes literal rightwards at) (past_if text (accepts (byte_sequence literal)) rightwards at)
           (λ to e. there d rest s r to (past_bytes-right bytes literal at to e))
-          (λ to e. back d rest s l to (sym (accepted_at (accepts (byte_sequence literal)) rightwards at d (at + len_utf8 d) r) ∙ e)) ]
+          (λ to e. back d rest s l to (sym (accepted_at (accepts (byte_sequence literal)) rightwards at d (at + len_utf8 d) r) ∙ e))
+    ]
       where
         none : (to : ℕ) → None ≡ Some to → ⊥
         none to e = cc
@@ -237,14 +247,15 @@ module _ (text : Text) (is_text : IsText text) (w : IsInUtf8 text) where
               are = ap (λ k. take k (drop at bytes)) n ∙ ap (take (length literal)) s ∙ take_at (encode d) rest (length literal) (sym (ap length whole)) ∙ sym whole;
             })
     literal_accepts leftwards at b = elim (left at b) [
-        | at_start z r ↦ same_option (past_bytes bytes literal leftwards at) (past_if text (accepts (byte_sequence literal)) leftwards at)
+      | at_start z r ↦ same_option (past_bytes bytes literal leftwards at) (past_if text (accepts (byte_sequence literal)) leftwards at)
           (λ to e. let h = past_bytes-left bytes literal at to e in absurd (omega (arith, h.fits, long, len_utf8-positive c)))
           (λ to e. absurd (none to (sym (none_at (accepts (byte_sequence literal)) leftwards at r) ∙ e)))
-        | behind_character k d start rest g s m l r ↦
+      | behind_character k d start rest g s m l r ↦
           let ends : EndsAt bytes at start d = record { stands = record { scalar = scalar_among cs k d in_scalars g; rest = rest; spelled = s }; ends = m } in
           same_option (past_bytes bytes literal leftwards at) (past_if text (accepts (byte_sequence literal)) leftwards at)
           (λ to e. there d start ends l r to (past_bytes-left bytes literal at to e))
-          (λ to e. back d start rest s m to (sym (accepted_at (accepts (byte_sequence literal)) leftwards at d start r) ∙ e)) ]
+          (λ to e. back d start rest s m to (sym (accepted_at (accepts (byte_sequence literal)) leftwards at d start r) ∙ e))
+    ]
       where
         none : (to : ℕ) → None ≡ Some to → ⊥
         none to e = cc

@@ -270,13 +270,17 @@ module _ (text : Text) (same : ℕ → ℕ → Bool) where
         let long : length (slice_range cs p q) ≡ q - p = omega (arith, length-take (q - p) (drop p cs), length-drop p cs, stop.within) in
         let list : slice_range cs p q ≡ slice_range cs p (p + (q - p)) = ap (slice_range cs p) end in
         record {
-          count = q - p; from = p; at_from = start; there = k; pos_there = here;
+          count = q - p;
+          from = p;
+          at_from = start;
+          there = k;
+          pos_there = here;
           stops = subst (HasPlace text to) end stop;
           fits = omega (arith, stop.within);
           found_is =
-          ap₂ (λ (n : ℕ) (xs : List ℕ). if nat_le n (length cs - k) && pointwise same xs (slice_range cs k (k + n)) then Some (offset text (k + n)) else None) long list
-          ∙ sym (option_offset (nat_le (q - p) (length cs - k) && pointwise same (slice_range cs p (p + (q - p))) (slice_range cs k (k + (q - p)))) (k + (q - p)))
-          ∙ ap (option_map (λ p. offset text p)) (sym (run-right (q - p) p k (omega (arith, stop.within))));
+              ap₂ (λ (n : ℕ) (xs : List ℕ). if nat_le n (length cs - k) && pointwise same xs (slice_range cs k (k + n)) then Some (offset text (k + n)) else None) long list
+              ∙ sym (option_offset (nat_le (q - p) (length cs - k) && pointwise same (slice_range cs p (p + (q - p))) (slice_range cs k (k + (q - p)))) (k + (q - p)))
+              ∙ ap (option_map (λ p. offset text p)) (sym (run-right (q - p) p k (omega (arith, stop.within))));
         }
 
     pub start_left : (at from to : ℕ) → IsBoundary text at → IsBoundary text from → IsBoundary text to → from ≤ to
@@ -293,13 +297,17 @@ module _ (text : Text) (same : ℕ → ℕ → Bool) where
         let long : length (slice_range cs p q) ≡ q - p = omega (arith, length-take (q - p) (drop p cs), length-drop p cs, stop.within) in
         let list : slice_range cs p q ≡ slice_range cs (q - (q - p)) q = ap (λ n. slice_range cs n q) begin in
         record {
-          count = q - p; from = q; at_from = stop; there = k; pos_there = here;
+          count = q - p;
+          from = q;
+          at_from = stop;
+          there = k;
+          pos_there = here;
           stops = subst (HasPlace text from) begin start;
           fits = omega arith;
           found_is =
-          ap₂ (λ (n : ℕ) (xs : List ℕ). if nat_le n k && pointwise same xs (slice_range cs (k - n) k) then Some (offset text (k - n)) else None) long list
-          ∙ sym (option_offset (nat_le (q - p) k && pointwise same (slice_range cs (q - (q - p)) q) (slice_range cs (k - (q - p)) k)) (k - (q - p)))
-          ∙ ap (option_map (λ p. offset text p)) (sym (run-left (q - p) q k (omega arith) (stop.within) (here.within)));
+              ap₂ (λ (n : ℕ) (xs : List ℕ). if nat_le n k && pointwise same xs (slice_range cs (k - n) k) then Some (offset text (k - n)) else None) long list
+              ∙ sym (option_offset (nat_le (q - p) k && pointwise same (slice_range cs (q - (q - p)) q) (slice_range cs (k - (q - p)) k)) (k - (q - p)))
+              ∙ ap (option_map (λ p. offset text p)) (sym (run-left (q - p) q k (omega arith) (stop.within) (here.within)));
         }
 
     same_place : (a b p q : ℕ) → HasPlace text a p → HasPlace text b q → a ≡ b → p ≡ q
@@ -407,11 +415,15 @@ module _ (text : Text) (same : ℕ → ℕ → Bool) where
         let k = read_next d pos y pos' c.there c.pos_there s in
         let l : suc n.0 ≤ characters_left text d c.from = omega (arith, c.fits, n.1) in
         record {
-          count = n.0; from = moved text d 1 c.from; at_from = a.1; there = moved text d 1 c.there; pos_there = k.1;
+          count = n.0;
+          from = moved text d 1 c.from;
+          at_from = a.1;
+          there = moved text d 1 c.there;
+          pos_there = k.1;
           stops = subst (HasPlace text stop) (ap (λ m. moved text d m c.from) n.1 ∙ moved_on d n.0 c.from l) c.stops;
           fits = fits_on d n.0 c.from l;
           found_is = found_run d at stop pos found c n.0 n.1 (run d n.0 (moved text d 1 c.from) (moved text d 1 c.there))
-          (run-some d n.0 c.from c.there x y a.0 k.0 ∙ ap (λ (b : Bool). if b then run d n.0 (moved text d 1 c.from) (moved text d 1 c.there) else None) f);
+              (run-some d n.0 c.from c.there x y a.0 k.0 ∙ ap (λ (b : Bool). if b then run d n.0 (moved text d 1 c.from) (moved text d 1 c.there) else None) f);
         }
 
     -- where a loop in either direction begins

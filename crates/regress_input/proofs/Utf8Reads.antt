@@ -189,25 +189,25 @@ data Back (bytes : List ℕ) (end start c : ℕ) : Type 0 where
 
 back : (bytes : List ℕ) (end start c : ℕ) → EndsAt bytes end start c → Back bytes end start c
 back bytes end start c s = elim (bytes_at bytes start c s.stands) [
-    | one l n h e ↦
+  | one l n h e ↦
       let z : get_or bytes (end - 1) 0 ≡ get_or bytes start 0 = at_same (end - 1) start (omega (arith, s.ends)) in
       one_back (omega (arith, s.ends)) (omega (arith, s.ends)) (omega arith) (z ∙ e)
-    | two l n h i f e ↦
+  | two l n h i f e ↦
       let y : get_or bytes (end - 2) 0 ≡ get_or bytes start 0 = at_same (end - 2) start (omega (arith, s.ends)) in
       let z : get_or bytes (end - 1) 0 ≡ get_or bytes (start + 1) 0 = at_same (end - 1) (start + 1) (omega (arith, s.ends)) in
       two_back (omega (arith, s.ends)) (omega (arith, s.ends)) (omega arith) (omega arith) (omega arith)
-    | three l n h i f g e ↦
+  | three l n h i f g e ↦
       let x : get_or bytes (end - 3) 0 ≡ get_or bytes start 0 = at_same (end - 3) start (omega (arith, s.ends)) in
       let y : get_or bytes (end - 2) 0 ≡ get_or bytes (start + 1) 0 = at_same (end - 2) (start + 1) (omega (arith, s.ends)) in
       let z : get_or bytes (end - 1) 0 ≡ get_or bytes (start + 2) 0 = at_same (end - 1) (start + 2) (omega (arith, s.ends)) in
       three_back (omega (arith, s.ends)) (omega (arith, s.ends)) (omega arith) (omega arith) (omega arith) (omega arith)
-    | four l n h i f g k e ↦
+  | four l n h i f g k e ↦
       let w : get_or bytes (end - 4) 0 ≡ get_or bytes start 0 = at_same (end - 4) start (omega (arith, s.ends)) in
       let x : get_or bytes (end - 3) 0 ≡ get_or bytes (start + 1) 0 = at_same (end - 3) (start + 1) (omega (arith, s.ends)) in
       let y : get_or bytes (end - 2) 0 ≡ get_or bytes (start + 2) 0 = at_same (end - 2) (start + 2) (omega (arith, s.ends)) in
       let z : get_or bytes (end - 1) 0 ≡ get_or bytes (start + 3) 0 = at_same (end - 1) (start + 3) (omega (arith, s.ends)) in
       four_back (omega (arith, s.ends)) (omega (arith, s.ends)) (omega arith) (omega arith) (omega arith) (omega arith)
-  ]
+]
   where
     at_same : (i j : ℕ) → i ≡ j → get_or bytes i 0 ≡ get_or bytes j 0
     at_same i j e = ap (λ n. get_or bytes n 0) e
@@ -218,62 +218,70 @@ Ends bytes end = (start : ℕ) × (c : ℕ) × EndsAt bytes end start c
 
 pub last_inside : (bytes : List ℕ) (end : ℕ) → Ends bytes end → (1 ≤ end) × (end ≤ length bytes)
 last_inside bytes end (start, c, s) = elim (back bytes end start c s) [
-    | one_back e l h i ↦ (omega arith, l)
-    | two_back e l h i f ↦ (omega arith, l)
-    | three_back e l h i f g ↦ (omega arith, l)
-    | four_back e l h i f g ↦ (omega arith, l) ]
+  | one_back e l h i ↦ (omega arith, l)
+  | two_back e l h i f ↦ (omega arith, l)
+  | three_back e l h i f g ↦ (omega arith, l)
+  | four_back e l h i f g ↦ (omega arith, l)
+]
 
 pub second_back : (bytes : List ℕ) (end : ℕ) → Ends bytes end → 128 ≤ get_or bytes (end - 1) 0 → 2 ≤ end
 second_back bytes end (start, c, s) m = elim (back bytes end start c s) [
-    | one_back e l h i ↦ absurd (omega arith)
-    | two_back e l h i f ↦ omega arith
-    | three_back e l h i f g ↦ omega arith
-    | four_back e l h i f g ↦ omega arith ]
+  | one_back e l h i ↦ absurd (omega arith)
+  | two_back e l h i f ↦ omega arith
+  | three_back e l h i f g ↦ omega arith
+  | four_back e l h i f g ↦ omega arith
+]
 
 pub third_back : (bytes : List ℕ) (end : ℕ) → Ends bytes end → 128 ≤ get_or bytes (end - 1) 0 → get_or bytes (end - 2) 0 < 192 → 3 ≤ end
 third_back bytes end (start, c, s) m n = elim (back bytes end start c s) [
-    | one_back e l h i ↦ absurd (omega arith)
-    | two_back e l h i f ↦ absurd (omega arith)
-    | three_back e l h i f g ↦ omega arith
-    | four_back e l h i f g ↦ omega arith ]
+  | one_back e l h i ↦ absurd (omega arith)
+  | two_back e l h i f ↦ absurd (omega arith)
+  | three_back e l h i f g ↦ omega arith
+  | four_back e l h i f g ↦ omega arith
+]
 
 pub fourth_back : (bytes : List ℕ) (end : ℕ) → Ends bytes end → 128 ≤ get_or bytes (end - 1) 0 → get_or bytes (end - 2) 0 < 192 → get_or bytes (end - 3) 0 < 192 → 4 ≤ end
 fourth_back bytes end (start, c, s) m n o = elim (back bytes end start c s) [
-    | one_back e l h i ↦ absurd (omega arith)
-    | two_back e l h i f ↦ absurd (omega arith)
-    | three_back e l h i f g ↦ absurd (omega arith)
-    | four_back e l h i f g ↦ omega arith ]
+  | one_back e l h i ↦ absurd (omega arith)
+  | two_back e l h i f ↦ absurd (omega arith)
+  | three_back e l h i f g ↦ absurd (omega arith)
+  | four_back e l h i f g ↦ omega arith
+]
 
 pub back_one : (bytes : List ℕ) (end start c : ℕ) → EndsAt bytes end start c → get_or bytes (end - 1) 0 < 128 → (get_or bytes (end - 1) 0 ≡ c) × (end - 1 ≡ start)
 back_one bytes end start c s m = elim (back bytes end start c s) [
-    | one_back e l h i ↦ (i, omega arith)
-    | two_back e l h i f ↦ absurd (omega arith)
-    | three_back e l h i f g ↦ absurd (omega arith)
-    | four_back e l h i f g ↦ absurd (omega arith) ]
+  | one_back e l h i ↦ (i, omega arith)
+  | two_back e l h i f ↦ absurd (omega arith)
+  | three_back e l h i f g ↦ absurd (omega arith)
+  | four_back e l h i f g ↦ absurd (omega arith)
+]
 
 pub back_two : (bytes : List ℕ) (end start c : ℕ) → EndsAt bytes end start c → 128 ≤ get_or bytes (end - 1) 0 → 192 ≤ get_or bytes (end - 2) 0
     → (c + 12416 ≡ get_or bytes (end - 2) 0 * 64 + get_or bytes (end - 1) 0) × (end - 2 ≡ start)
 back_two bytes end start c s m n = elim (back bytes end start c s) [
-    | one_back e l h i ↦ absurd (omega arith)
-    | two_back e l h i f ↦ (f, omega arith)
-    | three_back e l h i f g ↦ absurd (omega arith)
-    | four_back e l h i f g ↦ absurd (omega arith) ]
+  | one_back e l h i ↦ absurd (omega arith)
+  | two_back e l h i f ↦ (f, omega arith)
+  | three_back e l h i f g ↦ absurd (omega arith)
+  | four_back e l h i f g ↦ absurd (omega arith)
+]
 
 pub back_three : (bytes : List ℕ) (end start c : ℕ) → EndsAt bytes end start c → 128 ≤ get_or bytes (end - 1) 0 → get_or bytes (end - 2) 0 < 192 → 192 ≤ get_or bytes (end - 3) 0
     → (c + 925824 ≡ get_or bytes (end - 3) 0 * 4096 + get_or bytes (end - 2) 0 * 64 + get_or bytes (end - 1) 0) × (end - 3 ≡ start)
 back_three bytes end start c s m n o = elim (back bytes end start c s) [
-    | one_back e l h i ↦ absurd (omega arith)
-    | two_back e l h i f ↦ absurd (omega arith)
-    | three_back e l h i f g ↦ (g, omega arith)
-    | four_back e l h i f g ↦ absurd (omega arith) ]
+  | one_back e l h i ↦ absurd (omega arith)
+  | two_back e l h i f ↦ absurd (omega arith)
+  | three_back e l h i f g ↦ (g, omega arith)
+  | four_back e l h i f g ↦ absurd (omega arith)
+]
 
 pub back_four : (bytes : List ℕ) (end start c : ℕ) → EndsAt bytes end start c → 128 ≤ get_or bytes (end - 1) 0 → get_or bytes (end - 2) 0 < 192 → get_or bytes (end - 3) 0 < 192
     → (c + 63447168 ≡ get_or bytes (end - 4) 0 * 262144 + get_or bytes (end - 3) 0 * 4096 + get_or bytes (end - 2) 0 * 64 + get_or bytes (end - 1) 0) × (end - 4 ≡ start)
 back_four bytes end start c s m n o = elim (back bytes end start c s) [
-    | one_back e l h i ↦ absurd (omega arith)
-    | two_back e l h i f ↦ absurd (omega arith)
-    | three_back e l h i f g ↦ absurd (omega arith)
-    | four_back e l h i f g ↦ (g, omega arith) ]
+  | one_back e l h i ↦ absurd (omega arith)
+  | two_back e l h i f ↦ absurd (omega arith)
+  | three_back e l h i f g ↦ absurd (omega arith)
+  | four_back e l h i f g ↦ (g, omega arith)
+]
 
 pub encodes-flat_map : (cs : List ℕ) → encodes cs ≡ flat_map encode cs
 encodes-flat_map [] = refl
@@ -375,15 +383,18 @@ module _ (bytes : List ℕ) (unicode : Bool) (is_utf8 : ∥ IsUtf8 bytes ∥₁)
     -- a boundary that is not the left end has a character before it
     pub ends_at : (at : ℕ) → IsBoundary text at → at ≢ 0 → (start : ℕ) × (c : ℕ) × EndsAt bs at start c
     ends_at at b n = elim (left at b) [
-        at_the_start e r ↦ absurd (n e)
-        | character_before start c s l i r ↦ (start, c, subst (λ l. EndsAt l at start c) (sym same) s) ]
+      | at_the_start e r ↦ absurd (n e)
+      | character_before start c s l i r ↦ (start, c, subst (λ l. EndsAt l at start c) (sym same) s)
+    ]
 
     pub read-character-left : (at x y : ℕ) → IsBoundary text at → at ≢ 0 → ((start c : ℕ) → EndsAt bs at start c → (x ≡ c) × (y ≡ start)) → Some (x, y) ≡ read text leftwards at
     read-character-left at x y b n is = elim (left at b) [
-        at_the_start e r ↦ absurd (n e)
-        | character_before start c s l i r ↦ let both = is start c (subst (λ l. EndsAt l at start c) (sym same) s) in ap₂ (λ v w. Some (v, w)) both.0 both.1 ∙ sym r ]
+      | at_the_start e r ↦ absurd (n e)
+      | character_before start c s l i r ↦ let both = is start c (subst (λ l. EndsAt l at start c) (sym same) s) in ap₂ (λ v w. Some (v, w)) both.0 both.1 ∙ sym r
+    ]
 
     pub read-before : (at y : ℕ) → IsBoundary text at → at ≢ 0 → ((start c : ℕ) → EndsAt bs at start c → y ≡ start) → Some y ≡ option_map (λ r. r.1) (read text leftwards at)
     read-before at y b n is = elim (left at b) [
-        at_the_start e r ↦ absurd (n e)
-        | character_before start c s l i r ↦ let past = is start c (subst (λ l. EndsAt l at start c) (sym same) s) in ap Some past ∙ sym (ap (option_map (λ v. v.1)) r) ]
+      | at_the_start e r ↦ absurd (n e)
+      | character_before start c s l i r ↦ let past = is start c (subst (λ l. EndsAt l at start c) (sym same) s) in ap Some past ∙ sym (ap (option_map (λ v. v.1)) r)
+    ]

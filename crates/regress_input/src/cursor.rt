@@ -4,9 +4,8 @@ ghost use Rattle.std.specs.Prelude.{◌≡◌, ◌≤◌, ℕ, IfSome, IfNone, I
 ghost use Rattle.regex_meaning.specs.Offsets.{IsBoundary, units, read};
 ghost use Rattle.regress_input.specs.Reading.{way, led_to, bytes_of, byte_beside, past_bytes, one_on};
 
-pub use crate::position::{Backward, Direction, Forward};
-
 use crate::indexing::InputIndexer;
+pub use crate::position::{Backward, Direction, Forward};
 
 /// The next character in the direction, and the position past it; at that end none, and the position stays.
 #[inline(always)]

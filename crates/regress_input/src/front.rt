@@ -8,7 +8,5 @@ pub use regex_pattern_front::folding::{
     add_utf8_first_bytes_to_bitmap, expand_code_point, fold_code_point,
     nonascii_folds_to_ascii_word_char, utf8_first_byte,
 };
-pub use regex_pattern_front::types::{
-    BracketContents, CaptureGroupID, LoopID, MAX_CAPTURE_GROUPS,
-};
+pub use regex_pattern_front::types::{BracketContents, CaptureGroupID, LoopID, MAX_CAPTURE_GROUPS};
 pub use regex_pattern_front::{flags, ir};

@@ -11,7 +11,6 @@ ghost use Rattle.regress_input.specs.Reading.{way, led_to, same_fold, character,
 mod utf8_input;
 
 pub use self::utf8_input::{UTF8CharProperties, Utf8Input};
-
 use crate::front::{BracketContents, ByteSearcher, nonascii_folds_to_ascii_word_char};
 use crate::position::{Direction, PositionType};
 use std::fmt::Debug;
@@ -263,12 +262,7 @@ pub trait InputIndexer: Copy + Debug {
 
     /// Whether these bytes stand on the direction's side of any byte offset, read left to right. Then the position is
     /// behind them, and else it is not specified.
-    fn match_bytes<Dir: Direction>(
-        &self,
-        dir: Dir,
-        pos: &mut Self::Position,
-        bytes: &[u8],
-    ) -> bool
+    fn match_bytes<Dir: Direction>(&self, dir: Dir, pos: &mut Self::Position, bytes: &[u8]) -> bool
         requires bytes { IsTrue Self.Units.ARE_BYTES }
         requires inside { Self.Position.offset pos.old ≤ units (text self.now) }
         ensures { led_to result (Self.Position.offset pos.new) ≡ past_bytes (bytes_of (text self.now)) bytes.now (way Dir.FORWARD) (Self.Position.offset pos.old) };

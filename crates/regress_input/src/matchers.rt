@@ -4,10 +4,9 @@ ghost use Rattle.std.specs.Prelude.{◌≡◌, ◌≤◌, nat_eq};
 ghost use Rattle.regex_meaning.specs.Offsets.{IsBoundary};
 ghost use Rattle.regress_input.specs.Reading.{way, led_to, same_fold, characters_between, past_spelled};
 
-pub use crate::indexing::{CharProperties, UTF8CharProperties};
-
 use crate::cursor::{self, Direction};
 use crate::indexing::InputIndexer;
+pub use crate::indexing::{CharProperties, UTF8CharProperties};
 use std::ops::Range;
 
 /// Whether the characters of a range stand once more on the direction's side of a boundary, read left to right. Then
@@ -45,7 +44,11 @@ pub fn backref_icase<Input: InputIndexer, Dir: Direction>(
 {
     let start = orig_range.start;
     let end = orig_range.end;
-    let (mut at, stop) = if Dir::FORWARD { (start, end) } else { (end, start) };
+    let (mut at, stop) = if Dir::FORWARD {
+        (start, end)
+    } else {
+        (end, start)
+    };
     'each: while at != stop {
         let Some(c1) = cursor::next(input, dir, &mut at) else {
             return false;

@@ -118,8 +118,7 @@ impl MatchAnyExceptLineTerminator {
 }
 
 impl<Input: InputIndexer, Dir: Direction> SingleCharMatcher<Input, Dir>
-    for MatchAnyExceptLineTerminator
-{
+    for MatchAnyExceptLineTerminator {
     ghost accepted = { λ _ d. not (is_line_terminator d) };
 
     #[inline(always)]
@@ -137,8 +136,7 @@ pub struct MatchByteSet<'a, Bytes: ByteSet> {
 }
 
 impl<'a, Input: InputIndexer, Dir: Direction, Bytes: ByteSet> SingleCharMatcher<Input, Dir>
-    for MatchByteSet<'a, Bytes>
-{
+    for MatchByteSet<'a, Bytes> {
     ghost can_match = { λ m. All (λ b. b < 128) (Bytes.members m.bytes.now) };
 
     ghost accepted = { λ m. contains (Bytes.members m.bytes.now) };
@@ -171,8 +169,7 @@ fn contains_number<Bytes: ByteSet>(bytes: &Bytes, c: u32) -> bool
 pub struct MatchByteArraySet<ArraySet: SmallArraySet>(pub ByteArraySet<ArraySet>);
 
 impl<Input: InputIndexer, Dir: Direction, ArraySet: SmallArraySet> SingleCharMatcher<Input, Dir>
-    for MatchByteArraySet<ArraySet>
-{
+    for MatchByteArraySet<ArraySet> {
     ghost can_match = { λ m. IsTrue Input.Units.ARE_BYTES × All (λ b. b < 128) (ArraySet.members m.0.0) };
 
     ghost accepted = { λ m. contains (ArraySet.members m.0.0) };
@@ -190,8 +187,7 @@ impl<Input: InputIndexer, Dir: Direction, ArraySet: SmallArraySet> SingleCharMat
 pub struct MatchByteSeq<'a, const N: usize>(pub &'a [u8; N]);
 
 impl<'a, const N: usize, Input: InputIndexer, Dir: Direction> SingleCharMatcher<Input, Dir>
-    for MatchByteSeq<'a, N>
-{
+    for MatchByteSeq<'a, N> {
     ghost can_match = { λ m. IsTrue Input.Units.ARE_BYTES × ((c : ℕ) × IsScalar c × (m.0.now ≡ encode_utf8 c)) };
 
     ghost accepted = { λ m. accepts (byte_sequence m.0.now) };

@@ -26,11 +26,7 @@ pub(crate) fn unit_left(bytes: &[u8], at: usize) -> Option<u8>
     requires { at ≤ length bytes.now }
     ensures { result ≡ byte_beside bytes.now leftwards at }
 {
-    if at == 0 {
-        None
-    } else {
-        Some(bytes[at - 1])
-    }
+    if at == 0 { None } else { Some(bytes[at - 1]) }
 }
 
 /// The offset behind these bytes on the side that is read, if they stand there.
@@ -55,7 +51,11 @@ fn past_right(all: &[u8], at: usize, bytes: &[u8]) -> Option<usize>
         return None;
     }
     let end = at + bytes.len();
-    if &all[at..end] == bytes { Some(end) } else { None }
+    if &all[at..end] == bytes {
+        Some(end)
+    } else {
+        None
+    }
 }
 
 #[inline(always)]
@@ -67,12 +67,20 @@ fn past_left(all: &[u8], at: usize, bytes: &[u8]) -> Option<usize>
         return None;
     }
     let start = at - bytes.len();
-    if &all[start..at] == bytes { Some(start) } else { None }
+    if &all[start..at] == bytes {
+        Some(start)
+    } else {
+        None
+    }
 }
 
 /// The first offset, from this one on, at which the bytes stand that are looked for.
 #[inline(always)]
-pub(crate) fn find_from<Search: ByteSearcher>(all: &[u8], at: usize, search: &Search) -> Option<usize>
+pub(crate) fn find_from<Search: ByteSearcher>(
+    all: &[u8],
+    at: usize,
+    search: &Search,
+) -> Option<usize>
     requires { at ≤ length all.now }
     ensures { IsFoundFrom (Search.stands_at search.now) all.now at result }
 {
@@ -119,11 +127,7 @@ pub(crate) fn moved_right(len: usize, at: usize, amt: usize) -> Option<usize>
     requires { at ≤ len }
     ensures { result ≡ units_on len rightwards amt at }
 {
-    if len - at < amt {
-        None
-    } else {
-        Some(at + amt)
-    }
+    if len - at < amt { None } else { Some(at + amt) }
 }
 
 /// The offset so many units to the left, if there are so many.
@@ -131,9 +135,5 @@ pub(crate) fn moved_right(len: usize, at: usize, amt: usize) -> Option<usize>
 pub(crate) fn moved_left(at: usize, amt: usize) -> Option<usize>
     ensures { (len : ℕ) → result ≡ units_on len leftwards amt at }
 {
-    if at < amt {
-        None
-    } else {
-        Some(at - amt)
-    }
+    if at < amt { None } else { Some(at - amt) }
 }

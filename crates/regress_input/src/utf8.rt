@@ -64,7 +64,10 @@ pub(crate) fn character_before(bytes: &[u8], end: usize) -> (char, usize)
     if third >= 0xC0 {
         return (character_of_three(third, second, last), end - 3);
     }
-    (character_of_four(bytes[end - 4], third, second, last), end - 4)
+    (
+        character_of_four(bytes[end - 4], third, second, last),
+        end - 4,
+    )
 }
 
 /// Where the character begins that ends at an offset.

@@ -4,7 +4,9 @@ ghost use Rattle.std.specs.Prelude.{◌≡◌, ◌≤◌, nat_eq};
 ghost use Rattle.regex_meaning.specs.Offsets.{IsBoundary};
 ghost use Rattle.regress_input.specs.Reading.{way, led_to, same_fold, characters_between, past_spelled};
 
-pub use crate::indexing::{CharProperties, UTF8CharProperties};
+pub use crate::indexing::{
+    ASCIICharProperties, CharProperties, UTF8CharProperties, Utf16CharProperties,
+};
 
 use crate::cursor::{self, Direction};
 use crate::indexing::InputIndexer;

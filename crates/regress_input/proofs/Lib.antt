@@ -6,3 +6,4 @@ pub mod Slices
 pub mod Utf8Slices
 pub mod ByteTests
 pub mod Compare
+pub mod OneUnit

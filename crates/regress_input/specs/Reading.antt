@@ -1,5 +1,6 @@
 -- What reading from an offset gives.
 use Rattle.std.specs.Prelude.{◌≡◌, ℕ, zero, suc, ◌+◌, ◌-◌, Bool, true, false, ◌&&◌, ◌||◌, List, length, map, Option, Some, None, option_map, option_and_then, unwrap_or, if◌then◌else◌, nat_le, nat_eq, ◌==◌, slice_get, slice_range, encode_utf8_all, drop, IsTrue, IsUtf8}
+use Rattle.std.proofs.Common.{sym, true≢false}
 use lib.Pointwise.{pointwise}
 use Rattle.std.specs.Char.{len_utf8}
 use Rattle.regex_pattern_front.specs.Searching.{FindsFirst}
@@ -66,6 +67,10 @@ module _ (text : Text) where
 pub record IsInUtf8 (text : Text) : Type 0 where
   pub bytes : IsUtf8 (bytes_of text)
   pub offsets : text.offsets ≡ offsets_from 0 (map len_utf8 text.characters)
+
+-- units of 16 bits are no bytes
+pub no_bytes : {A : Type 0} → IsTrue false → A
+no_bytes h = absurd (true≢false (sym h))
 
 -- the next byte in the direction
 abbrev pub byte_beside : (bytes : List ℕ) → Direction → (at : ℕ) → Option ℕ

@@ -11,3 +11,4 @@ pub mod scm;
 mod tests;
 mod units;
 mod utf8;
+mod wide_units;

@@ -1,6 +1,6 @@
 //! Matchers of a single character.
 
-ghost use Rattle.std.specs.Prelude.{◌≡◌, ◌<◌, ◌==◌, ℕ, Bool, true, not, List, All, IsTrue, encode_utf8, ⊤};
+ghost use Rattle.std.specs.Prelude.{◌≡◌, ◌<◌, ◌≤◌, ◌==◌, ℕ, Bool, true, not, List, All, IsTrue, encode_utf8, ⊤};
 ghost use Rattle.std.specs.Char.{IsScalar};
 ghost use Rattle.regex_meaning.specs.Lists.{contains};
 ghost use Rattle.regex_meaning.specs.Tree.{bracket, byte_sequence};
@@ -188,7 +188,7 @@ pub struct MatchByteSeq<'a, const N: usize>(pub &'a [u8; N]);
 
 impl<'a, const N: usize, Input: InputIndexer, Dir: Direction> SingleCharMatcher<Input, Dir>
     for MatchByteSeq<'a, N> {
-    ghost can_match = { λ m. IsTrue Input.Units.ARE_BYTES × ((c : ℕ) × IsScalar c × (m.0.now ≡ encode_utf8 c)) };
+    ghost can_match = { λ m. IsTrue Input.Units.ARE_BYTES × (N ≤ 4) × ((c : ℕ) × IsScalar c × (m.0.now ≡ encode_utf8 c)) };
 
     ghost accepted = { λ m. accepts (byte_sequence m.0.now) };
 

@@ -3,7 +3,7 @@
 use super::*;
 use crate::insn::Insn;
 use regex_pattern_front::flags::Flags;
-use regex_pattern_front::ir::Quantifier;
+use regex_pattern_front::ir::{Node, Quantifier};
 use std::process::Abort;
 use std::test::Fail;
 

@@ -72,7 +72,7 @@ places-preserved g c =
     let start = offset c.places.start in
     let from = rw (← same) at c.places.invariant.from in
     let none : end_from tree text start ≡ None = sym c.in_ok-end.ensures ∙ ap (option_map (λ s. end_of (state_of offset s))) c.in_default.is in
-    let on = goes-on tree text is (offset c.args.pos) start (offset c.in-Some-next_right_pos.next) from none c.in-Some-next_right_pos.ensures in
+    let on = goes-on tree text is (offset c.args.pos) start (offset c.in-Some-next_right_pos.next) from none c.in-Some-next_right_pos.ensures.read in
     record { from = rw (← same) on.0; searched = same; next_start = c.places.invariant.next_start }
 
 pub places-smaller : goal.places-smaller
@@ -86,7 +86,7 @@ places-smaller g c =
     let start = offset c.places.start in
     let from = rw (← same) at c.places.invariant.from in
     let none : end_from tree text start ≡ None = sym c.in_ok-end.ensures ∙ ap (option_map (λ s. end_of (state_of offset s))) c.in_default.is in
-    let on = goes-on tree text is (offset c.args.pos) start (offset c.in-Some-next_right_pos.next) from none c.in-Some-next_right_pos.ensures in
+    let on = goes-on tree text is (offset c.args.pos) start (offset c.in-Some-next_right_pos.next) from none c.in-Some-next_right_pos.ensures.read in
     rw (← same) on.1
 
 pub returns-in-None-clause-found : goal.returns-in-None-clause-found
@@ -100,4 +100,4 @@ returns-in-None-clause-found g c =
     let start = offset c.places.start in
     let from = rw (← same) at c.places.invariant.from in
     let none : end_from tree text start ≡ None = sym c.in_ok-end.ensures ∙ ap (option_map (λ s. end_of (state_of offset s))) c.in_default.is in
-    rw (← same) (found-last tree text is (offset c.args.pos) start from none c.in-None.ensures)
+    rw (← same) (found-last tree text is (offset c.args.pos) start from none c.in-None.ensures.read)

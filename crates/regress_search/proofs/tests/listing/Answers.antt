@@ -3,6 +3,7 @@ use Rattle.regex_meaning.specs.Text.{Text, utf8_text, last_place}
 use Rattle.regex_meaning.specs.Offsets.{IsText, IsBoundary, units}
 use Rattle.regex_meaning.proofs.TextLemmas.{offset-IsBoundary, utf8_text-IsText}
 use Rattle.regex_meaning.proofs.Rising.{utf8_units-length}
+use Rattle.regex_pattern_front.specs.TreeOf.{tree_of}
 use Rattle.regress_search.proofs.tests.listing.Goals as goal
 
 may_begin : (text : Text) → IsText text → (n : ℕ) → units text ≡ n → (start : ℕ) → (start ≡ 0) ⊎ ((start ≡ n) ⊎ (n < start)) → IsBoundary text start ⊎ (units text < start)
@@ -18,6 +19,6 @@ new-matches-requires c =
     (utf8_text input.input.now input.unicode)
     (utf8_text-IsText input.input.now input.unicode)
     (length text)
-    (ap units c.in_ok-executor.ensures.text ∙ utf8_units-length text _ c.utf8.text)
+    (ap units c.in_ok-executor.ensures.text ∙ utf8_units-length text (tree_of c.args.re.now).flags.unicode c.utf8.text)
     c.args.start
     c.requires.start

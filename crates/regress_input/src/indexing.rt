@@ -9,11 +9,9 @@ ghost use Rattle.regex_pattern_front.specs.TreeOf.{contents_of};
 ghost use Rattle.regress_input.specs.Reading.{way, led_to, same_fold, character, past, characters_between, past_spelled, part, bytes_of, IsInUtf8, byte_beside, units_on, past_bytes, IsFoundFrom};
 
 mod ascii_input;
-mod ucs2_input;
 mod utf8_input;
 
 pub use self::ascii_input::{ASCIICharProperties, AsciiInput};
-pub use self::ucs2_input::{Ucs2Input, Utf16CharProperties};
 pub use self::utf8_input::{UTF8CharProperties, Utf8Input};
 use crate::front::{BracketContents, ByteSearcher, nonascii_folds_to_ascii_word_char};
 use crate::position::{Direction, PositionType};

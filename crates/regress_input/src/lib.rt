@@ -11,4 +11,3 @@ pub mod scm;
 mod tests;
 mod units;
 mod utf8;
-mod wide_units;

@@ -1,4 +1,4 @@
-//! Texts that are read a character at a time, in four encodings and two directions.
+//! Texts that are read a character at a time, in two directions.
 #![tactic(auto)]
 
 pub mod cursor;

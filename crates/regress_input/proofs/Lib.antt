@@ -7,3 +7,5 @@ pub mod Utf8Slices
 pub mod ByteTests
 pub mod Compare
 pub mod OneUnit
+pub mod Utf16Reads
+pub mod Utf16Slices

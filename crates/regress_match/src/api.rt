@@ -1,13 +1,9 @@
 //! Flags, patterns that are compiled, and their searches.
 
-ghost use Rattle.std.specs.Prelude.{◌≡◌, IfOk, IsTrue, false, length, []};
+ghost use Rattle.std.specs.Prelude.{◌≡◌, IfOk, false, []};
 ghost use Rattle.regex_meaning.specs.Flags.{flags_of_text};
 ghost use Rattle.regex_meaning.specs.Text.{utf8_text};
 ghost use Rattle.regex_meaning.specs.Names.{answers_from};
-ghost use Rattle.regex_pattern_front.specs.TreeOf.{tree_of};
-ghost use Rattle.std.specs.List.{list_all};
-ghost use Rattle.regress_program.specs.Code.{compiled};
-ghost use Rattle.regress_search.specs.States.{is_small};
 
 use regex_pattern_front::flags as front;
 use regex_pattern_front::parse::{ParseError, try_parse};
@@ -16,7 +12,7 @@ use regress_program::emit::{EmitError, emit};
 use regress_program::insn::CompiledRegex;
 use regress_search::exec;
 use regress_search::exec::SearchError;
-use regress_search::pikevm::{PikeVMExecutor, can_run};
+use regress_search::pikevm::PikeVMExecutor;
 use std::alloc::{AllocError, Global};
 
 /// How a pattern is read and matched. The default is case-sensitive, without lines, and optimizing.
@@ -121,7 +117,6 @@ pub type Matches<'r, 't> = exec::Matches<PikeVMExecutor<'r, Utf8Input<'t>>>;
 #[derive(Drop)]
 pub struct Regex {
     cr: CompiledRegex,
-    ghost small: { IsTrue (list_all is_small (compiled (tree_of cr)).insns) },
 }
 
 impl Regex {
@@ -142,9 +137,6 @@ impl Regex {
         let code_points: Vec<u32> = pattern.chars().map(u32::from).collect(alloc)?;
         let tree = try_parse(alloc, &code_points, flags.for_front())?;
         let cr = emit(alloc, &tree)?;
-        if !can_run(&cr) {
-            return Err(Error::Emit(EmitError::Unsupported));
-        }
         Ok(Regex { cr })
     }
 

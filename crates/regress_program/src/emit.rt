@@ -12,6 +12,7 @@ mod brackets;
 mod emitter;
 mod ids;
 mod leaves;
+mod names;
 mod supported;
 mod tally;
 #[cfg(test)]
@@ -19,7 +20,9 @@ mod tests;
 mod texts;
 mod wellformed;
 
+use crate::carried::Carried;
 use crate::emit::emitter::{Emitter, Mode};
+use crate::emit::names::names_by_id;
 use crate::emit::supported::is_supported;
 use crate::emit::tally::Tally;
 pub use crate::emit::wellformed::is_well_formed;
@@ -28,7 +31,6 @@ use crate::startpredicate::predicate_without_bytes;
 use regex_pattern_front::ir;
 use regex_pattern_front::types::{LoopID, MAX_CAPTURE_GROUPS};
 use std::alloc::{AllocError, Global};
-use std::snapshot::Snapshot;
 
 /// Why a tree is not compiled.
 #[derive(Clone, Copy, Debug, PartialEq, Eq)]
@@ -45,7 +47,7 @@ pub enum EmitError {
     TooManyInstructions,
     /// A growth was refused.
     Memory,
-    /// The tree is not compiled yet: a group has a name, or a text has to start with given bytes.
+    /// The tree is not compiled yet: a text has to start with given bytes.
     Unsupported,
 }
 
@@ -99,15 +101,16 @@ fn compile(alloc: Global, re: &ir::Regex) -> Result<CompiledRegex, EmitError>
         brackets,
         loops,
     } = emitter;
+    let group_names = names_by_id(alloc, &re.node, groups)?;
     Ok(CompiledRegex {
         insns,
         brackets,
         start_pred: predicate_without_bytes(re),
         loops: u32::from(loops),
         groups,
-        group_names: Vec::new(alloc),
+        group_names,
         flags: re.flags,
-        tree: Snapshot::of(re),
+        tree: Carried::of(re),
     })
 }
 

@@ -1,18 +1,17 @@
 //! Instructions, and programs made of them.
 
-ghost use Rattle.std.specs.Prelude.{◌≡◌, IsTrue, [], get_or, map, string_bytes};
+ghost use Rattle.std.specs.Prelude.{◌≡◌, IsTrue, IfOk, [], get_or, map, string_bytes};
 ghost use Rattle.regex_pattern_front.specs.TreeOf.{tree_of, flags_of, contents_of};
 ghost use Rattle.regex_meaning.specs.WellFormed.{is_well_formed};
 ghost use Rattle.regress_program.specs.Insns.{insn_of, start_of};
 ghost use Rattle.regress_program.specs.Code.{compiled};
 
+use crate::carried::Carried;
 use regex_pattern_front::bytesearch::{AsciiBitmap, ByteArraySet, ByteBitmap};
 use regex_pattern_front::flags::Flags;
-use regex_pattern_front::ir;
 use regex_pattern_front::types::{BracketContents, CaptureGroupID, LoopID};
-use std::alloc::Global;
+use std::alloc::{AllocError, Global};
 use std::marker::Model;
-use std::snapshot::Snapshot;
 
 /// How many bytes one instruction of literal bytes can hold.
 pub const MAX_BYTE_SEQ_LENGTH: usize = 16;
@@ -147,6 +146,26 @@ pub enum StartPredicate {
     StartAnchored,
 }
 
+impl StartPredicate {
+    /// The same predicate once more.
+    pub fn clone(&self) -> Result<Self, AllocError>
+        ensures { IfOk result (λ p. start_of p ≡ start_of self.now) }
+    {
+        let copy = match self {
+            StartPredicate::Arbitrary => StartPredicate::Arbitrary,
+            StartPredicate::ByteSet1(bytes) => StartPredicate::ByteSet1(*bytes),
+            StartPredicate::ByteSet2(bytes) => StartPredicate::ByteSet2(*bytes),
+            StartPredicate::ByteSet3(bytes) => StartPredicate::ByteSet3(*bytes),
+            StartPredicate::ByteSeq(bytes) => {
+                StartPredicate::ByteSeq(Vec::from_slice(*bytes.allocator(), bytes)?)
+            }
+            StartPredicate::ByteBracket(set) => StartPredicate::ByteBracket(*set),
+            StartPredicate::StartAnchored => StartPredicate::StartAnchored,
+        };
+        Ok(copy)
+    }
+}
+
 /// The program of a well-formed pattern tree, for texts in bytes. Only the compiler makes one.
 /// Contracts see the tree.
 #[derive(Drop)]
@@ -158,7 +177,7 @@ pub struct CompiledRegex {
     pub(crate) groups: u32,
     pub(crate) group_names: Vec<String>,
     pub(crate) flags: Flags,
-    pub(crate) tree: Snapshot<ir::Regex>,
+    pub(crate) tree: Carried,
 }
 
 impl Model for CompiledRegex {
@@ -238,6 +257,23 @@ impl CompiledRegex {
         }
     }
 
+    /// The same program once more.
+    pub fn clone(&self) -> Result<Self, AllocError>
+        ensures { IfOk result (λ p. p ≡ self.now) }
+    {
+        let alloc = self.allocator();
+        Ok(CompiledRegex {
+            insns: Vec::from_slice(alloc, &self.insns)?,
+            brackets: copy_of_brackets(alloc, &self.brackets)?,
+            start_pred: self.start_pred.clone()?,
+            loops: self.loops,
+            groups: self.groups,
+            group_names: Vec::from_clones(alloc, &self.group_names)?,
+            flags: self.flags,
+            tree: self.tree.again(),
+        })
+    }
+
     /// The allocator that the program's parts are made with.
     #[inline(always)]
     pub fn allocator(&self) -> Global {
@@ -251,4 +287,17 @@ impl CompiledRegex {
     {
         self.flags
     }
+}
+
+fn copy_of_brackets(
+    alloc: Global,
+    brackets: &[BracketContents],
+) -> Result<Vec<BracketContents>, AllocError>
+    ensures { IfOk result (λ copy. copy.items ≡ brackets.now) }
+{
+    let mut copy = Vec::with_capacity(alloc, brackets.len())?;
+    for contents in brackets {
+        copy.push(contents.clone()?)?;
+    }
+    Ok(copy)
 }

@@ -1,7 +1,8 @@
 -- Which trees are refused.
-use Rattle.std.specs.Prelude.{ℕ, ◌<◌, ◌≤◌, ◌^◌, length, IsTrue}
+use Rattle.std.specs.Prelude.{◌≡◌, ℕ, ◌<◌, ◌≤◌, ◌^◌, false, length, IsTrue}
 use Rattle.regex_meaning.specs.Tree.{Tree, group_ids}
 use Rattle.regex_meaning.specs.WellFormed.{IsWellFormed}
+use Rattle.regex_meaning.specs.Layout.{reads_bytes}
 use Rattle.regress_program.specs.Code.{size, loop_count}
 use Rattle.regress_program.specs.Supported.{is_supported}
 use Rattle.regress_program.specs.declared.emit.EmitError.{EmitError}
@@ -42,3 +43,13 @@ IsRefused TooManyGroups tree = HasTooManyGroups tree
 IsRefused TooManyLoops tree = HasTooManyLoops tree
 IsRefused TooManyInstructions tree = HasTooManyInstructions tree
 IsRefused Memory tree = Unit {0}
+
+-- the same of programs for 16-bit units
+abbrev pub IsRefusedInUnits : EmitError → Tree → Type 0
+IsRefusedInUnits Unsupported tree = IsRefused Unsupported tree
+IsRefusedInUnits NotWellFormed tree = IsRefused NotWellFormed tree
+IsRefusedInUnits BytesInUnits tree = IsTrue (is_supported tree) × IsWellFormed tree.root × IsTrue (reads_bytes tree.root)
+IsRefusedInUnits TooManyGroups tree = (reads_bytes tree.root ≡ false) × HasTooManyGroups tree
+IsRefusedInUnits TooManyLoops tree = (reads_bytes tree.root ≡ false) × HasTooManyLoops tree
+IsRefusedInUnits TooManyInstructions tree = (reads_bytes tree.root ≡ false) × HasTooManyInstructions tree
+IsRefusedInUnits Memory tree = Unit {0}

@@ -1,14 +1,17 @@
 //! From trees to programs.
 
-ghost use Rattle.std.specs.Prelude.{◌≡◌, length, IfOk, OnOk, IfErr, IsErrOf};
+ghost use Rattle.std.specs.Prelude.{◌≡◌, length, IsTrue, IfOk, OnOk, IfErr, IsErrOf};
 ghost use Rattle.regex_meaning.specs.Tree.{group_ids};
-ghost use Rattle.regex_meaning.specs.Layout.{IsByteCodeOf};
+ghost use Rattle.regex_meaning.specs.WellFormed.{IsWellFormed};
+ghost use Rattle.regex_meaning.specs.Layout.{IsByteCodeOf, IsUnitCodeOf};
 ghost use Rattle.regex_pattern_front.specs.TreeOf.{tree_of};
 ghost use Rattle.regress_program.specs.Code.{compiled};
-ghost use Rattle.regress_program.specs.declared.emit.EmitError.TheVariants.{Unsupported, NotWellFormed, TooManyGroups, TooManyLoops, TooManyInstructions};
-ghost use Rattle.regress_program.specs.Refusals.{IsRefused, FitsLimits};
+ghost use Rattle.regress_program.specs.Supported.{is_supported as is_tree_supported};
+ghost use Rattle.regress_program.specs.declared.emit.EmitError.TheVariants.{Unsupported, NotWellFormed, BytesInUnits, TooManyGroups, TooManyLoops, TooManyInstructions};
+ghost use Rattle.regress_program.specs.Refusals.{IsRefused, IsRefusedInUnits, FitsLimits};
 
 mod brackets;
+mod bytes;
 mod emitter;
 mod ids;
 mod leaves;
@@ -19,11 +22,12 @@ mod tests;
 mod texts;
 mod wellformed;
 
+use crate::emit::bytes::reads_bytes;
 use crate::emit::emitter::{Emitter, Mode};
 use crate::emit::supported::is_supported;
 use crate::emit::tally::Tally;
 pub use crate::emit::wellformed::is_well_formed;
-use crate::insn::CompiledRegex;
+use crate::insn::{CompiledRegex, CompiledUnits, Program};
 use crate::startpredicate::predicate_without_bytes;
 use regex_pattern_front::ir;
 use regex_pattern_front::types::{LoopID, MAX_CAPTURE_GROUPS};
@@ -77,13 +81,54 @@ pub fn emit(alloc: Global, re: &ir::Regex) -> Result<CompiledRegex, EmitError>
     ensures too_many_instructions { IsErrOf result EmitError.TooManyInstructions → IsRefused TooManyInstructions (tree_of re.now) }
     ensures no_units { ¬ (IsErrOf result EmitError.BytesInUnits) }
 {
-    compile(alloc, re)
+    if !is_supported(re) {
+        return Err(EmitError::Unsupported);
+    }
+    if !is_well_formed(re) {
+        return Err(EmitError::NotWellFormed);
+    }
+    let program = compile(alloc, re)?;
+    Ok(CompiledRegex {
+        program,
+        start_pred: predicate_without_bytes(re),
+    })
 }
 
-// The program of a tree, or why there is none.
-fn compile(alloc: Global, re: &ir::Regex) -> Result<CompiledRegex, EmitError>
+/// The program of a tree for texts of 16-bit units, or the first cause for which there is none.
+///
+/// # Errors
+///
+/// In this order, each only where its cause holds: `Unsupported`, `NotWellFormed`, `BytesInUnits`, `TooManyGroups`,
+/// `TooManyLoops`, `TooManyInstructions`. `Memory` may stand in place of any answer.
+pub fn emit_units(alloc: Global, re: &ir::Regex) -> Result<CompiledUnits, EmitError>
     ensures tree { IfOk result (λ p. p ≡ re.now) }
-    ensures code { OnOk result (IsByteCodeOf (compiled (tree_of re.now)) (tree_of re.now)) }
+    ensures code { OnOk result (IsUnitCodeOf (compiled (tree_of re.now)) (tree_of re.now)) }
+    ensures fits { OnOk result (FitsLimits (tree_of re.now)) }
+    ensures unsupported { IsErrOf result EmitError.Unsupported → IsRefusedInUnits Unsupported (tree_of re.now) }
+    ensures not_well_formed { IsErrOf result EmitError.NotWellFormed → IsRefusedInUnits NotWellFormed (tree_of re.now) }
+    ensures bytes_in_units { IsErrOf result EmitError.BytesInUnits → IsRefusedInUnits BytesInUnits (tree_of re.now) }
+    ensures too_many_groups { IsErrOf result EmitError.TooManyGroups → IsRefusedInUnits TooManyGroups (tree_of re.now) }
+    ensures too_many_loops { IsErrOf result EmitError.TooManyLoops → IsRefusedInUnits TooManyLoops (tree_of re.now) }
+    ensures too_many_instructions { IsErrOf result EmitError.TooManyInstructions → IsRefusedInUnits TooManyInstructions (tree_of re.now) }
+{
+    if !is_supported(re) {
+        return Err(EmitError::Unsupported);
+    }
+    if !is_well_formed(re) {
+        return Err(EmitError::NotWellFormed);
+    }
+    if reads_bytes(&re.node) {
+        return Err(EmitError::BytesInUnits);
+    }
+    let program = compile(alloc, re)?;
+    Ok(CompiledUnits { program })
+}
+
+// The code of a well-formed tree, and what stands beside it, or which limit is passed.
+fn compile(alloc: Global, re: &ir::Regex) -> Result<Program, EmitError>
+    requires supported { IsTrue (is_tree_supported (tree_of re.now)) }
+    requires well_formed { IsWellFormed (tree_of re.now).root }
+    ensures tree { IfOk result (λ p. p ≡ re.now) }
     ensures fits { OnOk result (FitsLimits (tree_of re.now)) }
     ensures refused { IfErr result (λ e. IsRefused e (tree_of re.now)) }
 {
@@ -99,10 +144,9 @@ fn compile(alloc: Global, re: &ir::Regex) -> Result<CompiledRegex, EmitError>
         brackets,
         loops,
     } = emitter;
-    Ok(CompiledRegex {
+    Ok(Program {
         insns,
         brackets,
-        start_pred: predicate_without_bytes(re),
         loops: u32::from(loops),
         groups,
         group_names: Vec::new(alloc),
@@ -111,18 +155,14 @@ fn compile(alloc: Global, re: &ir::Regex) -> Result<CompiledRegex, EmitError>
     })
 }
 
-// How many groups a tree has, where it is one that is compiled.
+// How many groups a well-formed tree has, where it passes no limit.
 fn check_limits(re: &ir::Regex) -> Result<u32, EmitError>
+    requires supported { IsTrue (is_tree_supported (tree_of re.now)) }
+    requires well_formed { IsWellFormed (tree_of re.now).root }
     ensures groups { IfOk result (λ n. n ≡ length (group_ids (tree_of re.now).root)) }
     ensures fits { OnOk result (FitsLimits (tree_of re.now)) }
     ensures refused { IfErr result (λ e. IsRefused e (tree_of re.now)) }
 {
-    if !is_supported(re) {
-        return Err(EmitError::Unsupported);
-    }
-    if !is_well_formed(re) {
-        return Err(EmitError::NotWellFormed);
-    }
     let mut tally = Tally::new();
     tally.add(&re.node);
     let Tally {

@@ -1,14 +1,12 @@
 //! From trees to programs.
 
-ghost use Rattle.std.specs.Prelude.{◌≡◌, length, IsTrue, IfOk, OnOk, IfErr, IsErrOf};
+ghost use Rattle.std.specs.Prelude.{◌≡◌, false, length, IfOk, OnOk, IfErr, IsErrOf};
 ghost use Rattle.regex_meaning.specs.Tree.{group_ids};
-ghost use Rattle.regex_meaning.specs.WellFormed.{IsWellFormed};
 ghost use Rattle.regex_meaning.specs.Layout.{IsByteCodeOf, IsUnitCodeOf};
 ghost use Rattle.regex_pattern_front.specs.TreeOf.{tree_of};
 ghost use Rattle.regress_program.specs.Code.{compiled};
-ghost use Rattle.regress_program.specs.Supported.{is_supported as is_tree_supported};
 ghost use Rattle.regress_program.specs.declared.emit.EmitError.TheVariants.{Unsupported, NotWellFormed, BytesInUnits, TooManyGroups, TooManyLoops, TooManyInstructions};
-ghost use Rattle.regress_program.specs.Refusals.{IsRefused, IsRefusedInUnits, FitsLimits};
+ghost use Rattle.regress_program.specs.Refusals.{IsRefused, IsRefusedInUnits, IsRefusedWith, FitsLimits};
 
 mod brackets;
 mod bytes;
@@ -81,13 +79,7 @@ pub fn emit(alloc: Global, re: &ir::Regex) -> Result<CompiledRegex, EmitError>
     ensures too_many_instructions { IsErrOf result EmitError.TooManyInstructions → IsRefused TooManyInstructions (tree_of re.now) }
     ensures no_units { ¬ (IsErrOf result EmitError.BytesInUnits) }
 {
-    if !is_supported(re) {
-        return Err(EmitError::Unsupported);
-    }
-    if !is_well_formed(re) {
-        return Err(EmitError::NotWellFormed);
-    }
-    let program = compile(alloc, re)?;
+    let program = compile(alloc, re, false)?;
     Ok(CompiledRegex {
         program,
         start_pred: predicate_without_bytes(re),
@@ -111,28 +103,19 @@ pub fn emit_units(alloc: Global, re: &ir::Regex) -> Result<CompiledUnits, EmitEr
     ensures too_many_loops { IsErrOf result EmitError.TooManyLoops → IsRefusedInUnits TooManyLoops (tree_of re.now) }
     ensures too_many_instructions { IsErrOf result EmitError.TooManyInstructions → IsRefusedInUnits TooManyInstructions (tree_of re.now) }
 {
-    if !is_supported(re) {
-        return Err(EmitError::Unsupported);
-    }
-    if !is_well_formed(re) {
-        return Err(EmitError::NotWellFormed);
-    }
-    if reads_bytes(&re.node) {
-        return Err(EmitError::BytesInUnits);
-    }
-    let program = compile(alloc, re)?;
+    let program = compile(alloc, re, reads_bytes(&re.node))?;
     Ok(CompiledUnits { program })
 }
 
-// The code of a well-formed tree, and what stands beside it, or which limit is passed.
-fn compile(alloc: Global, re: &ir::Regex) -> Result<Program, EmitError>
-    requires supported { IsTrue (is_tree_supported (tree_of re.now)) }
-    requires well_formed { IsWellFormed (tree_of re.now).root }
+// What programs of both kinds hold, or why there is none; `bytes_in_units` says whether the tree is for 16-bit units
+// and has nodes that read bytes.
+fn compile(alloc: Global, re: &ir::Regex, bytes_in_units: bool) -> Result<Program, EmitError>
     ensures tree { IfOk result (λ p. p ≡ re.now) }
     ensures fits { OnOk result (FitsLimits (tree_of re.now)) }
-    ensures refused { IfErr result (λ e. IsRefused e (tree_of re.now)) }
+    ensures no_bytes { OnOk result (bytes_in_units ≡ false) }
+    ensures refused { IfErr result (λ e. IsRefusedWith bytes_in_units e (tree_of re.now)) }
 {
-    let groups = check_limits(re)?;
+    let groups = check_limits(re, bytes_in_units)?;
     let mut emitter = Emitter::new(alloc);
     let mode = Mode {
         unicode: re.flags.unicode,
@@ -155,14 +138,22 @@ fn compile(alloc: Global, re: &ir::Regex) -> Result<Program, EmitError>
     })
 }
 
-// How many groups a well-formed tree has, where it passes no limit.
-fn check_limits(re: &ir::Regex) -> Result<u32, EmitError>
-    requires supported { IsTrue (is_tree_supported (tree_of re.now)) }
-    requires well_formed { IsWellFormed (tree_of re.now).root }
+// How many groups a tree has, where it is one that is compiled.
+fn check_limits(re: &ir::Regex, bytes_in_units: bool) -> Result<u32, EmitError>
     ensures groups { IfOk result (λ n. n ≡ length (group_ids (tree_of re.now).root)) }
     ensures fits { OnOk result (FitsLimits (tree_of re.now)) }
-    ensures refused { IfErr result (λ e. IsRefused e (tree_of re.now)) }
+    ensures no_bytes { OnOk result (bytes_in_units ≡ false) }
+    ensures refused { IfErr result (λ e. IsRefusedWith bytes_in_units e (tree_of re.now)) }
 {
+    if !is_supported(re) {
+        return Err(EmitError::Unsupported);
+    }
+    if !is_well_formed(re) {
+        return Err(EmitError::NotWellFormed);
+    }
+    if bytes_in_units {
+        return Err(EmitError::BytesInUnits);
+    }
     let mut tally = Tally::new();
     tally.add(&re.node);
     let Tally {

@@ -6,5 +6,5 @@ use Rattle.regress_program.proofs.emit.emit_units.Goals as goal
 pub returns-clause-code : goal.returns-clause-code
 returns-clause-code c = record {
   code = (compiled-is_code (tree_of c.args.re.now) c.in_ok-program.ensures.fits.well_formed).code;
-  no_bytes = sym c.reads_bytes.ensures ∙ c.if-reads_bytes.false;
+  no_bytes = sym c.reads_bytes.ensures ∙ c.in_ok-program.ensures.no_bytes;
 }

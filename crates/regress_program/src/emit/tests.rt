@@ -1,5 +1,7 @@
 //! Programs of trees made by hand.
 
+mod units;
+
 use super::*;
 use crate::insn::Insn;
 use regex_pattern_front::flags::Flags;

@@ -4,6 +4,7 @@ mod listing;
 mod malformed;
 mod names;
 mod programs;
+mod units;
 
 use crate::emit::{EmitError, emit};
 use crate::insn::CompiledRegex;

@@ -15,7 +15,7 @@ pub(super) fn answer(alloc: Global, node: Node) -> Result<String, Fail> {
 }
 
 // The instructions one after another.
-fn listing(alloc: Global, insns: &[Insn]) -> Result<String, Fail> {
+pub(super) fn listing(alloc: Global, insns: &[Insn]) -> Result<String, Fail> {
     let mut text = String::new(alloc);
     for insn in insns {
         if !text.is_empty() {
@@ -52,6 +52,7 @@ fn word(alloc: Global, insn: &Insn) -> Result<String, Fail> {
         Insn::BeginCaptureGroup(id) => format!(in alloc; "BeginCaptureGroup {id}")?,
         Insn::EndCaptureGroup(id) => format!(in alloc; "EndCaptureGroup {id}")?,
         Insn::ResetCaptureGroup(id) => format!(in alloc; "ResetCaptureGroup {id}")?,
+        Insn::Bracket(index) => format!(in alloc; "Bracket {index}")?,
         Insn::Lookbehind {
             negate,
             start_group,

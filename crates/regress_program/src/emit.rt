@@ -24,7 +24,7 @@ use crate::emit::supported::is_supported;
 use crate::emit::tally::Tally;
 pub use crate::emit::wellformed::is_well_formed;
 use crate::insn::CompiledRegex;
-use crate::startpredicate::predicate_without_bytes;
+use crate::startpredicate::predicate_for_re;
 use regex_pattern_front::ir;
 use regex_pattern_front::types::{LoopID, MAX_CAPTURE_GROUPS};
 use std::alloc::{AllocError, Global};
@@ -45,7 +45,7 @@ pub enum EmitError {
     TooManyInstructions,
     /// A growth was refused.
     Memory,
-    /// The tree is not compiled yet: a group has a name, or a text has to start with given bytes.
+    /// The tree is not compiled yet: a group has a name.
     Unsupported,
 }
 
@@ -94,6 +94,7 @@ fn compile(alloc: Global, re: &ir::Regex) -> Result<CompiledRegex, EmitError>
         behind: false,
     };
     emitter.emit(mode, &re.node)?;
+    let start_pred = predicate_for_re(alloc, re)?;
     let Emitter {
         insns,
         brackets,
@@ -102,7 +103,7 @@ fn compile(alloc: Global, re: &ir::Regex) -> Result<CompiledRegex, EmitError>
     Ok(CompiledRegex {
         insns,
         brackets,
-        start_pred: predicate_without_bytes(re),
+        start_pred,
         loops: u32::from(loops),
         groups,
         group_names: Vec::new(alloc),

@@ -3,7 +3,6 @@ use Rattle.regex_meaning.proofs.WellFormedLemmas.{well_formed-iff}
 use Rattle.regex_pattern_front.specs.TreeOf.{node_of, tree_of}
 use Rattle.regress_program.specs.Code.{compiled}
 use Rattle.regress_program.specs.Emitting.{state_of, nothing, with_code}
-use Rattle.regress_program.proofs.NodeLemmas.{both_first, both_second}
 use Rattle.regress_program.proofs.SupportedLemmas.{unnamed-names}
 use Rattle.regress_program.proofs.CodeLemmas.{compiled-is_code}
 use Rattle.regress_program.proofs.emit.compile.Goals as goal
@@ -19,9 +18,6 @@ emit-requires-clause-room c =
       loops = omega (arith, fits.loops, ap (λ s. s.loops) c.new-emitter.ensures);
     }
 
-pub predicate_without_bytes-requires : goal.predicate_without_bytes-requires
-predicate_without_bytes-requires c = both_second _ _ c.in_ok-groups.ensures.fits.supported
-
 pub invariant_of-result : goal.invariant_of-result
 unfolding compiled
 invariant_of-result c =
@@ -36,8 +32,8 @@ invariant_of-result c =
       loops = rw of (omega (arith, c.from.ensures, ap (λ s. s.loops) made));
       groups = rw of c.in_ok-groups.ensures.groups;
       flags = rw of refl;
-      group_names = rw of (ap (map string_bytes) c.new.ensures.items ∙ sym (unnamed-names root (both_first _ _ fits.supported)));
-      start_pred = rw of c.predicate_without_bytes.ensures;
+      group_names = rw of (ap (map string_bytes) c.new.ensures.items ∙ sym (unnamed-names root fits.supported));
+      start_pred = rw of c.in_ok-start_pred.ensures.predicate;
       well_formed = rw of ((well_formed-iff root).1 fits.well_formed);
     }
 

@@ -2,14 +2,13 @@
 #![tactic(auto, unfolding(regex_pattern_front::specs::TreeOf::node_of, regex_meaning::specs::StartPredicate::beginning))]
 
 ghost use Rattle.std.specs.Prelude.{◌≡◌, IfOk};
-ghost use Rattle.regex_meaning.specs.Lists.{contains};
-ghost use Rattle.regex_meaning.specs.StartPredicate.{beginning, join, sequence_of, sequence_or, one_of, bytes_where, union, first_byte, shared_front};
+ghost use Rattle.regex_meaning.specs.StartPredicate.{beginning, join, sequence_of, sequence_or, union, first_byte, shared_front};
 ghost use Rattle.regex_pattern_front.specs.TreeOf.{node_of};
 ghost use Rattle.regress_program.specs.Beginnings.{beginning_of};
 ghost use Rattle.regress_program.specs.Nodes.{cat_of};
 
 use crate::startpredicate::bytesets::{
-    add_all, add_bytes, add_first_byte, first_bytes_of_class, first_bytes_of_members,
+    add_all, add_first_byte, first_bytes_of_class, first_bytes_of_members, set_of,
 };
 use regex_pattern_front::bytesearch::ByteBitmap;
 use regex_pattern_front::ir::Node;
@@ -34,7 +33,7 @@ pub(crate) fn begins(node: &Node) -> Result<Beginning<'_>, AllocError>
 {
     match node {
         Node::ByteSequence(bytes) => Ok(begins_with(bytes)),
-        Node::ByteSet(members) => Ok(begins_with_member(members)),
+        Node::ByteSet(members) => Ok(Beginning::OneOf(set_of(members))),
         Node::CharSet(members) => Ok(Beginning::OneOf(first_bytes_of_members(members))),
         Node::Bracket(contents) => Ok(Beginning::OneOf(first_bytes_of_class(contents)?)),
         Node::Cat(nodes) => row_begins(nodes),
@@ -74,6 +73,7 @@ fn row_begins(nodes: &[Node]) -> Result<Beginning<'_>, AllocError>
     Ok(Beginning::Open)
 }
 
+// What these bytes begin with; an empty sequence, which no well-formed tree has, begins with anything.
 fn begins_with(bytes: &[u8]) -> Beginning<'_>
     ensures { beginning_of result ≡ sequence_of bytes.now }
 {
@@ -82,14 +82,6 @@ fn begins_with(bytes: &[u8]) -> Beginning<'_>
     } else {
         Beginning::Sequence(bytes)
     }
-}
-
-fn begins_with_member<'a>(members: &[u8]) -> Beginning<'a>
-    ensures { beginning_of result ≡ one_of (bytes_where (contains members.now)) }
-{
-    let mut set = ByteBitmap::default();
-    add_bytes(&mut set, members);
-    Beginning::OneOf(set)
 }
 
 // What one node or the other begins with.

@@ -1,7 +1,8 @@
 //! Sets of the bytes that texts begin with.
 
 ghost use Rattle.std.specs.Prelude.{◌≡◌, ◌+◌, ◌≤◌, [], ◌∷◌, map, IfOk, MatchOption};
-ghost use Rattle.regex_meaning.specs.StartPredicate.{union, first_byte, first_bytes, code_points};
+ghost use Rattle.regex_meaning.specs.Lists.{contains};
+ghost use Rattle.regex_meaning.specs.StartPredicate.{bytes_where, union, first_byte, first_bytes, code_points};
 ghost use Rattle.regex_pattern_front.specs.ByteSets.{byte_bitmap_bytes};
 ghost use Rattle.regex_pattern_front.specs.Intervals.{interval_of};
 ghost use Rattle.regex_pattern_front.specs.TreeOf.{contents_of};
@@ -13,12 +14,14 @@ use regex_pattern_front::folding::add_utf8_first_bytes_to_bitmap;
 use regex_pattern_front::types::BracketContents;
 use std::alloc::AllocError;
 
-pub(crate) fn add_bytes(set: &mut ByteBitmap, bytes: &[u8])
-    ensures { byte_bitmap_bytes set.new ≡ union (byte_bitmap_bytes set.old) bytes.now }
+pub(crate) fn set_of(bytes: &[u8]) -> ByteBitmap
+    ensures { byte_bitmap_bytes result ≡ bytes_where (contains bytes.now) }
 {
+    let mut set = ByteBitmap::default();
     for byte in bytes {
         set.set(*byte);
     }
+    set
 }
 
 pub(crate) fn add_first_byte(set: &mut ByteBitmap, bytes: &[u8])

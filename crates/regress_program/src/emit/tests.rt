@@ -28,7 +28,6 @@ fn named(error: EmitError) -> &'static str {
         EmitError::TooManyLoops => "TooManyLoops",
         EmitError::TooManyInstructions => "TooManyInstructions",
         EmitError::Memory => "Memory",
-        EmitError::Unsupported => "Unsupported",
     }
 }
 

@@ -1,9 +1,9 @@
 -- Names in the places of their ids are the names by id.
 use Rattle.std.proofs.Common.{◌≡◌, ℕ, zero, suc, ◌+◌, ◌<◌, ◌≤◌, Bool, true, false, IsTrue, List, [], ◌∷◌, ◌++◌, length, map, get_or, set, take, drop, replicate, refl, sym, ap, ◌∙◌, arith, get_or-set_same, get_or-set_other, length-append}
 use Rattle.std.specs.Prelude.{if◌then◌else◌, nat_eq, ◌==◌, count_by}
-use Rattle.std.specs.List.{list_all}
+use Rattle.std.specs.List.{list_all, AllZip}
 use Rattle.std.proofs.lemmas.Bool.{eqb-true, eq-eqb}
-use Rattle.std.proofs.lemmas.List.{length-map, length-set, length-replicate, get_or-replicate, ext_get_or, map-append, take-append-le, take_all}
+use Rattle.std.proofs.lemmas.List.{length-map, length-set, length-replicate, get_or-replicate, ext_get_or, map-append, take-append-le, take_all, map-set, set_past}
 use Rattle.regex_meaning.specs.Lists.{numbers_from}
 use Rattle.regex_meaning.specs.Tree.{Node, cat, alt, capture_group, lookaround, loop, loop_1_char_body, group_ids}
 use Rattle.regex_meaning.specs.Names.{named_ids, name_of, names_by_id}
@@ -11,8 +11,7 @@ use Rattle.regex_meaning.specs.WellFormed.{each_id_stands_once}
 use Rattle.regex_meaning.proofs.Sound.{all-contains}
 use Rattle.regex_pattern_front.proofs.ByteLemmas.{contains-numbers_from}
 use Rattle.regress_program.specs.Filing.{filed, is_unnamed}
-use Rattle.regress_program.specs.Ids.{past}
-use Rattle.regress_program.proofs.IdLemmas.{same_truth, false_is_true, count_by-first, once_each, past-append}
+use Rattle.regress_program.proofs.IdLemmas.{same_truth, false_is_true, count_by-first}
 
 -- ---- Two lots of names
 
@@ -24,19 +23,29 @@ pub length-filed : (named : List (ℕ × List ℕ)) (names : List (List ℕ)) �
 length-filed [] names = refl
 length-filed (n ∷ named) names = length-filed named (set names n.0 n.1) ∙ length-set names n.0 n.1
 
--- both lots have room
-pub room_for_both : (xs ys : List ℕ) (n : ℕ) → past (xs ++ ys) ≤ n → (past xs ≤ n) × (past ys ≤ n)
-room_for_both xs ys n h = (omega (arith, h, past-append xs ys), omega (arith, h, past-append xs ys))
+-- ---- One name
+
+-- there is no such place
+pub put_past : {S : Type 0} (f : S → List ℕ) (names : List S) (id : ℕ) (name : List ℕ) → length names ≤ id → map f names ≡ set (map f names) id name
+put_past f names id name h = sym (set_past (map f names) id name (omega (arith, h, length-map names f)))
+
+pub put_there : {S : Type 0} (f : S → List ℕ) (names : List S) (id : ℕ) (name : S) → map f (set names id name) ≡ set (map f names) id (f name)
+put_there f names id name = map-set f names id name
 
 -- ---- Names that are written over others
-
--- there are as many names as empty ones
-pub how_many : {S : Type 0} (f : S → List ℕ) (names : List S) (n : ℕ) → map f names ≡ replicate n [] → length names ≡ n
-how_many f names n h = sym (length-map names f) ∙ ap length h ∙ length-replicate n []
 
 -- none of the old ones is left
 pub written_over : {S : Type 0} (names old : List S) (n : ℕ) → n ≡ length names → take n (names ++ drop (length names) old) ≡ names
 written_over names old n h = take-append-le n names (drop (length names) old) (omega (arith, h)) ∙ take_all n names (omega (arith, h))
+
+-- ---- Copies
+
+-- texts that are those of others, one by one
+pub same_texts : {S : Type 0} (f : S → List ℕ) (names copies : List S) → AllZip (λ x y. f y ≡ f x) names copies → map f copies ≡ map f names
+same_texts f [] [] h = refl
+same_texts f [] (y ∷ copies) h = absurd h
+same_texts f (x ∷ names) [] h = absurd h
+same_texts f (x ∷ names) (y ∷ copies) h = ap (λ z. z ∷ map f copies) h.0 ∙ ap (λ zs. f x ∷ zs) (same_texts f names copies h.1)
 
 -- ---- The name at an id
 
@@ -107,9 +116,6 @@ at-number f first zero k h = absurd (omega (arith, h))
 at-number f first (suc count) zero h = ap f (omega arith)
 at-number f first (suc count) (suc k) h = at-number f (first + 1) count k (omega (arith, h)) ∙ ap f (omega arith)
 
-pub names-room : (root : Node) → IsTrue (each_id_stands_once root) → past (group_ids root) ≤ length (group_ids root)
-names-room root once = (once_each root once).1
-
 pub names-filed : (root : Node) (n : ℕ) → IsTrue (each_id_stands_once root) → n ≡ length (group_ids root) → is_unnamed root ≡ false
     → filed (named_ids root) (replicate n []) ≡ names_by_id root
 names-filed root n once count named =
@@ -128,12 +134,12 @@ names-filed root n once count named =
 
     at : (id : ℕ) → id < n → get_or (filed (named_ids root) (replicate n [])) id [] ≡ name_of (named_ids root) id
     at id h =
-        filed-at (named_ids root) (replicate n []) id (omega (arith, h, length-replicate n []))
-        ∙ ap (last_name (named_ids root) id) (get_or-replicate n id [] [] h)
+        filed-at (named_ids root) (replicate n []) id (omega (arith, h, length-replicate {A = List ℕ} n []))
+        ∙ ap (last_name (named_ids root) id) (get_or-replicate {A = List ℕ} n id [] [] h)
         ∙ there_once (named_ids root) id (stands_once id h)
 
     long : length (filed (named_ids root) (replicate n [])) ≡ n
-    long = length-filed (named_ids root) (replicate n []) ∙ length-replicate n []
+    long = length-filed (named_ids root) (replicate n []) ∙ length-replicate {A = List ℕ} n []
 
     same : filed (named_ids root) (replicate n []) ≡ map (name_of (named_ids root)) (numbers_from 0 (length (named_ids root)))
     same =

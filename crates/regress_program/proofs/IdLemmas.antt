@@ -275,7 +275,7 @@ unfolding least
 least-append [] ys = omega (arith, least-most ys)
 least-append (x ∷ xs) ys = omega (arith, least-append xs ys)
 
-pub past-append : (xs ys : List ℕ) → past (xs ++ ys) ≡ max (past xs) (past ys)
+past-append : (xs ys : List ℕ) → past (xs ++ ys) ≡ max (past xs) (past ys)
 unfolding past
 past-append [] ys = omega arith
 past-append (x ∷ xs) ys = omega (arith, past-append xs ys)

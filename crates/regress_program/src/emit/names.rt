@@ -1,13 +1,12 @@
 //! The names of groups, filed by id.
-#![tactic(auto, unfolding(regex_pattern_front::specs::TreeOf::node_of, crate::specs::Ids::past))]
+#![tactic(auto, unfolding(regex_pattern_front::specs::TreeOf::node_of))]
 
-ghost use Rattle.std.specs.Prelude.{◌≡◌, ◌≤◌, ◌∷◌, [], ℕ, List, length, map, replicate, string_bytes, IfOk, OnOk, IsTrue, ◌==◌};
+ghost use Rattle.std.specs.Prelude.{◌≡◌, ◌∷◌, [], length, map, set, replicate, string_bytes, IfOk, OnOk, IsTrue, ◌==◌};
 ghost use Rattle.regex_meaning.specs.Tree.{group_ids};
 ghost use Rattle.regex_meaning.specs.WellFormed.{each_id_stands_once};
 ghost use Rattle.regex_meaning.specs.Names.{named_ids, names_by_id as names_of_tree};
 ghost use Rattle.regex_pattern_front.specs.TreeOf.{node_of, name_of};
 ghost use Rattle.regress_program.specs.Nodes.{cat_of};
-ghost use Rattle.regress_program.specs.Ids.{past};
 ghost use Rattle.regress_program.specs.Filing.{filed, is_unnamed as is_node_unnamed};
 
 use regex_pattern_front::ir::Node;
@@ -37,7 +36,7 @@ fn no_names(alloc: Global, count: u32) -> Result<Vec<String>, AllocError>
     ensures { IfOk result (λ names. map string_bytes names.items ≡ replicate count []) }
 {
     let mut names = Vec::new(alloc);
-    for _id in 0..count {
+    for _ in 0..count {
         names.push(String::new(alloc))?;
     }
     Ok(names)
@@ -46,7 +45,6 @@ fn no_names(alloc: Global, count: u32) -> Result<Vec<String>, AllocError>
 // The names inside a node, each put in the place of its id.
 #[cycle(file)]
 fn file(alloc: Global, node: &Node, names: &mut [String]) -> Result<(), AllocError>
-    requires { past (group_ids (node_of node.now)) ≤ length names.old }
     ensures long { length names.new ≡ length names.old }
     ensures filed { OnOk result (map string_bytes names.new ≡ filed (named_ids (node_of node.now)) (map string_bytes names.old)) }
 {
@@ -82,7 +80,6 @@ fn file(alloc: Global, node: &Node, names: &mut [String]) -> Result<(), AllocErr
 
 #[cycle(file)]
 fn file_all(alloc: Global, nodes: &[Node], names: &mut [String]) -> Result<(), AllocError>
-    requires { past (group_ids (cat_of nodes.now)) ≤ length names.old }
     ensures long { length names.new ≡ length names.old }
     ensures filed { OnOk result (map string_bytes names.new ≡ filed (named_ids (cat_of nodes.now)) (map string_bytes names.old)) }
 {
@@ -100,13 +97,26 @@ fn file_group(
     contents: &Node,
     names: &mut [String],
 ) -> Result<(), AllocError>
-    requires { past (id ∷ group_ids (node_of contents.now)) ≤ length names.old }
     ensures long { length names.new ≡ length names.old }
     ensures filed { OnOk result (map string_bytes names.new ≡ filed ((id, name_of name.now) ∷ named_ids (node_of contents.now)) (map string_bytes names.old)) }
 {
-    names[usize::from(id)] = copied(alloc, name)?;
+    let copy = copied(alloc, name)?;
+    put(names, id, copy);
     file(alloc, contents, names)?;
     Ok(())
+}
+
+// A name in the place of an id, where there is one.
+#[tactic(auto, using(std::proofs::lemmas::Grind::common_steps, crate::proofs::FilingLemmas::put_past, crate::proofs::FilingLemmas::put_there))]
+fn put(names: &mut [String], id: CaptureGroupID, name: String)
+    ensures long { length names.new ≡ length names.old }
+    ensures filed { map string_bytes names.new ≡ set (map string_bytes names.old) id (string_bytes name) }
+{
+    let place = usize::from(id);
+    if place >= names.len() {
+        return;
+    }
+    names[place] = name;
 }
 
 // The name once more, empty where there is none.

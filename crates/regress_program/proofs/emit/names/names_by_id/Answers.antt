@@ -1,14 +1,9 @@
-use Rattle.std.proofs.Common.{◌≡◌, ◌∙◌, ap, sym, arith, length, map, string_bytes}
+use Rattle.std.proofs.Common.{◌≡◌, ◌∙◌, ap, sym, length, map, string_bytes}
 use Rattle.regex_meaning.specs.Names.{named_ids}
 use Rattle.regex_pattern_front.specs.TreeOf.{node_of}
 use Rattle.regress_program.specs.Filing.{filed}
-use Rattle.regress_program.proofs.FilingLemmas.{how_many, written_over, names-room, names-filed}
+use Rattle.regress_program.proofs.FilingLemmas.{written_over, names-filed}
 use Rattle.regress_program.proofs.emit.names.names_by_id.Goals as goal
-
-pub file-requires : goal.file-requires
-file-requires c =
-    let long = how_many string_bytes c.in_ok-names.names.items c.args.groups c.in_ok-names.ensures in
-    rw c.deref_mut.ensures.value (omega (arith, names-room (node_of c.args.root.now) c.requires.once, c.requires.all, long))
 
 pub returns : goal.returns
 returns c =

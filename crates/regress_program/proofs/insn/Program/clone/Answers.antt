@@ -2,7 +2,7 @@ use Rattle.std.proofs.Common.{◌≡◌, ◌∙◌, ap, map, string_bytes}
 use Rattle.regex_pattern_front.specs.TreeOf.{contents_of}
 use Rattle.regress_program.specs.Insns.{insn_of}
 use Rattle.regress_program.proofs.FilingLemmas.{same_texts}
-use Rattle.regress_program.proofs.insn.CompiledRegex.clone.Goals as goal
+use Rattle.regress_program.proofs.insn.Program.clone.Goals as goal
 
 pub invariant_of-result : goal.invariant_of-result
 invariant_of-result c =
@@ -15,6 +15,5 @@ invariant_of-result c =
       groups = rw tree held.groups;
       flags = rw tree held.flags;
       group_names = rw tree (same_texts string_bytes _ _ c.in_ok-from_clones.ensures.items ∙ ap (map string_bytes) c.deref-3.ensures.value ∙ held.group_names);
-      start_pred = rw tree (c.in_ok-clone.ensures ∙ held.start_pred);
       well_formed = rw tree held.well_formed;
     }

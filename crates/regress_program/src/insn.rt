@@ -1,6 +1,6 @@
 //! Instructions, and programs made of them.
 
-ghost use Rattle.std.specs.Prelude.{◌≡◌, IsTrue, IfOk, map, string_bytes, false};
+ghost use Rattle.std.specs.Prelude.{◌≡◌, IsTrue, [], false, get_or, map, string_bytes};
 ghost use Rattle.regex_pattern_front.specs.TreeOf.{tree_of, flags_of, contents_of};
 ghost use Rattle.regex_meaning.specs.WellFormed.{is_well_formed};
 ghost use Rattle.regex_meaning.specs.Layout.{reads_bytes};
@@ -219,6 +219,17 @@ impl Program {
         &self.group_names
     }
 
+    /// The name of a group, empty where it has none and where there is no such group.
+    #[inline(always)]
+    pub fn group_name(&self, id: usize) -> &str
+        ensures { result.now ≡ get_or (compiled (tree_of self.now)).group_names id [] }
+    {
+        match self.group_names.get(id) {
+            Some(name) => name.as_str(),
+            None => "",
+        }
+    }
+
     /// The allocator that the program's parts are made with.
     #[inline(always)]
     pub fn allocator(&self) -> Global {
@@ -319,6 +330,14 @@ impl CompiledRegex {
         self.program.group_names()
     }
 
+    /// The name of a group, empty where it has none and where there is no such group.
+    #[inline(always)]
+    pub fn group_name(&self, id: usize) -> &str
+        ensures { result.now ≡ get_or (compiled (tree_of self.now)).group_names id [] }
+    {
+        self.program.group_name(id)
+    }
+
     /// The allocator that the program's parts are made with.
     #[inline(always)]
     pub fn allocator(&self) -> Global {
@@ -408,6 +427,14 @@ impl CompiledUnits {
         ensures { map string_bytes result.now ≡ (compiled (tree_of self.now)).group_names }
     {
         self.program.group_names()
+    }
+
+    /// The name of a group, empty where it has none and where there is no such group.
+    #[inline(always)]
+    pub fn group_name(&self, id: usize) -> &str
+        ensures { result.now ≡ get_or (compiled (tree_of self.now)).group_names id [] }
+    {
+        self.program.group_name(id)
     }
 
     /// The allocator that the program's parts are made with.

@@ -1,9 +1,9 @@
 //! Instructions, and programs made of them.
 
-ghost use Rattle.std.specs.Prelude.{◌≡◌, IsTrue, IfOk, map, string_bytes};
-ghost use Rattle.regex_pattern_front.specs.TreeOf.{tree_of, flags_of};
+ghost use Rattle.std.specs.Prelude.{◌≡◌, IsTrue, [], get_or, map, string_bytes};
+ghost use Rattle.regex_pattern_front.specs.TreeOf.{tree_of, flags_of, contents_of};
 ghost use Rattle.regex_meaning.specs.WellFormed.{is_well_formed};
-ghost use Rattle.regress_program.specs.Insns.{insn_of};
+ghost use Rattle.regress_program.specs.Insns.{insn_of, start_of};
 ghost use Rattle.regress_program.specs.Code.{compiled};
 
 use regex_pattern_front::bytesearch::{AsciiBitmap, ByteArraySet, ByteBitmap};
@@ -187,6 +187,22 @@ impl CompiledRegex {
         &self.insns
     }
 
+    /// The brackets, which instructions name by index.
+    #[inline(always)]
+    pub fn brackets(&self) -> &[BracketContents]
+        ensures { map contents_of result.now ≡ (compiled (tree_of self.now)).brackets }
+    {
+        &self.brackets
+    }
+
+    /// What a text has to start with where the pattern matches.
+    #[inline(always)]
+    pub fn start_pred(&self) -> &StartPredicate
+        ensures { start_of result.now ≡ (compiled (tree_of self.now)).start_pred }
+    {
+        &self.start_pred
+    }
+
     /// How many loops there are, whose numbers are those below it.
     #[inline(always)]
     pub fn loops(&self) -> u32
@@ -209,6 +225,17 @@ impl CompiledRegex {
         ensures { map string_bytes result.now ≡ (compiled (tree_of self.now)).group_names }
     {
         &self.group_names
+    }
+
+    /// The name of a group, empty where it has none and where there is no such group.
+    #[inline(always)]
+    pub fn group_name(&self, id: usize) -> &str
+        ensures { result.now ≡ get_or (compiled (tree_of self.now)).group_names id [] }
+    {
+        match self.group_names.get(id) {
+            Some(name) => name.as_str(),
+            None => "",
+        }
     }
 
     /// The allocator that the program's parts are made with.

@@ -45,13 +45,18 @@ share x y c h k =
     let in_y = true-in_range y.0 y.1 c k in
     and-both _ _ (and-both _ _ (and-both _ _ (le-true x.0 x.1 (omega arith)) (le-true y.0 y.1 (omega arith))) (le-true x.0 y.1 (omega arith))) (le-true y.0 x.1 (omega arith))
 
+at_greater : (x y : ℕ × ℕ) → x.0 ≤ x.1 → y.0 ≤ y.1 → x.0 ≤ y.1 → y.0 ≤ x.1
+    → (is_in_range x.0 x.1 (max x.0 y.0) ≡ true) × (is_in_range y.0 y.1 (max x.0 y.0) ≡ true)
+at_greater x y one two three four =
+    (in_range-true x.0 x.1 (max x.0 y.0) (omega arith) (omega arith), in_range-true y.0 y.1 (max x.0 y.0) (omega arith) (omega arith))
+
 shared : (x y : ℕ × ℕ) → touches x y ≡ true → (is_in_range x.0 x.1 (max x.0 y.0) ≡ true) × (is_in_range y.0 y.1 (max x.0 y.0) ≡ true)
 shared x y h =
-    let one : x.0 ≤ x.1 = true-le x.0 x.1 (and-left _ _ (and-left _ _ (and-left _ _ h))) in
-    let two : y.0 ≤ y.1 = true-le y.0 y.1 (and-right _ _ (and-left _ _ (and-left _ _ h))) in
-    let three : x.0 ≤ y.1 = true-le x.0 y.1 (and-right _ _ (and-left _ _ h)) in
-    let four : y.0 ≤ x.1 = true-le y.0 x.1 (and-right _ _ h) in
-    (in_range-true x.0 x.1 (max x.0 y.0) (omega arith) (omega arith), in_range-true y.0 y.1 (max x.0 y.0) (omega arith) (omega arith))
+    at_greater x y
+    (true-le x.0 x.1 (and-left _ _ (and-left _ _ (and-left _ _ h))))
+    (true-le y.0 y.1 (and-right _ _ (and-left _ _ (and-left _ _ h))))
+    (true-le x.0 y.1 (and-right _ _ (and-left _ _ h)))
+    (true-le y.0 x.1 (and-right _ _ h))
 
 -- so do two sets
 meet_at : (xs ys : Intervals) (c : ℕ) → in_intervals xs c ≡ true → in_intervals ys c ≡ true → meet xs ys ≡ true

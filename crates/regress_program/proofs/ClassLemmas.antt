@@ -1,9 +1,9 @@
 -- The first bytes of a set of code points are those of its members, however its intervals are cut.
-use Rattle.std.proofs.Common.{◌≡◌, ℕ, ◌+◌, ◌-◌, ◌<◌, ◌≤◌, min, max, Bool, true, false, not, ◌&&◌, ◌||◌, List, [], ◌∷◌, ◌++◌, flat_map, refl, sym, ap, ◌∙◌, arith, inl, inr, if◌then◌else◌}
+use Rattle.std.proofs.Common.{◌≡◌, ℕ, ◌+◌, ◌-◌, ◌<◌, ◌≤◌, min, max, Bool, true, false, not, ◌&&◌, ◌||◌, List, [], ◌∷◌, flat_map, refl, sym, ap, ◌∙◌, arith, inl, inr, if◌then◌else◌}
 use Rattle.std.specs.Prelude.{nat_lt, nat_le}
 use Rattle.std.specs.List.{list_any}
 use Rattle.std.specs.Int.{is_in_range}
-use Rattle.std.proofs.lemmas.Bool.{cases_lt, lt-ltb, le-ltb, le-leb}
+use Rattle.std.proofs.lemmas.Bool.{cases_lt, lt-ltb, le-ltb}
 use Rattle.std.proofs.lemmas.Bool.Decides.{nat_tests}
 use Rattle.std.proofs.lemmas.List.Folds.{list_any-append}
 use Rattle.regex_meaning.specs.Tree.{Intervals}
@@ -45,13 +45,18 @@ share x y c h k =
     let in_y = true-in_range y.0 y.1 c k in
     and-both _ _ (and-both _ _ (and-both _ _ (le-true x.0 x.1 (omega arith)) (le-true y.0 y.1 (omega arith))) (le-true x.0 y.1 (omega arith))) (le-true y.0 x.1 (omega arith))
 
+at_greater : (x y : ℕ × ℕ) → x.0 ≤ x.1 → y.0 ≤ y.1 → x.0 ≤ y.1 → y.0 ≤ x.1
+    → (is_in_range x.0 x.1 (max x.0 y.0) ≡ true) × (is_in_range y.0 y.1 (max x.0 y.0) ≡ true)
+at_greater x y one two three four =
+    (in_range-true x.0 x.1 (max x.0 y.0) (omega arith) (omega arith), in_range-true y.0 y.1 (max x.0 y.0) (omega arith) (omega arith))
+
 shared : (x y : ℕ × ℕ) → touches x y ≡ true → (is_in_range x.0 x.1 (max x.0 y.0) ≡ true) × (is_in_range y.0 y.1 (max x.0 y.0) ≡ true)
 shared x y h =
-    let one : x.0 ≤ x.1 = true-le x.0 x.1 (and-left _ _ (and-left _ _ (and-left _ _ h))) in
-    let two : y.0 ≤ y.1 = true-le y.0 y.1 (and-right _ _ (and-left _ _ (and-left _ _ h))) in
-    let three : x.0 ≤ y.1 = true-le x.0 y.1 (and-right _ _ (and-left _ _ h)) in
-    let four : y.0 ≤ x.1 = true-le y.0 x.1 (and-right _ _ h) in
-    (in_range-true x.0 x.1 (max x.0 y.0) (omega arith) (omega arith), in_range-true y.0 y.1 (max x.0 y.0) (omega arith) (omega arith))
+    at_greater x y
+    (true-le x.0 x.1 (and-left _ _ (and-left _ _ (and-left _ _ h))))
+    (true-le y.0 y.1 (and-right _ _ (and-left _ _ (and-left _ _ h))))
+    (true-le x.0 y.1 (and-right _ _ (and-left _ _ h)))
+    (true-le y.0 x.1 (and-right _ _ h))
 
 -- so do two sets
 meet_at : (xs ys : Intervals) (c : ℕ) → in_intervals xs c ≡ true → in_intervals ys c ≡ true → meet xs ys ≡ true

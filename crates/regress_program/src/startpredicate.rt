@@ -22,12 +22,13 @@ use regex_pattern_front::ir;
 use regex_pattern_front::ir::{AnchorType, Node};
 use std::alloc::{AllocError, Global};
 
-/// What a text has to start with where the pattern has a match: the left end, given bytes, one byte of a set, or
-/// anything. A pattern that begins with `^` matches at the left end alone; of any other the first node that reads
-/// something decides, and alternatives give what they have in common.
+/// What a text in bytes has to start with where the pattern matches: given bytes, one byte of a set, or anything; or
+/// that the pattern matches at the left end alone, as one that begins with `^` does. Else the first node that reads
+/// something decides, and alternatives give what they have in common. Which nodes give what is a rule of this crate
+/// (`start_predicate` of `regex_meaning`).
 ///
-/// On a well-formed tree it is sound: it holds at each place of a text where the pattern matches, and what it looks
-/// for stands at the start of a character.
+/// For a well-formed tree it is sound: it holds at each place where the pattern matches, and the byte that it looks for
+/// first begins a character.
 ///
 /// # Errors
 ///

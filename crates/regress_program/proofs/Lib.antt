@@ -4,5 +4,7 @@ pub mod CodeLemmas
 pub mod SupportedLemmas
 pub mod TextLemmas
 pub mod IdLemmas
+pub mod FilingLemmas
+pub mod Walks
 pub mod CharLemmas
 pub mod Weights

@@ -3,9 +3,8 @@ use Rattle.std.proofs.Common.{◌≡◌, ℕ, Bool, true, false, not, ◌&&◌, 
 use Rattle.std.specs.Prelude.{nat_lt, ◌==◌}
 use Rattle.std.proofs.lemmas.Bool.{eqb-true, le-ltb}
 use Rattle.regex_meaning.specs.Tree.{Node, empty, goal, char, char_set, byte_set, byte_sequence, cat, end_of_cat, alt, bracket, string_set, match_any, match_any_except_line_terminator, anchor, word_boundary, capture_group, back_ref, lookaround, loop, loop_1_char_body, Tree}
-use Rattle.regex_meaning.specs.Names.{names_by_id}
 use Rattle.regex_meaning.specs.StartPredicate.{Beginning, open_ended, arbitrary, sequence, one_of, beginning, then_of, join, is_anchored, start_of, start_predicate, start_arbitrary, start_anchored}
-use Rattle.regress_program.specs.Supported.{is_open, begins_anyhow, is_unnamed, looks_at_no_byte}
+use Rattle.regress_program.specs.Supported.{is_open, begins_anyhow, looks_at_no_byte}
 use Rattle.regress_program.proofs.NodeLemmas.{both_first, both_second}
 use Rattle.regress_program.proofs.IdLemmas.{or_either}
 
@@ -80,6 +79,3 @@ arbitrary-predicate tree f h =
     let rest : (is_open tree.root || begins_anyhow tree.root) ≡ true = sym (ap (λ t. t || (is_open tree.root || begins_anyhow tree.root)) f) ∙ h in
     rw f (sym (⊎_elim (λ (e : is_open tree.root ≡ true). ap start_of (open-beginning tree.root e)) (λ (e : begins_anyhow tree.root ≡ true). ap start_of (any-beginning tree.root e))
     (or_either (is_open tree.root) (begins_anyhow tree.root) rest)))
-
-pub unnamed-names : (n : Node) → IsTrue (is_unnamed n) → names_by_id n ≡ []
-unnamed-names n h = rw h

@@ -7,3 +7,4 @@ pub mod Emitting
 pub mod Ids
 pub mod Spans
 pub mod Refusals
+pub mod Filing

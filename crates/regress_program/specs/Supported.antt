@@ -1,8 +1,6 @@
--- The trees that are compiled so far: those where no group has a name and whose start predicate looks at no byte.
-use Rattle.std.specs.Prelude.{ℕ, Bool, true, false, not, ◌&&◌, ◌||◌, length, nat_lt, ◌==◌}
-use Rattle.std.specs.List.{list_all}
+-- The trees that are compiled so far: those whose start predicate looks at no byte.
+use Rattle.std.specs.Prelude.{ℕ, Bool, true, false, not, ◌&&◌, ◌||◌, nat_lt, ◌==◌}
 use Rattle.regex_meaning.specs.Tree.{Node, char_set, byte_set, byte_sequence, cat, end_of_cat, alt, bracket, capture_group, lookaround, loop, loop_1_char_body, Tree}
-use Rattle.regex_meaning.specs.Names.{named_ids}
 use Rattle.regex_meaning.specs.StartPredicate.{is_anchored}
 
 -- it reads nothing before what follows it
@@ -30,13 +28,9 @@ begins_anyhow (char_set members) = false
 begins_anyhow (bracket contents) = false
 begins_anyhow _ = true
 
--- no group has a name
-abbrev pub is_unnamed : Node → Bool
-is_unnamed root = list_all (λ p. length p.1 == 0) (named_ids root)
-
 -- the predicate looks at no byte
 abbrev pub looks_at_no_byte : Tree → Bool
 looks_at_no_byte tree = (not tree.flags.multiline && is_anchored tree.root) || (is_open tree.root || begins_anyhow tree.root)
 
 abbrev pub is_supported : Tree → Bool
-is_supported tree = is_unnamed tree.root && looks_at_no_byte tree
+is_supported tree = looks_at_no_byte tree

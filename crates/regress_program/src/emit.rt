@@ -13,6 +13,7 @@ mod bytes;
 mod emitter;
 mod ids;
 mod leaves;
+mod names;
 mod supported;
 mod tally;
 #[cfg(test)]
@@ -20,8 +21,10 @@ mod tests;
 mod texts;
 mod wellformed;
 
+use crate::carried::Carried;
 use crate::emit::bytes::reads_bytes;
 use crate::emit::emitter::{Emitter, Mode};
+use crate::emit::names::names_by_id;
 use crate::emit::supported::is_supported;
 use crate::emit::tally::Tally;
 pub use crate::emit::wellformed::is_well_formed;
@@ -30,7 +33,6 @@ use crate::startpredicate::predicate_without_bytes;
 use regex_pattern_front::ir;
 use regex_pattern_front::types::{LoopID, MAX_CAPTURE_GROUPS};
 use std::alloc::{AllocError, Global};
-use std::snapshot::Snapshot;
 
 /// Why a tree is not compiled.
 #[derive(Clone, Copy, Debug, PartialEq, Eq)]
@@ -47,7 +49,7 @@ pub enum EmitError {
     TooManyInstructions,
     /// A growth was refused.
     Memory,
-    /// The tree is not compiled yet: a group has a name, or a text has to start with given bytes.
+    /// The tree is not compiled yet: a text has to start with given bytes.
     Unsupported,
 }
 
@@ -127,14 +129,15 @@ fn compile(alloc: Global, re: &ir::Regex, bytes_in_units: bool) -> Result<Progra
         brackets,
         loops,
     } = emitter;
+    let group_names = names_by_id(alloc, &re.node, groups)?;
     Ok(Program {
         insns,
         brackets,
         loops: u32::from(loops),
         groups,
-        group_names: Vec::new(alloc),
+        group_names,
         flags: re.flags,
-        tree: Snapshot::of(re),
+        tree: Carried::of(re),
     })
 }
 

@@ -1,19 +1,18 @@
 //! Instructions, and programs made of them.
 
-ghost use Rattle.std.specs.Prelude.{◌≡◌, IsTrue, [], false, get_or, map, string_bytes};
+ghost use Rattle.std.specs.Prelude.{◌≡◌, IsTrue, IfOk, [], false, get_or, map, string_bytes};
 ghost use Rattle.regex_pattern_front.specs.TreeOf.{tree_of, flags_of, contents_of};
 ghost use Rattle.regex_meaning.specs.WellFormed.{is_well_formed};
 ghost use Rattle.regex_meaning.specs.Layout.{reads_bytes};
 ghost use Rattle.regress_program.specs.Insns.{insn_of, start_of};
 ghost use Rattle.regress_program.specs.Code.{compiled};
 
+use crate::carried::Carried;
 use regex_pattern_front::bytesearch::{AsciiBitmap, ByteArraySet, ByteBitmap};
 use regex_pattern_front::flags::Flags;
-use regex_pattern_front::ir;
 use regex_pattern_front::types::{BracketContents, CaptureGroupID, LoopID};
-use std::alloc::Global;
+use std::alloc::{AllocError, Global};
 use std::marker::Model;
-use std::snapshot::Snapshot;
 
 /// How many bytes one instruction of literal bytes can hold.
 pub const MAX_BYTE_SEQ_LENGTH: usize = 16;
@@ -148,6 +147,26 @@ pub enum StartPredicate {
     StartAnchored,
 }
 
+impl StartPredicate {
+    /// The same predicate once more.
+    pub fn clone(&self) -> Result<Self, AllocError>
+        ensures { IfOk result (λ p. start_of p ≡ start_of self.now) }
+    {
+        let copy = match self {
+            StartPredicate::Arbitrary => StartPredicate::Arbitrary,
+            StartPredicate::ByteSet1(bytes) => StartPredicate::ByteSet1(*bytes),
+            StartPredicate::ByteSet2(bytes) => StartPredicate::ByteSet2(*bytes),
+            StartPredicate::ByteSet3(bytes) => StartPredicate::ByteSet3(*bytes),
+            StartPredicate::ByteSeq(bytes) => {
+                StartPredicate::ByteSeq(Vec::from_slice(*bytes.allocator(), bytes)?)
+            }
+            StartPredicate::ByteBracket(set) => StartPredicate::ByteBracket(*set),
+            StartPredicate::StartAnchored => StartPredicate::StartAnchored,
+        };
+        Ok(copy)
+    }
+}
+
 /// What programs for bytes and for 16-bit units have in common: the code of a well-formed pattern tree, and what
 /// stands beside it. Only the compiler makes one. Contracts see the tree.
 #[derive(Drop)]
@@ -158,7 +177,7 @@ pub struct Program {
     pub(crate) groups: u32,
     pub(crate) group_names: Vec<String>,
     pub(crate) flags: Flags,
-    pub(crate) tree: Snapshot<ir::Regex>,
+    pub(crate) tree: Carried,
 }
 
 impl Model for Program {
@@ -230,6 +249,22 @@ impl Program {
         }
     }
 
+    /// The same program once more.
+    pub fn clone(&self) -> Result<Self, AllocError>
+        ensures { IfOk result (λ p. p ≡ self.now) }
+    {
+        let alloc = self.allocator();
+        Ok(Program {
+            insns: Vec::from_slice(alloc, &self.insns)?,
+            brackets: copy_of_brackets(alloc, &self.brackets)?,
+            loops: self.loops,
+            groups: self.groups,
+            group_names: Vec::from_clones(alloc, &self.group_names)?,
+            flags: self.flags,
+            tree: self.tree.again(),
+        })
+    }
+
     /// The allocator that the program's parts are made with.
     #[inline(always)]
     pub fn allocator(&self) -> Global {
@@ -243,6 +278,19 @@ impl Program {
     {
         self.flags
     }
+}
+
+fn copy_of_brackets(
+    alloc: Global,
+    brackets: &[BracketContents],
+) -> Result<Vec<BracketContents>, AllocError>
+    ensures { IfOk result (λ copy. copy.items ≡ brackets.now) }
+{
+    let mut copy = Vec::with_capacity(alloc, brackets.len())?;
+    for contents in brackets {
+        copy.push(contents.clone()?)?;
+    }
+    Ok(copy)
 }
 
 /// The program of a well-formed pattern tree, for texts in bytes. Only the compiler makes one.
@@ -336,6 +384,16 @@ impl CompiledRegex {
         ensures { result.now ≡ get_or (compiled (tree_of self.now)).group_names id [] }
     {
         self.program.group_name(id)
+    }
+
+    /// The same program once more.
+    pub fn clone(&self) -> Result<Self, AllocError>
+        ensures { IfOk result (λ p. p ≡ self.now) }
+    {
+        Ok(CompiledRegex {
+            program: self.program.clone()?,
+            start_pred: self.start_pred.clone()?,
+        })
     }
 
     /// The allocator that the program's parts are made with.
@@ -435,6 +493,15 @@ impl CompiledUnits {
         ensures { result.now ≡ get_or (compiled (tree_of self.now)).group_names id [] }
     {
         self.program.group_name(id)
+    }
+
+    /// The same program once more.
+    pub fn clone(&self) -> Result<Self, AllocError>
+        ensures { IfOk result (λ p. p ≡ self.now) }
+    {
+        Ok(CompiledUnits {
+            program: self.program.clone()?,
+        })
     }
 
     /// The allocator that the program's parts are made with.

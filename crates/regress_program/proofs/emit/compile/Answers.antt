@@ -1,10 +1,8 @@
-use Rattle.std.proofs.Common.{◌≡◌, ◌+◌, ◌∙◌, ap, sym, false, arith, length, refl, map, string_bytes}
+use Rattle.std.proofs.Common.{◌≡◌, ◌+◌, ◌∙◌, ap, false, arith, length, refl}
 use Rattle.regex_meaning.proofs.WellFormedLemmas.{well_formed-iff}
 use Rattle.regex_pattern_front.specs.TreeOf.{node_of}
 use Rattle.regress_program.specs.Code.{compiled}
 use Rattle.regress_program.specs.Emitting.{state_of, nothing, with_code}
-use Rattle.regress_program.proofs.NodeLemmas.{both_first}
-use Rattle.regress_program.proofs.SupportedLemmas.{unnamed-names}
 use Rattle.regress_program.proofs.emit.compile.Goals as goal
 
 pub emit-requires-clause-sets : goal.emit-requires-clause-sets
@@ -32,6 +30,6 @@ invariant_of-result c =
       loops = rw of (omega (arith, c.from.ensures, ap (λ s. s.loops) made));
       groups = rw of c.in_ok-groups.ensures.groups;
       flags = rw of refl;
-      group_names = rw of (ap (map string_bytes) c.new.ensures.items ∙ sym (unnamed-names root (both_first _ _ fits.supported)));
+      group_names = rw of c.in_ok-group_names.ensures;
       well_formed = rw of ((well_formed-iff root).1 fits.well_formed);
     }

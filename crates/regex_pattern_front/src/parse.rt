@@ -435,6 +435,3 @@ fn join(alloc: Global, mut alternatives: Vec<Node>) -> Result<Node, AllocError>
     }
     Ok(joined)
 }
-
-#[cfg(test)]
-mod tests;

@@ -14,7 +14,6 @@ mod emitter;
 mod ids;
 mod leaves;
 mod names;
-mod supported;
 mod tally;
 #[cfg(test)]
 mod tests;
@@ -25,11 +24,10 @@ use crate::carried::Carried;
 use crate::emit::bytes::reads_bytes;
 use crate::emit::emitter::{Emitter, Mode};
 use crate::emit::names::names_by_id;
-use crate::emit::supported::is_supported;
 use crate::emit::tally::Tally;
 pub use crate::emit::wellformed::is_well_formed;
 use crate::insn::{CompiledRegex, CompiledUnits, Program};
-use crate::startpredicate::predicate_without_bytes;
+use crate::startpredicate::predicate_for_re;
 use regex_pattern_front::ir;
 use regex_pattern_front::types::{LoopID, MAX_CAPTURE_GROUPS};
 use std::alloc::{AllocError, Global};
@@ -49,7 +47,7 @@ pub enum EmitError {
     TooManyInstructions,
     /// A growth was refused.
     Memory,
-    /// The tree is not compiled yet: a text has to start with given bytes.
+    /// An instruction of the program is not run yet. The compiler never answers it.
     Unsupported,
 }
 
@@ -68,7 +66,7 @@ impl From<AllocError> for EmitError {
 ///
 /// # Errors
 ///
-/// In this order, each only where its cause holds: `Unsupported`, `NotWellFormed`, `TooManyGroups`, `TooManyLoops`,
+/// In this order, each only where its cause holds: `NotWellFormed`, `TooManyGroups`, `TooManyLoops`,
 /// `TooManyInstructions`. `Memory` may stand in place of any answer.
 pub fn emit(alloc: Global, re: &ir::Regex) -> Result<CompiledRegex, EmitError>
     ensures tree { IfOk result (λ p. p ≡ re.now) }
@@ -82,9 +80,10 @@ pub fn emit(alloc: Global, re: &ir::Regex) -> Result<CompiledRegex, EmitError>
     ensures no_units { ¬ (IsErrOf result EmitError.BytesInUnits) }
 {
     let program = compile(alloc, re, false)?;
+    let start_pred = predicate_for_re(alloc, re)?;
     Ok(CompiledRegex {
         program,
-        start_pred: predicate_without_bytes(re),
+        start_pred,
     })
 }
 
@@ -92,8 +91,8 @@ pub fn emit(alloc: Global, re: &ir::Regex) -> Result<CompiledRegex, EmitError>
 ///
 /// # Errors
 ///
-/// In this order, each only where its cause holds: `Unsupported`, `NotWellFormed`, `BytesInUnits`, `TooManyGroups`,
-/// `TooManyLoops`, `TooManyInstructions`. `Memory` may stand in place of any answer.
+/// In this order, each only where its cause holds: `NotWellFormed`, `BytesInUnits`, `TooManyGroups`, `TooManyLoops`,
+/// `TooManyInstructions`. `Memory` may stand in place of any answer.
 pub fn emit_units(alloc: Global, re: &ir::Regex) -> Result<CompiledUnits, EmitError>
     ensures tree { IfOk result (λ p. p ≡ re.now) }
     ensures code { OnOk result (IsUnitCodeOf (compiled (tree_of re.now)) (tree_of re.now)) }
@@ -148,9 +147,6 @@ fn check_limits(re: &ir::Regex, bytes_in_units: bool) -> Result<u32, EmitError>
     ensures no_bytes { OnOk result (bytes_in_units ≡ false) }
     ensures refused { IfErr result (λ e. IsRefusedWith bytes_in_units e (tree_of re.now)) }
 {
-    if !is_supported(re) {
-        return Err(EmitError::Unsupported);
-    }
     if !is_well_formed(re) {
         return Err(EmitError::NotWellFormed);
     }

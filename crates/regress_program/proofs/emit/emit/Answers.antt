@@ -5,7 +5,7 @@ use Rattle.regress_program.proofs.emit.emit.Goals as goal
 
 pub invariant_of-result : goal.invariant_of-result
 unfolding compiled
-invariant_of-result c = rw c.in_ok-program.ensures.tree c.predicate_without_bytes.ensures
+invariant_of-result c = rw c.in_ok-program.ensures.tree c.in_ok-start_pred.ensures.predicate
 
 pub returns-clause-code : goal.returns-clause-code
 returns-clause-code c = compiled-is_code (tree_of c.args.re.now) c.in_ok-program.ensures.fits.well_formed

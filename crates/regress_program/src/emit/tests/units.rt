@@ -37,11 +37,10 @@ fn nodes_that_read_bytes(rt: HostRuntime) -> Result<(), Fail> {
     let alloc = rt.alloc();
     let set = Node::ByteSet(Vec::from_slice(alloc, b"ab")?);
     for node in [
-        Node::Cat(vec![in alloc; char_of('x'), bytes_of(alloc, b"a")?]?),
+        bytes_of(alloc, b"a")?,
         looking(alloc, true, 0, 0, alt_of(alloc, char_of('x'), set)?)?,
     ] {
-        let tree = Node::Cat(vec![in alloc; Node::MatchAny, node, Node::Goal]?);
-        let text = answer(alloc, tree)?;
+        let text = answer(alloc, ended(alloc, node)?)?;
         assert_eq!(rt; text.as_str(), "BytesInUnits");
     }
     Ok(())
@@ -51,10 +50,7 @@ fn nodes_that_read_bytes(rt: HostRuntime) -> Result<(), Fail> {
 #[test]
 fn malformed_trees_of_bytes(rt: HostRuntime) -> Result<(), Fail> {
     let alloc = rt.alloc();
-    let text = answer(
-        alloc,
-        Node::Cat(vec![in alloc; Node::MatchAny, bytes_of(alloc, b"a")?]?),
-    )?;
+    let text = answer(alloc, bytes_of(alloc, b"a")?)?;
     assert_eq!(rt; text.as_str(), "NotWellFormed");
     Ok(())
 }

@@ -1,4 +1,4 @@
-use Rattle.std.proofs.Common.{◌∙◌, ℕ, ap, false, get_or, map}
+use Rattle.std.proofs.Common.{◌∙◌, ap, false, get_or, map}
 use Rattle.regex_pattern_front.specs.ByteSets.{byte_bitmap_bytes}
 use Rattle.regex_pattern_front.specs.Intervals.{interval_of}
 use Rattle.regress_program.proofs.ByteSetLemmas.{with_first_bytes, first_bytes-next, first_bytes-end}

@@ -1,6 +1,6 @@
 //! Instructions, and programs made of them.
 
-ghost use Rattle.std.specs.Prelude.{◌≡◌, IsTrue, IfOk, [], get_or, map, string_bytes, false};
+ghost use Rattle.std.specs.Prelude.{◌≡◌, IsTrue, IfOk, [], false, get_or, map, string_bytes};
 ghost use Rattle.regex_pattern_front.specs.TreeOf.{tree_of, flags_of, contents_of};
 ghost use Rattle.regex_meaning.specs.WellFormed.{is_well_formed};
 ghost use Rattle.regex_meaning.specs.Layout.{reads_bytes};
@@ -280,6 +280,19 @@ impl Program {
     }
 }
 
+fn copy_of_brackets(
+    alloc: Global,
+    brackets: &[BracketContents],
+) -> Result<Vec<BracketContents>, AllocError>
+    ensures { IfOk result (λ copy. copy.items ≡ brackets.now) }
+{
+    let mut copy = Vec::with_capacity(alloc, brackets.len())?;
+    for contents in brackets {
+        copy.push(contents.clone()?)?;
+    }
+    Ok(copy)
+}
+
 /// The program of a well-formed pattern tree, for texts in bytes. Only the compiler makes one.
 /// Contracts see the tree.
 #[derive(Drop)]
@@ -504,17 +517,4 @@ impl CompiledUnits {
     {
         self.program.flags()
     }
-}
-
-fn copy_of_brackets(
-    alloc: Global,
-    brackets: &[BracketContents],
-) -> Result<Vec<BracketContents>, AllocError>
-    ensures { IfOk result (λ copy. copy.items ≡ brackets.now) }
-{
-    let mut copy = Vec::with_capacity(alloc, brackets.len())?;
-    for contents in brackets {
-        copy.push(contents.clone()?)?;
-    }
-    Ok(copy)
 }

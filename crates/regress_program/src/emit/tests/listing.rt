@@ -52,7 +52,6 @@ fn word(alloc: Global, insn: &Insn) -> Result<String, Fail> {
         Insn::BeginCaptureGroup(id) => format!(in alloc; "BeginCaptureGroup {id}")?,
         Insn::EndCaptureGroup(id) => format!(in alloc; "EndCaptureGroup {id}")?,
         Insn::ResetCaptureGroup(id) => format!(in alloc; "ResetCaptureGroup {id}")?,
-        Insn::Bracket(index) => format!(in alloc; "Bracket {index}")?,
         Insn::Lookbehind {
             negate,
             start_group,

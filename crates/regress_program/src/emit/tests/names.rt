@@ -24,7 +24,8 @@ fn names_stand_under_their_ids(rt: HostRuntime) -> Result<(), Fail> {
     let behind = looking(alloc, true, 0, 2, contents)?;
     let tree = Node::Cat(vec![in alloc; behind, char_of('z'), Node::Goal]?);
     let program = compiled(alloc, tree)?;
-    for program in [&program, &program.clone()?] {
+    let copy = program.clone()?;
+    for program in [&program, &copy] {
         assert_eq!(rt; program.group_name(0), "a");
         assert_eq!(rt; program.group_name(1), "b");
         assert_eq!(rt; program.group_name(2), "");

@@ -114,12 +114,15 @@ fn a_program_has_parts(rt: HostRuntime) -> Result<(), Fail> {
     let group = group_of(alloc, 0, class)?;
     let tree = repeated(alloc, ANY_NUMBER, 0, 1, group)?;
     let program = compiled(alloc, ended(alloc, tree)?)?;
-    for program in [&program, &program.clone()?] {
+    let copy = program.clone()?;
+    for program in [&program, &copy] {
         assert_eq!(rt; program.insns().len(), 7);
         assert_eq!(rt; program.loops(), 1);
         assert_eq!(rt; program.groups(), 1);
-        assert_eq!(rt; program.brackets().len(), 1);
-        assert!(rt; program.brackets()[0].cps.contains(0xE9));
+        let [bracket] = program.brackets() else {
+            return Err(Fail::from("not one bracket"));
+        };
+        assert!(rt; bracket.cps.contains(0xE9));
         assert!(rt; matches!(program.start_pred(), StartPredicate::Arbitrary));
         assert_eq!(rt; program.group_name(0), "");
     }

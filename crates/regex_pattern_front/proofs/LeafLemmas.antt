@@ -1,8 +1,8 @@
 -- Nodes without groups are sound parts of a pattern.
-use Rattle.std.proofs.Common.{◌≡◌, ℕ, ◌+◌, ◌<◌, ◌≤◌, Bool, true, false, ◌&&◌, List, [], ◌∷◌, ◌++◌, length, refl, arith, Vec, Global}
+use Rattle.std.proofs.Common.{◌≡◌, ℕ, ◌<◌, ◌≤◌, Bool, true, false, ◌&&◌, [], ◌∷◌, ◌++◌, length, refl, arith, Vec, Global}
 use Rattle.std.specs.Prelude.{if◌then◌else◌, nat_le, ◌==◌}
 use Rattle.std.proofs.lemmas.Bool.{le-leb}
-use Rattle.regex_meaning.specs.Text.{expand_code_point, fold_code_point, all_with_fold, nonascii_with_fold, to_uppercase, to_lowercase}
+use Rattle.regex_meaning.specs.Text.{expand_code_point, fold_code_point, all_with_fold, to_uppercase, to_lowercase}
 use Rattle.regex_pattern_front.specs.TreeOf.{node_of}
 use Rattle.regex_pattern_front.specs.Parts.{IsPart, AreParts, IsLeaf}
 use Rattle.regex_pattern_front.specs.declared.ir.AnchorType.{AnchorType}

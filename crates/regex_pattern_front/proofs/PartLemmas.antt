@@ -1,17 +1,17 @@
 -- The parts of a parsed pattern make a well-formed tree.
 use Rattle.std.proofs.Common.{◌≡◌, ℕ, zero, suc, ◌+◌, ◌-◌, ◌<◌, ◌≤◌, Bool, true, false, ◌&&◌, ◌||◌, List, [], ◌∷◌, ◌++◌, length, count_by, sum_by, refl, sym, ap, ◌∙◌, arith, inl, inr, length-append, get_or, Option, Some, None}
-use Rattle.std.specs.Prelude.{if◌then◌else◌, IsTrue, nat_eq, nat_le, nat_lt, ◌==◌}
+use Rattle.std.specs.Prelude.{if◌then◌else◌, IsTrue, nat_eq, nat_le, ◌==◌}
 use Rattle.std.specs.List.{All, list_all}
 use Rattle.std.specs.Option.{ForSome}
 use Rattle.std.specs.List.Sorted.{IsPermutation}
-use Rattle.std.proofs.lemmas.Bool.{cases_lt, cases_eq, lt-ltb, le-ltb, lt-leb, le-leb, leb-true, ltb-true, eq-eqb, ne_eqb, eqb-true, and_parts}
+use Rattle.std.proofs.lemmas.Bool.{cases_lt, cases_eq, lt-ltb, le-ltb, lt-leb, le-leb, leb-true, eq-eqb, ne_eqb, and_parts}
 use Rattle.std.proofs.lemmas.List.Sums.{sum_by-append}
 use Rattle.std.proofs.lemmas.List.Sorted.{sum_by-IsPermutation, All-permutation}
 use Rattle.std.proofs.lemmas.List.Elements.{All-cons, All-append}
 use Rattle.regex_meaning.specs.Lists.{contains, numbers_from}
 use Rattle.regex_meaning.specs.Tree as tree
 use Rattle.regex_meaning.specs.Tree.{group_ids, every, empty, goal, char, char_set, byte_set, byte_sequence, cat, end_of_cat, alt, bracket, string_set, match_any, match_any_except_line_terminator, anchor, word_boundary, capture_group, back_ref, lookaround, loop, loop_1_char_body, Lookaround, Quantifier}
-use Rattle.regex_meaning.specs.WellFormed.{goal_count, encloses, is_in_order, each_id_stands_once, names_the_groups_inside, refers_to_a_group, has_order_in_quantifier, has_one_character_body, has_text_in_sequence, fits_instructions, is_well_formed}
+use Rattle.regex_meaning.specs.WellFormed.{goal_count, encloses, is_in_order, names_the_groups_inside, refers_to_a_group, has_order_in_quantifier, has_one_character_body, has_text_in_sequence, fits_instructions, is_well_formed}
 use Rattle.regex_meaning.proofs.WellFormedLemmas.{well_formed-iff}
 use Rattle.regex_pattern_front.specs.declared.ir.Node.{Node}
 use Rattle.regex_pattern_front.specs.TreeOf.{node_of, cat_of}

@@ -36,7 +36,7 @@ const WORD_CHARACTERS: [Interval; 4] = [
 ];
 
 // White space and line terminators (ECMA-262, 11.2 and 11.3).
-const SPACES: [Interval; 9] = [
+const SPACES: [Interval; 10] = [
     Interval {
         first: 0x09,
         last: 0x0D,
@@ -68,6 +68,10 @@ const SPACES: [Interval; 9] = [
     Interval {
         first: 0x205F,
         last: 0x205F,
+    },
+    Interval {
+        first: 0x3000,
+        last: 0x3000,
     },
     Interval {
         first: 0xFEFF,

@@ -198,7 +198,8 @@ impl Parser<'_> {
         }
     }
 
-    // A term that is no parenthesis.
+    // A term that is no parenthesis. Its locals stay out of the frames that nested groups take.
+    #[inline(never)]
     fn simple_term(&mut self) -> Result<Node, ParseError>
         ensures read { OnOk result (length self.new.reader.rest.now < length self.old.reader.rest.now) }
         ensures moves { length self.new.reader.rest.now ≤ length self.old.reader.rest.now }
@@ -424,6 +425,7 @@ fn cat(mut terms: Vec<Node>, behind: bool) -> Node
 }
 
 // The alternatives, nested to the right; an empty list is the empty pattern.
+#[inline(never)]
 fn join(alloc: Global, mut alternatives: Vec<Node>) -> Result<Node, AllocError>
     ensures { IfOk result (λ n. (first end greatest : ℕ) → AreParts first end greatest alternatives.items → IsPart first end greatest (node_of n)) }
 {
@@ -435,6 +437,3 @@ fn join(alloc: Global, mut alternatives: Vec<Node>) -> Result<Node, AllocError>
     }
     Ok(joined)
 }
-
-#[cfg(test)]
-mod tests;

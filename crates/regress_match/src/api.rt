@@ -143,7 +143,7 @@ impl Regex {
         let tree = try_parse(alloc, &code_points, flags.for_front())?;
         let cr = emit(alloc, &tree)?;
         if !can_run(&cr) {
-            return Err(Error::Emit(EmitError::Unsupported));
+            return Err(Error::Parse(ParseError::Syntax));
         }
         Ok(Regex { cr })
     }

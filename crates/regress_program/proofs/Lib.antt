@@ -1,7 +1,9 @@
 pub mod NodeLemmas
 pub mod EmitLemmas
 pub mod CodeLemmas
-pub mod SupportedLemmas
+pub mod ByteSetLemmas
+pub mod BeginningLemmas
+pub mod ClassLemmas
 pub mod TextLemmas
 pub mod IdLemmas
 pub mod FilingLemmas

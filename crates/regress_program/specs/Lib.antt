@@ -1,8 +1,8 @@
 pub mod Insns
+pub mod Beginnings
 pub mod Code
 pub mod Programs
 pub mod Nodes
-pub mod Supported
 pub mod Emitting
 pub mod Ids
 pub mod Spans

@@ -4,6 +4,7 @@ mod listing;
 mod malformed;
 mod names;
 mod programs;
+mod units;
 
 use crate::emit::{EmitError, emit};
 use crate::insn::CompiledRegex;
@@ -27,7 +28,6 @@ fn named(error: EmitError) -> &'static str {
         EmitError::TooManyLoops => "TooManyLoops",
         EmitError::TooManyInstructions => "TooManyInstructions",
         EmitError::Memory => "Memory",
-        EmitError::Unsupported => "Unsupported",
     }
 }
 

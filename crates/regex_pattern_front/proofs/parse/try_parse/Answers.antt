@@ -1,7 +1,6 @@
 use Rattle.std.proofs.Common.{◌≡◌, ◌≤◌, refl, arith}
-use Rattle.regex_meaning.specs.Tree.{goal as the_goal, cat, end_of_cat}
-use Rattle.regex_pattern_front.specs.TreeOf.{node_of, cat_of}
-use Rattle.regex_pattern_front.specs.declared.ir.Node.{Node}
+use Rattle.regex_meaning.specs.Tree.{goal as the_goal}
+use Rattle.regex_pattern_front.specs.TreeOf.{node_of}
 use Rattle.regex_pattern_front.specs.declared.ir.Node.TheVariants.{Goal}
 use Rattle.regex_pattern_front.proofs.NodeLemmas.{node_of-Cat}
 use Rattle.regex_pattern_front.proofs.PartLemmas.{whole}

@@ -15,7 +15,7 @@ pub(super) fn answer(alloc: Global, node: Node) -> Result<String, Fail> {
 }
 
 // The instructions one after another.
-fn listing(alloc: Global, insns: &[Insn]) -> Result<String, Fail> {
+pub(super) fn listing(alloc: Global, insns: &[Insn]) -> Result<String, Fail> {
     let mut text = String::new(alloc);
     for insn in insns {
         if !text.is_empty() {

@@ -1,0 +1,53 @@
+//! Sets of bytes and of code points.
+
+use regex_pattern_front::bytesearch::{
+    AsciiBitmap, ByteArraySet, ByteBitmap, ByteSearcher, ByteSet,
+};
+use regex_pattern_front::codepointset::{CodePointSet, Interval};
+use regex_pattern_front::folding::{add_utf8_first_bytes_to_bitmap, utf8_first_byte};
+use regex_pattern_front::types::BracketContents;
+use std::test::Fail;
+
+#[test]
+fn sets_are_searched(rt: HostRuntime) {
+    let mut ascii = AsciiBitmap::default();
+    ascii.set(b'a');
+    ascii.set(127);
+    assert!(rt; ascii.contains(b'a') && ascii.contains(127) && !ascii.contains(b'b'));
+    let mut bytes = ByteBitmap::default();
+    add_utf8_first_bytes_to_bitmap(
+        Interval {
+            first: 0x7F,
+            last: 0x80,
+        },
+        &mut bytes,
+    );
+    assert!(rt; bytes.contains(0x7F) && bytes.contains(0xC2) && !bytes.contains(0xC3));
+    assert_eq!(rt; utf8_first_byte(0x20AC), 0xE2);
+    assert_eq!(rt; bytes.find_in(&[0x41, 0xC2, 0xA0]), Some(1));
+    assert_eq!(rt; [b'c'].find_in(b"abc"), Some(2));
+    assert_eq!(rt; [b'x', b'b'].find_in(b"abc"), Some(1));
+    assert_eq!(rt; [b'x', b'y', b'z'].find_in(b"abc"), None);
+    assert!(rt; ByteArraySet([b'a', b'a', b'b', b'c']).contains(b'c'));
+}
+
+#[test]
+fn sets_of_code_points(rt: HostRuntime) -> Result<(), Fail> {
+    let given = [
+        Interval { first: 5, last: 9 },
+        Interval { first: 1, last: 4 },
+        Interval { first: 8, last: 7 },
+    ];
+    let set = CodePointSet::from_intervals(rt.alloc(), &given)?;
+    let class = BracketContents {
+        invert: true,
+        cps: set,
+    };
+    let copy = class.clone()?;
+    assert!(rt; copy.invert && copy.cps.contains(9) && !copy.cps.contains(10));
+    assert_eq!(rt; copy.cps.intervals().len(), 1);
+    let rest = copy.cps.inverted()?;
+    assert!(rt; rest.contains(0) && rest.contains(0x10_FFFF) && !rest.contains(4));
+    assert!(rt; !rest.contains(0x11_0000));
+    Ok(())
+}

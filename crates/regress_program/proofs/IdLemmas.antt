@@ -385,7 +385,7 @@ count-none q (id ∷ ids) h =
     let here : nat_eq q id ≡ false = or_left (nat_eq q id) (contains ids q) h in
     rw here (count-none q ids (or_right (nat_eq q id) (contains ids q) h))
 
-count_by-first : (q id : ℕ) (ids : List ℕ) → count_by (nat_eq q) (id ∷ ids) ≡ (if nat_eq q id then 1 else 0) + count_by (nat_eq q) ids
+pub count_by-first : (q id : ℕ) (ids : List ℕ) → count_by (nat_eq q) (id ∷ ids) ≡ (if nat_eq q id then 1 else 0) + count_by (nat_eq q) ids
 count_by-first q id ids = sum_by-cons (λ x. if nat_eq q x then 1 else 0) id ids
 
 count-one : (q : ℕ) (ids : List ℕ) (f : ℕ → Bool) → are_fresh f ids ≡ true → contains ids q ≡ true → count_by (nat_eq q) ids ≡ 1

@@ -1,8 +1,12 @@
 pub mod NodeLemmas
 pub mod EmitLemmas
 pub mod CodeLemmas
-pub mod SupportedLemmas
+pub mod ByteSetLemmas
+pub mod BeginningLemmas
+pub mod ClassLemmas
 pub mod TextLemmas
 pub mod IdLemmas
+pub mod FilingLemmas
+pub mod Walks
 pub mod CharLemmas
 pub mod Weights

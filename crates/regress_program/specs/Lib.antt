@@ -1,9 +1,10 @@
 pub mod Insns
+pub mod Beginnings
 pub mod Code
 pub mod Programs
 pub mod Nodes
-pub mod Supported
 pub mod Emitting
 pub mod Ids
 pub mod Spans
 pub mod Refusals
+pub mod Filing

@@ -1,44 +1,48 @@
 -- Which trees are refused.
-use Rattle.std.specs.Prelude.{ℕ, ◌<◌, ◌≤◌, ◌^◌, length, IsTrue}
+use Rattle.std.specs.Prelude.{◌≡◌, ℕ, Bool, ◌<◌, ◌≤◌, ◌^◌, false, length, IsTrue}
 use Rattle.regex_meaning.specs.Tree.{Tree, group_ids}
 use Rattle.regex_meaning.specs.WellFormed.{IsWellFormed}
+use Rattle.regex_meaning.specs.Layout.{reads_bytes}
 use Rattle.regress_program.specs.Code.{size, loop_count}
-use Rattle.regress_program.specs.Supported.{is_supported}
 use Rattle.regress_program.specs.declared.emit.EmitError.{EmitError}
-use Rattle.regress_program.specs.declared.emit.EmitError.TheVariants.{NotWellFormed, BytesInUnits, TooManyGroups, TooManyLoops, TooManyInstructions, Memory, Unsupported}
+use Rattle.regress_program.specs.declared.emit.EmitError.TheVariants.{NotWellFormed, BytesInUnits, TooManyGroups, TooManyLoops, TooManyInstructions, Memory}
 
 -- The tree has a program.
 pub record FitsLimits (tree : Tree) : Type 0 where
-  pub supported : IsTrue (is_supported tree)
   pub well_formed : IsWellFormed tree.root
   pub groups : length (group_ids tree.root) < 2 ^ 16
   pub loops : loop_count tree.root < 2 ^ 16
   pub insns : size tree.root < 2 ^ 32
 
 pub record HasTooManyGroups (tree : Tree) : Type 0 where
-  pub supported : IsTrue (is_supported tree)
   pub well_formed : IsWellFormed tree.root
   pub groups : 2 ^ 16 ≤ length (group_ids tree.root)
 
 pub record HasTooManyLoops (tree : Tree) : Type 0 where
-  pub supported : IsTrue (is_supported tree)
   pub well_formed : IsWellFormed tree.root
   pub groups : length (group_ids tree.root) < 2 ^ 16
   pub loops : 2 ^ 16 ≤ loop_count tree.root
 
 pub record HasTooManyInstructions (tree : Tree) : Type 0 where
-  pub supported : IsTrue (is_supported tree)
   pub well_formed : IsWellFormed tree.root
   pub groups : length (group_ids tree.root) < 2 ^ 16
   pub loops : loop_count tree.root < 2 ^ 16
   pub insns : 2 ^ 32 ≤ size tree.root
 
--- the cause of each refusal, where no earlier one is there
+-- the cause of each refusal, where no earlier one is there; `bytes_in_units` says whether a node that reads bytes stands
+-- in a tree for 16-bit units
+abbrev pub IsRefusedWith : (bytes_in_units : Bool) → EmitError → Tree → Type 0
+IsRefusedWith bytes_in_units NotWellFormed tree = ¬ (IsWellFormed tree.root)
+IsRefusedWith bytes_in_units BytesInUnits tree = IsWellFormed tree.root × IsTrue bytes_in_units
+IsRefusedWith bytes_in_units TooManyGroups tree = (bytes_in_units ≡ false) × HasTooManyGroups tree
+IsRefusedWith bytes_in_units TooManyLoops tree = (bytes_in_units ≡ false) × HasTooManyLoops tree
+IsRefusedWith bytes_in_units TooManyInstructions tree = (bytes_in_units ≡ false) × HasTooManyInstructions tree
+IsRefusedWith bytes_in_units Memory tree = Unit {0}
+
+-- where a program for bytes is asked for
 abbrev pub IsRefused : EmitError → Tree → Type 0
-IsRefused Unsupported tree = ¬ (IsTrue (is_supported tree))
-IsRefused NotWellFormed tree = IsTrue (is_supported tree) × (¬ (IsWellFormed tree.root))
-IsRefused BytesInUnits tree = ⊥
-IsRefused TooManyGroups tree = HasTooManyGroups tree
-IsRefused TooManyLoops tree = HasTooManyLoops tree
-IsRefused TooManyInstructions tree = HasTooManyInstructions tree
-IsRefused Memory tree = Unit {0}
+IsRefused e tree = IsRefusedWith false e tree
+
+-- where one for 16-bit units is asked for
+abbrev pub IsRefusedInUnits : EmitError → Tree → Type 0
+IsRefusedInUnits e tree = IsRefusedWith (reads_bytes tree.root) e tree

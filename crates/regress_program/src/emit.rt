@@ -1,34 +1,36 @@
 //! From trees to programs.
 
-ghost use Rattle.std.specs.Prelude.{◌≡◌, length, IfOk, OnOk, IfErr, IsErrOf};
+ghost use Rattle.std.specs.Prelude.{◌≡◌, false, length, IfOk, OnOk, IfErr, IsErrOf};
 ghost use Rattle.regex_meaning.specs.Tree.{group_ids};
-ghost use Rattle.regex_meaning.specs.Layout.{IsByteCodeOf};
+ghost use Rattle.regex_meaning.specs.Layout.{IsByteCodeOf, IsUnitCodeOf};
 ghost use Rattle.regex_pattern_front.specs.TreeOf.{tree_of};
 ghost use Rattle.regress_program.specs.Code.{compiled};
-ghost use Rattle.regress_program.specs.declared.emit.EmitError.TheVariants.{Unsupported, NotWellFormed, TooManyGroups, TooManyLoops, TooManyInstructions};
-ghost use Rattle.regress_program.specs.Refusals.{IsRefused, FitsLimits};
+ghost use Rattle.regress_program.specs.declared.emit.EmitError.TheVariants.{NotWellFormed, BytesInUnits, TooManyGroups, TooManyLoops, TooManyInstructions};
+ghost use Rattle.regress_program.specs.Refusals.{IsRefused, IsRefusedInUnits, IsRefusedWith, FitsLimits};
 
 mod brackets;
+mod bytes;
 mod emitter;
 mod ids;
 mod leaves;
-mod supported;
+mod names;
 mod tally;
 #[cfg(test)]
 mod tests;
 mod texts;
 mod wellformed;
 
+use crate::carried::Carried;
+use crate::emit::bytes::reads_bytes;
 use crate::emit::emitter::{Emitter, Mode};
-use crate::emit::supported::is_supported;
+use crate::emit::names::names_by_id;
 use crate::emit::tally::Tally;
 pub use crate::emit::wellformed::is_well_formed;
-use crate::insn::CompiledRegex;
-use crate::startpredicate::predicate_without_bytes;
+use crate::insn::{CompiledRegex, CompiledUnits, Program};
+use crate::startpredicate::predicate_for_re;
 use regex_pattern_front::ir;
 use regex_pattern_front::types::{LoopID, MAX_CAPTURE_GROUPS};
 use std::alloc::{AllocError, Global};
-use std::snapshot::Snapshot;
 
 /// Why a tree is not compiled.
 #[derive(Clone, Copy, Debug, PartialEq, Eq)]
@@ -45,8 +47,6 @@ pub enum EmitError {
     TooManyInstructions,
     /// A growth was refused.
     Memory,
-    /// The tree is not compiled yet: a group has a name, or a text has to start with given bytes.
-    Unsupported,
 }
 
 impl From<AllocError> for EmitError {
@@ -64,30 +64,55 @@ impl From<AllocError> for EmitError {
 ///
 /// # Errors
 ///
-/// In this order, each only where its cause holds: `Unsupported`, `NotWellFormed`, `TooManyGroups`, `TooManyLoops`,
+/// In this order, each only where its cause holds: `NotWellFormed`, `TooManyGroups`, `TooManyLoops`,
 /// `TooManyInstructions`. `Memory` may stand in place of any answer.
 pub fn emit(alloc: Global, re: &ir::Regex) -> Result<CompiledRegex, EmitError>
     ensures tree { IfOk result (λ p. p ≡ re.now) }
     ensures code { OnOk result (IsByteCodeOf (compiled (tree_of re.now)) (tree_of re.now)) }
     ensures fits { OnOk result (FitsLimits (tree_of re.now)) }
-    ensures unsupported { IsErrOf result EmitError.Unsupported → IsRefused Unsupported (tree_of re.now) }
     ensures not_well_formed { IsErrOf result EmitError.NotWellFormed → IsRefused NotWellFormed (tree_of re.now) }
     ensures too_many_groups { IsErrOf result EmitError.TooManyGroups → IsRefused TooManyGroups (tree_of re.now) }
     ensures too_many_loops { IsErrOf result EmitError.TooManyLoops → IsRefused TooManyLoops (tree_of re.now) }
     ensures too_many_instructions { IsErrOf result EmitError.TooManyInstructions → IsRefused TooManyInstructions (tree_of re.now) }
     ensures no_units { ¬ (IsErrOf result EmitError.BytesInUnits) }
 {
-    compile(alloc, re)
+    let program = compile(alloc, re, false)?;
+    let start_pred = predicate_for_re(alloc, re)?;
+    Ok(CompiledRegex {
+        program,
+        start_pred,
+    })
 }
 
-// The program of a tree, or why there is none.
-fn compile(alloc: Global, re: &ir::Regex) -> Result<CompiledRegex, EmitError>
+/// The program of a tree for texts of 16-bit units, or the first cause for which there is none.
+///
+/// # Errors
+///
+/// In this order, each only where its cause holds: `NotWellFormed`, `BytesInUnits`, `TooManyGroups`, `TooManyLoops`,
+/// `TooManyInstructions`. `Memory` may stand in place of any answer.
+pub fn emit_units(alloc: Global, re: &ir::Regex) -> Result<CompiledUnits, EmitError>
     ensures tree { IfOk result (λ p. p ≡ re.now) }
-    ensures code { OnOk result (IsByteCodeOf (compiled (tree_of re.now)) (tree_of re.now)) }
+    ensures code { OnOk result (IsUnitCodeOf (compiled (tree_of re.now)) (tree_of re.now)) }
     ensures fits { OnOk result (FitsLimits (tree_of re.now)) }
-    ensures refused { IfErr result (λ e. IsRefused e (tree_of re.now)) }
+    ensures not_well_formed { IsErrOf result EmitError.NotWellFormed → IsRefusedInUnits NotWellFormed (tree_of re.now) }
+    ensures bytes_in_units { IsErrOf result EmitError.BytesInUnits → IsRefusedInUnits BytesInUnits (tree_of re.now) }
+    ensures too_many_groups { IsErrOf result EmitError.TooManyGroups → IsRefusedInUnits TooManyGroups (tree_of re.now) }
+    ensures too_many_loops { IsErrOf result EmitError.TooManyLoops → IsRefusedInUnits TooManyLoops (tree_of re.now) }
+    ensures too_many_instructions { IsErrOf result EmitError.TooManyInstructions → IsRefusedInUnits TooManyInstructions (tree_of re.now) }
 {
-    let groups = check_limits(re)?;
+    let program = compile(alloc, re, reads_bytes(&re.node))?;
+    Ok(CompiledUnits { program })
+}
+
+// What programs of both kinds hold, or why there is none; `bytes_in_units` says whether the tree is for 16-bit units
+// and has nodes that read bytes.
+fn compile(alloc: Global, re: &ir::Regex, bytes_in_units: bool) -> Result<Program, EmitError>
+    ensures tree { IfOk result (λ p. p ≡ re.now) }
+    ensures fits { OnOk result (FitsLimits (tree_of re.now)) }
+    ensures no_bytes { OnOk result (bytes_in_units ≡ false) }
+    ensures refused { IfErr result (λ e. IsRefusedWith bytes_in_units e (tree_of re.now)) }
+{
+    let groups = check_limits(re, bytes_in_units)?;
     let mut emitter = Emitter::new(alloc);
     let mode = Mode {
         unicode: re.flags.unicode,
@@ -99,29 +124,30 @@ fn compile(alloc: Global, re: &ir::Regex) -> Result<CompiledRegex, EmitError>
         brackets,
         loops,
     } = emitter;
-    Ok(CompiledRegex {
+    let group_names = names_by_id(alloc, &re.node, groups)?;
+    Ok(Program {
         insns,
         brackets,
-        start_pred: predicate_without_bytes(re),
         loops: u32::from(loops),
         groups,
-        group_names: Vec::new(alloc),
+        group_names,
         flags: re.flags,
-        tree: Snapshot::of(re),
+        tree: Carried::of(re),
     })
 }
 
 // How many groups a tree has, where it is one that is compiled.
-fn check_limits(re: &ir::Regex) -> Result<u32, EmitError>
+fn check_limits(re: &ir::Regex, bytes_in_units: bool) -> Result<u32, EmitError>
     ensures groups { IfOk result (λ n. n ≡ length (group_ids (tree_of re.now).root)) }
     ensures fits { OnOk result (FitsLimits (tree_of re.now)) }
-    ensures refused { IfErr result (λ e. IsRefused e (tree_of re.now)) }
+    ensures no_bytes { OnOk result (bytes_in_units ≡ false) }
+    ensures refused { IfErr result (λ e. IsRefusedWith bytes_in_units e (tree_of re.now)) }
 {
-    if !is_supported(re) {
-        return Err(EmitError::Unsupported);
-    }
     if !is_well_formed(re) {
         return Err(EmitError::NotWellFormed);
+    }
+    if bytes_in_units {
+        return Err(EmitError::BytesInUnits);
     }
     let mut tally = Tally::new();
     tally.add(&re.node);

@@ -1,30 +1,94 @@
 //! What a text has to start with where a pattern matches.
 #![tactic(auto, unfolding(regex_pattern_front::specs::TreeOf::node_of))]
 
-ghost use Rattle.std.specs.Prelude.{◌≡◌, ◌&&◌, not, IsTrue};
-ghost use Rattle.regex_meaning.specs.StartPredicate.{is_anchored, start_predicate};
+ghost use Rattle.std.specs.Prelude.{◌≡◌, ◌&&◌, not, IfOk};
+ghost use Rattle.regex_meaning.specs.StartPredicate.{IsSound, is_anchored, start_predicate, start_of as predicate_of, sequence, one_of};
+ghost use Rattle.regex_meaning.specs.WellFormed.{IsWellFormed};
+ghost use Rattle.regex_pattern_front.specs.ByteSets.{byte_bitmap_bytes};
 ghost use Rattle.regex_pattern_front.specs.TreeOf.{node_of, tree_of};
+ghost use Rattle.regress_program.specs.Beginnings.{beginning_of};
 ghost use Rattle.regress_program.specs.Insns.{start_of};
-ghost use Rattle.regress_program.specs.Supported.{looks_at_no_byte};
+
+mod beginnings;
+mod bytesets;
+#[cfg(test)]
+mod tests;
 
 use crate::insn::StartPredicate;
+use crate::startpredicate::beginnings::{Beginning, begins};
+use crate::startpredicate::bytesets::next_member;
+use regex_pattern_front::bytesearch::ByteBitmap;
 use regex_pattern_front::ir;
 use regex_pattern_front::ir::{AnchorType, Node};
+use std::alloc::{AllocError, Global};
 
-// The predicate of a tree, where it looks at no byte.
-pub(crate) fn predicate_without_bytes(re: &ir::Regex) -> StartPredicate
-    requires { IsTrue (looks_at_no_byte (tree_of re.now)) }
-    ensures { start_of result ≡ start_predicate (tree_of re.now) }
+/// What a text in bytes has to start with where the pattern matches: given bytes, one byte of a set, or anything; or
+/// that the pattern matches at the left end alone, as one that begins with `^` does. Else the first node that reads
+/// something decides, and alternatives give what they have in common. Which nodes give what is a rule of this crate
+/// (`start_predicate` of `regex_meaning`).
+///
+/// For a well-formed tree it is sound: it holds at each place where the pattern matches, and the byte that it looks for
+/// first begins a character.
+///
+/// # Errors
+///
+/// A growth was refused. Memory is taken for the bytes of a sequence and for an inverted class alone.
+pub fn predicate_for_re(alloc: Global, re: &ir::Regex) -> Result<StartPredicate, AllocError>
+    ensures predicate { IfOk result (λ p. start_of p ≡ start_predicate (tree_of re.now)) }
+    ensures sound { IsWellFormed (tree_of re.now).root → IfOk result (λ p. IsSound (start_of p) (tree_of re.now).root) }
 {
     if matches_at_left_end(re) {
-        StartPredicate::StartAnchored
-    } else {
-        StartPredicate::Arbitrary
+        return Ok(StartPredicate::StartAnchored);
+    }
+    let beginning = begins(&re.node)?;
+    beginning_predicate(alloc, beginning)
+}
+
+fn beginning_predicate(
+    alloc: Global,
+    beginning: Beginning<'_>,
+) -> Result<StartPredicate, AllocError>
+    ensures { IfOk result (λ p. start_of p ≡ predicate_of (beginning_of beginning.entry)) }
+{
+    match beginning {
+        Beginning::Open | Beginning::Anything => Ok(StartPredicate::Arbitrary),
+        Beginning::Sequence(bytes) => bytes_predicate(alloc, bytes),
+        Beginning::OneOf(set) => Ok(set_predicate(set)),
+    }
+}
+
+// That a text starts with these bytes.
+fn bytes_predicate(alloc: Global, bytes: &[u8]) -> Result<StartPredicate, AllocError>
+    ensures { IfOk result (λ p. start_of p ≡ predicate_of (sequence bytes.now)) }
+{
+    match bytes {
+        [] => Ok(StartPredicate::Arbitrary),
+        [byte] => Ok(StartPredicate::ByteSet1([*byte])),
+        _ => Ok(StartPredicate::ByteSeq(bytes.to_vec(alloc)?)),
+    }
+}
+
+// That a text starts with a member.
+fn set_predicate(set: ByteBitmap) -> StartPredicate
+    ensures { start_of result ≡ predicate_of (one_of (byte_bitmap_bytes set)) }
+{
+    let Some(a) = next_member(&set, 0) else {
+        return StartPredicate::Arbitrary;
+    };
+    let Some(b) = next_member(&set, usize::from(a) + 1) else {
+        return StartPredicate::ByteSet1([a]);
+    };
+    let Some(c) = next_member(&set, usize::from(b) + 1) else {
+        return StartPredicate::ByteSet2([a, b]);
+    };
+    match next_member(&set, usize::from(c) + 1) {
+        None => StartPredicate::ByteSet3([a, b, c]),
+        Some(_) => StartPredicate::ByteBracket(set),
     }
 }
 
 // Whether the tree matches at the left end of a text alone.
-pub(crate) fn matches_at_left_end(re: &ir::Regex) -> bool
+fn matches_at_left_end(re: &ir::Regex) -> bool
     ensures { result ≡ (not (tree_of re.now).flags.multiline && is_anchored (tree_of re.now).root) }
 {
     !re.flags.multiline && is_start_anchored(&re.node)

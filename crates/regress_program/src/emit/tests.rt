@@ -1,31 +1,24 @@
 //! Programs of trees made by hand.
 
-use super::*;
-use crate::insn::Insn;
+mod listing;
+mod malformed;
+mod names;
+mod programs;
+mod units;
+
+use crate::emit::{EmitError, emit};
+use crate::insn::CompiledRegex;
 use regex_pattern_front::flags::Flags;
+use regex_pattern_front::ir;
 use regex_pattern_front::ir::{Node, Quantifier};
-use std::process::Abort;
+use std::alloc::Global;
 use std::test::Fail;
 
-// The instructions in words, one after another.
-fn listing(alloc: Global, insns: &[Insn]) -> Result<String, Fail> {
-    let mut text = String::new(alloc);
-    for insn in insns {
-        let word = match insn {
-            Insn::Goal => format!(in alloc; "Goal")?,
-            Insn::Char(c) => format!(in alloc; "Char {c}")?,
-            Insn::MatchAny => format!(in alloc; "MatchAny")?,
-            Insn::Alt { secondary } => format!(in alloc; "Alt {secondary}")?,
-            Insn::Jump { target } => format!(in alloc; "Jump {target}")?,
-            _ => format!(in alloc; "other")?,
-        };
-        if !text.is_empty() {
-            text.push_str(", ")?;
-        }
-        text.push_str(&word)?;
-    }
-    Ok(text)
-}
+const ANY_NUMBER: Quantifier = Quantifier {
+    min: 0,
+    max: None,
+    greedy: true,
+};
 
 fn named(error: EmitError) -> &'static str {
     match error {
@@ -35,84 +28,77 @@ fn named(error: EmitError) -> &'static str {
         EmitError::TooManyLoops => "TooManyLoops",
         EmitError::TooManyInstructions => "TooManyInstructions",
         EmitError::Memory => "Memory",
-        EmitError::Unsupported => "Unsupported",
     }
 }
 
-// What the compiler answers for a tree, in words.
-fn answer(alloc: Global, node: Node) -> Result<String, Fail> {
-    let re = ir::Regex {
-        node,
-        flags: Flags::default(),
-    };
-    match emit(alloc, &re) {
-        Ok(program) => listing(alloc, program.insns()),
-        Err(error) => Ok(String::from_str(alloc, named(error))?),
-    }
+fn compiled(alloc: Global, node: Node) -> Result<CompiledRegex, EmitError> {
+    emit(
+        alloc,
+        &ir::Regex {
+            node,
+            flags: Flags::default(),
+        },
+    )
 }
 
-fn char_of(c: u32) -> Node {
-    Node::Char { c }
+fn char_of(c: char) -> Node {
+    Node::Char { c: u32::from(c) }
+}
+
+// The node, and the end of the pattern.
+fn ended(alloc: Global, node: Node) -> Result<Node, Fail> {
+    Ok(Node::Cat(vec![in alloc; node, Node::Goal]?))
 }
 
 fn alt_of(alloc: Global, left: Node, right: Node) -> Result<Node, Fail> {
     Ok(Node::Alt(Box::new(alloc, left)?, Box::new(alloc, right)?))
 }
 
-#[test]
-fn a_choice_between_rows(rt: HostRuntime) -> Result<(), Fail> {
-    let alloc = rt.alloc();
-    let row = Node::Cat(vec![in alloc; char_of(97), char_of(98)]?);
-    let tree = Node::Cat(vec![in alloc; alt_of(alloc, char_of(97), row)?, Node::Goal]?);
-    let text = answer(alloc, tree)?;
-    assert_eq!(rt;
-        text.as_str(),
-        "Alt 3, Char 97, Jump 5, Char 97, Char 98, Goal"
-    );
-    Ok(())
+fn group_of(alloc: Global, id: u16, contents: Node) -> Result<Node, Fail> {
+    Ok(Node::CaptureGroup {
+        id,
+        contents: Box::new(alloc, contents)?,
+        name: None,
+    })
 }
 
-#[test]
-fn rows_and_leaves(rt: HostRuntime) -> Result<(), Fail> {
-    let alloc = rt.alloc();
-    let text = answer(alloc, Node::Goal)?;
-    assert_eq!(rt; text.as_str(), "Goal");
-    let tree = Node::Cat(vec![in alloc; Node::Empty, Node::MatchAny, Node::Goal]?);
-    let text = answer(alloc, tree)?;
-    assert_eq!(rt; text.as_str(), "MatchAny, Goal");
-    Ok(())
+fn looking(
+    alloc: Global,
+    backwards: bool,
+    start_group: u16,
+    end_group: u16,
+    contents: Node,
+) -> Result<Node, Fail> {
+    Ok(Node::LookaroundAssertion {
+        negate: false,
+        backwards,
+        start_group,
+        end_group,
+        contents: Box::new(alloc, contents)?,
+    })
 }
 
-#[test]
-fn misplaced_goals(rt: HostRuntime) -> Result<(), Fail> {
-    let alloc = rt.alloc();
-    let text = answer(alloc, char_of(97))?;
-    assert_eq!(rt; text.as_str(), "NotWellFormed");
-    let text = answer(alloc, Node::Cat(vec![in alloc; Node::Goal, char_of(97)]?))?;
-    assert_eq!(rt; text.as_str(), "NotWellFormed");
-    let text = answer(alloc, alt_of(alloc, Node::Goal, Node::Goal)?)?;
-    assert_eq!(rt; text.as_str(), "NotWellFormed");
-    let text = answer(alloc, Node::Cat(vec![in alloc; Node::Goal, Node::Goal]?))?;
-    assert_eq!(rt; text.as_str(), "NotWellFormed");
-    let text = answer(alloc, Node::Cat(Vec::new(alloc)))?;
-    assert_eq!(rt; text.as_str(), "NotWellFormed");
-    Ok(())
-}
-
-#[test]
-fn a_loop(rt: HostRuntime) -> Result<(), Fail> {
-    let alloc = rt.alloc();
-    let quant = Quantifier {
-        min: 0,
-        max: None,
-        greedy: true,
-    };
-    let tree = Node::Loop {
-        loopee: Box::new(alloc, char_of(97))?,
+fn repeated(
+    alloc: Global,
+    quant: Quantifier,
+    first: u16,
+    end: u16,
+    loopee: Node,
+) -> Result<Node, Fail> {
+    Ok(Node::Loop {
+        loopee: Box::new(alloc, loopee)?,
         quant,
-        enclosed_groups: 0..0,
-    };
-    let text = answer(alloc, Node::Cat(vec![in alloc; tree, Node::Goal]?))?;
-    assert_eq!(rt; text.as_str(), "other, Char 97, other, Goal");
-    Ok(())
+        enclosed_groups: first..end,
+    })
+}
+
+fn repeated_character(alloc: Global, quant: Quantifier, loopee: Node) -> Result<Node, Fail> {
+    Ok(Node::Loop1CharBody {
+        loopee: Box::new(alloc, loopee)?,
+        quant,
+    })
+}
+
+fn bytes_of(alloc: Global, bytes: &[u8]) -> Result<Node, Fail> {
+    Ok(Node::ByteSequence(Vec::from_slice(alloc, bytes)?))
 }

@@ -1,11 +1,8 @@
-use Rattle.std.proofs.Common.{◌≡◌, ◌+◌, ◌∙◌, ap, sym, false, arith, length, refl, map, string_bytes}
+use Rattle.std.proofs.Common.{◌≡◌, ◌+◌, ◌∙◌, ap, false, arith, length, refl}
 use Rattle.regex_meaning.proofs.WellFormedLemmas.{well_formed-iff}
-use Rattle.regex_pattern_front.specs.TreeOf.{node_of, tree_of}
+use Rattle.regex_pattern_front.specs.TreeOf.{node_of}
 use Rattle.regress_program.specs.Code.{compiled}
 use Rattle.regress_program.specs.Emitting.{state_of, nothing, with_code}
-use Rattle.regress_program.proofs.NodeLemmas.{both_first, both_second}
-use Rattle.regress_program.proofs.SupportedLemmas.{unnamed-names}
-use Rattle.regress_program.proofs.CodeLemmas.{compiled-is_code}
 use Rattle.regress_program.proofs.emit.compile.Goals as goal
 
 pub emit-requires-clause-sets : goal.emit-requires-clause-sets
@@ -18,9 +15,6 @@ emit-requires-clause-room c =
       insns = omega (arith, fits.insns, ap (λ s. length s.insns) c.new-emitter.ensures);
       loops = omega (arith, fits.loops, ap (λ s. s.loops) c.new-emitter.ensures);
     }
-
-pub predicate_without_bytes-requires : goal.predicate_without_bytes-requires
-predicate_without_bytes-requires c = both_second _ _ c.in_ok-groups.ensures.fits.supported
 
 pub invariant_of-result : goal.invariant_of-result
 unfolding compiled
@@ -36,10 +30,6 @@ invariant_of-result c =
       loops = rw of (omega (arith, c.from.ensures, ap (λ s. s.loops) made));
       groups = rw of c.in_ok-groups.ensures.groups;
       flags = rw of refl;
-      group_names = rw of (ap (map string_bytes) c.new.ensures.items ∙ sym (unnamed-names root (both_first _ _ fits.supported)));
-      start_pred = rw of c.predicate_without_bytes.ensures;
+      group_names = rw of c.in_ok-group_names.ensures;
       well_formed = rw of ((well_formed-iff root).1 fits.well_formed);
     }
-
-pub returns-clause-code : goal.returns-clause-code
-returns-clause-code c = compiled-is_code (tree_of c.args.re.now) c.in_ok-groups.ensures.fits.well_formed

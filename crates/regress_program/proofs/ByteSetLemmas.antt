@@ -1,0 +1,135 @@
+-- Sets of bytes that grow, and their members one after another.
+use Rattle.std.proofs.Common.{◌≡◌, ℕ, ◌+◌, ◌-◌, ◌<◌, ◌≤◌, suc, Bool, true, false, ◌||◌, List, [], ◌∷◌, filter, map, length, drop, get_or, slice_get, Some, None, drop-cons, refl, sym, ap, ◌∙◌, arith, if◌then◌else◌}
+use Rattle.std.specs.Prelude.{◌==◌, ◌&&◌, nat_le}
+use Rattle.std.specs.List.{list_any}
+use Rattle.std.proofs.lemmas.List.{drop_all}
+use Rattle.regex_meaning.specs.Lists.{contains, numbers_from}
+use Rattle.regex_meaning.specs.Tree.{Intervals}
+use Rattle.regex_meaning.specs.StartPredicate.{bytes_where, begun_by, meet, union, first_byte}
+use Rattle.regex_pattern_front.proofs.ByteLemmas.{contains-bytes_where, bytes_where-same}
+use Rattle.regress_program.specs.Beginnings.{bytes_from}
+
+or-none : (t : Bool) → (t || false) ≡ t
+or-none true = refl
+or-none false = refl
+
+or-assoc : (s t u : Bool) → ((s || t) || u) ≡ (s || (t || u))
+or-assoc true t u = refl
+or-assoc false t u = refl
+
+or-comm : (s t : Bool) → (s || t) ≡ (t || s)
+or-comm true true = refl
+or-comm true false = refl
+or-comm false true = refl
+or-comm false false = refl
+
+-- ---- Unions
+
+pub union-none : (p : ℕ → Bool) → union (bytes_where p) [] ≡ bytes_where p
+union-none p = bytes_where-same _ _ (λ b h. or-none (contains (bytes_where p) b) ∙ contains-bytes_where p b h)
+
+pub union-more : (old new rest : List ℕ) (byte : ℕ) → new ≡ bytes_where (λ b. b == byte || contains old b)
+    → union new rest ≡ union old (byte ∷ rest)
+union-more old new rest byte e = bytes_where-same _ _ (λ b h.
+    ap (λ t. t || contains rest b) (ap (λ s. contains s b) e ∙ contains-bytes_where (λ c. c == byte || contains old c) b h ∙ or-comm (b == byte) (contains old b))
+    ∙ or-assoc (contains old b) (b == byte) (contains rest b))
+
+-- a byte of a list, where the rest is to come
+pub union-next : (old new bytes : List ℕ) (i : ℕ) → i < length bytes → new ≡ bytes_where (λ b. b == get_or bytes i 0 || contains old b)
+    → union new (drop (i + 1) bytes) ≡ union old (drop i bytes)
+union-next old new bytes i h e =
+    let next : suc i ≡ i + 1 = omega arith in
+    union-more old new (drop (i + 1) bytes) (get_or bytes i 0) e
+    ∙ ap (union old) (sym (drop-cons bytes i 0 h ∙ ap (λ (k : ℕ). get_or bytes i 0 ∷ drop k bytes) next))
+
+-- the first byte of a list alone
+pub union-no_first : (p : ℕ → Bool) (bytes : List ℕ) → slice_get bytes 0 ≡ None → bytes_where p ≡ union (bytes_where p) (first_byte bytes)
+union-no_first p [] h = sym (union-none p)
+union-no_first p (x ∷ xs) h = cc
+
+pub union-first : (old new bytes : List ℕ) (byte : ℕ) → slice_get bytes 0 ≡ Some byte → new ≡ bytes_where (λ b. b == byte || contains old b)
+    → new ≡ union old (first_byte bytes)
+union-first old new [] byte h e = cc
+union-first old new (x ∷ xs) byte h e =
+    let is : byte ≡ x = cc in
+    e ∙ bytes_where-same _ _ (λ b k. or-comm (b == byte) (contains old b) ∙ ap (λ t. contains old b || t) (ap (λ y. b == y) is ∙ sym (or-none (b == x))))
+
+pub union-comm : (xs ys : List ℕ) → union xs ys ≡ union ys xs
+union-comm xs ys = bytes_where-same _ _ (λ b h. or-comm (contains xs b) (contains ys b))
+
+-- one after the other, from the empty set on
+pub union-both : (xs ys : List ℕ) → union (union [] xs) ys ≡ union xs ys
+union-both xs ys = bytes_where-same _ _ (λ b h. ap (λ t. t || contains ys b) (contains-bytes_where (contains xs) b h))
+
+-- ---- First bytes
+
+-- the set and the first bytes of these code points
+abbrev pub with_first_bytes : List ℕ → Intervals → List ℕ
+with_first_bytes set intervals = bytes_where (λ b. contains set b || meet (begun_by b) intervals)
+
+meet-none : (xs : Intervals) → meet xs [] ≡ false
+meet-none [] = refl
+meet-none (x ∷ xs) = meet-none xs
+
+pub first_bytes-none : (p : ℕ → Bool) → with_first_bytes (bytes_where p) [] ≡ bytes_where p
+first_bytes-none p =
+    bytes_where-same _ _ (λ b h. ap (λ t. contains (bytes_where p) b || t) (meet-none (begun_by b)) ∙ or-none (contains (bytes_where p) b) ∙ contains-bytes_where p b h)
+
+four : (s t u v : Bool) → ((s || t) || (u || v)) ≡ (((s || false) || u) || (t || v))
+four true t u v = refl
+four false true true v = refl
+four false true false v = refl
+four false false u v = refl
+
+touches : (x y : ℕ × ℕ) → Bool
+touches x y = nat_le x.0 x.1 && nat_le y.0 y.1 && nat_le x.0 y.1 && nat_le y.0 x.1
+
+meet-cons : (xs : Intervals) (y : ℕ × ℕ) (ys : Intervals) → meet xs (y ∷ ys) ≡ (meet xs (y ∷ []) || meet xs ys)
+unfolding touches
+meet-cons [] y ys = refl
+meet-cons (x ∷ xs) y ys =
+    ap (λ t. (touches x y || list_any (touches x) ys) || t) (meet-cons xs y ys)
+    ∙ four (touches x y) (list_any (touches x) ys) (meet xs (y ∷ [])) (meet xs ys)
+
+pub first_bytes-more : (old new : List ℕ) (i : ℕ × ℕ) (rest : Intervals) → new ≡ with_first_bytes old (i ∷ [])
+    → with_first_bytes new rest ≡ with_first_bytes old (i ∷ rest)
+first_bytes-more old new i rest e = bytes_where-same _ _ (λ b h.
+    ap (λ t. t || meet (begun_by b) rest) (ap (λ s. contains s b) e ∙ contains-bytes_where (λ c. contains old c || meet (begun_by c) (i ∷ [])) b h)
+    ∙ or-assoc (contains old b) (meet (begun_by b) (i ∷ [])) (meet (begun_by b) rest)
+    ∙ ap (λ t. contains old b || t) (sym (meet-cons (begun_by b) i rest)))
+
+-- an item of a list, where the rest is to come
+pub first_bytes-next : {A : Type 0} (f : A → ℕ × ℕ) (old new : List ℕ) (items : List A) (i : ℕ) (d : A) → i < length items
+    → new ≡ with_first_bytes old (f (get_or items i d) ∷ []) → with_first_bytes new (map f (drop (i + 1) items)) ≡ with_first_bytes old (map f (drop i items))
+first_bytes-next {A = A} f old new items i d h e =
+    let next : suc i ≡ i + 1 = omega arith in
+    first_bytes-more old new (f (get_or items i d)) (map f (drop (i + 1) items)) e
+    ∙ ap (λ (xs : List A). with_first_bytes old (map f xs)) (sym (drop-cons items i d h ∙ ap (λ (k : ℕ). get_or items i d ∷ drop k items) next))
+
+-- no item is left
+pub first_bytes-end : {A : Type 0} (f : A → ℕ × ℕ) (p : ℕ → Bool) (items : List A) (i : ℕ) → length items ≤ i
+    → bytes_where p ≡ with_first_bytes (bytes_where p) (map f (drop i items))
+first_bytes-end {A = A} f p items i h = sym (first_bytes-none p) ∙ ap (λ (xs : List A). with_first_bytes (bytes_where p) (map f xs)) (sym (drop_all i items h))
+
+-- ---- Members one after another
+
+bytes_from-cons : (set : List ℕ) (n : ℕ) → n < 256 → bytes_from set n ≡ (if contains set n then n ∷ bytes_from set (n + 1) else bytes_from set (n + 1))
+unfolding bytes_from
+bytes_from-cons set n h = let e : 256 - n ≡ suc (256 - (n + 1)) = omega arith in ap (λ k. filter (contains set) (numbers_from n k)) e
+
+pub bytes_from-next : (set : List ℕ) (n : ℕ) → n < 256 → contains set n ≡ true → bytes_from set n ≡ n ∷ bytes_from set (n + 1)
+bytes_from-next set n h e = bytes_from-cons set n h ∙ ap (λ t. if t then n ∷ bytes_from set (n + 1) else bytes_from set (n + 1)) e
+
+pub bytes_from-skip : (set : List ℕ) (n : ℕ) → n < 256 → contains set n ≡ false → bytes_from set n ≡ bytes_from set (n + 1)
+bytes_from-skip set n h e = bytes_from-cons set n h ∙ ap (λ t. if t then n ∷ bytes_from set (n + 1) else bytes_from set (n + 1)) e
+
+pub bytes_from-end : (set : List ℕ) (n : ℕ) → 256 ≤ n → bytes_from set n ≡ []
+unfolding bytes_from
+bytes_from-end set n h = let e : 256 - n ≡ 0 = omega arith in ap (λ k. filter (contains set) (numbers_from n k)) e
+
+from_first : (set : List ℕ) → bytes_from set 0 ≡ bytes_where (contains set)
+unfolding bytes_from bytes_where
+from_first set = refl
+
+pub bytes_from-all : (p : ℕ → Bool) → bytes_from (bytes_where p) 0 ≡ bytes_where p
+bytes_from-all p = from_first (bytes_where p) ∙ bytes_where-same _ p (contains-bytes_where p)

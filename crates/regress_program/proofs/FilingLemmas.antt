@@ -1,0 +1,148 @@
+-- Names in the places of their ids are the names by id.
+use Rattle.std.proofs.Common.{◌≡◌, ℕ, zero, suc, ◌+◌, ◌<◌, ◌≤◌, Bool, true, false, IsTrue, List, [], ◌∷◌, ◌++◌, length, map, get_or, set, take, drop, replicate, refl, sym, ap, ◌∙◌, arith, get_or-set_same, get_or-set_other, length-append}
+use Rattle.std.specs.Prelude.{if◌then◌else◌, nat_eq, ◌==◌, count_by}
+use Rattle.std.specs.List.{list_all, AllZip}
+use Rattle.std.proofs.lemmas.Bool.{eqb-true, eq-eqb}
+use Rattle.std.proofs.lemmas.List.{length-map, length-set, length-replicate, get_or-replicate, ext_get_or, map-append, take-append-le, take_all, map-set, set_past}
+use Rattle.regex_meaning.specs.Lists.{numbers_from}
+use Rattle.regex_meaning.specs.Tree.{Node, cat, alt, capture_group, lookaround, loop, loop_1_char_body, group_ids}
+use Rattle.regex_meaning.specs.Names.{named_ids, name_of, names_by_id}
+use Rattle.regex_meaning.specs.WellFormed.{each_id_stands_once}
+use Rattle.regex_meaning.proofs.Sound.{all-contains}
+use Rattle.regex_pattern_front.proofs.ByteLemmas.{contains-numbers_from}
+use Rattle.regress_program.specs.Filing.{filed, is_unnamed}
+use Rattle.regress_program.proofs.IdLemmas.{same_truth, false_is_true, count_by-first}
+
+-- ---- Two lots of names
+
+pub filed-append : (named others : List (ℕ × List ℕ)) (names : List (List ℕ)) → filed (named ++ others) names ≡ filed others (filed named names)
+filed-append [] others names = refl
+filed-append (n ∷ named) others names = filed-append named others (set names n.0 n.1)
+
+pub length-filed : (named : List (ℕ × List ℕ)) (names : List (List ℕ)) → length (filed named names) ≡ length names
+length-filed [] names = refl
+length-filed (n ∷ named) names = length-filed named (set names n.0 n.1) ∙ length-set names n.0 n.1
+
+-- ---- One name
+
+-- there is no such place
+pub put_past : {S : Type 0} (f : S → List ℕ) (names : List S) (id : ℕ) (name : List ℕ) → length names ≤ id → map f names ≡ set (map f names) id name
+put_past f names id name h = sym (set_past (map f names) id name (omega (arith, h, length-map names f)))
+
+pub put_there : {S : Type 0} (f : S → List ℕ) (names : List S) (id : ℕ) (name : S) → map f (set names id name) ≡ set (map f names) id (f name)
+put_there f names id name = map-set f names id name
+
+-- ---- Names that are written over others
+
+-- none of the old ones is left
+pub written_over : {S : Type 0} (names old : List S) (n : ℕ) → n ≡ length names → take n (names ++ drop (length names) old) ≡ names
+written_over names old n h = take-append-le n names (drop (length names) old) (omega (arith, h)) ∙ take_all n names (omega (arith, h))
+
+-- ---- Copies
+
+-- texts that are those of others, one by one
+pub same_texts : {S : Type 0} (f : S → List ℕ) (names copies : List S) → AllZip (λ x y. f y ≡ f x) names copies → map f copies ≡ map f names
+same_texts f [] [] h = refl
+same_texts f [] (y ∷ copies) h = absurd h
+same_texts f (x ∷ names) [] h = absurd h
+same_texts f (x ∷ names) (y ∷ copies) h = ap (λ z. z ∷ map f copies) h.0 ∙ ap (λ zs. f x ∷ zs) (same_texts f names copies h.1)
+
+-- ---- The name at an id
+
+-- the last name of an id, or another
+last_name : List (ℕ × List ℕ) → ℕ → List ℕ → List ℕ
+last_name [] id other = other
+last_name (n ∷ named) id other = last_name named id (if n.0 == id then n.1 else other)
+
+set-at : (names : List (List ℕ)) (i id : ℕ) (name : List ℕ) → id < length names → get_or (set names i name) id [] ≡ (if i == id then name else get_or names id [])
+set-at names i id name h = by (i == id) refl
+  where
+    by : (t : Bool) → t ≡ (i == id) → get_or (set names i name) id [] ≡ (if t then name else get_or names id [])
+    by true e = let same : i ≡ id = eqb-true i id (sym e) in rw same (get_or-set_same names id name [] h)
+    by false e = get_or-set_other names i id name [] (λ same. false_is_true (e ∙ eq-eqb i id (sym same)))
+
+filed-at : (named : List (ℕ × List ℕ)) (names : List (List ℕ)) (id : ℕ) → id < length names → get_or (filed named names) id [] ≡ last_name named id (get_or names id [])
+unfolding last_name
+filed-at [] names id h = refl
+filed-at (n ∷ named) names id h =
+    filed-at named (set names n.0 n.1) id (omega (arith, h, length-set names n.0 n.1)) ∙ ap (last_name named id) (set-at names n.0 id n.1 h)
+
+same-test : (a b : ℕ) → nat_eq a b ≡ (b == a)
+same-test a b = same_truth (nat_eq a b) (b == a) (λ h. eq-eqb b a (sym (eqb-true a b h))) (λ h. eq-eqb a b (sym (eqb-true b a h)))
+
+counted : (id other : ℕ) (ids : List ℕ) (t : Bool) → t ≡ (other == id) → count_by (nat_eq id) (other ∷ ids) ≡ (if t then 1 else 0) + count_by (nat_eq id) ids
+counted id other ids t e = count_by-first id other ids ∙ ap (λ b. (if b then 1 else 0) + count_by (nat_eq id) ids) (same-test id other ∙ sym e)
+
+abbrev ids_of : List (ℕ × List ℕ) → List ℕ
+ids_of named = map (λ n. n.0) named
+
+not_there : (named : List (ℕ × List ℕ)) (id : ℕ) (other : List ℕ) → count_by (nat_eq id) (ids_of named) ≡ 0 → last_name named id other ≡ other
+unfolding last_name
+not_there [] id other h = refl
+not_there (n ∷ named) id other h = by (n.0 == id) refl (not_there named id other)
+  where
+    by : (t : Bool) → t ≡ (n.0 == id) → (count_by (nat_eq id) (ids_of named) ≡ 0 → last_name named id other ≡ other) → last_name named id (if t then n.1 else other) ≡ other
+    by true e go = absurd (omega (arith, h, counted id n.0 (ids_of named) true e))
+    by false e go = go (omega (arith, h, counted id n.0 (ids_of named) false e))
+
+there_once : (named : List (ℕ × List ℕ)) (id : ℕ) → count_by (nat_eq id) (ids_of named) ≡ 1 → last_name named id [] ≡ name_of named id
+unfolding last_name
+there_once [] id h = refl
+there_once (n ∷ named) id h = by (n.0 == id) refl (not_there named id n.1) (there_once named id)
+  where
+    by : (t : Bool) → t ≡ (n.0 == id) → (count_by (nat_eq id) (ids_of named) ≡ 0 → last_name named id n.1 ≡ n.1)
+        → (count_by (nat_eq id) (ids_of named) ≡ 1 → last_name named id [] ≡ name_of named id)
+        → last_name named id (if t then n.1 else []) ≡ (if t then n.1 else name_of named id)
+    by true e none go = none (omega (arith, h, counted id n.0 (ids_of named) true e))
+    by false e none go = go (omega (arith, h, counted id n.0 (ids_of named) false e))
+
+-- ---- The names of a tree
+
+named_ids-ids : (n : Node) → ids_of (named_ids n) ≡ group_ids n
+named_ids-ids (cat a b) = map-append (λ n. n.0) (named_ids a) (named_ids b) ∙ ap (λ xs. xs ++ ids_of (named_ids b)) (named_ids-ids a) ∙ ap (λ ys. group_ids a ++ ys) (named_ids-ids b)
+named_ids-ids (alt a b) = map-append (λ n. n.0) (named_ids a) (named_ids b) ∙ ap (λ xs. xs ++ ids_of (named_ids b)) (named_ids-ids a) ∙ ap (λ ys. group_ids a ++ ys) (named_ids-ids b)
+named_ids-ids (capture_group id name contents) = ap (λ xs. id ∷ xs) (named_ids-ids contents)
+named_ids-ids (lookaround l contents) = named_ids-ids contents
+named_ids-ids (loop q s e contents) = named_ids-ids contents
+named_ids-ids (loop_1_char_body q contents) = named_ids-ids contents
+named_ids-ids _ = refl
+
+length-numbers : (first count : ℕ) → length (numbers_from first count) ≡ count
+length-numbers first zero = refl
+length-numbers first (suc count) = ap suc (length-numbers (first + 1) count)
+
+at-number : (f : ℕ → List ℕ) (first count k : ℕ) → k < count → get_or (map f (numbers_from first count)) k [] ≡ f (first + k)
+at-number f first zero k h = absurd (omega (arith, h))
+at-number f first (suc count) zero h = ap f (omega arith)
+at-number f first (suc count) (suc k) h = at-number f (first + 1) count k (omega (arith, h)) ∙ ap f (omega arith)
+
+pub names-filed : (root : Node) (n : ℕ) → IsTrue (each_id_stands_once root) → n ≡ length (group_ids root) → is_unnamed root ≡ false
+    → filed (named_ids root) (replicate n []) ≡ names_by_id root
+names-filed root n once count named =
+    same ∙ sym (ap (λ t. if t then [] else map (name_of names) (numbers_from 0 (length names))) named)
+  where
+    names : List (ℕ × List ℕ)
+    names = named_ids root
+
+    many : length (named_ids root) ≡ n
+    many = sym (length-map (named_ids root) (λ p. p.0)) ∙ ap length (named_ids-ids root) ∙ sym count
+
+    stands_once : (id : ℕ) → id < n → count_by (nat_eq id) (ids_of (named_ids root)) ≡ 1
+    stands_once id h =
+        ap (λ xs. count_by (nat_eq id) xs) (named_ids-ids root)
+        ∙ eqb-true _ 1 (all-contains (λ id. count_by (nat_eq id) (group_ids root) == 1) (numbers_from 0 (length (group_ids root))) id once (contains-numbers_from id 0 (length (group_ids root)) (omega arith) (omega (arith, h, count))))
+
+    at : (id : ℕ) → id < n → get_or (filed (named_ids root) (replicate n [])) id [] ≡ name_of (named_ids root) id
+    at id h =
+        filed-at (named_ids root) (replicate n []) id (omega (arith, h, length-replicate {A = List ℕ} n []))
+        ∙ ap (last_name (named_ids root) id) (get_or-replicate {A = List ℕ} n id [] [] h)
+        ∙ there_once (named_ids root) id (stands_once id h)
+
+    long : length (filed (named_ids root) (replicate n [])) ≡ n
+    long = length-filed (named_ids root) (replicate n []) ∙ length-replicate {A = List ℕ} n []
+
+    same : filed (named_ids root) (replicate n []) ≡ map (name_of (named_ids root)) (numbers_from 0 (length (named_ids root)))
+    same =
+        ext_get_or [] _ _ (long ∙ sym many ∙ sym (length-map (numbers_from 0 (length (named_ids root))) (name_of (named_ids root)) ∙ length-numbers 0 (length (named_ids root))))
+        (λ id h. let below : id < n = omega (arith, h, long) in
+        at id below ∙ sym (at-number (name_of (named_ids root)) 0 (length (named_ids root)) id (omega (arith, below, many)) ∙ ap (name_of (named_ids root)) (omega arith)))

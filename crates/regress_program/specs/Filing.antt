@@ -1,0 +1,14 @@
+-- Names filed by id.
+use Rattle.std.specs.Prelude.{ℕ, Bool, List, [], ◌∷◌, length, set, ◌==◌}
+use Rattle.std.specs.List.{list_all}
+use Rattle.regex_meaning.specs.Tree.{Node}
+use Rattle.regex_meaning.specs.Names.{named_ids}
+
+-- no group has a name
+abbrev pub is_unnamed : Node → Bool
+is_unnamed root = list_all (λ p. length p.1 == 0) (named_ids root)
+
+-- names put in the places of their ids, one after another
+abbrev pub filed : List (ℕ × List ℕ) → (names : List (List ℕ)) → List (List ℕ)
+filed [] names = names
+filed (named ∷ others) names = filed others (set names named.0 named.1)

@@ -1,0 +1,178 @@
+//! The names of groups, filed by id.
+#![tactic(auto, unfolding(regex_pattern_front::specs::TreeOf::node_of))]
+
+ghost use Rattle.std.specs.Prelude.{◌≡◌, ◌∷◌, [], length, map, set, replicate, string_bytes, IfOk, OnOk, IsTrue, ◌==◌};
+ghost use Rattle.regex_meaning.specs.Tree.{group_ids};
+ghost use Rattle.regex_meaning.specs.WellFormed.{each_id_stands_once};
+ghost use Rattle.regex_meaning.specs.Names.{named_ids, names_by_id as names_of_tree};
+ghost use Rattle.regex_pattern_front.specs.TreeOf.{node_of, name_of};
+ghost use Rattle.regress_program.specs.Nodes.{cat_of};
+ghost use Rattle.regress_program.specs.Filing.{filed, is_unnamed as is_node_unnamed};
+
+use regex_pattern_front::ir::Node;
+use regex_pattern_front::types::CaptureGroupID;
+use std::alloc::{AllocError, Global};
+
+// The names of a tree with so many groups, by id, empty where there is none; no list where no group has a name.
+pub(crate) fn names_by_id(
+    alloc: Global,
+    root: &Node,
+    groups: u32,
+) -> Result<Vec<String>, AllocError>
+    requires once { IsTrue (each_id_stands_once (node_of root.now)) }
+    requires all { groups ≡ length (group_ids (node_of root.now)) }
+    ensures { IfOk result (λ names. map string_bytes names.items ≡ names_of_tree (node_of root.now)) }
+{
+    if is_unnamed(root) {
+        return Ok(Vec::new(alloc));
+    }
+    let mut names = no_names(alloc, groups)?;
+    file(alloc, root, &mut names)?;
+    Ok(names)
+}
+
+// So many empty names.
+fn no_names(alloc: Global, count: u32) -> Result<Vec<String>, AllocError>
+    ensures { IfOk result (λ names. map string_bytes names.items ≡ replicate count []) }
+{
+    let mut names = Vec::new(alloc);
+    for _ in 0..count {
+        names.push(String::new(alloc))?;
+    }
+    Ok(names)
+}
+
+// The names inside a node, each put in the place of its id.
+#[cycle(file)]
+fn file(alloc: Global, node: &Node, names: &mut [String]) -> Result<(), AllocError>
+    ensures long { length names.new ≡ length names.old }
+    ensures filed { OnOk result (map string_bytes names.new ≡ filed (named_ids (node_of node.now)) (map string_bytes names.old)) }
+{
+    match node {
+        Node::Cat(nodes) => file_all(alloc, nodes, names),
+        Node::Alt(left, right) => {
+            file(alloc, left, names)?;
+            file(alloc, right, names)?;
+            Ok(())
+        }
+        Node::CaptureGroup { id, contents, name } => {
+            file_group(alloc, *id, name, contents, names)
+        }
+        Node::LookaroundAssertion { contents, .. } => file(alloc, contents, names),
+        Node::Loop { loopee, .. } | Node::Loop1CharBody { loopee, .. } => {
+            file(alloc, loopee, names)
+        }
+        Node::Empty
+        | Node::Goal
+        | Node::Char { .. }
+        | Node::CharSet(_)
+        | Node::ByteSet(_)
+        | Node::ByteSequence(_)
+        | Node::Bracket(_)
+        | Node::StringSet { .. }
+        | Node::MatchAny
+        | Node::MatchAnyExceptLineTerminator
+        | Node::Anchor { .. }
+        | Node::WordBoundary { .. }
+        | Node::BackRef { .. } => Ok(()),
+    }
+}
+
+#[cycle(file)]
+fn file_all(alloc: Global, nodes: &[Node], names: &mut [String]) -> Result<(), AllocError>
+    ensures long { length names.new ≡ length names.old }
+    ensures filed { OnOk result (map string_bytes names.new ≡ filed (named_ids (cat_of nodes.now)) (map string_bytes names.old)) }
+{
+    for node in nodes {
+        file(alloc, node, names)?;
+    }
+    Ok(())
+}
+
+#[cycle(file)]
+fn file_group(
+    alloc: Global,
+    id: CaptureGroupID,
+    name: &Option<String>,
+    contents: &Node,
+    names: &mut [String],
+) -> Result<(), AllocError>
+    ensures long { length names.new ≡ length names.old }
+    ensures filed { OnOk result (map string_bytes names.new ≡ filed ((id, name_of name.now) ∷ named_ids (node_of contents.now)) (map string_bytes names.old)) }
+{
+    let copy = copied(alloc, name)?;
+    put(names, id, copy);
+    file(alloc, contents, names)?;
+    Ok(())
+}
+
+// A name in the place of an id, where there is one.
+#[tactic(auto, using(std::proofs::lemmas::Grind::common_steps, crate::proofs::FilingLemmas::put_past, crate::proofs::FilingLemmas::put_there))]
+fn put(names: &mut [String], id: CaptureGroupID, name: String)
+    ensures long { length names.new ≡ length names.old }
+    ensures filed { map string_bytes names.new ≡ set (map string_bytes names.old) id (string_bytes name) }
+{
+    let place = usize::from(id);
+    if place >= names.len() {
+        return;
+    }
+    names[place] = name;
+}
+
+// The name once more, empty where there is none.
+fn copied(alloc: Global, name: &Option<String>) -> Result<String, AllocError>
+    ensures { IfOk result (λ copy. string_bytes copy ≡ name_of name.now) }
+{
+    match name {
+        None => Ok(String::new(alloc)),
+        Some(name) => String::from_str(alloc, name.as_str()),
+    }
+}
+
+// Whether no group has a name.
+#[cycle(unnamed)]
+fn is_unnamed(node: &Node) -> bool
+    ensures { result ≡ is_node_unnamed (node_of node.now) }
+{
+    match node {
+        Node::Cat(nodes) => are_unnamed(nodes),
+        Node::Alt(left, right) => is_unnamed(left) && is_unnamed(right),
+        Node::CaptureGroup { contents, name, .. } => is_empty_name(name) && is_unnamed(contents),
+        Node::LookaroundAssertion { contents, .. } => is_unnamed(contents),
+        Node::Loop { loopee, .. } | Node::Loop1CharBody { loopee, .. } => is_unnamed(loopee),
+        Node::Empty
+        | Node::Goal
+        | Node::Char { .. }
+        | Node::CharSet(_)
+        | Node::ByteSet(_)
+        | Node::ByteSequence(_)
+        | Node::Bracket(_)
+        | Node::StringSet { .. }
+        | Node::MatchAny
+        | Node::MatchAnyExceptLineTerminator
+        | Node::Anchor { .. }
+        | Node::WordBoundary { .. }
+        | Node::BackRef { .. } => true,
+    }
+}
+
+#[cycle(unnamed)]
+fn are_unnamed(nodes: &[Node]) -> bool
+    ensures { result ≡ is_node_unnamed (cat_of nodes.now) }
+{
+    for node in nodes {
+        if !is_unnamed(node) {
+            return false;
+        }
+    }
+    true
+}
+
+fn is_empty_name(name: &Option<String>) -> bool
+    ensures { result ≡ (length (name_of name.now) == 0) }
+{
+    match name {
+        None => true,
+        Some(text) => text.is_empty(),
+    }
+}

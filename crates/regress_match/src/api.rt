@@ -1,11 +1,8 @@
 //! Flags, patterns that are compiled, and their searches.
 
-ghost use Rattle.std.specs.Prelude.{◌≡◌, ◌<◌, ◌⊎◌, IfOk, IsTrue, IsCharBoundary, false, length, nat_le, not, option_map, slice_get, []};
+ghost use Rattle.std.specs.Prelude.{◌≡◌, ◌<◌, ◌⊎◌, IfOk, IsCharBoundary, false, length, nat_le, not, option_map, slice_get, []};
 ghost use Rattle.regex_meaning.specs.Flags.{flags_of_text};
 ghost use Rattle.regex_pattern_front.specs.TreeOf.{tree_of};
-ghost use Rattle.std.specs.List.{list_all};
-ghost use Rattle.regress_program.specs.Code.{compiled};
-ghost use Rattle.regress_search.specs.States.{is_small};
 ghost use Rattle.regress_search.specs.Answers.{answer_of};
 ghost use Rattle.regress_match.specs.Trees.{tree_to_run};
 
@@ -17,7 +14,7 @@ use regress_program::emit::{EmitError, emit};
 use regress_program::insn::CompiledRegex;
 use regress_search::exec;
 use regress_search::exec::{Match, MatchProducer, SearchError};
-use regress_search::pikevm::{PikeVMExecutor, can_run};
+use regress_search::pikevm::PikeVMExecutor;
 use std::alloc::{AllocError, Global};
 use std::snapshot::Snapshot;
 
@@ -136,7 +133,6 @@ pub struct Regex {
     cr: CompiledRegex,
     // the tree that was parsed
     source: Snapshot<ir::Regex>,
-    ghost small: { IsTrue (list_all is_small (compiled (tree_of cr)).insns) },
 }
 
 impl Regex {
@@ -168,9 +164,6 @@ impl Regex {
         let tree = try_parse(alloc, &code_points, flags.for_front())?;
         let source = Snapshot::of(&tree);
         let cr = emit(alloc, &to_run(tree))?;
-        if !can_run(&cr) {
-            return Err(Error::Emit(EmitError::Unsupported));
-        }
         Ok(Regex { cr, source })
     }
 

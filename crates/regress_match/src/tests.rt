@@ -31,7 +31,8 @@ fn searches_print_their_matches(rt: HostRuntime) -> Result<(), Fail> {
         ("", "", "0..0\n", "", 0),
         ("é", "aé", "1..3\n", "", 0),
         ("z", "abc", "", "", 1),
-        ("a*", "a", "", refused, 2),
+        ("a*", "a", "0..1\n1..1\n", "", 0),
+        ("(a)|b", "ab", "0..1 0..1\n1..2 -\n", "", 0),
         ("(", "", "", refused, 2),
     ] {
         let words = words_of(alloc, &[Some(pattern), Some(""), Some(text)])?;

@@ -1,7 +1,7 @@
 //! Instructions, and programs made of them.
 
 ghost use Rattle.std.specs.Prelude.{◌≡◌, IsTrue, IfOk, map, string_bytes};
-ghost use Rattle.regex_pattern_front.specs.TreeOf.{tree_of, flags_of};
+ghost use Rattle.regex_pattern_front.specs.TreeOf.{tree_of, flags_of, contents_of};
 ghost use Rattle.regex_meaning.specs.WellFormed.{is_well_formed};
 ghost use Rattle.regress_program.specs.Insns.{insn_of};
 ghost use Rattle.regress_program.specs.Code.{compiled};
@@ -185,6 +185,14 @@ impl CompiledRegex {
         ensures well_formed { IsTrue (is_well_formed (tree_of self.now).root) }
     {
         &self.insns
+    }
+
+    /// The brackets that instructions name by their index.
+    #[inline(always)]
+    pub fn brackets(&self) -> &[BracketContents]
+        ensures { map contents_of result.now ≡ (compiled (tree_of self.now)).brackets }
+    {
+        &self.brackets
     }
 
     /// How many loops there are, whose numbers are those below it.

@@ -1,4 +1,7 @@
 pub mod Coming
 pub mod Remains
-pub mod Small
+pub mod Searchable
 pub mod FirstMatch
+pub mod Inside
+pub mod Readers
+pub mod Reach

@@ -1,220 +1,171 @@
 -- What is left of a search after each turn.
-use Rattle.std.proofs.Common.{◌≡◌, ℕ, zero, suc, ◌+◌, ◌<◌, ◌≤◌, List, [], ◌∷◌, ◌++◌, Option, Some, None, Bool, true, false, refl, ap, sym, ◌∙◌, subst, arith, map, slice_get, take, ◌-◌, append-nil, replicate}
+use Rattle.std.proofs.Common.{◌≡◌, ◌⊎◌, inl, inr, ℕ, zero, suc, ◌+◌, ◌<◌, ◌≤◌, List, [], ◌∷◌, ◌++◌, Option, Some, None, Bool, true, false, refl, ap, sym, ◌∙◌, subst, arith, map, reverse, append_assoc, append-nil, replicate, take, ◌-◌}
 use Rattle.std.proofs.lemmas.List.{reverse-append}
-use Rattle.std.specs.Prelude.{option_map, option_and_then, is_some, IsTrue, ◌==◌}
+use Rattle.std.specs.Prelude.{option_map, option_and_then, is_some, IsTrue, IsSome}
 use Rattle.std.specs.Option.{option_map_or}
 use Rattle.regex_meaning.specs.Tree.{Tree}
-use Rattle.regex_meaning.specs.Text.{Text, rightwards, next_character, moved}
-use Rattle.regex_meaning.specs.Offsets.{IsBoundary, offset, place_at}
-use Rattle.regex_meaning.specs.Outcomes.{is_some_and}
-use Rattle.regex_meaning.specs.Layout.{Program, Insn, Goal, Char, MatchAny, Alt, Jump}
+use Rattle.regex_meaning.specs.Text.{Text, Direction, rightwards}
+use Rattle.regex_meaning.specs.Offsets.{IsText, IsBoundary, place_at, units}
+use Rattle.regex_meaning.specs.Layout.{Program}
 use Rattle.regex_meaning.specs.Ticks.{items_at}
-use Rattle.regex_meaning.proofs.TextLemmas.{offset-place_at}
+use Rattle.regex_meaning.proofs.TextLemmas.{offset-place_at, place_at-offset}
+use Rattle.regress_input.specs.Reading.{way}
+use Rattle.regress_program.specs.Code.{compiled}
+use Rattle.regress_machine.specs.Bytes.{ReadsBytes}
 use Rattle.regress_machine.specs.Machine as machine
-use Rattle.regress_machine.specs.Machine.{Thread, running, waiting, Next, goes, scans, ends, asks, stuck, Found, nothing, found_at, with_steps, after, asked, with_some, go_if, on_to, act, act_on, search}
+use Rattle.regress_machine.specs.Machine.{Thread, running, waiting, in_turn, Next, goes, scans, ends, asks, stuck, Found, nothing, found_at, resumed, act, search}
 use Rattle.regress_machine.specs.Finds.{initial, end_of, first_pair, end_in_offsets, CanSearch, turns_at}
-use Rattle.regress_machine.proofs.Search.{search_more}
+use Rattle.regress_machine.proofs.Search.{Later, waits-later, goes-later, scans-later, ends-found, never_stuck, Asked, asked-inner}
 use Rattle.regress_machine.proofs.Whole.{searches-find}
-use Rattle.regress_search.specs.declared.pikevm.State.{State}
-use Rattle.regress_search.specs.States.{loop_of, state_of, waiting_of, CanTake, is_small}
-use Rattle.regress_search.specs.Attempts.{end_from}
-
--- how many turns serve from an offset
-abbrev pub turns_from : Tree → Text → (at : ℕ) → ℕ
-turns_from tree text at = option_map_or (turns_at tree text) (place_at text at) 0
+use Rattle.regress_search.specs.declared.pikevm.states.State.{State}
+use Rattle.regress_search.specs.declared.pikevm.states.Turn.{Turn}
+use Rattle.regress_search.specs.declared.pikevm.states.Turn.TheVariants.{Dead, Go, Fork, Scan, Ask, Done}
+use Rattle.regress_search.specs.States.{loop_of, state_of, preferred_last, next_of, waiting_of, running_of, TakesUp, CanTake}
+use Rattle.regress_search.specs.Attempts.{end_from, turns_from, search_from, end_of_search}
+use Rattle.regress_search.proofs.Inside.{AllIn, NextIn, in-append, in-behind, in-resumed, act-inside}
 
 -- how many steps a search takes
 abbrev pub steps_of : Option Found → ℕ
 steps_of None = 0
 steps_of (Some f) = f.steps
 
--- it asks for no other search
-abbrev is_quiet : Next → Bool
-is_quiet (scans tries ss) = false
-is_quiet (asks d negate u s) = false
-is_quiet _ = true
-
-small-quiet : (program : Program) (text : Text) (s : machine.State) (o : Option Insn) → slice_get program.insns s.ip ≡ o
-    → ((i : ℕ) (x : Insn) → slice_get program.insns i ≡ Some x → IsTrue (is_small x)) → IsTrue (is_quiet (act program text rightwards s))
-small-quiet program text s None e small = ap (λ o. is_quiet (act_on program text rightwards o s)) e
-small-quiet program text s (Some x) e small = ap (λ o. is_quiet (act_on program text rightwards o s)) e ∙ by x (small s.ip x e)
-  where
-    reads : (test : ℕ → Bool) (p : Option ℕ) → is_quiet (with_some p (λ p. go_if (is_some_and (next_character text rightwards p) test) (on_to text (moved text rightwards 1 p) s))) ≡ true
-    reads test None = refl
-    reads test (Some p) = go (is_some_and (next_character text rightwards p) test)
-      where
-        go : (b : Bool) → is_quiet (go_if b (on_to text (moved text rightwards 1 p) s)) ≡ true
-        go true = refl
-        go false = refl
-
-    by : (x : Insn) → is_small x ≡ true → is_quiet (act_on program text rightwards (Some x) s) ≡ true
-    by Goal h = refl
-    by (Char c) h = reads (λ d. c == d) (place_at text s.pos)
-    by MatchAny h = reads (λ d. true) (place_at text s.pos)
-    by (Alt secondary) h = refl
-    by (Jump target) h = refl
-    by _ h = cc
-
-module _ (program : Program) (tree : Tree) (text : Text) (at : ℕ) where
-  abbrev pub turns : ℕ
-  turns = turns_from tree text at
-
+-- a search, and what is known of it
+module _ (program : Program) (text : Text) (turns : ℕ) (d : Direction) where
   -- the steps that are left to these threads
   abbrev pub steps_left : List Thread → ℕ
-  steps_left ts = steps_of (search program text turns rightwards ts)
+  steps_left ts = steps_of (search program text turns d ts)
 
-  -- the threads end as the search from the offset does
-  pub record Remains (ts : List Thread) : Type 0 where
+  -- the threads, which are inside the text, end like this, in so many steps at most
+  pub record Remains (top : ℕ) (end : Option machine.State) (ts : List Thread) : Type 0 where
     pub found : Found
-    pub searches : search program text turns rightwards ts ≡ Some found
-    pub end : option_map end_of found.end ≡ end_from tree text at
+    pub searches : search program text turns d ts ≡ Some found
+    pub ends_there : found.end ≡ end
+    pub few : steps_left ts ≤ top
+    pub inside : AllIn (units text) ts
 
-  pub remains-begin : CanSearch program tree text → IsBoundary text at → Remains (running (initial program at) ∷ [])
-  remains-begin can on = by (place_at text at) refl on
+  -- what is left after a turn, in fewer steps
+  pub record Left (top : ℕ) (end : Option machine.State) (before ts : List Thread) : Type 0 where
+    pub remains : Remains top end ts
+    pub fewer : steps_left ts < steps_left before
+
+  pub remains-begin : (s : machine.State) → s.pos ≤ units text → IsSome (search program text turns d (running s ∷ []))
+      → Remains (steps_left (running s ∷ [])) (end_of_search (search program text turns d (running s ∷ []))) (running s ∷ [])
+  remains-begin s inside some = by (search program text turns d (running s ∷ [])) refl some
     where
-      by : (o : Option ℕ) → place_at text at ≡ o → IsTrue (is_some o) → Remains (running (initial program at) ∷ [])
-      by None e on = cc
-      by (Some p) e on =
-          let place = offset-place_at text at p can.is_text e in
-          let first = searches-find program tree text can p place.1 in
-          let n : turns_at tree text p ≡ turns = sym (ap (λ o. option_map_or (turns_at tree text) o 0) e) in
+      by : (o : Option Found) → search program text turns d (running s ∷ []) ≡ o → IsSome o → Remains (steps_of o) (end_of_search o) (running s ∷ [])
+      by None e h = cc
+      by (Some f) e h = record { found = f; searches = e; ends_there = refl; few = let same = ap steps_of e in omega (arith, same); inside = (inside, tt) }
+
+  left : (spent top : ℕ) (end : Option machine.State) (before ts : List Thread) (f : Found) → search program text turns d before ≡ Some f
+      → f.end ≡ end → steps_left before ≤ top → Later program text turns d spent ts f → 0 < spent → AllIn (units text) ts → Left top end before ts
+  left spent top end before ts f searches there few l some inside =
+      let b = ap steps_of searches in
+      let a = ap steps_of l.searches in
+      record {
+        remains = record { found = l.found; searches = l.searches; ends_there = sym l.end ∙ there; few = omega (arith, a, b, l.steps, few); inside = inside };
+        fewer = omega (arith, a, b, l.steps, some);
+      }
+
+  -- ---- One turn
+
+  module _ (top : ℕ) (end : Option machine.State) where
+    -- a thread that is taken up
+    pub left-waits : (s : machine.State) (ts : List Thread) → Remains top end (waiting s ∷ ts) → Left top end (waiting s ∷ ts) (running s ∷ ts)
+    left-waits s ts r =
+        left 1 top end (waiting s ∷ ts) (running s ∷ ts) r.found r.searches r.ends_there r.few (waits-later program text turns d s ts r.found r.searches) (omega arith) r.inside
+
+    -- the machine is never stuck
+    pub remains-can : (s : machine.State) (ts : List Thread) → Remains top end (running s ∷ ts) → CanTake (act program text d s)
+    remains-can s ts r = by (act program text d s) refl
+      where
+        by : (x : Next) → act program text d s ≡ x → CanTake x
+        by (goes ss) e = tt
+        by (scans tries ss) e = tt
+        by (ends t) e = tt
+        by (asks inner negate u t) e = tt
+        by stuck e = never_stuck program text turns d s ts r.found e r.searches
+
+    pub remains-inside : (s : machine.State) (ts : List Thread) → Remains top end (running s ∷ ts) → s.pos ≤ units text
+    remains-inside s ts r = r.inside.0
+
+    pub remains-ends : (s t : machine.State) (ts : List Thread) → Remains top end (running s ∷ ts) → act program text d s ≡ ends t → Some t ≡ end
+    remains-ends s t ts r e = ap (λ (f : Found). f.end) (sym (ends-found program text turns d s t ts r.found e r.searches)) ∙ r.ends_there
+
+    pub remains-none : Remains top end [] → None ≡ end
+    unfolding search
+    remains-none r = by turns refl
+      where
+        by : (n : ℕ) → turns ≡ n → None ≡ end
+        by n q = let e : Some nothing ≡ Some r.found = r.searches in let is : nothing ≡ r.found = cc in ap (λ (f : Found). f.end) is ∙ r.ends_there
+
+    module _ (is : IsText text) (reads : ReadsBytes text) where
+      next-inside : (s : machine.State) (ts : List Thread) (x : Next) → Remains top end (running s ∷ ts) → act program text d s ≡ x → NextIn (units text) x
+      next-inside s ts x r e = subst (NextIn (units text)) e (act-inside text is reads program d _ s r.inside.0)
+
+      pub left-goes : (s : machine.State) (ss ts : List Thread) → Remains top end (running s ∷ ts) → act program text d s ≡ goes ss → Left top end (running s ∷ ts) (ss ++ ts)
+      left-goes s ss ts r e =
+          left 1 top end (running s ∷ ts) (ss ++ ts) r.found r.searches r.ends_there r.few (goes-later program text turns d s ss ts r.found e r.searches) (omega arith)
+          (in-append (units text) ss ts (next-inside s ts (goes ss) r e) r.inside.1)
+
+      pub left-scans : (s : machine.State) (tries : ℕ) (ss ts : List Thread) → Remains top end (running s ∷ ts) → act program text d s ≡ scans tries ss → Left top end (running s ∷ ts) (ss ++ ts)
+      left-scans s tries ss ts r e =
+          left (1 + tries) top end (running s ∷ ts) (ss ++ ts) r.found r.searches r.ends_there r.few (scans-later program text turns d s tries ss ts r.found e r.searches) (omega arith)
+          (in-append (units text) ss ts (next-inside s ts (scans tries ss) r e) r.inside.1)
+
+      -- a search that is asked for answers in fewer steps, and the threads behind it end as before
+      pub record AskedHere (before : List Thread) (inner : Direction) (negate : Bool) (u w : machine.State) (ts : List Thread) : Type 0 where
+        pub answers : IsSome (search program text turns inner (running u ∷ []))
+        pub inside : u.pos ≤ units text
+        pub fewer : steps_of (search program text turns inner (running u ∷ [])) < steps_left before
+        pub behind : Left top end before (resumed negate w (end_of_search (search program text turns inner (running u ∷ []))) ++ ts)
+
+      pub left-asks : (s u w : machine.State) (inner : Direction) (negate : Bool) (ts : List Thread) → Remains top end (running s ∷ ts)
+          → act program text d s ≡ asks inner negate u w → AskedHere (running s ∷ ts) inner negate u w ts
+      left-asks s u w inner negate ts r e =
+          let both = next-inside s ts (asks inner negate u w) r e in
+          let a = asked-inner program text turns d inner negate s u w ts r.found e r.searches in
+          let before = ap steps_of r.searches in
+          let there = ap steps_of a.searches in
+          let at : end_of_search (search program text turns inner (running u ∷ [])) ≡ a.found.end = ap end_of_search a.searches in
+          let behind : Left top end (running s ∷ ts) (resumed negate w a.found.end ++ ts) =
+          left (1 + a.found.steps) top end (running s ∷ ts) (resumed negate w a.found.end ++ ts) r.found r.searches r.ends_there r.few a.rest (omega arith)
+          (in-append (units text) (resumed negate w a.found.end) ts (in-resumed (units text) negate w a.found.end both.1) r.inside.1) in
           record {
-            found = first.found;
-            searches =
-                ap (λ n. search program text n rightwards (running (initial program at) ∷ [])) (sym n)
-                ∙ ap (λ at. search program text (turns_at tree text p) rightwards (running (initial program at) ∷ [])) (sym place.0) ∙ first.searches;
-            end = first.end ∙ sym (ap (λ o. option_and_then (λ place. option_map (end_in_offsets text) (first_pair (items_at tree text place))) o) e);
+            answers = ap is_some a.searches;
+            inside = both.0;
+            fewer = omega (arith, before, there, a.rest.steps);
+            behind = subst (λ o. Left top end (running s ∷ ts) (resumed negate w o ++ ts)) (sym at) behind;
           }
 
-  -- fewer turns answer the same
-  more_turns : (n : ℕ) → n ≤ turns → (ts : List Thread) (f : Found) → search program text n rightwards ts ≡ Some f → search program text turns rightwards ts ≡ Some f
-  more_turns n le ts f e = search_more program text n turns le rightwards ts f e
-
-  steps-with : (k : ℕ) (r : Option Found) (f : Found) → with_steps k r ≡ Some f → (g : Found) × (r ≡ Some g) × (f.steps ≡ k + g.steps) × (f.end ≡ g.end)
-  steps-with k None f e = cc
-  steps-with k (Some g) f e =
-      let is : record g { steps = k + g.steps } ≡ f = cc in
-      (g, refl, ap (λ (f : Found). f.steps) (sym is), ap (λ (f : Found). f.end) (sym is))
-
-  -- a turn that goes on with these threads
-  pub remains-goes : (s : machine.State) (ss ts : List Thread) → Remains (running s ∷ ts) → goes ss ≡ act program text rightwards s
-      → Remains (ss ++ ts) × (steps_left (ss ++ ts) < steps_left (running s ∷ ts))
-  unfolding search
-  remains-goes s ss ts r g = by turns refl
-    where
-      by : (n : ℕ) → turns ≡ n → Remains (ss ++ ts) × (steps_left (ss ++ ts) < steps_left (running s ∷ ts))
-      by zero q = let no : search program text zero rightwards (running s ∷ ts) ≡ Some r.found = rw q at r.searches in cc
-      by (suc n) q =
-          let e : search program text (suc n) rightwards (running s ∷ ts) ≡ Some r.found = rw q at r.searches in
-          let e' : with_steps 1 (search program text n rightwards (ss ++ ts)) ≡ Some r.found = rw (← g) at e in
-          let w = steps-with 1 (search program text n rightwards (ss ++ ts)) r.found e' in
-          let later = more_turns n (omega arith) (ss ++ ts) w.0 w.1 in
-          let before = ap steps_of r.searches in
-          let behind = ap steps_of later in (
-            record { found = w.0; searches = later; end = ap (option_map end_of) (sym w.3) ∙ r.end },
-            omega (arith, before, behind, w.2),
-          )
-
-  -- a thread that is taken up
-  pub remains-waits : (s : machine.State) (ts : List Thread) → Remains (waiting s ∷ ts) → Remains (running s ∷ ts) × (steps_left (running s ∷ ts) < steps_left (waiting s ∷ ts))
-  unfolding search
-  remains-waits s ts r = by turns refl
-    where
-      by : (n : ℕ) → turns ≡ n → Remains (running s ∷ ts) × (steps_left (running s ∷ ts) < steps_left (waiting s ∷ ts))
-      by zero q = let no : search program text zero rightwards (waiting s ∷ ts) ≡ Some r.found = rw q at r.searches in cc
-      by (suc n) q =
-          let e : with_steps 1 (search program text n rightwards (running s ∷ ts)) ≡ Some r.found = rw q at r.searches in
-          let w = steps-with 1 (search program text n rightwards (running s ∷ ts)) r.found e in
-          let later = more_turns n (omega arith) (running s ∷ ts) w.0 w.1 in
-          let before = ap steps_of r.searches in
-          let behind = ap steps_of later in (
-            record { found = w.0; searches = later; end = ap (option_map end_of) (sym w.3) ∙ r.end },
-            omega (arith, before, behind, w.2),
-          )
-
-  pub remains-ends : (s end : machine.State) (ts : List Thread) → Remains (running s ∷ ts) → ends end ≡ act program text rightwards s
-      → Some (end_of end) ≡ end_from tree text at
-  unfolding search
-  remains-ends s end ts r g = by turns refl
-    where
-      by : (n : ℕ) → turns ≡ n → Some (end_of end) ≡ end_from tree text at
-      by zero q = let no : search program text zero rightwards (running s ∷ ts) ≡ Some r.found = rw q at r.searches in cc
-      by (suc n) q =
-          let e : search program text (suc n) rightwards (running s ∷ ts) ≡ Some r.found = rw q at r.searches in
-          let e' : Some (found_at end) ≡ Some r.found = rw (← g) at e in
-          let is : found_at end ≡ r.found = cc in
-          ap (λ (f : Found). option_map end_of f.end) is ∙ r.end
-
-  pub remains-none : Remains [] → None ≡ end_from tree text at
-  unfolding search
-  remains-none r = by turns refl
-    where
-      by : (n : ℕ) → turns ≡ n → None ≡ end_from tree text at
-      by n q = let e : Some nothing ≡ Some r.found = r.searches in let is : nothing ≡ r.found = cc in ap (λ (f : Found). option_map end_of f.end) is ∙ r.end
-
-  -- the machine is never stuck, and a small instruction asks for nothing
-  pub remains-can : (s : machine.State) (ts : List Thread) → Remains (running s ∷ ts)
-      → ((i : ℕ) (x : Insn) → slice_get program.insns i ≡ Some x → IsTrue (is_small x)) → CanTake (act program text rightwards s)
-  unfolding search
-  remains-can s ts r small = by turns refl
-    where
-      not_stuck : (n : ℕ) (x : Next) → IsTrue (is_quiet x) → after (λ d us. search program text n d us) rightwards x ts ≡ Some r.found → CanTake x
-      not_stuck n (goes ss) q e = tt
-      not_stuck n (scans tries ss) q e = cc
-      not_stuck n (ends t) q e = tt
-      not_stuck n (asks d negate u t) q e = cc
-      not_stuck n stuck q e = cc
-
-      by : (n : ℕ) → turns ≡ n → CanTake (act program text rightwards s)
-      by zero q = let no : search program text zero rightwards (running s ∷ ts) ≡ Some r.found = rw q at r.searches in cc
-      by (suc n) q =
-          let e : search program text (suc n) rightwards (running s ∷ ts) ≡ Some r.found = rw q at r.searches in
-          not_stuck n (act program text rightwards s) (small-quiet program text s (slice_get program.insns s.ip) refl small) e
-
 -- ---- The stack
+
+pub waiting-push : {P : Type 0} (offset : P → ℕ) (xs : List (State P)) (s : State P) → waiting_of offset (xs ++ s ∷ []) ≡ waiting (state_of offset s) ∷ waiting_of offset xs
+waiting-push offset xs s = ap (λ l. map (λ s. waiting (state_of offset s)) l) (reverse-append xs (s ∷ []))
+
+map-append : {X Y : Type 0} (f : X → Y) (xs ys : List X) → map f (xs ++ ys) ≡ map f xs ++ map f ys
+map-append f [] ys = refl
+map-append f (x ∷ xs) ys = ap (λ l. f x ∷ l) (map-append f xs ys)
+
+map-map : {X Y Z : Type 0} (f : X → Y) (g : Y → Z) (xs : List X) → map g (map f xs) ≡ map (λ x. g (f x)) xs
+map-map f g [] = refl
+map-map f g (x ∷ xs) = ap (λ l. g (f x) ∷ l) (map-map f g xs)
+
+pub waiting-append : {P : Type 0} (offset : P → ℕ) (xs ys : List (State P)) → waiting_of offset (xs ++ ys) ≡ waiting_of offset ys ++ waiting_of offset xs
+waiting-append offset xs ys =
+    ap (λ l. map (λ s. waiting (state_of offset s)) l) (reverse-append xs ys) ∙ map-append (λ s. waiting (state_of offset s)) (reverse ys) (reverse xs)
 
 -- a stack with nothing to pop
 pub popped-none : {X : Type 0} (xs ys : List X) (n : ℕ) → xs ≡ ys ++ [] → n ≡ 0 → ys ≡ take (n - 1) xs → xs ≡ []
 popped-none xs ys n e z r = e ∙ append-nil ys ∙ r ∙ ap (λ m. take (m - 1) xs) z
 
-pub waiting-push : {P : Type 0} (offset : P → ℕ) (xs : List (State P)) (s : State P) → waiting_of offset (xs ++ s ∷ []) ≡ waiting (state_of offset s) ∷ waiting_of offset xs
-waiting-push offset xs s = ap (λ l. map (λ s. waiting (state_of offset s)) l) (reverse-append xs (s ∷ []))
-
-module _ {P : Type 0} (offset : P → ℕ) (program : Program) (tree : Tree) (text : Text) (at : ℕ) (s : State P) (stack : List (State P)) (next : Next)
-    (r : Remains program tree text at (running (state_of offset s) ∷ waiting_of offset stack)) (is : next ≡ act program text rightwards (state_of offset s)) where
-  abbrev LeftTo : State P → List (State P) → Type 0
-  LeftTo t rest =
-      Remains program tree text at (running (state_of offset t) ∷ waiting_of offset rest)
-      × (steps_left program tree text at (running (state_of offset t) ∷ waiting_of offset rest) < steps_left program tree text at (running (state_of offset s) ∷ waiting_of offset stack))
-
-  -- the way failed, and the last one of the stack is taken up
-  pub left-popped : (t : State P) (rest : List (State P)) → goes [] ≡ next → stack ≡ rest ++ t ∷ [] → LeftTo t rest
-  left-popped t rest g e =
-      let on = remains-goes program tree text at (state_of offset s) [] (waiting_of offset stack) r (g ∙ is) in
-      let top : waiting_of offset stack ≡ waiting (state_of offset t) ∷ waiting_of offset rest = ap (waiting_of offset) e ∙ waiting-push offset rest t in
-      let on' : Remains program tree text at (waiting (state_of offset t) ∷ waiting_of offset rest) = rw top at on.0 in
-      let taken = remains-waits program tree text at (state_of offset t) (waiting_of offset rest) on' in
-      let fewer : steps_left program tree text at (waiting (state_of offset t) ∷ waiting_of offset rest) < steps_left program tree text at (running (state_of offset s) ∷ waiting_of offset stack) =
-      subst (λ ts. steps_left program tree text at ts < steps_left program tree text at (running (state_of offset s) ∷ waiting_of offset stack)) top on.1 in
-      (taken.0, omega (arith, taken.1, fewer))
-
-  -- it failed, and there is no other
-  pub left-none : goes [] ≡ next → stack ≡ [] → None ≡ end_from tree text at
-  left-none g e =
-      let on = remains-goes program tree text at (state_of offset s) [] (waiting_of offset stack) r (g ∙ is) in
-      remains-none program tree text at (subst (λ st. Remains program tree text at (waiting_of offset st)) e on.0)
-
-  pub left-went : (t : State P) → goes (running (state_of offset t) ∷ []) ≡ next → LeftTo t stack
-  left-went t g = remains-goes program tree text at (state_of offset s) (running (state_of offset t) ∷ []) (waiting_of offset stack) r (g ∙ is)
-
-  pub left-forked : (t u : State P) (later : List (State P)) → goes (running (state_of offset t) ∷ waiting (state_of offset u) ∷ []) ≡ next → later ≡ stack ++ u ∷ [] → LeftTo t later
-  left-forked t u later g e =
-      let on = remains-goes program tree text at (state_of offset s) (running (state_of offset t) ∷ waiting (state_of offset u) ∷ []) (waiting_of offset stack) r (g ∙ is) in
-      let all : waiting_of offset later ≡ waiting (state_of offset u) ∷ waiting_of offset stack = ap (waiting_of offset) e ∙ waiting-push offset stack u in
-      rw all on
-
-  pub left-ended : (t : State P) → ends (state_of offset t) ≡ next → Some (end_of (state_of offset t)) ≡ end_from tree text at
-  left-ended t g = remains-ends program tree text at (state_of offset s) (state_of offset t) (waiting_of offset stack) r (g ∙ is)
+-- the states of a scan, of which the last one is taken up
+pub scan-threads : {P : Type 0} (offset : P → ℕ) (states rest stack : List (State P)) (s : State P) → states ≡ rest ++ s ∷ []
+    → running (state_of offset s) ∷ waiting_of offset (stack ++ rest) ≡ in_turn (preferred_last offset states) ++ waiting_of offset stack
+scan-threads offset states rest stack s e =
+    let order : preferred_last offset states ≡ state_of offset s ∷ preferred_last offset rest =
+    ap (preferred_last offset) e ∙ ap (map (λ s. state_of offset s)) (reverse-append rest (s ∷ [])) in
+    ap (λ l. running (state_of offset s) ∷ l) (waiting-append offset stack rest ∙ ap (λ l. l ++ waiting_of offset stack) (sym (map-map (λ s. state_of offset s) waiting (reverse rest))))
+    ∙ ap (λ l. in_turn l ++ waiting_of offset stack) (sym order)
 
 -- ---- The first state
 
@@ -233,3 +184,106 @@ initial-is P offset program s groups loops i g st ls eg el =
     let b = copies-are offset s.starts.items groups program.groups s.pos st eg in
     let c = copies-are (loop_of offset) s.loops.items loops program.loops (record { iters = 0; entry = s.pos }) ls el in
     rw (i, a, b, c) refl
+
+-- ---- The attempt
+
+-- the search from the first state of an attempt ends with the first outcome
+pub record Begins (tree : Tree) (text : Text) (at : ℕ) : Type 0 where
+  pub answers : IsSome (search_from tree text at rightwards (initial (compiled tree) at))
+  pub end : option_map end_of (end_of_search (search_from tree text at rightwards (initial (compiled tree) at))) ≡ end_from tree text at
+
+pub begins : (tree : Tree) (text : Text) (at : ℕ) → CanSearch (compiled tree) tree text → IsBoundary text at → Begins tree text at
+begins tree text at can on = by (place_at text at) refl on
+  where
+    by : (o : Option ℕ) → place_at text at ≡ o → IsTrue (is_some o) → Begins tree text at
+    by None e on = cc
+    by (Some p) e on =
+        let place = offset-place_at text at p can.is_text e in
+        let first = searches-find (compiled tree) tree text can p place.1 in
+        let n : turns_at tree text p ≡ turns_from tree text at = sym (ap (λ o. option_map_or (turns_at tree text) o 0) e) in
+        let searches : search_from tree text at rightwards (initial (compiled tree) at) ≡ Some first.found =
+        ap (λ n. search (compiled tree) text n rightwards (running (initial (compiled tree) at) ∷ [])) (sym n)
+        ∙ ap (λ at. search (compiled tree) text (turns_at tree text p) rightwards (running (initial (compiled tree) at) ∷ [])) (sym place.0) ∙ first.searches in
+        record {
+          answers = ap is_some searches;
+          end =
+              ap (λ o. option_map end_of (end_of_search o)) searches ∙ first.end
+              ∙ sym (ap (λ o. option_and_then (λ place. option_map (end_in_offsets text) (first_pair (items_at tree text place))) o) e);
+        }
+
+-- ---- Turns of the executor
+
+module _ {P : Type 0} (offset : P → ℕ) (program : Program) (text : Text) (turns : ℕ) (d : Direction) (top : ℕ) (end : Option machine.State) (is : IsText text) (reads : ReadsBytes text) where
+  module _ (ts : List Thread) (r : Remains program text turns d top end ts) (s : State P) (rest : List (State P)) (up : TakesUp offset ts (Some s) rest) where
+    abbrev taken_up : List Thread
+    taken_up = running (state_of offset s) ∷ waiting_of offset rest
+
+    -- the state that was taken up runs
+    record Taken : Type 0 where
+      remains : Remains program text turns d top end (running (state_of offset s) ∷ waiting_of offset rest)
+      no_more : steps_left program text turns d (running (state_of offset s) ∷ waiting_of offset rest) ≤ steps_left program text turns d ts
+
+    taken : Taken
+    taken = by up
+      where
+        by : TakesUp offset ts (Some s) rest → Taken
+        by (inl e) = record {
+          remains = subst (Remains program text turns d top end) e r;
+          no_more = let same = ap (steps_left program text turns d) e in omega (arith, same);
+        }
+        by (inr e) =
+            let w = left-waits program text turns d top end (state_of offset s) (waiting_of offset rest) (subst (Remains program text turns d top end) e r) in
+            let same = ap (steps_left program text turns d) e in
+            record { remains = w.remains; no_more = omega (arith, same, w.fewer) }
+
+    then-left : (after : List Thread) → Left program text turns d top end taken_up after → Left program text turns d top end ts after
+    then-left after l = record { remains = l.remains; fewer = let a = l.fewer in let b = taken.no_more in omega (arith, a, b) }
+
+    pub turn-can : CanTake (act program text d (state_of offset s))
+    turn-can = remains-can program text turns d top end (state_of offset s) (waiting_of offset rest) taken.remains
+
+    pub turn-inside : offset s.pos ≤ units text
+    turn-inside = remains-inside program text turns d top end (state_of offset s) (waiting_of offset rest) taken.remains
+
+    pub turn-goes : (n : Next) (ss after : List Thread) → n ≡ act program text d (state_of offset s) → goes ss ≡ n → after ≡ ss ++ waiting_of offset rest
+        → Left program text turns d top end ts after
+    turn-goes n ss after e g a =
+        then-left after (subst (Left program text turns d top end taken_up) (sym a)
+        (left-goes program text turns d top end is reads (state_of offset s) ss (waiting_of offset rest) taken.remains (sym (g ∙ e))))
+
+    pub turn-scans : (n : Next) (tries : ℕ) (ss after : List Thread) → n ≡ act program text d (state_of offset s) → scans tries ss ≡ n → after ≡ ss ++ waiting_of offset rest
+        → Left program text turns d top end ts after
+    turn-scans n tries ss after e g a =
+        then-left after (subst (Left program text turns d top end taken_up) (sym a)
+        (left-scans program text turns d top end is reads (state_of offset s) tries ss (waiting_of offset rest) taken.remains (sym (g ∙ e))))
+
+    pub turn-ends : (n : Next) (t : machine.State) → n ≡ act program text d (state_of offset s) → ends t ≡ n → Some t ≡ end
+    turn-ends n t e g = remains-ends program text turns d top end (state_of offset s) t (waiting_of offset rest) taken.remains (sym (g ∙ e))
+
+    -- a search that is asked for
+    pub record AskedOf (inner : Direction) (negate : Bool) (u w : machine.State) : Type 0 where
+      pub answers : IsSome (search program text turns inner (running u ∷ []))
+      pub inside : u.pos ≤ units text
+      pub fewer : steps_of (search program text turns inner (running u ∷ [])) < top
+      pub behind : Left program text turns d top end ts (resumed negate w (end_of_search (search program text turns inner (running u ∷ []))) ++ waiting_of offset rest)
+
+    pub turn-asks : (n : Next) (u w : machine.State) (inner : Direction) (negate : Bool) → n ≡ act program text d (state_of offset s) → asks inner negate u w ≡ n
+        → AskedOf inner negate u w
+    turn-asks n u w inner negate e g =
+        let a = left-asks program text turns d top end is reads (state_of offset s) u w inner negate (waiting_of offset rest) taken.remains (sym (g ∙ e)) in
+        record {
+          answers = a.answers;
+          inside = a.inside;
+          fewer = let f = a.fewer in let m = taken.no_more in omega (arith, f, m, r.few);
+          behind = then-left _ a.behind;
+        }
+
+  pub turn-none : (ts : List Thread) → Remains program text turns d top end ts → ts ≡ [] → None ≡ end
+  turn-none ts r e = remains-none program text turns d top end (subst (Remains program text turns d top end) e r)
+
+pub map-end : {P : Type 0} (offset : P → ℕ) (o : Option (State P)) → option_map (λ s. end_of (state_of offset s)) o ≡ option_map end_of (option_map (λ s. state_of offset s) o)
+map-end offset None = refl
+map-end offset (Some s) = refl
+
+pub less-by : (x y n : ℕ) → x < y → y ≡ n → x < n
+less-by x y n less e = omega (arith, less, e)

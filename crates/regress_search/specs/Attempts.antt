@@ -1,11 +1,14 @@
 -- What one attempt answers.
-use Rattle.std.specs.Prelude.{ℕ, Option, Some, option_map, option_and_then, nat_lt, if◌then◌else◌}
+use Rattle.std.specs.Prelude.{ℕ, List, [], ◌∷◌, Option, Some, None, option_map, option_and_then, nat_lt, if◌then◌else◌}
+use Rattle.std.specs.Option.{option_map_or}
 use Rattle.regex_meaning.specs.Tree.{Tree}
-use Rattle.regex_meaning.specs.Text.{Text, rightwards}
+use Rattle.regex_meaning.specs.Text.{Text, Direction, rightwards}
 use Rattle.regex_meaning.specs.Offsets.{place_at, read}
 use Rattle.regex_meaning.specs.Outcomes.{Groups}
 use Rattle.regex_meaning.specs.Ticks.{items_at}
-use Rattle.regress_machine.specs.Finds.{first_pair, end_in_offsets}
+use Rattle.regress_program.specs.Code.{compiled}
+use Rattle.regress_machine.specs.Machine.{State, running, Found, search}
+use Rattle.regress_machine.specs.Finds.{first_pair, end_in_offsets, turns_at}
 
 -- the end and the groups of the first outcome from an offset, in offsets, if there is one
 abbrev pub end_from : Tree → Text → (at : ℕ) → Option (ℕ × Groups)
@@ -15,3 +18,15 @@ end_from tree text at =
 -- the offset from which the list goes on behind a match: its end, or one character on where it is empty
 abbrev pub offset_behind : Text → (start end : ℕ) → Option ℕ
 offset_behind text start end = if nat_lt start end then Some end else option_map (λ r. r.1) (read text rightwards end)
+
+-- how many turns serve an attempt at an offset
+abbrev pub turns_from : Tree → Text → (at : ℕ) → ℕ
+turns_from tree text at = option_map_or (turns_at tree text) (place_at text at) 0
+
+-- the search from a state in a direction, which is part of the attempt at an offset
+abbrev pub search_from : Tree → Text → (at : ℕ) → Direction → State → Option Found
+search_from tree text at direction s = search (compiled tree) text (turns_from tree text at) direction (running s ∷ [])
+
+-- where a search ends
+abbrev pub end_of_search : Option Found → Option State
+end_of_search found = option_and_then (λ f. f.end) found

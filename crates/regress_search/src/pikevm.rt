@@ -1,55 +1,33 @@
 //! The executor that copies its states: as plain as can be, each way still to try a state of its own.
 
-ghost use Rattle.std.specs.Prelude.{◌≡◌, ◌<◌, ◌^◌, ◌+◌, ℕ, length, map, IsTrue, IfOk, Some, option_map, slice_get, replicate, string_bytes, ◌==◌, true};
-ghost use Rattle.regex_meaning.specs.Text.{rightwards, utf8_text};
-ghost use Rattle.regex_meaning.specs.Offsets.{IsBoundary};
+ghost use Rattle.std.specs.Prelude.{◌≡◌, ◌<◌, ◌≤◌, ◌++◌, map, IsTrue, IsAscii, IsSome, IfOk, option_map, string_bytes};
+ghost use Rattle.regex_meaning.specs.Text.{ascii_text, utf8_text};
+ghost use Rattle.regex_meaning.specs.Offsets.{IsBoundary, units};
 ghost use Rattle.regex_meaning.specs.WellFormed.{is_well_formed};
-ghost use Rattle.regex_pattern_front.specs.TreeOf.{tree_of};
-ghost use Rattle.regress_program.specs.Code.{compiled};
-ghost use Rattle.regress_program.specs.Insns.{insn_of};
-ghost use Rattle.regress_machine.specs.Bytes.{ReadsBytes, reads_bytes};
-ghost use Rattle.std.specs.List.{list_all};
-ghost use Rattle.regress_machine.specs.Machine.{act, act_on, read_one};
-ghost use Rattle.regress_machine.specs.Finds.{initial, end_of};
-ghost use Rattle.regress_search.specs.Attempts.{end_from, offset_behind};
-ghost use Rattle.regress_search.specs.States.{groups_of, state_of, next_of, CanTake, is_small};
-ghost use Rattle.regress_search.specs.Answers.{answer_of, range_of};
 ghost use Rattle.regex_meaning.specs.Names.{names_by_id};
+ghost use Rattle.regex_pattern_front.specs.TreeOf.{tree_of};
+ghost use Rattle.regress_input.specs.Reading.{way};
+ghost use Rattle.regress_program.specs.Code.{compiled};
+ghost use Rattle.regress_machine.specs.Bytes.{ReadsBytes};
+ghost use Rattle.regress_machine.specs.Machine.{act, in_turn};
+ghost use Rattle.regress_machine.specs.Finds.{end_of};
+ghost use Rattle.regress_search.specs.Answers.{answer_of, range_of};
+ghost use Rattle.regress_search.specs.Attempts.{end_from, offset_behind, search_from, end_of_search};
+ghost use Rattle.regress_search.specs.States.{groups_of, state_of, next_of, running_of, waiting_of, preferred_last, TakesUp, CanTake};
 
+mod actions;
+mod readers;
+mod states;
+
+use self::actions::take_turn;
+use self::states::{State, Turn, initial_state, resume};
 use crate::exec::{Match, MatchProducer, SearchError};
-use regress_input::indexing::{ElementType, InputIndexer, Utf8Input};
+use regress_input::cursor::{Backward, Forward};
+use regress_input::indexing::{AsciiInput, InputIndexer, Utf8Input};
 use regress_input::position::PositionType;
-use regress_program::insn::{CompiledRegex, Insn};
+use regress_program::insn::CompiledRegex;
 use std::alloc::{AllocError, Global};
 use std::ops::Range;
-
-/// A loop's finished iterations, and where the current one began.
-#[derive(Clone, Copy)]
-struct LoopData<P> {
-    iters: usize,
-    entry: P,
-}
-
-/// Where a way stands: an instruction and a position, the groups, where each open group began, and the loops.
-#[derive(Drop)]
-struct State<P> {
-    ip: usize,
-    pos: P,
-    groups: Vec<Option<(P, P)>>,
-    starts: Vec<P>,
-    loops: Vec<LoopData<P>>,
-}
-
-/// What comes next, the preferred state first.
-#[derive(Drop)]
-enum Turn<P> {
-    /// The way has failed.
-    Dead,
-    Go(State<P>),
-    Fork(State<P>, State<P>),
-    /// The search has ended.
-    Done(State<P>),
-}
 
 // What an executor searches, and with which program.
 #[derive(Drop)]
@@ -58,31 +36,8 @@ struct Searched<'r, Input: InputIndexer> {
     input: Input,
     ghost unicode: { (Input.text input).unicode ≡ (tree_of program.now).flags.unicode },
     ghost well_formed: { IsTrue (is_well_formed (tree_of program.now).root) },
-    ghost small: { IsTrue (list_all is_small (compiled (tree_of program.now)).insns) },
-    ghost bytes: { IsTrue (reads_bytes (tree_of program.now).root) → ReadsBytes (Input.text input) },
-}
-
-/// Whether this executor runs each instruction of a program. So far it runs those of characters, any character,
-/// rows and alternatives.
-pub fn can_run(re: &CompiledRegex) -> bool
-    ensures { result ≡ list_all is_small (compiled (tree_of re.now)).insns }
-{
-    for insn in re.insns() {
-        if !runs(*insn) {
-            return false;
-        }
-    }
-    true
-}
-
-// Whether the executor runs this instruction.
-fn runs(insn: Insn) -> bool
-    ensures { result ≡ is_small (insn_of insn) }
-{
-    matches!(
-        insn,
-        Insn::Goal | Insn::Char(_) | Insn::MatchAny | Insn::Alt { .. } | Insn::Jump { .. }
-    )
+    ghost reads: { ReadsBytes (Input.text input) },
+    ghost bytes: { IsTrue Input.Units.ARE_BYTES },
 }
 
 /// Runs a program over a text by copies of whole states.
@@ -93,132 +48,88 @@ pub struct PikeVMExecutor<'r, Input: InputIndexer> {
     stack: Vec<State<Input::Position>>,
 }
 
-// A state like another.
-fn copy_of<P: PositionType>(state: &State<P>) -> Result<State<P>, AllocError>
-    ensures { IfOk result (λ s. state_of P.offset s ≡ state_of P.offset state.now) }
-{
-    Ok(State {
-        ip: state.ip,
-        pos: state.pos,
-        groups: Vec::from_slice(*state.groups.allocator(), &state.groups)?,
-        starts: Vec::from_slice(*state.starts.allocator(), &state.starts)?,
-        loops: Vec::from_slice(*state.loops.allocator(), &state.loops)?,
-    })
-}
-
-// What the instruction at the state does.
-fn take_turn<Input: InputIndexer>(
-    program: &CompiledRegex,
-    input: &Input,
+// One turn in a direction.
+#[inline(always)]
+fn turn_in<Input: InputIndexer>(
+    searched: &Searched<'_, Input>,
+    forward: bool,
     state: State<Input::Position>,
 ) -> Result<Turn<Input::Position>, AllocError>
-    requires can { CanTake (act (compiled (tree_of program.now)) (Input.text input.now) rightwards (state_of Input.Position.offset state)) }
-    requires small { (i : ℕ) (insn : _) → slice_get (compiled (tree_of program.now)).insns i ≡ Some insn → IsTrue (is_small insn) }
-    ensures { IfOk result (λ t. next_of Input.Position.offset t ≡ act (compiled (tree_of program.now)) (Input.text input.now) rightwards (state_of Input.Position.offset state)) }
+    requires can { CanTake (act (compiled (tree_of searched.now.program.now)) (Input.text searched.now.input) (way forward) (state_of Input.Position.offset state)) }
+    requires inside { Input.Position.offset state.pos ≤ units (Input.text searched.now.input) }
+    ensures { IfOk result (λ t. next_of Input.Position.offset t ≡ act (compiled (tree_of searched.now.program.now)) (Input.text searched.now.input) (way forward) (state_of Input.Position.offset state)) }
 {
-    let insn = program.insns()[state.ip];
-    perform(insn, program, input, state)
-}
-
-// What one instruction does.
-fn perform<Input: InputIndexer>(
-    insn: Insn,
-    program: &CompiledRegex,
-    input: &Input,
-    mut state: State<Input::Position>,
-) -> Result<Turn<Input::Position>, AllocError>
-    requires can { CanTake (act_on (compiled (tree_of program.now)) (Input.text input.now) rightwards (Some (insn_of insn)) (state_of Input.Position.offset state)) }
-    requires small { IsTrue (is_small (insn_of insn)) }
-    requires within { state.ip + 1 < 2 ^ 64 }
-    ensures { IfOk result (λ t. next_of Input.Position.offset t ≡ act_on (compiled (tree_of program.now)) (Input.text input.now) rightwards (Some (insn_of insn)) (state_of Input.Position.offset state)) }
-{
-    match insn {
-        Insn::Goal => Ok(Turn::Done(state)),
-        Insn::Char(c) => Ok(read_char(c, input, state)),
-        Insn::MatchAny => Ok(read_any(input, state)),
-        Insn::Alt { secondary } => {
-            let mut second = copy_of(&state)?;
-            second.ip = secondary as usize;
-            state.ip += 1;
-            Ok(Turn::Fork(state, second))
-        }
-        Insn::Jump { target } => {
-            state.ip = target as usize;
-            Ok(Turn::Go(state))
-        }
-        _ => unreachable!(),
+    if forward {
+        take_turn(searched.program, &searched.input, Forward, state)
+    } else {
+        take_turn(searched.program, &searched.input, Backward, state)
     }
 }
 
-// One character that is this one.
-fn read_char<Input: InputIndexer>(
-    c: u32,
-    input: &Input,
-    mut state: State<Input::Position>,
-) -> Turn<Input::Position>
-    requires boundary { IsBoundary (Input.text input.now) (Input.Position.offset state.pos) }
-    requires within { state.ip + 1 < 2 ^ 64 }
-    ensures { next_of Input.Position.offset result ≡ read_one (Input.text input.now) (λ d. c == d) rightwards (state_of Input.Position.offset state) }
+// The state in hand, or else the last one of the stack.
+#[inline(always)]
+fn take_up<P: PositionType>(next: Option<State<P>>, stack: &mut Vec<State<P>>) -> Option<State<P>>
+    ensures { TakesUp P.offset (running_of P.offset next ++ waiting_of P.offset stack.old.items) result stack.new.items }
 {
-    match input.next_right(&mut state.pos) {
-        Some(found) if found.as_u32() == c => {
-            state.ip += 1;
-            Turn::Go(state)
+    match next {
+        Some(state) => Some(state),
+        None => stack.pop(),
+    }
+}
+
+// The preferred one of these states, of which the others wait.
+fn take_scanned<P: PositionType>(
+    mut states: Vec<State<P>>,
+    stack: &mut Vec<State<P>>,
+) -> Result<Option<State<P>>, AllocError>
+    ensures { IfOk result (λ next. running_of P.offset next ++ waiting_of P.offset stack.new.items ≡ in_turn (preferred_last P.offset states.items) ++ waiting_of P.offset stack.old.items) }
+{
+    let Some(next) = states.pop() else {
+        return Ok(None);
+    };
+    stack.append(&mut states)?;
+    Ok(Some(next))
+}
+
+// The preferred end that is reached from a state, in the course of an attempt at a position.
+fn run<Input: InputIndexer>(
+    searched: &Searched<'_, Input>,
+    at: Input::Position,
+    forward: bool,
+    stack: &mut Vec<State<Input::Position>>,
+    start: State<Input::Position>,
+) -> Result<Option<State<Input::Position>>, AllocError>
+    requires inside { Input.Position.offset start.pos ≤ units (Input.text searched.now.input) }
+    requires answers { IsSome (search_from (tree_of searched.now.program.now) (Input.text searched.now.input) (Input.Position.offset at) (way forward) (state_of Input.Position.offset start)) }
+    ensures { IfOk result (λ r. option_map (λ s. state_of Input.Position.offset s) r ≡ end_of_search (search_from (tree_of searched.now.program.now) (Input.text searched.now.input) (Input.Position.offset at) (way forward) (state_of Input.Position.offset start))) }
+{
+    stack.clear();
+    let mut next = Some(start);
+    'search: loop {
+        let Some(state) = take_up(next, stack) else {
+            return Ok(None);
+        };
+        match turn_in(searched, forward, state)? {
+            Turn::Dead => next = None,
+            Turn::Go(state) => next = Some(state),
+            Turn::Fork(preferred, other) => {
+                stack.push(other)?;
+                next = Some(preferred);
+            }
+            Turn::Scan(_, states) => next = take_scanned(states, stack)?,
+            Turn::Ask {
+                forward,
+                negate,
+                inner,
+                after,
+            } => {
+                let mut alone = Vec::new(*stack.allocator());
+                let found = run(searched, at, forward, &mut alone, inner)?;
+                next = resume(negate, after, found);
+            }
+            Turn::Done(end) => return Ok(Some(end)),
         }
-        _ => Turn::Dead,
     }
-}
-
-// Any character.
-fn read_any<Input: InputIndexer>(
-    input: &Input,
-    mut state: State<Input::Position>,
-) -> Turn<Input::Position>
-    requires boundary { IsBoundary (Input.text input.now) (Input.Position.offset state.pos) }
-    requires within { state.ip + 1 < 2 ^ 64 }
-    ensures { next_of Input.Position.offset result ≡ read_one (Input.text input.now) (λ d. true) rightwards (state_of Input.Position.offset state) }
-{
-    match input.next_right(&mut state.pos) {
-        Some(_) => {
-            state.ip += 1;
-            Turn::Go(state)
-        }
-        None => Turn::Dead,
-    }
-}
-
-// So many of a value.
-fn copies<T: Copy>(alloc: Global, value: T, count: usize) -> Result<Vec<T>, AllocError>
-    ensures { IfOk result (λ v. v.items ≡ replicate count value) }
-{
-    let mut values = Vec::with_capacity(alloc, count)?;
-    for _ in 0..count {
-        values.push(value)?;
-    }
-    Ok(values)
-}
-
-// The state before the first instruction.
-fn initial_state<P: PositionType>(program: &CompiledRegex, pos: P) -> Result<State<P>, AllocError>
-    ensures { IfOk result (λ s. state_of P.offset s ≡ initial (compiled (tree_of program.now)) (P.offset pos)) }
-{
-    let alloc = program.allocator();
-    let groups = program.groups() as usize;
-    let loops = program.loops() as usize;
-    Ok(State {
-        ip: 0,
-        pos,
-        groups: copies(alloc, None, groups)?,
-        starts: copies(alloc, pos, groups)?,
-        loops: copies(
-            alloc,
-            LoopData {
-                iters: 0,
-                entry: pos,
-            },
-            loops,
-        )?,
-    })
 }
 
 // The preferred way from a position to an end, if there is one.
@@ -230,24 +141,9 @@ fn attempt<Input: InputIndexer>(
     requires { IsBoundary (Input.text searched.now.input) (Input.Position.offset pos) }
     ensures { IfOk result (λ r. option_map (λ s. end_of (state_of Input.Position.offset s)) r ≡ end_from (tree_of searched.now.program.now) (Input.text searched.now.input) (Input.Position.offset pos)) }
 {
-    stack.clear();
-    let mut state = initial_state(searched.program, pos)?;
-    'search: loop {
-        match take_turn(searched.program, &searched.input, state)? {
-            Turn::Dead => {
-                let Some(next) = stack.pop() else {
-                    return Ok(None);
-                };
-                state = next;
-            }
-            Turn::Go(next) => state = next,
-            Turn::Fork(preferred, other) => {
-                stack.push(other)?;
-                state = preferred;
-            }
-            Turn::Done(end) => return Ok(Some(end)),
-        }
-    }
+    let start = initial_state(searched.program, pos)?;
+    let end = run(searched, pos, true, stack, start)?;
+    Ok(end)
 }
 
 // The groups in offsets.
@@ -348,9 +244,8 @@ impl<'r, Input: InputIndexer> MatchProducer for PikeVMExecutor<'r, Input> {
 }
 
 impl<'r, 't> PikeVMExecutor<'r, Utf8Input<'t>> {
-    /// Searches `text` with the program `re`, whose instructions this executor runs (`can_run`).
+    /// Searches `text` with the program `re`.
     pub fn new(re: &'r CompiledRegex, text: &'t str) -> Result<Self, AllocError>
-        requires { IsTrue (list_all is_small (compiled (tree_of re.now)).insns) }
         ensures root { IfOk result (λ e. ⟦<PikeVMExecutor<'r, Utf8Input<'t>> as MatchProducer>⟧.root e ≡ (tree_of re.now).root) }
         ensures text { IfOk result (λ e. ⟦<PikeVMExecutor<'r, Utf8Input<'t>> as MatchProducer>⟧.text e ≡ utf8_text text.now (tree_of re.now).flags.unicode) }
     {
@@ -359,6 +254,26 @@ impl<'r, 't> PikeVMExecutor<'r, Utf8Input<'t>> {
         let searched = Searched {
             program: re,
             input: Utf8Input::new(text, flags.unicode),
+        };
+        Ok(PikeVMExecutor {
+            searched,
+            stack: Vec::new(re.allocator()),
+        })
+    }
+}
+
+impl<'r, 't> PikeVMExecutor<'r, AsciiInput<'t>> {
+    /// Searches `text`, which is of ASCII, with the program `re`. `is_ascii` is the test of what is asked.
+    pub fn new(re: &'r CompiledRegex, text: &'t str) -> Result<Self, AllocError>
+        requires { IsAscii text.now }
+        ensures root { IfOk result (λ e. ⟦<PikeVMExecutor<'r, AsciiInput<'t>> as MatchProducer>⟧.root e ≡ (tree_of re.now).root) }
+        ensures text { IfOk result (λ e. ⟦<PikeVMExecutor<'r, AsciiInput<'t>> as MatchProducer>⟧.text e ≡ ascii_text text.now (tree_of re.now).flags.unicode) }
+    {
+        let flags = re.flags();
+        let _well_formed = re.insns();
+        let searched = Searched {
+            program: re,
+            input: AsciiInput::new(text, flags.unicode),
         };
         Ok(PikeVMExecutor {
             searched,

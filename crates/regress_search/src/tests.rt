@@ -1,49 +1,47 @@
-//! Searches with the programs of trees made by hand.
+//! Searches with the programs of trees made by hand and of patterns, over both encodings.
 
-ghost use Rattle.std.specs.Prelude.{◌≡◌, ◌⊎◌, ◌<◌, IfOk, IsTrue, length};
-ghost use Rattle.regex_pattern_front.specs.TreeOf.{tree_of};
-ghost use Rattle.std.specs.List.{list_all};
-ghost use Rattle.regress_program.specs.Code.{compiled};
-ghost use Rattle.regress_search.specs.States.{is_small};
+ghost use Rattle.std.specs.Prelude.{◌≡◌, ◌⊎◌, ◌<◌, length};
+ghost use Rattle.regex_meaning.specs.Offsets.{IsBoundary, units};
 
-use crate::exec::{Match, Matches};
-use crate::pikevm::{PikeVMExecutor, can_run};
+use crate::exec::{Match, MatchProducer, Matches};
+use crate::pikevm::PikeVMExecutor;
 use regex_pattern_front::flags::Flags;
 use regex_pattern_front::ir::{Node, Regex};
-use regress_input::indexing::Utf8Input;
+use regex_pattern_front::optimizer::optimize;
+use regex_pattern_front::parse::try_parse;
+use regress_input::indexing::{AsciiInput, Utf8Input};
 use regress_program::emit::emit;
 use regress_program::insn::CompiledRegex;
 use std::alloc::Global;
 use std::test::Fail;
 
 // The program of a tree.
-fn program(alloc: Global, node: Node) -> Result<CompiledRegex, Fail>
-    ensures { IfOk result (λ p. IsTrue (list_all is_small (compiled (tree_of p)).insns)) }
-{
+fn program(alloc: Global, node: Node) -> Result<CompiledRegex, Fail> {
     let tree = Regex {
-        node,
+        node: Node::Cat(vec![in alloc; node, Node::Goal]?),
         flags: Flags::default(),
     };
-    let re = emit(alloc, &tree)?;
-    if !can_run(&re) {
-        return Err(Fail::from("a program that is not run"));
-    }
-    Ok(re)
+    Ok(emit(alloc, &tree)?)
 }
 
-// The ranges that the list yields from a start on, and whether it has then ended for good.
-fn listing(re: &CompiledRegex, text: &str, start: usize) -> Result<String, Fail>
-    requires supported { IsTrue (list_all is_small (compiled (tree_of re.now)).insns) }
-    requires start { (start ≡ 0) ⊎ ((start ≡ length text.now) ⊎ (length text.now < start)) }
+// The program of a pattern, with loops over one character or without.
+fn of_pattern(alloc: Global, pattern: &str, optimized: bool) -> Result<CompiledRegex, Fail> {
+    let code_points: Vec<u32> = pattern.chars().map(u32::from).collect(alloc)?;
+    let mut tree = try_parse(alloc, &code_points, Flags::default())?;
+    if optimized {
+        optimize(&mut tree);
+    }
+    Ok(emit(alloc, &tree)?)
+}
+
+// The ranges that the list yields, each with those of its groups, and whether it has then ended for good.
+fn written<P: MatchProducer + Drop>(alloc: Global, mp: P, start: usize) -> Result<String, Fail>
+    requires { IsBoundary (P.text mp) start ⊎ (units (P.text mp) < start) }
 {
-    let executor = PikeVMExecutor::<Utf8Input>::new(re, text)?;
-    let mut matches = Matches::new(executor, start);
-    let mut words = String::new(re.allocator());
+    let mut matches = Matches::new(mp, start);
+    let mut words = String::new(alloc);
     for item in &mut matches {
-        let range = item?.range;
-        let start = range.start;
-        let end = range.end;
-        write!(words, "{start}..{end} ")?;
+        write_match(&item?, &mut words)?;
     }
     let last = if matches.next().is_none() {
         "end"
@@ -54,14 +52,121 @@ fn listing(re: &CompiledRegex, text: &str, start: usize) -> Result<String, Fail>
     Ok(words)
 }
 
+// A match's range and those of its groups.
+fn write_match(found: &Match, words: &mut String) -> Result<(), Fail> {
+    let from = found.range.start;
+    let to = found.range.end;
+    write!(words, "{from}..{to}")?;
+    for group in &found.captures {
+        match group {
+            Some(range) => {
+                let from = range.start;
+                let to = range.end;
+                write!(words, ",{from}..{to}")?;
+            }
+            None => words.push_str(",-")?,
+        }
+    }
+    words.push_str(" ")?;
+    Ok(())
+}
+
+// The list over a text in UTF-8, from a start on.
+fn listing(re: &CompiledRegex, text: &str, start: usize) -> Result<String, Fail>
+    requires { (start ≡ 0) ⊎ ((start ≡ length text.now) ⊎ (length text.now < start)) }
+{
+    let executor = PikeVMExecutor::<Utf8Input>::new(re, text)?;
+    written(re.allocator(), executor, start)
+}
+
+// The list over a text of ASCII.
+fn ascii_listing(re: &CompiledRegex, text: &str) -> Result<Option<String>, Fail> {
+    if !text.is_ascii() {
+        return Ok(None);
+    }
+    let executor = PikeVMExecutor::<AsciiInput>::new(re, text)?;
+    Ok(Some(written(re.allocator(), executor, 0)?))
+}
+
+#[test]
+fn lists_of_patterns(rt: HostRuntime) -> Result<(), Fail> {
+    let alloc = rt.alloc();
+    for (pattern, text, wanted) in [
+        ("a{2,3}", "aaaaa", "0..3 3..5 end"),
+        ("a{2,3}?", "aaaaa", "0..2 2..4 end"),
+        (".*", "ab", "0..2 2..2 end"),
+        (".*?", "ab", "0..0 1..1 2..2 end"),
+        ("a.{1,2}", "aéé€", "0..5 end"),
+        ("a[bc]+", "abcb", "0..4 end"),
+        ("a[bc]+?", "abcb", "0..2 end"),
+        ("(a*)*", "b", "0..0,- 1..1,- end"),
+        ("(a*){2}", "ab", "0..1,1..1 1..1,1..1 2..2,2..2 end"),
+        ("(?:a|ab)(?:c|bcd)(d*)", "abcd", "0..4,4..4 end"),
+        (
+            "(z)((a+)?(b+)?(c))*",
+            "zaacbbbcac",
+            "0..10,0..1,8..10,8..9,-,9..10 end",
+        ),
+        ("(a)\\1", "aab", "0..2,0..1 end"),
+        ("(?=(a+))a*b\\1", "baaabac", "3..6,3..4 end"),
+        (
+            "(.*?)a(?!(a+)b\\2c)\\2(.*)",
+            "baaabaac",
+            "0..8,0..2,-,3..8 end",
+        ),
+        ("(?<=(a+)(b+))$", "aabb", "4..4,0..2,2..4 end"),
+        ("(?<!a)b", "abb", "2..3 end"),
+        ("^a", "aa", "0..1 end"),
+        ("a$", "aa", "1..2 end"),
+        ("a\\b", "aa a", "1..2 3..4 end"),
+        ("a\\B.", "aa", "0..2 end"),
+    ] {
+        for optimized in [false, true] {
+            let re = of_pattern(alloc, pattern, optimized)?;
+            assert_eq!(rt;
+                listing(&re, text, 0)?.as_str(),
+                wanted,
+                "{pattern} in {text}"
+            );
+            if let Some(list) = ascii_listing(&re, text)? {
+                assert_eq!(rt; list.as_str(), wanted, "{pattern} in ASCII {text}");
+            }
+        }
+    }
+    Ok(())
+}
+
+// Six euro signs, in UTF-8.
+fn euros(alloc: Global) -> Result<Vec<u8>, Fail> {
+    Ok(Vec::from_slice(alloc, "€€€€€€".as_bytes())?)
+}
+
+#[test]
+fn byte_sequences_are_read_in_pieces(rt: HostRuntime) -> Result<(), Fail> {
+    let alloc = rt.alloc();
+    let behind = program(
+        alloc,
+        Node::Cat(vec![in alloc; Node::MatchAny, Node::ByteSequence(euros(alloc)?)]?),
+    )?;
+    assert_eq!(rt; listing(&behind, "x€€€€€€€", 0)?.as_str(), "0..19 end");
+    assert_eq!(rt; listing(&behind, "x€€€€€", 0)?.as_str(), "end");
+    let before = Node::LookaroundAssertion {
+        negate: false,
+        backwards: true,
+        start_group: 0,
+        end_group: 0,
+        contents: Box::new(alloc, Node::ByteSequence(euros(alloc)?))?,
+    };
+    let before = program(alloc, Node::Cat(vec![in alloc; before, Node::MatchAny]?))?;
+    assert_eq!(rt; listing(&before, "€€€€€€x", 0)?.as_str(), "18..19 end");
+    Ok(())
+}
+
 #[test]
 fn lists_of_matches(rt: HostRuntime) -> Result<(), Fail> {
     let alloc = rt.alloc();
-    let any = program(
-        alloc,
-        Node::Cat(vec![in alloc; Node::MatchAny, Node::Goal]?),
-    )?;
-    let empty = program(alloc, Node::Goal)?;
+    let any = program(alloc, Node::MatchAny)?;
+    let empty = program(alloc, Node::Empty)?;
     for (text, of_any, of_empty) in [
         ("é€", "0..2 2..5 end", "0..0 2..2 5..5 end"),
         ("a", "0..1 end", "0..0 1..1 end"),
@@ -80,11 +185,8 @@ fn lists_of_matches(rt: HostRuntime) -> Result<(), Fail> {
 #[test]
 fn lists_from_the_end_and_past_it(rt: HostRuntime) -> Result<(), Fail> {
     let alloc = rt.alloc();
-    let any = program(
-        alloc,
-        Node::Cat(vec![in alloc; Node::MatchAny, Node::Goal]?),
-    )?;
-    let empty = program(alloc, Node::Goal)?;
+    let any = program(alloc, Node::MatchAny)?;
+    let empty = program(alloc, Node::Empty)?;
     for (text, at_end) in [("é€", "5..5 end"), ("", "0..0 end")] {
         let end = text.len();
         assert_eq!(rt;

@@ -1,94 +1,43 @@
-use Rattle.std.proofs.Common.{ap, sym, subst, ◌∷◌, []}
+use Rattle.std.proofs.Common.{◌≡◌, ap, sym, subst, arith, ◌∙◌, ◌≤◌, true}
+use Rattle.std.specs.Prelude.{IsSome, option_map}
+use Rattle.regex_meaning.specs.Offsets.{units}
+use Rattle.regex_meaning.specs.Text.{rightwards}
 use Rattle.regex_pattern_front.specs.TreeOf.{tree_of}
 use Rattle.regress_program.specs.Code.{compiled}
-use Rattle.regress_machine.specs.Machine.{running}
-use Rattle.regress_search.specs.States.{state_of, next_of}
-use Rattle.regress_search.proofs.Small.{get-small, can-search}
-use Rattle.regress_search.proofs.Remains.{Remains, remains-begin, remains-can, left-popped, left-none, left-went, left-forked, left-ended, popped-none}
+use Rattle.regress_input.proofs.Places.{boundary_inside}
+use Rattle.regress_machine.specs.Machine as machine
+use Rattle.regress_machine.specs.Finds.{end_of}
+use Rattle.regress_search.specs.Attempts.{search_from, end_of_search}
+use Rattle.regress_search.proofs.Searchable.{can-search}
+use Rattle.regress_search.proofs.Remains.{begins, map-end}
 use Rattle.regress_search.proofs.pikevm.attempt.Goals as goal
 
-pub search-init : goal.search-init
-search-init g c =
-    let tree = tree_of c.args.searched.now.program.now in
-    let program = compiled tree in
+pub run-requires-clause-inside : goal.run-requires-clause-inside
+run-requires-clause-inside g c =
     let text = g.Input.InputIndexer.text c.args.searched.now.input in
+    let is = g.met.Input.InputIndexer.is_text c.args.searched.now.input in
     let offset = g.Input.Position.PositionType.offset in
-    rw c.clear.ensures.items (subst (λ s. Remains program tree text (offset c.args.pos) (running s ∷ [])) (sym c.in_ok-state.ensures)
-    (remains-begin program tree text (offset c.args.pos)
-    (can-search tree text c.args.searched.now.well_formed (g.met.Input.InputIndexer.is_text c.args.searched.now.input) c.args.searched.now.unicode c.args.searched.now.bytes) c.requires))
+    let same : offset c.in_ok-start.start.pos ≡ offset c.args.pos = ap (λ (s : machine.State). s.pos) c.in_ok-start.ensures in
+    subst (λ at. at ≤ units text) (sym same) (boundary_inside text is (offset c.args.pos) c.requires)
 
-pub take_turn-requires-clause-can : goal.take_turn-requires-clause-can
-take_turn-requires-clause-can g c =
-    let tree = tree_of c.args.searched.now.program.now in
-    let program = compiled tree in
-    let text = g.Input.InputIndexer.text c.args.searched.now.input in
+pub run-requires-clause-answers : goal.run-requires-clause-answers
+run-requires-clause-answers g c =
+    let searched = c.args.searched.now in
+    let tree = tree_of searched.program.now in
+    let text = g.Input.InputIndexer.text searched.input in
+    let is = g.met.Input.InputIndexer.is_text searched.input in
+    let at = g.Input.Position.PositionType.offset c.args.pos in
+    subst (λ s. IsSome (search_from tree text at rightwards s)) (sym c.in_ok-start.ensures)
+    (begins tree text at (can-search tree text searched.well_formed is searched.unicode searched.reads) c.requires).answers
+
+pub returns : goal.returns
+returns g c =
+    let searched = c.args.searched.now in
+    let tree = tree_of searched.program.now in
+    let text = g.Input.InputIndexer.text searched.input in
+    let is = g.met.Input.InputIndexer.is_text searched.input in
     let offset = g.Input.Position.PositionType.offset in
-    remains-can program tree text (offset c.args.pos) (state_of offset c.search.state) _ c.search.invariant (get-small program.insns c.args.searched.now.small)
-
-pub take_turn-requires-clause-small : goal.take_turn-requires-clause-small
-take_turn-requires-clause-small g c = get-small (compiled (tree_of c.args.searched.now.program.now)).insns c.args.searched.now.small
-
-pub returns-in_default : goal.returns-in_default
-returns-in_default g c =
-    let tree = tree_of c.args.searched.now.program.now in
-    let program = compiled tree in
-    let text = g.Input.InputIndexer.text c.args.searched.now.input in
-    let offset = g.Input.Position.PositionType.offset in
-    left-none offset program tree text (offset c.args.pos) c.search.state c.search.stack.items _ c.search.invariant c.in_ok-take_turn.ensures (ap (next_of offset) (sym c.in-Dead.is))
-    (popped-none c.search.stack.items c.pop.new.self.items _ c.in_default.ensures.items c.in_default.ensures.cases.0 c.in_default.ensures.rest)
-
-pub search-preserved-in-Dead : goal.search-preserved-in-Dead
-search-preserved-in-Dead g c =
-    let tree = tree_of c.args.searched.now.program.now in
-    let program = compiled tree in
-    let text = g.Input.InputIndexer.text c.args.searched.now.input in
-    let offset = g.Input.Position.PositionType.offset in
-    (left-popped offset program tree text (offset c.args.pos) c.search.state c.search.stack.items _ c.search.invariant c.in_ok-take_turn.ensures c.in-Some.next c.pop.new.self.items (ap (next_of offset) (sym c.in-Dead.is)) c.in-Some.ensures.items).0
-
-pub search-smaller-in-Dead : goal.search-smaller-in-Dead
-search-smaller-in-Dead g c =
-    let tree = tree_of c.args.searched.now.program.now in
-    let program = compiled tree in
-    let text = g.Input.InputIndexer.text c.args.searched.now.input in
-    let offset = g.Input.Position.PositionType.offset in
-    (left-popped offset program tree text (offset c.args.pos) c.search.state c.search.stack.items _ c.search.invariant c.in_ok-take_turn.ensures c.in-Some.next c.pop.new.self.items (ap (next_of offset) (sym c.in-Dead.is)) c.in-Some.ensures.items).1
-
-pub search-preserved-in-Go : goal.search-preserved-in-Go
-search-preserved-in-Go g c =
-    let tree = tree_of c.args.searched.now.program.now in
-    let program = compiled tree in
-    let text = g.Input.InputIndexer.text c.args.searched.now.input in
-    let offset = g.Input.Position.PositionType.offset in
-    (left-went offset program tree text (offset c.args.pos) c.search.state c.search.stack.items _ c.search.invariant c.in_ok-take_turn.ensures c.in-Go.next (ap (next_of offset) (sym c.in-Go.is))).0
-
-pub search-smaller-in-Go : goal.search-smaller-in-Go
-search-smaller-in-Go g c =
-    let tree = tree_of c.args.searched.now.program.now in
-    let program = compiled tree in
-    let text = g.Input.InputIndexer.text c.args.searched.now.input in
-    let offset = g.Input.Position.PositionType.offset in
-    (left-went offset program tree text (offset c.args.pos) c.search.state c.search.stack.items _ c.search.invariant c.in_ok-take_turn.ensures c.in-Go.next (ap (next_of offset) (sym c.in-Go.is))).1
-
-pub search-preserved : goal.search-preserved
-search-preserved g c =
-    let tree = tree_of c.args.searched.now.program.now in
-    let program = compiled tree in
-    let text = g.Input.InputIndexer.text c.args.searched.now.input in
-    let offset = g.Input.Position.PositionType.offset in
-    (left-forked offset program tree text (offset c.args.pos) c.search.state c.search.stack.items _ c.search.invariant c.in_ok-take_turn.ensures c.in-Fork.preferred c.in-Fork.other c.push.new.self.items (ap (next_of offset) (sym c.in-Fork.is)) c.in_ok-push-in-Fork.ensures.items).0
-
-pub search-smaller : goal.search-smaller
-search-smaller g c =
-    let tree = tree_of c.args.searched.now.program.now in
-    let program = compiled tree in
-    let text = g.Input.InputIndexer.text c.args.searched.now.input in
-    let offset = g.Input.Position.PositionType.offset in
-    (left-forked offset program tree text (offset c.args.pos) c.search.state c.search.stack.items _ c.search.invariant c.in_ok-take_turn.ensures c.in-Fork.preferred c.in-Fork.other c.push.new.self.items (ap (next_of offset) (sym c.in-Fork.is)) c.in_ok-push-in-Fork.ensures.items).1
-
-pub returns-in-Done : goal.returns-in-Done
-returns-in-Done g c =
-    let tree = tree_of c.args.searched.now.program.now in
-    let program = compiled tree in
-    let text = g.Input.InputIndexer.text c.args.searched.now.input in
-    let offset = g.Input.Position.PositionType.offset in
-    left-ended offset program tree text (offset c.args.pos) c.search.state c.search.stack.items _ c.search.invariant c.in_ok-take_turn.ensures c.in-Done.end (ap (next_of offset) (sym c.in-Done.is))
+    let at = offset c.args.pos in
+    map-end offset c.in_ok-end.end
+    ∙ ap (option_map end_of) (c.in_ok-end.ensures ∙ ap (λ s. end_of_search (search_from tree text at rightwards s)) c.in_ok-start.ensures)
+    ∙ (begins tree text at (can-search tree text searched.well_formed is searched.unicode searched.reads) c.requires).end

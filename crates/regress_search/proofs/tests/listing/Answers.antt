@@ -11,8 +11,8 @@ may_begin text is n e start (inl first) = inl (subst (IsBoundary text) (is.from_
 may_begin text is n e start (inr (inl last)) = inl (subst (IsBoundary text) (e ∙ sym last) (offset-IsBoundary text (last_place text) is (omega arith)))
 may_begin text is n e start (inr (inr past)) = inr (omega (arith, e, past))
 
-pub new-matches-requires : goal.new-matches-requires
-new-matches-requires c =
+pub written-requires : goal.written-requires
+written-requires c =
     let input = c.in_ok-executor.executor.searched.input in
     let text = c.args.text.now in
     may_begin
@@ -21,4 +21,4 @@ new-matches-requires c =
     (length text)
     (ap units c.in_ok-executor.ensures.text ∙ utf8_text-units text (tree_of c.args.re.now).flags.unicode c.utf8.text)
     c.args.start
-    c.requires.start
+    c.requires

@@ -1,4 +1,4 @@
-use Rattle.std.proofs.Common.{ap, sym, subst, ◌∙◌}
+use Rattle.std.proofs.Common.{ap, sym, subst, ◌∙◌, refl}
 use Rattle.std.proofs.lemmas.Str.{is_utf8-from_IsUtf8}
 use Rattle.regress_machine.specs.Bytes.{ReadsBytes}
 use Rattle.regress_machine.proofs.ByteTexts.{utf8_text-ReadsBytes}
@@ -14,6 +14,6 @@ invariant_of-searched c = record {
       ap (λ (t : Text). t.unicode) c.new.ensures
       ∙ ap (λ (f : Flags). f.unicode) (c.flags-flags.ensures ∙ flags-compiled (tree_of c.args.re.now));
   well_formed = c.insns-well_formed.ensures.well_formed;
-  small = c.requires;
-  bytes = λ _. subst ReadsBytes (sym c.new.ensures) (utf8_text-ReadsBytes c.args.text.now c.flags-flags.result.unicode (is_utf8-from_IsUtf8 c.args.text.now c.utf8.text));
+  reads = subst ReadsBytes (sym c.new.ensures) (utf8_text-ReadsBytes c.args.text.now c.flags-flags.result.unicode (is_utf8-from_IsUtf8 c.args.text.now c.utf8.text));
+  bytes = refl;
 }

@@ -2,7 +2,7 @@ use Rattle.std.proofs.Common.{refl}
 use Rattle.regex_pattern_front.specs.TreeOf.{tree_of}
 use Rattle.regress_program.specs.Code.{compiled}
 use Rattle.regress_search.proofs.Remains.{initial-is}
-use Rattle.regress_search.proofs.pikevm.initial_state.Goals as goal
+use Rattle.regress_search.proofs.pikevm.states.initial_state.Goals as goal
 
 pub returns : goal.returns
 returns g c =

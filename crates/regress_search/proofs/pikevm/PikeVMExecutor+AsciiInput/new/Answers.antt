@@ -1,0 +1,19 @@
+use Rattle.std.proofs.Common.{ap, sym, subst, ◌∙◌, refl}
+use Rattle.regress_machine.specs.Bytes.{ReadsBytes}
+use Rattle.regress_machine.proofs.ByteTexts.{ascii_text-ReadsBytes}
+use Rattle.regex_meaning.specs.Text.{Text}
+use Rattle.regex_meaning.specs.Tree.{Flags}
+use Rattle.regex_pattern_front.specs.TreeOf.{tree_of}
+use Rattle.regress_search.proofs.FirstMatch.{flags-compiled}
+use Rattle.regress_search.proofs.Searchable.{all-ascii}
+use Rattle.regress_search.proofs.pikevm.PikeVMExecutor+AsciiInput.new.Goals as goal
+
+pub invariant_of-searched : goal.invariant_of-searched
+invariant_of-searched c = record {
+  unicode =
+      ap (λ (t : Text). t.unicode) c.new.ensures
+      ∙ ap (λ (f : Flags). f.unicode) (c.flags-flags.ensures ∙ flags-compiled (tree_of c.args.re.now));
+  well_formed = c.insns-well_formed.ensures.well_formed;
+  reads = subst ReadsBytes (sym c.new.ensures) (ascii_text-ReadsBytes c.args.text.now c.flags-flags.result.unicode (all-ascii c.args.text.now c.requires));
+  bytes = refl;
+}

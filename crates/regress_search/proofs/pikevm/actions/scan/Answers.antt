@@ -1,0 +1,16 @@
+use Rattle.std.proofs.Common.{Some}
+use Rattle.regex_pattern_front.specs.TreeOf.{tree_of}
+use Rattle.regress_input.specs.Reading.{way}
+use Rattle.regress_program.specs.Code.{compiled}
+use Rattle.regress_program.specs.Insns.{insn_of}
+use Rattle.regress_machine.specs.Machine.{test_of}
+use Rattle.regress_search.specs.States.{state_of}
+use Rattle.regress_search.proofs.Readers.{scanned}
+use Rattle.regress_search.proofs.pikevm.actions.scan.Goals as goal
+
+pub returns : goal.returns
+returns g c =
+    let text = g.Input.InputIndexer.text c.args.input.now in
+    let offset = g.Input.Position.PositionType.offset in
+    scanned offset text (test_of (compiled (tree_of c.args.program.now)) (Some (insn_of c.args.body))) (way g.Dir.Direction.FORWARD) (state_of offset c.args.state)
+    c.args.min_iters c.args.max_iters c.args.greedy c.in_ok-tries.tries c.in_ok-tries.states.items _ c.requires.can c.in_ok-tries.ensures c.preferred_last.ensures

@@ -1,0 +1,392 @@
+//! One turn: what the instruction at a state does.
+
+ghost use Rattle.std.specs.Prelude.{◌≡◌, ◌<◌, ◌≤◌, ◌^◌, ◌+◌, ℕ, Bool, IfOk, OnOk, IsTrue, IsSome, if◌then◌else◌, reverse, ◌++◌, Some, map, [], ◌∷◌, length};
+ghost use Rattle.regex_meaning.specs.Offsets.{IsBoundary, place_at, units};
+ghost use Rattle.regex_pattern_front.specs.TreeOf.{tree_of};
+ghost use Rattle.regress_input.specs.Reading.{way};
+ghost use Rattle.regress_program.specs.Code.{compiled};
+ghost use Rattle.regress_program.specs.Insns.{insn_of, loop_fields_of};
+ghost use Rattle.regress_machine.specs.Bytes.{ReadsBytes};
+ghost use Rattle.regress_machine.specs.Machine.{running, waiting, goes, asks, at_ip, next_ip, with_some, span, test_of, scan as scan_from, loop_turn, again_with, again_at, act, act_on};
+ghost use Rattle.regress_search.specs.States.{state_of, loop_of, next_of, opened, closed, reset, entered_at, behind_at, IsReached, CanTake, is_reader};
+
+use super::readers;
+use super::states::{LoopData, State, Turn, copy_of};
+use regex_pattern_front::types::{CaptureGroupID, LoopID};
+use regress_input::cursor::Direction;
+use regress_input::indexing::InputIndexer;
+use regress_input::position::PositionType;
+use regress_program::insn::{CompiledRegex, Insn, LoopFields};
+use std::alloc::AllocError;
+
+/// What the instruction at the state does.
+#[inline(always)]
+pub(crate) fn take_turn<Input: InputIndexer, Dir: Direction>(
+    program: &CompiledRegex,
+    input: &Input,
+    dir: Dir,
+    state: State<Input::Position>,
+) -> Result<Turn<Input::Position>, AllocError>
+    requires can { CanTake (act (compiled (tree_of program.now)) (Input.text input.now) (way Dir.FORWARD) (state_of Input.Position.offset state)) }
+    requires reads { ReadsBytes (Input.text input.now) }
+    requires bytes { IsTrue Input.Units.ARE_BYTES }
+    requires inside { Input.Position.offset state.pos ≤ units (Input.text input.now) }
+    ensures { IfOk result (λ t. next_of Input.Position.offset t ≡ act (compiled (tree_of program.now)) (Input.text input.now) (way Dir.FORWARD) (state_of Input.Position.offset state)) }
+{
+    let insn = program.insns()[state.ip];
+    perform(insn, program, input, dir, state)
+}
+
+// What one instruction does: those that do not read, here.
+fn perform<Input: InputIndexer, Dir: Direction>(
+    insn: Insn,
+    program: &CompiledRegex,
+    input: &Input,
+    dir: Dir,
+    mut state: State<Input::Position>,
+) -> Result<Turn<Input::Position>, AllocError>
+    requires can { CanTake (act_on (compiled (tree_of program.now)) (Input.text input.now) (way Dir.FORWARD) (Some (insn_of insn)) (state_of Input.Position.offset state)) }
+    requires reads { ReadsBytes (Input.text input.now) }
+    requires bytes { IsTrue Input.Units.ARE_BYTES }
+    requires inside { Input.Position.offset state.pos ≤ units (Input.text input.now) }
+    requires within { state.ip + 1 < 2 ^ 64 }
+    ensures { IfOk result (λ t. next_of Input.Position.offset t ≡ act_on (compiled (tree_of program.now)) (Input.text input.now) (way Dir.FORWARD) (Some (insn_of insn)) (state_of Input.Position.offset state)) }
+{
+    match insn {
+        Insn::Goal => Ok(Turn::Done(state)),
+        Insn::Jump { target } => {
+            state.ip = target as usize;
+            Ok(Turn::Go(state))
+        }
+        Insn::Alt { secondary } => fork(secondary, state),
+        Insn::EnterLoop(fields) => {
+            let begin = state.ip;
+            begin_iteration(fields, begin, 0, state)
+        }
+        Insn::LoopAgain { begin } => {
+            let head = program.insns()[begin as usize];
+            end_body(head, begin as usize, state)
+        }
+        Insn::Loop1CharBody {
+            min_iters,
+            max_iters,
+            greedy,
+        } => {
+            let body = program.insns()[state.ip + 1];
+            scan(
+                min_iters, max_iters, greedy, body, program, input, dir, state,
+            )
+        }
+        Insn::BeginCaptureGroup(id) => Ok(open_group(id, state)),
+        Insn::EndCaptureGroup(id) => Ok(close_group(id, dir, state)),
+        Insn::ResetCaptureGroup(id) => Ok(reset_group(id, state)),
+        Insn::Lookahead {
+            negate,
+            continuation,
+            ..
+        } => ask(true, negate, continuation, state),
+        Insn::Lookbehind {
+            negate,
+            continuation,
+            ..
+        } => ask(false, negate, continuation, state),
+        _ => Ok(read(insn, program, input, dir, state)),
+    }
+}
+
+// What an instruction does that reads or looks at the text.
+#[inline(always)]
+fn read<Input: InputIndexer, Dir: Direction>(
+    insn: Insn,
+    program: &CompiledRegex,
+    input: &Input,
+    dir: Dir,
+    state: State<Input::Position>,
+) -> Turn<Input::Position>
+    requires can { CanTake (act_on (compiled (tree_of program.now)) (Input.text input.now) (way Dir.FORWARD) (Some (insn_of insn)) (state_of Input.Position.offset state)) }
+    requires reader { IsTrue (is_reader (insn_of insn)) }
+    requires reads { ReadsBytes (Input.text input.now) }
+    requires bytes { IsTrue Input.Units.ARE_BYTES }
+    requires inside { Input.Position.offset state.pos ≤ units (Input.text input.now) }
+    requires within { state.ip + 1 < 2 ^ 64 }
+    ensures { next_of Input.Position.offset result ≡ act_on (compiled (tree_of program.now)) (Input.text input.now) (way Dir.FORWARD) (Some (insn_of insn)) (state_of Input.Position.offset state) }
+{
+    match insn {
+        Insn::StartOfLine { multiline } => readers::at_line_start(multiline, input, state),
+        Insn::EndOfLine { multiline } => readers::at_line_end(multiline, input, state),
+        Insn::WordBoundary { invert } => readers::at_word_boundary(invert, false, input, state),
+        Insn::WordBoundaryUnicodeICase { invert } => {
+            readers::at_word_boundary(invert, true, input, state)
+        }
+        Insn::BackRef { group, icase } => readers::read_back(group, icase, input, dir, state),
+        Insn::JustFail => Turn::Dead,
+        Insn::Char(_) => readers::read_character(insn, program, input, dir, state),
+        Insn::CharSet(_) => readers::read_character(insn, program, input, dir, state),
+        Insn::ByteSet2(_) => readers::read_character(insn, program, input, dir, state),
+        Insn::ByteSet3(_) => readers::read_character(insn, program, input, dir, state),
+        Insn::ByteSet4(_) => readers::read_character(insn, program, input, dir, state),
+        Insn::AsciiBracket(_) => readers::read_character(insn, program, input, dir, state),
+        Insn::Bracket(_) => readers::read_character(insn, program, input, dir, state),
+        Insn::MatchAny => readers::read_character(insn, program, input, dir, state),
+        Insn::MatchAnyExceptLineTerminator => readers::read_character(
+            insn, program, input, dir, state,
+        ),
+        _ => readers::read_literal(readers::literal(&insn), input, dir, state),
+    }
+}
+
+// The next instruction, or else the one with this number.
+fn fork<P: PositionType>(secondary: u32, mut state: State<P>) -> Result<Turn<P>, AllocError>
+    requires { state.ip + 1 < 2 ^ 64 }
+    ensures { IfOk result (λ t. next_of P.offset t ≡ goes (running (next_ip (state_of P.offset state)) ∷ waiting (at_ip secondary (state_of P.offset state)) ∷ [])) }
+{
+    let mut second = copy_of(&state)?;
+    second.ip = secondary as usize;
+    state.ip += 1;
+    Ok(Turn::Fork(state, second))
+}
+
+// A search of its own from the next instruction, and what goes on behind it.
+fn ask<P: PositionType>(
+    forward: bool,
+    negate: bool,
+    continuation: u32,
+    mut state: State<P>,
+) -> Result<Turn<P>, AllocError>
+    requires { state.ip + 1 < 2 ^ 64 }
+    ensures { IfOk result (λ t. next_of P.offset t ≡ asks (way forward) negate (next_ip (state_of P.offset state)) (at_ip continuation (state_of P.offset state))) }
+{
+    let mut inner = copy_of(&state)?;
+    inner.ip += 1;
+    state.ip = continuation as usize;
+    Ok(Turn::Ask {
+        forward,
+        negate,
+        inner,
+        after: state,
+    })
+}
+
+// ---- Groups
+
+fn open_group<P: PositionType>(id: CaptureGroupID, mut state: State<P>) -> Turn<P>
+    requires can { CanTake (opened id (state_of P.offset state)) }
+    requires within { state.ip + 1 < 2 ^ 64 }
+    ensures { next_of P.offset result ≡ opened id (state_of P.offset state) }
+{
+    let id = id as usize;
+    state.ip += 1;
+    state.groups[id] = None;
+    state.starts[id] = state.pos;
+    Turn::Go(state)
+}
+
+fn close_group<P: PositionType, Dir: Direction>(
+    id: CaptureGroupID,
+    dir: Dir,
+    mut state: State<P>,
+) -> Turn<P>
+    requires can { CanTake (closed id (way Dir.FORWARD) (state_of P.offset state)) }
+    requires within { state.ip + 1 < 2 ^ 64 }
+    ensures { next_of P.offset result ≡ closed id (way Dir.FORWARD) (state_of P.offset state) }
+{
+    let id = id as usize;
+    let start = state.starts[id];
+    state.ip += 1;
+    state.groups[id] = Some(span_of(dir, start, state.pos));
+    Turn::Go(state)
+}
+
+// The range of two positions, of which the second was reached from the first.
+#[inline(always)]
+fn span_of<P: PositionType, Dir: Direction>(_dir: Dir, from: P, to: P) -> (P, P)
+    ensures { (P.offset result.0, P.offset result.1) ≡ span (way Dir.FORWARD) (P.offset from) (P.offset to) }
+{
+    if Dir::FORWARD { (from, to) } else { (to, from) }
+}
+
+fn reset_group<P: PositionType>(id: CaptureGroupID, mut state: State<P>) -> Turn<P>
+    requires can { CanTake (reset id (state_of P.offset state)) }
+    requires within { state.ip + 1 < 2 ^ 64 }
+    ensures { next_of P.offset result ≡ reset id (state_of P.offset state) }
+{
+    state.ip += 1;
+    state.groups[id as usize] = None;
+    Turn::Go(state)
+}
+
+// ---- Loops
+
+// The start of a loop, where it would begin iteration k: once more, or out of it, or both.
+fn begin_iteration<P: PositionType>(
+    fields: LoopFields,
+    begin: usize,
+    k: usize,
+    mut state: State<P>,
+) -> Result<Turn<P>, AllocError>
+    requires can { CanTake (loop_turn (loop_fields_of fields) begin k (state_of P.offset state)) }
+    requires within { begin + 1 < 2 ^ 64 }
+    ensures { IfOk result (λ t. next_of P.offset t ≡ loop_turn (loop_fields_of fields) begin k (state_of P.offset state)) }
+{
+    let may_leave = fields.min_iters <= k;
+    if k >= fields.max_iters {
+        state.ip = fields.exit as usize;
+        return Ok(if may_leave {
+            Turn::Go(state)
+        } else {
+            Turn::Dead
+        });
+    }
+    if !may_leave {
+        return Ok(Turn::Go(entered(fields.loop_id, begin, k, state)));
+    }
+    let mut leaving = copy_of(&state)?;
+    leaving.ip = fields.exit as usize;
+    let again = entered(fields.loop_id, begin, k, state);
+    if fields.greedy {
+        Ok(Turn::Fork(again, leaving))
+    } else {
+        Ok(Turn::Fork(leaving, again))
+    }
+}
+
+// A state at the start of iteration k.
+fn entered<P: PositionType>(id: LoopID, begin: usize, k: usize, mut state: State<P>) -> State<P>
+    requires known { id < length state.loops.items }
+    requires within { begin + 1 < 2 ^ 64 }
+    ensures { state_of P.offset result ≡ entered_at id begin k (state_of P.offset state) }
+{
+    state.ip = begin + 1;
+    state.loops[id as usize] = LoopData {
+        iters: k,
+        entry: state.pos,
+    };
+    state
+}
+
+// The end of an iteration, by the instruction at the loop's start.
+fn end_body<P: PositionType>(
+    head: Insn,
+    begin: usize,
+    state: State<P>,
+) -> Result<Turn<P>, AllocError>
+    requires can { CanTake (again_at (Some (insn_of head)) begin (state_of P.offset state)) }
+    requires within { begin + 1 < 2 ^ 64 }
+    ensures { IfOk result (λ t. next_of P.offset t ≡ again_at (Some (insn_of head)) begin (state_of P.offset state)) }
+{
+    match head {
+        Insn::EnterLoop(fields) => {
+            let last = state.loops[fields.loop_id as usize];
+            end_iteration(fields, begin, last, state)
+        }
+        _ => unreachable!(),
+    }
+}
+
+// The same with what is known of the iteration: one that is empty and past the minimum is dropped.
+fn end_iteration<P: PositionType>(
+    fields: LoopFields,
+    begin: usize,
+    last: LoopData<P>,
+    state: State<P>,
+) -> Result<Turn<P>, AllocError>
+    requires can { CanTake (again_with (loop_fields_of fields) begin (loop_of P.offset last) (state_of P.offset state)) }
+    requires within { begin + 1 < 2 ^ 64 }
+    ensures { IfOk result (λ t. next_of P.offset t ≡ again_with (loop_fields_of fields) begin (loop_of P.offset last) (state_of P.offset state)) }
+{
+    if last.entry == state.pos && fields.min_iters < last.iters + 1 {
+        Ok(Turn::Dead)
+    } else {
+        begin_iteration(fields, begin, last.iters + 1, state)
+    }
+}
+
+// ---- Loops over one character
+
+// One character after another: the ways behind so many of them to so many.
+fn scan<Input: InputIndexer, Dir: Direction>(
+    min_iters: usize,
+    max_iters: usize,
+    greedy: bool,
+    body: Insn,
+    program: &CompiledRegex,
+    input: &Input,
+    dir: Dir,
+    state: State<Input::Position>,
+) -> Result<Turn<Input::Position>, AllocError>
+    requires can { CanTake (with_some (test_of (compiled (tree_of program.now)) (Some (insn_of body))) (λ test. with_some (place_at (Input.text input.now) (Input.Position.offset state.pos)) (λ p. scan_from (Input.text input.now) min_iters max_iters greedy test (way Dir.FORWARD) p (state_of Input.Position.offset state)))) }
+    requires reads { ReadsBytes (Input.text input.now) }
+    requires within { state.ip + 2 < 2 ^ 64 }
+    ensures { IfOk result (λ t. next_of Input.Position.offset t ≡ with_some (test_of (compiled (tree_of program.now)) (Some (insn_of body))) (λ test. with_some (place_at (Input.text input.now) (Input.Position.offset state.pos)) (λ p. scan_from (Input.text input.now) min_iters max_iters greedy test (way Dir.FORWARD) p (state_of Input.Position.offset state)))) }
+{
+    let (tries, states) = reached(min_iters, max_iters, body, program, input, dir, &state)?;
+    Ok(Turn::Scan(tries, preferred_last(greedy, states)))
+}
+
+// The states behind rising counts, the preferred one last.
+fn preferred_last<P: PositionType>(greedy: bool, mut states: Vec<State<P>>) -> Vec<State<P>>
+    ensures { result.items ≡ (if greedy then states.items else reverse states.items) }
+{
+    if !greedy {
+        states.reverse();
+    }
+    states
+}
+
+// How many characters are tried, and the states behind them, the one behind the most last.
+fn reached<Input: InputIndexer, Dir: Direction>(
+    min_iters: usize,
+    max_iters: usize,
+    body: Insn,
+    program: &CompiledRegex,
+    input: &Input,
+    dir: Dir,
+    state: &State<Input::Position>,
+) -> Result<(usize, Vec<State<Input::Position>>), AllocError>
+    requires test { IsSome (test_of (compiled (tree_of program.now)) (Some (insn_of body))) }
+    requires boundary { IsBoundary (Input.text input.now) (Input.Position.offset state.now.pos) }
+    requires reads { ReadsBytes (Input.text input.now) }
+    requires within { state.now.ip + 2 < 2 ^ 64 }
+    ensures { IfOk result (λ r. (test : ℕ → Bool) (p : ℕ) → test_of (compiled (tree_of program.now)) (Some (insn_of body)) ≡ Some test → place_at (Input.text input.now) (Input.Position.offset state.now.pos) ≡ Some p → IsReached (Input.text input.now) test (way Dir.FORWARD) min_iters max_iters p (state_of Input.Position.offset state.now) r.0 (map (λ s. state_of Input.Position.offset s) r.1.items)) }
+{
+    let mut states = Vec::new(*state.groups.allocator());
+    let mut at = state.pos;
+    let mut count = 0;
+    'characters: loop {
+        keep(min_iters <= count, at, state, &mut states)?;
+        if count == max_iters {
+            return Ok((count, states));
+        }
+        if !readers::accepts_next(body, program, input, dir, &mut at) {
+            return Ok((count + 1, states));
+        }
+        count += 1;
+    }
+}
+
+// One more state behind the loop, if it is wanted.
+fn keep<P: PositionType>(
+    wanted: bool,
+    at: P,
+    state: &State<P>,
+    states: &mut Vec<State<P>>,
+) -> Result<(), AllocError>
+    requires { state.now.ip + 2 < 2 ^ 64 }
+    ensures { OnOk result (map (λ s. state_of P.offset s) states.new.items ≡ (if wanted then map (λ s. state_of P.offset s) states.old.items ++ behind_at (P.offset at) (state_of P.offset state.now) ∷ [] else map (λ s. state_of P.offset s) states.old.items)) }
+{
+    if wanted {
+        states.push(behind(at, state)?)?;
+    }
+    Ok(())
+}
+
+// The state behind a loop over one character at a position.
+fn behind<P: PositionType>(at: P, state: &State<P>) -> Result<State<P>, AllocError>
+    requires { state.now.ip + 2 < 2 ^ 64 }
+    ensures { IfOk result (λ s. state_of P.offset s ≡ behind_at (P.offset at) (state_of P.offset state.now)) }
+{
+    let mut next = copy_of(state)?;
+    next.ip += 2;
+    next.pos = at;
+    Ok(next)
+}

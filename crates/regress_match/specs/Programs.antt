@@ -1,7 +1,7 @@
 -- The trees whose programs a `Regex` holds, and what it finds.
 use Rattle.std.specs.Prelude.{◌≡◌, ℕ, List, IsTrue}
 use Rattle.regex_meaning.specs.Tree.{Tree, Flags}
-use Rattle.regex_meaning.specs.Text.{utf8_text}
+use Rattle.regex_meaning.specs.Text.{utf8_text, ascii_text}
 use Rattle.regex_meaning.specs.Names.{Answer, answers_from}
 use Rattle.regex_meaning.specs.WellFormed.{is_well_formed}
 use Rattle.regex_pattern_front.specs.TreeOf.{tree_of}
@@ -25,3 +25,7 @@ pub record IsCompiledWith (wanted : Flags) (re : Regex) : Type 0 where
 -- the answers in a text in UTF-8 from an offset on
 abbrev pub utf8_answers : Regex → (bytes : List ℕ) → (start : ℕ) → List Answer
 utf8_answers re bytes start = answers_from (byte_tree re).root (utf8_text bytes (byte_tree re).flags.unicode) start
+
+-- the answers in a text of ASCII from an offset on
+abbrev pub ascii_answers : Regex → (bytes : List ℕ) → (start : ℕ) → List Answer
+ascii_answers re bytes start = answers_from (byte_tree re).root (ascii_text bytes (byte_tree re).flags.unicode) start

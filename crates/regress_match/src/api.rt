@@ -1,6 +1,6 @@
 //! Flags, patterns that are compiled, and their searches.
 
-ghost use Rattle.std.specs.Prelude.{◌≡◌, ◌<◌, ◌⊎◌, IfOk, IsCharBoundary, false, length, nat_le, not, option_map, slice_get, []};
+ghost use Rattle.std.specs.Prelude.{◌≡◌, ◌<◌, ◌⊎◌, IfOk, IsAscii, IsCharBoundary, false, length, nat_le, not, option_map, slice_get, []};
 ghost use Rattle.regex_meaning.specs.Flags.{flags_of_text};
 ghost use Rattle.regex_pattern_front.specs.TreeOf.{tree_of};
 ghost use Rattle.regress_search.specs.Answers.{answer_of};
@@ -9,7 +9,7 @@ ghost use Rattle.regress_match.specs.Trees.{tree_to_run};
 use regex_pattern_front::optimizer::optimize;
 use regex_pattern_front::parse::{ParseError, try_parse};
 use regex_pattern_front::{flags as front, ir};
-use regress_input::indexing::Utf8Input;
+use regress_input::indexing::{AsciiInput, Utf8Input};
 use regress_program::emit::{EmitError, emit};
 use regress_program::insn::CompiledRegex;
 use regress_search::exec;
@@ -116,6 +116,9 @@ impl From<EmitError> for Error {
 /// The matches of a pattern in a text in UTF-8. Contracts see the answers still to come.
 pub type Matches<'r, 't> = exec::Matches<PikeVMExecutor<'r, Utf8Input<'t>>>;
 
+/// The matches of a pattern in a text of ASCII. Contracts see the answers still to come.
+pub type AsciiMatches<'r, 't> = exec::Matches<PikeVMExecutor<'r, AsciiInput<'t>>>;
+
 // The tree that is run in place of a parsed one.
 fn to_run(mut tree: ir::Regex) -> ir::Regex
     ensures { tree_of result ≡ tree_to_run (tree_of tree) }
@@ -137,7 +140,7 @@ pub struct Regex {
 
 impl Regex {
     ghost use Rattle.regress_match.specs.Flags.{flags_of};
-    ghost use Rattle.regress_match.specs.Programs.{IsCompiledWith, utf8_answers};
+    ghost use Rattle.regress_match.specs.Programs.{IsCompiledWith, ascii_answers, utf8_answers};
 
     /// Compiles a pattern with the default flags.
     ///
@@ -209,6 +212,52 @@ impl Regex {
     {
         let executor = PikeVMExecutor::<Utf8Input>::new(&self.cr, text)?;
         Ok(exec::Matches::new(executor, start))
+    }
+
+    /// The first match in a text of ASCII (`is_ascii`), none exactly where there is none.
+    ///
+    /// # Errors
+    ///
+    /// `Memory` where there is no memory for the search.
+    pub fn find_ascii(&self, text: &str) -> Result<Option<Match>, SearchError>
+        requires { IsAscii text.now }
+        ensures { IfOk result (λ m. option_map answer_of m ≡ slice_get (ascii_answers self.now text.now 0) 0) }
+    {
+        first(self.find_iter_ascii(text)?)
+    }
+
+    /// The matches in a text of ASCII (`is_ascii`), from its left end on.
+    ///
+    /// # Errors
+    ///
+    /// `Memory` where there is no memory for the search.
+    pub fn find_iter_ascii<'r, 't>(
+        &'r self,
+        text: &'t str,
+    ) -> Result<AsciiMatches<'r, 't>, SearchError>
+        requires { IsAscii text.now }
+        ensures answers { IfOk result (λ it. it.answers ≡ ascii_answers self.now text.now 0) }
+        ensures live { IfOk result (λ it. it.ended ≡ false) }
+    {
+        self.find_from_ascii(text, 0)
+    }
+
+    /// The matches in a text of ASCII (`is_ascii`) from an offset on. From past the end there are none.
+    ///
+    /// # Errors
+    ///
+    /// `Memory` where there is no memory for the search.
+    pub fn find_from_ascii<'r, 't>(
+        &'r self,
+        text: &'t str,
+        start: usize,
+    ) -> Result<AsciiMatches<'r, 't>, SearchError>
+        requires { IsAscii text.now }
+        ensures answers { IfOk result (λ it. it.answers ≡ ascii_answers self.now text.now start) }
+        ensures ended { IfOk result (λ it. it.ended ≡ not (nat_le start (length text.now))) }
+    {
+        let ascii = PikeVMExecutor::<AsciiInput>::new(&self.cr, text)?;
+        Ok(exec::Matches::new(ascii, start))
     }
 }
 

@@ -179,6 +179,25 @@ fn searches_begin_where_they_are_told(rt: HostRuntime) -> Result<(), Fail> {
 }
 
 #[test]
+fn searches_of_ascii_find_the_same(rt: HostRuntime) -> Result<(), Fail> {
+    let alloc = rt.alloc();
+    let re = Regex::with_flags(alloc, "x?s", Flags::from("iu"))?;
+    let text = "aXsS";
+    if !text.is_ascii() {
+        return Err(Fail::from("a text beyond ASCII"));
+    }
+    let found = re.find_ascii(text)?.ok_or("no match")?;
+    assert_eq!(rt; found.range, 1..3);
+    let all = ranges_of(alloc, re.find_iter_ascii(text)?)?;
+    assert_eq!(rt; all.as_str(), "1..3 3..4 ");
+    for (start, wanted) in [(1, "1..3 3..4 "), (2, "2..3 3..4 "), (4, ""), (5, "")] {
+        let found = ranges_of(alloc, re.find_from_ascii(text, start)?)?;
+        assert_eq!(rt; found.as_str(), wanted, "from {start}");
+    }
+    Ok(())
+}
+
+#[test]
 fn trees_run_as_parsed_find_the_same(rt: HostRuntime) -> Result<(), Fail> {
     let alloc = rt.alloc();
     for no_opt in [false, true] {

@@ -1,8 +1,31 @@
--- The trees whose programs a `Regex` holds.
-use Rattle.regex_meaning.specs.Tree.{Tree}
+-- The trees whose programs a `Regex` holds, and what it finds.
+use Rattle.std.specs.Prelude.{◌≡◌, ℕ, List, IsTrue}
+use Rattle.regex_meaning.specs.Tree.{Tree, Flags}
+use Rattle.regex_meaning.specs.Text.{utf8_text, ascii_text}
+use Rattle.regex_meaning.specs.Names.{Answer, answers_from}
+use Rattle.regex_meaning.specs.WellFormed.{is_well_formed}
 use Rattle.regex_pattern_front.specs.TreeOf.{tree_of}
+use Rattle.regress_match.specs.Trees.{tree_to_run}
 use Rattle.regress_match.specs.declared.api.Regex.{Regex}
 
 -- the tree of the program that searches texts in bytes
 abbrev pub byte_tree : Regex → Tree
 byte_tree re = tree_of re.cr
+
+-- the tree that was parsed
+abbrev pub source_tree : Regex → Tree
+source_tree re = tree_of re.source.value
+
+-- A well-formed tree was parsed with these flags, and the program is that of the tree to run in its place.
+pub record IsCompiledWith (wanted : Flags) (re : Regex) : Type 0 where
+  pub flags : (source_tree re).flags ≡ wanted
+  pub well_formed : IsTrue (is_well_formed (source_tree re).root)
+  pub program : byte_tree re ≡ tree_to_run (source_tree re)
+
+-- the answers in a text in UTF-8 from an offset on
+abbrev pub utf8_answers : Regex → (bytes : List ℕ) → (start : ℕ) → List Answer
+utf8_answers re bytes start = answers_from (byte_tree re).root (utf8_text bytes (byte_tree re).flags.unicode) start
+
+-- the answers in a text of ASCII from an offset on
+abbrev pub ascii_answers : Regex → (bytes : List ℕ) → (start : ℕ) → List Answer
+ascii_answers re bytes start = answers_from (byte_tree re).root (ascii_text bytes (byte_tree re).flags.unicode) start

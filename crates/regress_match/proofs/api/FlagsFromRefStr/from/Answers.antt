@@ -1,5 +1,5 @@
 use Rattle.std.proofs.Common.{◌∙◌}
-use Rattle.regress_match.proofs.Beginnings.{contains-by, flags-by_letters}
+use Rattle.regress_match.proofs.FlagLemmas.{contains-by, flags-by_letters}
 use Rattle.regress_match.proofs.api.FlagsFromRefStr.from.Goals as goal
 
 pub returns : goal.returns

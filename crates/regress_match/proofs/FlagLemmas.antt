@@ -1,17 +1,11 @@
--- The left end, and letters in a text.
-use Rattle.std.proofs.Common.{◌≡◌, ℕ, List, [], ◌∷◌, Bool, true, false, refl, ap₂, sym, subst, arith, nat_eq, eq-eqb, ne_eqb, eqb-true}
+-- Flags of letters, and results that are told more of.
+use Rattle.std.proofs.Common.{◌≡◌, ℕ, List, [], ◌∷◌, Bool, true, false, refl, ap₂, sym, nat_eq, eq-eqb, ne_eqb, eqb-true}
 use Rattle.std.proofs.lemmas.Bool.{eqb-false}
 use Rattle.std.specs.Prelude.{◌||◌, Result, Ok, Err, IfOk}
 use Rattle.regex_meaning.specs.Tree.{Flags}
 use Rattle.regex_meaning.specs.Flags.{flags_of_text}
 use Rattle.std.specs.List.{list_any}
 use Rattle.regex_meaning.specs.Lists.{contains}
-use Rattle.regex_meaning.specs.Text.{Text}
-use Rattle.regex_meaning.specs.Offsets.{IsText, IsBoundary}
-use Rattle.regex_meaning.proofs.TextLemmas.{offset-IsBoundary}
-
-pub begins-on_boundary : (text : Text) → IsText text → IsBoundary text 0
-begins-on_boundary text is = subst (IsBoundary text) is.from_zero (offset-IsBoundary text 0 is (omega arith))
 
 either_way : (x n : ℕ) → nat_eq x n ≡ nat_eq n x
 either_way x n = by (nat_eq n x) refl

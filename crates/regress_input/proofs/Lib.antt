@@ -7,3 +7,4 @@ pub mod Utf8Slices
 pub mod ByteTests
 pub mod Compare
 pub mod OneUnit
+pub mod AsciiSets

@@ -30,6 +30,30 @@ contains-high (m ∷ members) h b l =
 wide : (c : ℕ) → 2 ≤ len_utf8 c → 128 ≤ c
 wide c l = ⊎_elim (λ h. absurd (omega (arith, len_utf8_ascii c h))) (λ h. h) (order c 128)
 
+-- ---- The bytes of one character alone
+
+module _ (literal : List ℕ) (c : ℕ) (is_scalar : IsScalar c) (spells : literal ≡ encode_utf8 c) where
+  bare : literal ≡ encode c ++ []
+  bare = spells ∙ sym (nothing (encode c))
+    where
+      nothing : (l : List ℕ) → l ++ [] ≡ l
+      nothing [] = refl
+      nothing (x ∷ l) = ap (λ m. x ∷ m) (nothing l)
+
+  -- they stand at the start of themselves
+  pub stands_alone : StandsAt literal 0 c
+  stands_alone = record { scalar = is_scalar; rest = []; spelled = bare }
+
+  -- such bytes accept this character alone
+  pub test_is : (d : ℕ) → accepts (byte_sequence literal) d ≡ nat_eq c d
+  test_is d =
+      let one_char : chars (encodes (c ∷ [])) ≡ c ∷ [] = chars-encodes (c ∷ []) (ap (λ (b : Bool). b && true) is_scalar) in
+      ap (λ (l : List ℕ). pointwise nat_eq (chars l) (d ∷ [])) bare ∙ ap (λ (l : List ℕ). pointwise nat_eq l (d ∷ [])) one_char ∙ alone (nat_eq c d)
+    where
+      alone : (b : Bool) → (b && true) ≡ b
+      alone true = refl
+      alone false = refl
+
 -- ---- Only one character ends at an offset
 
 pub ends_same : (bytes : List ℕ) (end s c t d : ℕ) → EndsAt bytes end s c → EndsAt bytes end t d → (s ≡ t) × (c ≡ d)
@@ -192,21 +216,6 @@ module _ (text : Text) (is_text : IsText text) (w : IsInUtf8 text) where
   -- ---- The bytes of one character
 
   module _ (literal : List ℕ) (c : ℕ) (is_scalar : IsScalar c) (spells : literal ≡ encode_utf8 c) where
-    -- such bytes accept this character alone
-    test_is : (d : ℕ) → accepts (byte_sequence literal) d ≡ nat_eq c d
-    test_is d =
-        let one_char : chars (encodes (c ∷ [])) ≡ c ∷ [] = chars-encodes (c ∷ []) (ap (λ (b : Bool). b && true) is_scalar) in
-        let bare : literal ≡ encodes (c ∷ []) = spells ∙ sym (nothing (encode c)) in
-        ap (λ (l : List ℕ). pointwise nat_eq (chars l) (d ∷ [])) bare ∙ ap (λ (l : List ℕ). pointwise nat_eq l (d ∷ [])) one_char ∙ alone (nat_eq c d)
-      where
-        nothing : (l : List ℕ) → l ++ [] ≡ l
-        nothing [] = refl
-        nothing (x ∷ l) = ap (λ m. x ∷ m) (nothing l)
-
-        alone : (b : Bool) → (b && true) ≡ b
-        alone true = refl
-        alone false = refl
-
     long : length literal ≡ len_utf8 c
     long = ap length spells ∙ length-encode c
 
@@ -229,7 +238,7 @@ module _ (text : Text) (is_text : IsText text) (w : IsInUtf8 text) where
             let parts : encode d ++ rest ≡ encode c ++ drop (at + length literal) bytes =
             sym s ∙ drop_split bytes at (at + length literal) (omega arith) ∙ ap (λ l. l ++ drop (at + length literal) bytes) (h.are ∙ spells) in
             let is : d ≡ c = (encode_same d c rest (drop (at + length literal) bytes) parts).0 in
-            let test : accepts (byte_sequence literal) d ≡ true = test_is d ∙ eq-eqb c d (sym is) in
+            let test : accepts (byte_sequence literal) d ≡ true = test_is literal c is_scalar spells d ∙ eq-eqb c d (sym is) in
             let end : at + len_utf8 d ≡ to = omega (arith, h.to_is, long, ap len_utf8 is) in
             accepted_at (accepts (byte_sequence literal)) rightwards at d (at + len_utf8 d) r ∙ ap (λ (t : Bool). led_to t (at + len_utf8 d)) test ∙ ap Some end
 
@@ -237,7 +246,7 @@ module _ (text : Text) (is_text : IsText text) (w : IsInUtf8 text) where
             → (if accepts (byte_sequence literal) d then Some (at + len_utf8 d) else None) ≡ Some to → past_bytes bytes literal rightwards at ≡ Some to
         back d rest s l to e =
             let made = chosen (accepts (byte_sequence literal) d) (at + len_utf8 d) to e in
-            let is : c ≡ d = eqb-true c d (sym (test_is d) ∙ made.0) in
+            let is : c ≡ d = eqb-true c d (sym (test_is literal c is_scalar spells d) ∙ made.0) in
             let same_len : length literal ≡ len_utf8 d = long ∙ ap len_utf8 is in
             let whole : literal ≡ encode d = spells ∙ ap encode is in
             let n : at + length literal - at ≡ length literal = omega arith in
@@ -267,14 +276,14 @@ module _ (text : Text) (is_text : IsText text) (w : IsInUtf8 text) where
             drop_split bytes to at (omega (arith, h.to_is)) ∙ ap (λ l. l ++ drop at bytes) (ap (λ n. slice_range bytes n at) h.to_is ∙ h.are ∙ spells) in
             let also : EndsAt bytes at to c = record { stands = record { scalar = is_scalar; rest = drop at bytes; spelled = parts }; ends = omega (arith, h.to_is, h.fits, long) } in
             let is = ends_same bytes at start d to c ends also in
-            let test : accepts (byte_sequence literal) d ≡ true = test_is d ∙ eq-eqb c d (sym is.1) in
+            let test : accepts (byte_sequence literal) d ≡ true = test_is literal c is_scalar spells d ∙ eq-eqb c d (sym is.1) in
             accepted_at (accepts (byte_sequence literal)) leftwards at d start r ∙ ap (λ (t : Bool). led_to t start) test ∙ ap Some is.0
 
         back : (d start : ℕ) (rest : List ℕ) → drop start bytes ≡ encode d ++ rest → start + len_utf8 d ≡ at → (to : ℕ)
             → (if accepts (byte_sequence literal) d then Some start else None) ≡ Some to → past_bytes bytes literal leftwards at ≡ Some to
         back d start rest s m to e =
             let made = chosen (accepts (byte_sequence literal) d) start to e in
-            let is : c ≡ d = eqb-true c d (sym (test_is d) ∙ made.0) in
+            let is : c ≡ d = eqb-true c d (sym (test_is literal c is_scalar spells d) ∙ made.0) in
             let same_len : length literal ≡ len_utf8 d = long ∙ ap len_utf8 is in
             let whole : literal ≡ encode d = spells ∙ ap encode is in
             let begin : at - length literal ≡ start = omega arith in

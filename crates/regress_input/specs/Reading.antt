@@ -92,9 +92,16 @@ past_bytes all bytes leftwards at =
     let to = at - length bytes in
     if nat_le (length bytes) at && pointwise nat_eq (slice_range all to at) bytes then Some to else None
 
--- The first offset from this one on at which what is looked for stands in the bytes that are left.
-abbrev pub IsFoundFrom : (stands_at : List ℕ → ℕ → Bool) → (all : List ℕ) → (at : ℕ) → Option ℕ → Type 0
-IsFoundFrom stands_at all at found =
+-- what is read in bytes, where units are bytes; nothing where they are not
+abbrev pub where_bytes : (are_bytes : Bool) → Option ℕ → Option ℕ
+where_bytes true read = read
+where_bytes false read = None
+
+-- The first offset from this one on at which what is looked for stands in the bytes that are left; none where units
+-- are no bytes.
+abbrev pub IsFoundFrom : (are_bytes : Bool) → (stands_at : List ℕ → ℕ → Bool) → (all : List ℕ) → (at : ℕ) → Option ℕ → Type 0
+IsFoundFrom false stands_at all at found = found ≡ None
+IsFoundFrom true stands_at all at found =
     (index : Option ℕ) × FindsFirst (stands_at (drop at all)) (length (drop at all)) index × (found ≡ option_map (λ i. at + i) index)
 
 -- one unit on

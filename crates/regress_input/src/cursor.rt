@@ -1,8 +1,8 @@
 //! Reading in a direction.
 
-ghost use Rattle.std.specs.Prelude.{◌≡◌, ◌≤◌, ℕ, IfSome, IfNone, IsTrue, option_map};
+ghost use Rattle.std.specs.Prelude.{◌≡◌, ◌≤◌, ℕ, IfSome, IfNone, option_map};
 ghost use Rattle.regex_meaning.specs.Offsets.{IsBoundary, units, read};
-ghost use Rattle.regress_input.specs.Reading.{way, led_to, bytes_of, byte_beside, past_bytes, one_on};
+ghost use Rattle.regress_input.specs.Reading.{way, led_to, bytes_of, byte_beside, past_bytes, where_bytes, one_on};
 
 use crate::indexing::InputIndexer;
 pub use crate::position::{Backward, Direction, Forward};
@@ -27,17 +27,16 @@ pub fn next<Input: InputIndexer, Dir: Direction>(
     }
 }
 
-/// The next byte in the direction from any byte offset, and the position past it; at that end none, and the
-/// position stays. Between two bytes of a character the position is no boundary.
+/// The next byte in the direction from any offset, and the position past it; none at that end, and where units are no
+/// bytes, and then the position stays. Between two bytes of a character the position is no boundary.
 #[inline(always)]
 pub fn next_byte<Input: InputIndexer, Dir: Direction>(
     input: &Input,
     _dir: Dir,
     pos: &mut Input::Position,
 ) -> Option<u8>
-    requires bytes { IsTrue Input.Units.ARE_BYTES }
     requires inside { Input.Position.offset pos.old ≤ units (Input.text input.now) }
-    ensures byte { result ≡ byte_beside (bytes_of (Input.text input.now)) (way Dir.FORWARD) (Input.Position.offset pos.old) }
+    ensures byte { result ≡ where_bytes Input.Units.ARE_BYTES (byte_beside (bytes_of (Input.text input.now)) (way Dir.FORWARD) (Input.Position.offset pos.old)) }
     ensures moves { IfSome result (λ _. Input.Position.offset pos.new ≡ one_on (way Dir.FORWARD) (Input.Position.offset pos.old)) }
     ensures stays { IfNone result (pos.new ≡ pos.old) }
 {
@@ -52,8 +51,8 @@ pub fn next_byte<Input: InputIndexer, Dir: Direction>(
     }
 }
 
-/// Whether these bytes stand on the direction's side of any byte offset, read left to right. Then the position is
-/// behind them, and else it is not specified.
+/// Whether these bytes stand on the direction's side of any offset, read left to right; they never do where units are
+/// no bytes. Then the position is behind them, and else it is not specified.
 #[inline(always)]
 pub fn try_match_lit<const N: usize, Input: InputIndexer, Dir: Direction>(
     input: &Input,
@@ -61,9 +60,8 @@ pub fn try_match_lit<const N: usize, Input: InputIndexer, Dir: Direction>(
     pos: &mut Input::Position,
     bytes: &[u8; N],
 ) -> bool
-    requires bytes { IsTrue Input.Units.ARE_BYTES }
     requires inside { Input.Position.offset pos.old ≤ units (Input.text input.now) }
-    ensures { led_to result (Input.Position.offset pos.new) ≡ past_bytes (bytes_of (Input.text input.now)) bytes.now (way Dir.FORWARD) (Input.Position.offset pos.old) }
+    ensures { led_to result (Input.Position.offset pos.new) ≡ where_bytes Input.Units.ARE_BYTES (past_bytes (bytes_of (Input.text input.now)) bytes.now (way Dir.FORWARD) (Input.Position.offset pos.old)) }
 {
     input.match_bytes(dir, pos, bytes)
 }

@@ -6,7 +6,7 @@ ghost use Rattle.regex_meaning.specs.Tree.{bracket};
 ghost use Rattle.regex_meaning.specs.Outcomes.{accepts};
 ghost use Rattle.regex_meaning.specs.Offsets.{IsText, IsBoundary, units, read};
 ghost use Rattle.regex_pattern_front.specs.TreeOf.{contents_of};
-ghost use Rattle.regress_input.specs.Reading.{way, led_to, same_fold, character, past, characters_between, past_spelled, part, bytes_of, IsInUtf8, byte_beside, units_on, past_bytes, IsFoundFrom};
+ghost use Rattle.regress_input.specs.Reading.{way, led_to, same_fold, character, past, characters_between, past_spelled, part, bytes_of, IsInUtf8, byte_beside, units_on, past_bytes, where_bytes, IsFoundFrom};
 
 mod ascii_input;
 mod utf8_input;
@@ -216,17 +216,15 @@ pub trait InputIndexer: Copy + Debug {
         self.next_left(&mut at)
     }
 
-    /// The byte to the right of any byte offset; none at the right end.
+    /// The byte to the right of any offset; none at the right end, and where units are no bytes.
     fn peek_byte_right(&self, pos: Self::Position) -> Option<u8>
-        requires bytes { IsTrue Self.Units.ARE_BYTES }
         requires inside { Self.Position.offset pos ≤ units (text self.now) }
-        ensures { result ≡ byte_beside (bytes_of (text self.now)) rightwards (Self.Position.offset pos) };
+        ensures { result ≡ where_bytes Self.Units.ARE_BYTES (byte_beside (bytes_of (text self.now)) rightwards (Self.Position.offset pos)) };
 
-    /// The byte to the left of any byte offset; none at the left end.
+    /// The byte to the left of any offset; none at the left end, and where units are no bytes.
     fn peek_byte_left(&self, pos: Self::Position) -> Option<u8>
-        requires bytes { IsTrue Self.Units.ARE_BYTES }
         requires inside { Self.Position.offset pos ≤ units (text self.now) }
-        ensures { result ≡ byte_beside (bytes_of (text self.now)) leftwards (Self.Position.offset pos) };
+        ensures { result ≡ where_bytes Self.Units.ARE_BYTES (byte_beside (bytes_of (text self.now)) leftwards (Self.Position.offset pos)) };
 
     /// The position `amt` units to the right, where that is not past the right end.
     fn try_move_right(&self, pos: Self::Position, amt: usize) -> Option<Self::Position>
@@ -238,15 +236,15 @@ pub trait InputIndexer: Copy + Debug {
         requires { Self.Position.offset pos ≤ units (text self.now) }
         ensures { option_map (λ p. Self.Position.offset p) result ≡ units_on (units (text self.now)) leftwards amt (Self.Position.offset pos) };
 
-    /// The first position, from any byte offset on, at which the bytes stand that are looked for.
+    /// The first position, from any offset on, at which the bytes stand that are looked for; none where units are no
+    /// bytes.
     fn find_bytes<Search: ByteSearcher>(
         &self,
         pos: Self::Position,
         search: &Search,
     ) -> Option<Self::Position>
-        requires bytes { IsTrue Self.Units.ARE_BYTES }
         requires inside { Self.Position.offset pos ≤ units (text self.now) }
-        ensures { IsFoundFrom (Search.stands_at search.now) (bytes_of (text self.now)) (Self.Position.offset pos) (option_map (λ p. Self.Position.offset p) result) };
+        ensures { IsFoundFrom Self.Units.ARE_BYTES (Search.stands_at search.now) (bytes_of (text self.now)) (Self.Position.offset pos) (option_map (λ p. Self.Position.offset p) result) };
 
     /// Whether the characters of a range stand on the direction's side of a boundary, read left to right. Then the
     /// position is behind them, and else it is not specified.
@@ -262,12 +260,11 @@ pub trait InputIndexer: Copy + Debug {
         requires in_order { Self.Position.offset range.start ≤ Self.Position.offset range.end }
         ensures { led_to result (Self.Position.offset pos.new) ≡ past_spelled (text self.now) nat_eq (characters_between (text self.now) (Self.Position.offset range.start) (Self.Position.offset range.end)) (way Dir.FORWARD) (Self.Position.offset pos.old) };
 
-    /// Whether these bytes stand on the direction's side of any byte offset, read left to right. Then the position is
-    /// behind them, and else it is not specified.
+    /// Whether these bytes stand on the direction's side of any offset, read left to right; they never do where units
+    /// are no bytes. Then the position is behind them, and else it is not specified.
     fn match_bytes<Dir: Direction>(&self, dir: Dir, pos: &mut Self::Position, bytes: &[u8]) -> bool
-        requires bytes { IsTrue Self.Units.ARE_BYTES }
         requires inside { Self.Position.offset pos.old ≤ units (text self.now) }
-        ensures { led_to result (Self.Position.offset pos.new) ≡ past_bytes (bytes_of (text self.now)) bytes.now (way Dir.FORWARD) (Self.Position.offset pos.old) };
+        ensures { led_to result (Self.Position.offset pos.new) ≡ where_bytes Self.Units.ARE_BYTES (past_bytes (bytes_of (text self.now)) bytes.now (way Dir.FORWARD) (Self.Position.offset pos.old)) };
 
     ghost is_text: { (it : Self) → IsText (text it) };
 

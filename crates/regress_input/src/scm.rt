@@ -1,6 +1,6 @@
 //! Matchers of a single character.
 
-ghost use Rattle.std.specs.Prelude.{◌≡◌, ◌<◌, ◌≤◌, ◌==◌, ℕ, Bool, true, not, List, All, IsTrue, encode_utf8, ⊤};
+ghost use Rattle.std.specs.Prelude.{◌≡◌, ◌<◌, ◌≤◌, ◌==◌, ℕ, Bool, true, not, List, All, encode_utf8, ⊤};
 ghost use Rattle.std.specs.Char.{IsScalar};
 ghost use Rattle.regex_meaning.specs.Lists.{contains};
 ghost use Rattle.regex_meaning.specs.Tree.{bracket, byte_sequence};
@@ -13,6 +13,7 @@ ghost use Rattle.regress_input.specs.Reading.{way, led_to, past_if};
 use crate::cursor::{self, Direction};
 use crate::front::{BracketContents, ByteArraySet, ByteSet, SmallArraySet};
 use crate::indexing::{CharProperties, CodeUnits, ElementType, InputIndexer};
+use crate::utf8;
 
 /// How many members a character set has.
 const MAX_CHAR_SET_LENGTH: usize = 4;
@@ -149,16 +150,47 @@ impl<'a, Input: InputIndexer, Dir: Direction, Bytes: ByteSet> SingleCharMatcher<
 
     #[inline(always)]
     fn matches(&self, input: &Input, dir: Dir, pos: &mut Input::Position) -> bool {
-        if Input::Units::ARE_BYTES {
-            match cursor::next_byte(input, dir, pos) {
-                Some(byte) => self.bytes.contains(byte),
-                None => false,
-            }
-        } else {
-            match cursor::next(input, dir, pos) {
-                Some(c) => contains_number(self.bytes, c.as_u32()),
-                None => false,
-            }
+        matches_ascii(self.bytes, input, dir, pos)
+    }
+}
+
+/// The same of an array that is held directly.
+#[derive(Drop)]
+pub struct MatchByteArraySet<ArraySet: SmallArraySet>(pub ByteArraySet<ArraySet>);
+
+impl<Input: InputIndexer, Dir: Direction, ArraySet: SmallArraySet> SingleCharMatcher<Input, Dir>
+    for MatchByteArraySet<ArraySet> {
+    ghost can_match = { λ m. All (λ b. b < 128) (ArraySet.members m.0.0) };
+
+    ghost accepted = { λ m. contains (ArraySet.members m.0.0) };
+
+    #[inline(always)]
+    fn matches(&self, input: &Input, dir: Dir, pos: &mut Input::Position) -> bool {
+        matches_ascii(&self.0, input, dir, pos)
+    }
+}
+
+// A character of ASCII is a byte. Where units are no bytes it is read as a character.
+#[inline(always)]
+fn matches_ascii<Bytes: ByteSet, Input: InputIndexer, Dir: Direction>(
+    bytes: &Bytes,
+    input: &Input,
+    dir: Dir,
+    pos: &mut Input::Position,
+) -> bool
+    requires ascii { All (λ b. b < 128) (Bytes.members bytes.now) }
+    requires at { IsBoundary (Input.text input.now) (Input.Position.offset pos.old) }
+    ensures { led_to result (Input.Position.offset pos.new) ≡ past_if (Input.text input.now) (contains (Bytes.members bytes.now)) (way Dir.FORWARD) (Input.Position.offset pos.old) }
+{
+    if Input::Units::ARE_BYTES {
+        match cursor::next_byte(input, dir, pos) {
+            Some(byte) => bytes.contains(byte),
+            None => false,
+        }
+    } else {
+        match cursor::next(input, dir, pos) {
+            Some(c) => contains_number(bytes, c.as_u32()),
+            None => false,
         }
     }
 }
@@ -171,38 +203,35 @@ fn contains_number<Bytes: ByteSet>(bytes: &Bytes, c: u32) -> bool
     c < 0x80 && bytes.contains(c as u8)
 }
 
-/// The same of an array that is held directly. It asks units that are bytes.
-#[derive(Drop)]
-pub struct MatchByteArraySet<ArraySet: SmallArraySet>(pub ByteArraySet<ArraySet>);
-
-impl<Input: InputIndexer, Dir: Direction, ArraySet: SmallArraySet> SingleCharMatcher<Input, Dir>
-    for MatchByteArraySet<ArraySet> {
-    ghost can_match = { λ m. IsTrue Input.Units.ARE_BYTES × All (λ b. b < 128) (ArraySet.members m.0.0) };
-
-    ghost accepted = { λ m. contains (ArraySet.members m.0.0) };
-
-    #[inline(always)]
-    fn matches(&self, input: &Input, dir: Dir, pos: &mut Input::Position) -> bool {
-        match cursor::next_byte(input, dir, pos) {
-            Some(byte) => self.0.contains(byte),
-            None => false,
-        }
-    }
-}
-
-/// The character of which these are the bytes. It asks units that are bytes.
+/// The character of which these are the bytes in UTF-8.
 #[derive(Drop)]
 pub struct MatchByteSeq<'a, const N: usize>(pub &'a [u8; N]);
 
 impl<'a, const N: usize, Input: InputIndexer, Dir: Direction> SingleCharMatcher<Input, Dir>
     for MatchByteSeq<'a, N> {
-    ghost can_match = { λ m. IsTrue Input.Units.ARE_BYTES × (N ≤ 4) × ((c : ℕ) × IsScalar c × (m.0.now ≡ encode_utf8 c)) };
+    ghost can_match = { λ m. (N ≤ 4) × ((c : ℕ) × IsScalar c × (m.0.now ≡ encode_utf8 c)) };
 
     ghost accepted = { λ m. accepts (byte_sequence m.0.now) };
 
     #[inline(always)]
     fn matches(&self, input: &Input, dir: Dir, pos: &mut Input::Position) -> bool {
         let bytes = self.0;
-        input.match_bytes(dir, pos, bytes)
+        if Input::Units::ARE_BYTES {
+            return input.match_bytes(dir, pos, bytes);
+        }
+        match cursor::next(input, dir, pos) {
+            Some(c) => is_spelled(bytes, c.as_u32()),
+            None => false,
+        }
     }
+}
+
+// Whether these are the bytes of this character.
+#[inline(always)]
+fn is_spelled(bytes: &[u8], c: u32) -> bool
+    requires { (d : ℕ) × IsScalar d × (bytes.now ≡ encode_utf8 d) }
+    ensures { result ≡ accepts (byte_sequence bytes.now) c }
+{
+    let (spelled, _) = utf8::character_at(bytes, 0);
+    spelled as u32 == c
 }

@@ -1,6 +1,6 @@
 //! Units of a text, read one by one or a range at a time.
 
-ghost use Rattle.std.specs.Prelude.{◌≡◌, ◌≤◌, ℕ, length, drop, option_map};
+ghost use Rattle.std.specs.Prelude.{◌≡◌, ◌≤◌, ℕ, true, length, drop, option_map};
 ghost use Rattle.regex_meaning.specs.Text.{rightwards, leftwards};
 ghost use Rattle.regress_input.specs.Reading.{way, led_to, byte_beside, units_on, past_bytes, IsFoundFrom};
 
@@ -82,7 +82,7 @@ pub(crate) fn find_from<Search: ByteSearcher>(
     search: &Search,
 ) -> Option<usize>
     requires { at ≤ length all.now }
-    ensures { IsFoundFrom (Search.stands_at search.now) all.now at result }
+    ensures { IsFoundFrom true (Search.stands_at search.now) all.now at result }
 {
     let found = search.find_in(rest_from(all, at))?;
     Some(at + found)

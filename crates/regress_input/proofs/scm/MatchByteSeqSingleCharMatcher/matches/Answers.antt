@@ -1,22 +1,27 @@
-use Rattle.std.proofs.Common.{◌∙◌, arith}
-use Rattle.regress_input.specs.Reading.{way}
+use Rattle.std.proofs.Common.{◌≡◌, Bool, true, sym, ◌∙◌, ap, arith}
+use Rattle.regress_input.specs.Reading.{way, past_bytes, bytes_of, where_bytes}
 use Rattle.regress_input.proofs.Places.{boundary_inside}
 use Rattle.regress_input.proofs.ByteTests.{literal_accepts}
 use Rattle.regress_input.proofs.scm.MatchByteSeqSingleCharMatcher.matches.Goals as goal
 
-pub match_bytes-requires-clause-inside : goal.match_bytes-requires-clause-inside
-match_bytes-requires-clause-inside g c =
+pub match_bytes-requires : goal.match_bytes-requires
+match_bytes-requires g c =
     let input = c.args.input.now in
-    boundary_inside (g.Input.InputIndexer.text input) (g.met.Input.InputIndexer.is_text input) _ c.requires.at
+    record { inside = boundary_inside (g.Input.InputIndexer.text input) (g.met.Input.InputIndexer.is_text input) _ c.requires.at }
 
-pub returns : goal.returns
-returns g c =
+pub returns-then-ARE_BYTES : goal.returns-then-ARE_BYTES
+returns-then-ARE_BYTES g c =
     let input = c.args.input.now in
     let laws = g.met.Input.InputIndexer in
-    let one = c.requires.can.2 in
+    let text = g.Input.InputIndexer.text input in
+    let literal = c.args.self.now.0.now in
+    let d = way g.Dir.Direction.FORWARD in
+    let at = g.Input.Position.PositionType.offset c.args.pos.now in
+    let one = c.requires.can.1 in
+    let are : g.Input.Units.CodeUnits.ARE_BYTES ≡ true = sym c.ARE_BYTES.ensures ∙ c.if-ARE_BYTES.true in
     c.match_bytes.ensures
-    ∙ literal_accepts (g.Input.InputIndexer.text input) (laws.is_text input) (laws.in_utf8 input c.requires.can.0)
-    c.args.self.now.0.now one.0 one.1 one.2 (way g.Dir.Direction.FORWARD) _ c.requires.at
+    ∙ ap (λ (b : Bool). where_bytes b (past_bytes (bytes_of text) literal d at)) are
+    ∙ literal_accepts text (laws.is_text input) (laws.in_utf8 input are) literal one.0 one.1 one.2 d at c.requires.at
 
 pub shared_whole_as_slice-match_bytes : goal.shared_whole_as_slice-match_bytes
-shared_whole_as_slice-match_bytes g c = omega (arith, c.requires.can.1)
+shared_whole_as_slice-match_bytes g c = omega (arith, c.requires.can.0)

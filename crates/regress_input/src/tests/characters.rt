@@ -4,12 +4,16 @@ use crate::indexing::{AsciiInput, CharProperties, ElementType, InputIndexer, Utf
 use crate::matchers::{ASCIICharProperties, UTF8CharProperties};
 
 // The number of the element that has this number.
-fn number<E: ElementType>(code: u32) -> Option<u32> {
+pub(super) fn number<E: ElementType>(code: u32) -> Option<u32> {
     Some(E::try_from(code)?.as_u32())
 }
 
 // The fold of a character, and whether it is the same as another.
-fn folded<Input: InputIndexer>(input: &Input, c: u32, other: u32) -> Option<(u32, bool)> {
+pub(super) fn folded<Input: InputIndexer>(
+    input: &Input,
+    c: u32,
+    other: u32,
+) -> Option<(u32, bool)> {
     let c = Input::Element::try_from(c)?;
     let other = Input::Element::try_from(other)?;
     Some((input.fold(c).as_u32(), input.fold_equals(c, other)))

@@ -25,7 +25,7 @@ fn ascii_set(byte: u8) -> AsciiBitmap
 }
 
 // The class of all characters but `a` to `m`.
-fn class(alloc: Global) -> Result<BracketContents, Fail> {
+pub(super) fn class(alloc: Global) -> Result<BracketContents, Fail> {
     let letters = [Interval {
         first: 0x61,
         last: 0x6d,
@@ -37,7 +37,7 @@ fn class(alloc: Global) -> Result<BracketContents, Fail> {
 }
 
 // Which of the eight matchers of `z` take the character beside a place, and leave the position at this offset.
-fn matching<Input: InputIndexer, Dir: Direction>(
+pub(super) fn matching<Input: InputIndexer, Dir: Direction>(
     input: &Input,
     dir: Dir,
     place: usize,

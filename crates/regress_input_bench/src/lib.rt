@@ -2,7 +2,7 @@
 //! bytes of a text.
 #![tactic(auto)]
 
-ghost use Rattle.std.specs.Prelude.{◌<◌, ◌≤◌, All, IfSome, IsAscii, IsTrue, IsUtf8};
+ghost use Rattle.std.specs.Prelude.{◌<◌, ◌≤◌, All, IfSome, IsAscii, IsUtf8};
 ghost use Rattle.regex_meaning.specs.Offsets.{IsBoundary, units};
 ghost use Rattle.regex_pattern_front.specs.ByteSets.{ascii_bitmap_bytes};
 
@@ -62,9 +62,7 @@ fn position_at<Input: InputIndexer>(input: &Input, offset: usize) -> Option<Inpu
 
 // At how many offsets the literal stands.
 #[inline(always)]
-fn count_literals<const N: usize, Input: InputIndexer>(input: &Input, literal: &[u8; N]) -> usize
-    requires { IsTrue Input.Units.ARE_BYTES }
-{
+fn count_literals<const N: usize, Input: InputIndexer>(input: &Input, literal: &[u8; N]) -> usize {
     let end = input.pos_to_offset(input.right_end());
     let mut count: usize = 0;
     let mut offset = 0;
@@ -82,9 +80,7 @@ fn count_literals<const N: usize, Input: InputIndexer>(input: &Input, literal: &
 
 // Where the bytes stand first, or the length.
 #[inline(always)]
-fn first_found<Input: InputIndexer, Search: ByteSearcher>(input: &Input, search: &Search) -> usize
-    requires { IsTrue Input.Units.ARE_BYTES }
-{
+fn first_found<Input: InputIndexer, Search: ByteSearcher>(input: &Input, search: &Search) -> usize {
     let found = input.find_bytes(input.left_end(), search);
     let at = found.unwrap_or(input.right_end());
     input.pos_to_offset(at)

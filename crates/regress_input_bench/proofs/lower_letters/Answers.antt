@@ -2,4 +2,4 @@ use Rattle.regress_input.proofs.AsciiSets.{below_128}
 use Rattle.regress_input_bench.proofs.lower_letters.Goals as goal
 
 pub returns : goal.returns
-returns g c = below_128 _
+returns c = below_128 _

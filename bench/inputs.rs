@@ -7,12 +7,16 @@ use std::time::Instant;
 const LENGTH: usize = 1 << 16;
 const RUNS: usize = 600;
 
+// A character that stands in none of the texts.
+const STOP: u32 = '#' as u32;
+
 #[link(name = "regress_input_bench", kind = "static")]
 #[link(name = "libc_c", kind = "static")]
 unsafe extern "C" {
-    fn regress_input_bench_utf8_right(bytes: *const u8, len: usize) -> u32;
-    fn regress_input_bench_utf8_left(bytes: *const u8, len: usize) -> u32;
-    fn regress_input_bench_ascii_left(bytes: *const u8, len: usize) -> u32;
+    fn regress_input_bench_utf8_right(bytes: *const u8, len: usize, stop: u32) -> usize;
+    fn regress_input_bench_utf8_left(bytes: *const u8, len: usize, stop: u32) -> usize;
+    fn regress_input_bench_ascii_right(bytes: *const u8, len: usize, stop: u32) -> usize;
+    fn regress_input_bench_ascii_left(bytes: *const u8, len: usize, stop: u32) -> usize;
     fn regress_input_bench_bracket(bytes: *const u8, len: usize) -> usize;
     fn regress_input_bench_bitmap(bytes: *const u8, len: usize) -> usize;
     fn regress_input_bench_literal(bytes: *const u8, len: usize) -> usize;
@@ -23,28 +27,32 @@ unsafe extern "C" {
 
 // ---- The same in Rust
 
-fn utf8_right(text: &str) -> usize {
-    let mut sum: u32 = 0;
-    for c in text.chars() {
-        sum = sum.wrapping_add(c as u32);
+fn count_until(characters: impl Iterator<Item = u32>) -> usize {
+    let stop = black_box(STOP);
+    let mut count = 0;
+    for c in characters {
+        if c == stop {
+            return count;
+        }
+        count += 1;
     }
-    sum as usize
+    count
+}
+
+fn utf8_right(text: &str) -> usize {
+    count_until(text.chars().map(u32::from))
 }
 
 fn utf8_left(text: &str) -> usize {
-    let mut sum: u32 = 0;
-    for c in text.chars().rev() {
-        sum = sum.wrapping_add(c as u32);
-    }
-    sum as usize
+    count_until(text.chars().rev().map(u32::from))
+}
+
+fn ascii_right(text: &str) -> usize {
+    count_until(text.bytes().map(u32::from))
 }
 
 fn ascii_left(text: &str) -> usize {
-    let mut sum: u32 = 0;
-    for &byte in text.as_bytes().iter().rev() {
-        sum = sum.wrapping_add(byte as u32);
-    }
-    sum as usize
+    count_until(text.bytes().rev().map(u32::from))
 }
 
 struct Class {
@@ -182,10 +190,11 @@ fn main() {
         };
     }
     for (kind, text) in [("ASCII", &ascii), ("mostly ASCII", &mostly_ascii), ("mixed", &mixed)] {
-        compare(&format!("right, {kind}"), text, call!(regress_input_bench_utf8_right), &utf8_right);
-        compare(&format!("left, {kind}"), text, call!(regress_input_bench_utf8_left), &utf8_left);
+        compare(&format!("right, {kind}"), text, call!(regress_input_bench_utf8_right, STOP), &utf8_right);
+        compare(&format!("left, {kind}"), text, call!(regress_input_bench_utf8_left, STOP), &utf8_left);
     }
-    compare("left, AsciiInput", &ascii, call!(regress_input_bench_ascii_left), &ascii_left);
+    compare("right, AsciiInput", &ascii, call!(regress_input_bench_ascii_right, STOP), &ascii_right);
+    compare("left, AsciiInput", &ascii, call!(regress_input_bench_ascii_left, STOP), &ascii_left);
     compare("bracket", &letters, call!(regress_input_bench_bracket), &bracket);
     compare("ASCII bitmap", &ascii, call!(regress_input_bench_bitmap), &bitmap);
     compare("literal", &needles, call!(regress_input_bench_literal), &literal);

@@ -14,26 +14,32 @@ use regress_input::indexing::{AsciiInput, ElementType, InputIndexer, Utf8Input};
 use regress_input::scm::{Bracket, MatchByteSet, SingleCharMatcher};
 use std::alloc::{AllocError, Global};
 
-// The characters that are read to the right, as a sum.
+// How many characters stand to the right of the left end, up to the first of this number.
 #[inline(always)]
-fn sum_right<Input: InputIndexer>(input: &Input) -> u32 {
+fn count_right<Input: InputIndexer>(input: &Input, stop: u32) -> usize {
     let mut pos = input.left_end();
-    let mut sum: u32 = 0;
+    let mut count: usize = 0;
     while let Some(c) = input.next_right(&mut pos) {
-        sum = sum.wrapping_add(c.as_u32());
+        if c.as_u32() == stop {
+            return count;
+        }
+        count = count.wrapping_add(1);
     }
-    sum
+    count
 }
 
-// The characters that are read to the left, as a sum.
+// How many characters stand to the left of the right end, up to the first of this number.
 #[inline(always)]
-fn sum_left<Input: InputIndexer>(input: &Input) -> u32 {
+fn count_left<Input: InputIndexer>(input: &Input, stop: u32) -> usize {
     let mut pos = input.right_end();
-    let mut sum: u32 = 0;
+    let mut count: usize = 0;
     while let Some(c) = input.next_left(&mut pos) {
-        sum = sum.wrapping_add(c.as_u32());
+        if c.as_u32() == stop {
+            return count;
+        }
+        count = count.wrapping_add(1);
     }
-    sum
+    count
 }
 
 // How many characters from the left end on the matcher takes.
@@ -93,26 +99,42 @@ fn utf8(bytes: &[u8]) -> Utf8Input<'_>
     Utf8Input::new(unsafe { str::from_utf8_unchecked(bytes) }, false)
 }
 
-#[unsafe(no_mangle)]
-pub extern "C" fn regress_input_bench_utf8_right(bytes: &[u8]) -> u32
-    requires { IsUtf8 bytes.now }
-{
-    sum_right(&utf8(bytes))
-}
-
-#[unsafe(no_mangle)]
-pub extern "C" fn regress_input_bench_utf8_left(bytes: &[u8]) -> u32
-    requires { IsUtf8 bytes.now }
-{
-    sum_left(&utf8(bytes))
-}
-
-#[unsafe(no_mangle)]
-pub extern "C" fn regress_input_bench_ascii_left(bytes: &[u8]) -> u32
+#[inline(always)]
+fn ascii(bytes: &[u8]) -> AsciiInput<'_>
     requires utf8 { IsUtf8 bytes.now }
     requires ascii { IsAscii bytes.now }
 {
-    sum_left(&AsciiInput::new(unsafe { str::from_utf8_unchecked(bytes) }, false))
+    AsciiInput::new(unsafe { str::from_utf8_unchecked(bytes) }, false)
+}
+
+#[unsafe(no_mangle)]
+pub extern "C" fn regress_input_bench_utf8_right(bytes: &[u8], stop: u32) -> usize
+    requires { IsUtf8 bytes.now }
+{
+    count_right(&utf8(bytes), stop)
+}
+
+#[unsafe(no_mangle)]
+pub extern "C" fn regress_input_bench_utf8_left(bytes: &[u8], stop: u32) -> usize
+    requires { IsUtf8 bytes.now }
+{
+    count_left(&utf8(bytes), stop)
+}
+
+#[unsafe(no_mangle)]
+pub extern "C" fn regress_input_bench_ascii_right(bytes: &[u8], stop: u32) -> usize
+    requires utf8 { IsUtf8 bytes.now }
+    requires ascii { IsAscii bytes.now }
+{
+    count_right(&ascii(bytes), stop)
+}
+
+#[unsafe(no_mangle)]
+pub extern "C" fn regress_input_bench_ascii_left(bytes: &[u8], stop: u32) -> usize
+    requires utf8 { IsUtf8 bytes.now }
+    requires ascii { IsAscii bytes.now }
+{
+    count_left(&ascii(bytes), stop)
 }
 
 // Letters, digits, `_`, and the letters of two more scripts.

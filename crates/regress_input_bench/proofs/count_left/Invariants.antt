@@ -1,5 +1,5 @@
 use Rattle.regex_meaning.specs.Offsets.{IsBoundary}
-use Rattle.regress_input_bench.proofs.sum_left.Given as goal
+use Rattle.regress_input_bench.proofs.count_left.Given as goal
 
 abbrev pub invariant-loop-c : goal.invariant-loop-c
 invariant-loop-c g l = IsBoundary (g.Input.InputIndexer.text l.input) (g.Input.Position.PositionType.offset l.pos)

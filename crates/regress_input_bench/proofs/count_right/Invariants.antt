@@ -1,6 +1,6 @@
 use Rattle.std.proofs.Common.{◌-◌}
 use Rattle.regex_meaning.specs.Offsets.{units, IsBoundary}
-use Rattle.regress_input_bench.proofs.sum_right.Given as goal
+use Rattle.regress_input_bench.proofs.count_right.Given as goal
 
 abbrev pub invariant-loop-c : goal.invariant-loop-c
 invariant-loop-c g l = IsBoundary (g.Input.InputIndexer.text l.input) (g.Input.Position.PositionType.offset l.pos)

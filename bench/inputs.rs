@@ -80,9 +80,21 @@ impl Class {
 }
 
 fn bracket(text: &str) -> usize {
-    let intervals = [(0x30, 0x39), (0x41, 0x5A), (0x5F, 0x5F), (0x61, 0x7A), (0xC0, 0x24F), (0x370, 0x3FF)];
-    let class = Class { intervals: black_box(intervals.to_vec()), invert: black_box(false) };
-    text.chars().take_while(|&c| class.accepts(c as u32)).count()
+    let intervals = [
+        (0x30, 0x39),
+        (0x41, 0x5A),
+        (0x5F, 0x5F),
+        (0x61, 0x7A),
+        (0xC0, 0x24F),
+        (0x370, 0x3FF),
+    ];
+    let class = Class {
+        intervals: black_box(intervals.to_vec()),
+        invert: black_box(false),
+    };
+    text.chars()
+        .take_while(|&c| class.accepts(c as u32))
+        .count()
 }
 
 struct Bitmap([u64; 2]);
@@ -123,7 +135,11 @@ fn find_one(text: &str) -> usize {
 
 fn find_three(text: &str) -> usize {
     let byte = black_box(b'#');
-    found_or_end(text, text.bytes().position(|b| b == byte || b == b'@' || b == b'$'))
+    found_or_end(
+        text,
+        text.bytes()
+            .position(|b| b == byte || b == b'@' || b == b'$'),
+    )
 }
 
 fn find_bitmap(text: &str) -> usize {
@@ -139,7 +155,10 @@ struct Random(u64);
 
 impl Random {
     fn below(&mut self, n: usize) -> usize {
-        self.0 = self.0.wrapping_mul(6364136223846793005).wrapping_add(1442695040888963407);
+        self.0 = self
+            .0
+            .wrapping_mul(6364136223846793005)
+            .wrapping_add(1442695040888963407);
         (self.0 >> 33) as usize % n
     }
 }
@@ -169,7 +188,12 @@ fn compare(name: &str, text: &str, ours: &dyn Fn(&str) -> usize, theirs: &dyn Fn
         least_of_rust = least_of_rust.min(nanoseconds(&|| theirs(black_box(text))));
     }
     let bytes = text.len() as f64;
-    println!("{name:28} {:7.3} {:7.3} {:6.2}", least / bytes, least_of_rust / bytes, least / least_of_rust);
+    println!(
+        "{name:28} {:7.3} {:7.3} {:6.2}",
+        least / bytes,
+        least_of_rust / bytes,
+        least / least_of_rust
+    );
 }
 
 fn main() {
@@ -177,10 +201,22 @@ fn main() {
     let lower: Vec<&str> = latin.iter().map(String::as_str).collect();
     let ascii = text_of(&lower);
     let mostly_ascii = text_of(&[&lower[..], &["\u{e9}", "\u{20ac}"]].concat());
-    let mixed = text_of(&["a", "b", "c", "\u{e9}", "\u{3b1}", "\u{20ac}", "\u{6f22}", "\u{1f600}"]);
+    let mixed = text_of(&[
+        "a",
+        "b",
+        "c",
+        "\u{e9}",
+        "\u{3b1}",
+        "\u{20ac}",
+        "\u{6f22}",
+        "\u{1f600}",
+    ]);
     let letters = text_of(&[&lower[..], &["A", "Z", "7", "_", "\u{e9}", "\u{3b1}"]].concat());
     let needles = text_of(&[&lower[..], &["needle"]].concat());
-    println!("{:28} {:>7} {:>7} {:>6}", "ns a byte", "here", "Rust", "ratio");
+    println!(
+        "{:28} {:>7} {:>7} {:>6}",
+        "ns a byte", "here", "Rust", "ratio"
+    );
     macro_rules! call {
         ($f:ident) => {
             &|text: &str| unsafe { $f(text.as_ptr(), text.len()) as usize }
@@ -189,16 +225,70 @@ fn main() {
             &|text: &str| unsafe { $f(text.as_ptr(), text.len(), $byte) }
         };
     }
-    for (kind, text) in [("ASCII", &ascii), ("mostly ASCII", &mostly_ascii), ("mixed", &mixed)] {
-        compare(&format!("right, {kind}"), text, call!(regress_input_bench_utf8_right, STOP), &utf8_right);
-        compare(&format!("left, {kind}"), text, call!(regress_input_bench_utf8_left, STOP), &utf8_left);
+    for (kind, text) in [
+        ("ASCII", &ascii),
+        ("mostly ASCII", &mostly_ascii),
+        ("mixed", &mixed),
+    ] {
+        compare(
+            &format!("right, {kind}"),
+            text,
+            call!(regress_input_bench_utf8_right, STOP),
+            &utf8_right,
+        );
+        compare(
+            &format!("left, {kind}"),
+            text,
+            call!(regress_input_bench_utf8_left, STOP),
+            &utf8_left,
+        );
     }
-    compare("right, AsciiInput", &ascii, call!(regress_input_bench_ascii_right, STOP), &ascii_right);
-    compare("left, AsciiInput", &ascii, call!(regress_input_bench_ascii_left, STOP), &ascii_left);
-    compare("bracket", &letters, call!(regress_input_bench_bracket), &bracket);
-    compare("ASCII bitmap", &ascii, call!(regress_input_bench_bitmap), &bitmap);
-    compare("literal", &needles, call!(regress_input_bench_literal), &literal);
-    compare("find one byte", &ascii, call!(regress_input_bench_find_one, b'#'), &find_one);
-    compare("find three bytes", &ascii, call!(regress_input_bench_find_three, b'#'), &find_three);
-    compare("find a byte set", &mixed, call!(regress_input_bench_find_bitmap, b'#'), &find_bitmap);
+    compare(
+        "right, AsciiInput",
+        &ascii,
+        call!(regress_input_bench_ascii_right, STOP),
+        &ascii_right,
+    );
+    compare(
+        "left, AsciiInput",
+        &ascii,
+        call!(regress_input_bench_ascii_left, STOP),
+        &ascii_left,
+    );
+    compare(
+        "bracket",
+        &letters,
+        call!(regress_input_bench_bracket),
+        &bracket,
+    );
+    compare(
+        "ASCII bitmap",
+        &ascii,
+        call!(regress_input_bench_bitmap),
+        &bitmap,
+    );
+    compare(
+        "literal",
+        &needles,
+        call!(regress_input_bench_literal),
+        &literal,
+    );
+    compare(
+        "find one byte",
+        &ascii,
+        call!(regress_input_bench_find_one, b'#'),
+        &find_one,
+    );
+    compare(
+        "find three bytes",
+        &ascii,
+        call!(regress_input_bench_find_three, b'#'),
+        &find_three,
+    );
+    compare(
+        "find a byte set",
+        &mixed,
+        call!(regress_input_bench_find_bitmap, b'#'),
+        &find_bitmap,
+    );
 }

@@ -8,3 +8,5 @@ pub mod ByteTests
 pub mod Compare
 pub mod OneUnit
 pub mod AsciiSets
+pub mod Utf16Reads
+pub mod Utf16Slices

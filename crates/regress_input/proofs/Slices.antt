@@ -4,7 +4,7 @@ use Rattle.std.proofs.lemmas.List.Concat.{flat_map-append}
 use lib.Pointwise.{pointwise, bytes_decides}
 use Rattle.regex_meaning.specs.Text.{Text, Direction, rightwards, leftwards, offsets_from, moved, characters_left, characters_beside}
 use Rattle.regex_meaning.specs.Offsets.{IsText, offset, IsBoundary, place_at}
-use Rattle.regex_meaning.proofs.TextLemmas.{place-le}
+use Rattle.regex_meaning.proofs.TextLemmas.{place-le, offset-IsBoundary}
 use Rattle.regress_input.specs.Reading.{place, part, characters_between, past_spelled, past_bytes}
 use Rattle.regress_input.proofs.Places.{HasPlace, place_of_boundary}
 use Rattle.regress_input.proofs.Spelled.{text_of, is_text, spelling, Cut, cut, cut_at, offset-spelling}
@@ -264,35 +264,66 @@ module _ (spell : ℕ → List ℕ) (width : ℕ → ℕ) (sized : (c : ℕ) →
         let start : offset this m ≡ at - length ys = omega arith in
         record { to_is = h.to_is ∙ start; fits = omega arith; are = ap (λ n. slice_range us n at) (sym start) ∙ btw.are ∙ units }
 
+    -- an end of such characters is a boundary
+    ends-right : (at k to : ℕ) (xs : List ℕ) → HasPlace this at k → Spelt this xs rightwards k to → IsBoundary this to
+    ends-right at k to xs p h =
+        subst (IsBoundary this) (sym h.to_is) (offset-IsBoundary this (k + length xs) (is_text width positive cs unicode fold) (omega (arith, h.fits, p.within)))
+
+    ends-left : (at k to : ℕ) (xs : List ℕ) → HasPlace this at k → Spelt this xs leftwards k to → IsBoundary this to
+    ends-left at k to xs p h =
+        subst (IsBoundary this) (sym h.to_is) (offset-IsBoundary this (k - length xs) (is_text width positive cs unicode fold) (omega (arith, p.within)))
+
+    -- What is found just where the units of a range stand beside a boundary, up to another one, is found just where its
+    -- characters stand.
+    pub found-right : IsInjective → (at a b : ℕ) → IsBoundary this at → IsBoundary this a → IsBoundary this b → a ≤ b → (found : Option ℕ)
+        → ((to : ℕ) → found ≡ Some to → StandBehind us (slice_range us a b) at to × IsBoundary this to)
+        → ((to : ℕ) → StandBehind us (slice_range us a b) at to → IsBoundary this to → found ≡ Some to)
+        → found ≡ past_spelled this nat_eq (characters_between this a b) rightwards at
+    found-right inject at a b at_b from to l found there back =
+        let (k, at_k, cut_k) = here at at_b in
+        let (p, at_p, cut_p) = here a from in
+        let (q, at_q, cut_q) = here b to in
+        let units : slice_range us a b ≡ spelt (slice_range cs p q) = (between cs us a b p q (in_order a b p q at_p at_q l) cut_p cut_q).are in
+        let same : characters_between this a b ≡ slice_range cs p q = ap₂ (slice_range cs) (place_is this a p at_p.found) (place_is this b q at_q.found) in
+        same_option found (past_place this (slice_range cs p q) rightwards k)
+        (λ x e. let h = there x e in
+        spelt-past_place this (slice_range cs p q) rightwards k x (right-spelt inject at k p q x (slice_range us a b) at_k cut_k units h.0 h.1))
+        (λ x e. let h = past_place-spelt this (slice_range cs p q) rightwards k x e in
+        back x (spelt-right at k p q x (slice_range us a b) at_k cut_k units h) (ends-right at k x (slice_range cs p q) at_k h))
+        ∙ ap (λ xs. past_place this xs rightwards k) (sym same)
+        ∙ sym (past_spelled-place this (characters_between this a b) rightwards at k at_k.found)
+
+    pub found-left : IsInjective → (at a b : ℕ) → IsBoundary this at → IsBoundary this a → IsBoundary this b → a ≤ b → (found : Option ℕ)
+        → ((to : ℕ) → found ≡ Some to → StandBefore us (slice_range us a b) at to × IsBoundary this to)
+        → ((to : ℕ) → StandBefore us (slice_range us a b) at to → IsBoundary this to → found ≡ Some to)
+        → found ≡ past_spelled this nat_eq (characters_between this a b) leftwards at
+    found-left inject at a b at_b from to l found there back =
+        let (k, at_k, cut_k) = here at at_b in
+        let (p, at_p, cut_p) = here a from in
+        let (q, at_q, cut_q) = here b to in
+        let units : slice_range us a b ≡ spelt (slice_range cs p q) = (between cs us a b p q (in_order a b p q at_p at_q l) cut_p cut_q).are in
+        let same : characters_between this a b ≡ slice_range cs p q = ap₂ (slice_range cs) (place_is this a p at_p.found) (place_is this b q at_q.found) in
+        same_option found (past_place this (slice_range cs p q) leftwards k)
+        (λ x e. let h = there x e in
+        spelt-past_place this (slice_range cs p q) leftwards k x (left-spelt inject at k p q x (slice_range us a b) at_k cut_k units h.0 h.1))
+        (λ x e. let h = past_place-spelt this (slice_range cs p q) leftwards k x e in
+        back x (spelt-left at k p q x (slice_range us a b) at_k cut_k units h) (ends-left at k x (slice_range cs p q) at_k h))
+        ∙ ap (λ xs. past_place this xs leftwards k) (sym same)
+        ∙ sym (past_spelled-place this (characters_between this a b) leftwards at k at_k.found)
+
     -- The units of a range stand beside a boundary just where its characters do, if where they end is a boundary.
     pub literal-right : IsInjective → (at a b : ℕ) → IsBoundary this at → IsBoundary this a → IsBoundary this b → a ≤ b
         → ((to : ℕ) → StandBehind us (slice_range us a b) at to → IsBoundary this to)
         → past_bytes us (slice_range us a b) rightwards at ≡ past_spelled this nat_eq (characters_between this a b) rightwards at
     literal-right inject at a b at_b from to l ends =
-        let (k, at_k, cut_k) = here at at_b in
-        let (p, at_p, cut_p) = here a from in
-        let (q, at_q, cut_q) = here b to in
-        let units : slice_range us a b ≡ spelt (slice_range cs p q) = (between cs us a b p q (in_order a b p q at_p at_q l) cut_p cut_q).are in
-        let same : characters_between this a b ≡ slice_range cs p q = ap₂ (slice_range cs) (place_is this a p at_p.found) (place_is this b q at_q.found) in
-        same_option (past_bytes us (slice_range us a b) rightwards at) (past_place this (slice_range cs p q) rightwards k)
-        (λ x e. let h = past_bytes-right us (slice_range us a b) at x e in
-        spelt-past_place this (slice_range cs p q) rightwards k x (right-spelt inject at k p q x (slice_range us a b) at_k cut_k units h (ends x h)))
-        (λ x e. right-past_bytes us (slice_range us a b) at x (spelt-right at k p q x (slice_range us a b) at_k cut_k units (past_place-spelt this (slice_range cs p q) rightwards k x e)))
-        ∙ ap (λ xs. past_place this xs rightwards k) (sym same)
-        ∙ sym (past_spelled-place this (characters_between this a b) rightwards at k at_k.found)
+        found-right inject at a b at_b from to l (past_bytes us (slice_range us a b) rightwards at)
+        (λ x e. let h = past_bytes-right us (slice_range us a b) at x e in (h, ends x h))
+        (λ x h e. right-past_bytes us (slice_range us a b) at x h)
 
     pub literal-left : IsInjective → (at a b : ℕ) → IsBoundary this at → IsBoundary this a → IsBoundary this b → a ≤ b
         → ((to : ℕ) → StandBefore us (slice_range us a b) at to → IsBoundary this to)
         → past_bytes us (slice_range us a b) leftwards at ≡ past_spelled this nat_eq (characters_between this a b) leftwards at
     literal-left inject at a b at_b from to l ends =
-        let (k, at_k, cut_k) = here at at_b in
-        let (p, at_p, cut_p) = here a from in
-        let (q, at_q, cut_q) = here b to in
-        let units : slice_range us a b ≡ spelt (slice_range cs p q) = (between cs us a b p q (in_order a b p q at_p at_q l) cut_p cut_q).are in
-        let same : characters_between this a b ≡ slice_range cs p q = ap₂ (slice_range cs) (place_is this a p at_p.found) (place_is this b q at_q.found) in
-        same_option (past_bytes us (slice_range us a b) leftwards at) (past_place this (slice_range cs p q) leftwards k)
-        (λ x e. let h = past_bytes-left us (slice_range us a b) at x e in
-        spelt-past_place this (slice_range cs p q) leftwards k x (left-spelt inject at k p q x (slice_range us a b) at_k cut_k units h (ends x h)))
-        (λ x e. left-past_bytes us (slice_range us a b) at x (spelt-left at k p q x (slice_range us a b) at_k cut_k units (past_place-spelt this (slice_range cs p q) leftwards k x e)))
-        ∙ ap (λ xs. past_place this xs leftwards k) (sym same)
-        ∙ sym (past_spelled-place this (characters_between this a b) leftwards at k at_k.found)
+        found-left inject at a b at_b from to l (past_bytes us (slice_range us a b) leftwards at)
+        (λ x e. let h = past_bytes-left us (slice_range us a b) at x e in (h, ends x h))
+        (λ x h e. left-past_bytes us (slice_range us a b) at x h)

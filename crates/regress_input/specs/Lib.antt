@@ -1,3 +1,4 @@
 pub mod Utf8
 pub mod Reading
 pub mod InUtf8
+pub mod Utf16

@@ -33,6 +33,10 @@ module _ (text : Text) where
   abbrev pub past_if : (test : ℕ → Bool) → Direction → (at : ℕ) → Option ℕ
   past_if test direction at = option_and_then (λ r. if test r.0 then Some r.1 else None) (read text direction at)
 
+  -- a read one way and then the other gives the same character, and leads back
+  abbrev pub IsReadBack : (there back : Direction) → Type 0
+  IsReadBack there back = (at c to : ℕ) → read text there at ≡ Some (c, to) → read text back to ≡ Some (c, at)
+
   -- the place of a boundary
   abbrev pub place : (at : ℕ) → ℕ
   place at = unwrap_or (place_at text at) 0

@@ -6,15 +6,20 @@ ghost use Rattle.regex_meaning.specs.Tree.{bracket};
 ghost use Rattle.regex_meaning.specs.Outcomes.{accepts};
 ghost use Rattle.regex_meaning.specs.Offsets.{IsText, IsBoundary, units, read};
 ghost use Rattle.regex_pattern_front.specs.TreeOf.{contents_of};
-ghost use Rattle.regress_input.specs.Reading.{way, led_to, same_fold, character, past, characters_between, past_spelled, part, bytes_of, IsInUtf8, byte_beside, units_on, past_bytes, where_bytes, IsFoundFrom};
+ghost use Rattle.regress_input.specs.Reading.{way, led_to, same_fold, character, past, characters_between, past_spelled, part, bytes_of, IsInUtf8, byte_beside, units_on, past_bytes, where_bytes, IsFoundFrom, IsReadBack};
 
 mod ascii_input;
+mod ucs2_input;
+mod utf16_input;
 mod utf8_input;
 
 pub use self::ascii_input::{ASCIICharProperties, AsciiInput};
+pub use self::ucs2_input::{Ucs2Input, Utf16CharProperties};
 pub use self::utf8_input::{UTF8CharProperties, Utf8Input};
+pub use self::utf16_input::Utf16Input;
 use crate::front::{BracketContents, ByteSearcher, nonascii_folds_to_ascii_word_char};
 use crate::position::{Direction, PositionType};
+pub use crate::utf16::is_unit_boundary;
 use std::fmt::Debug;
 use std::ops::Range;
 
@@ -274,3 +279,10 @@ pub trait InputIndexer: Copy + Debug {
     // Where units are bytes, they are those of UTF-8.
     ghost in_utf8: { (it : Self) → IsTrue Self.Units.ARE_BYTES → IsInUtf8 (text it) };
 }
+
+/// A law, which does nothing: a read to the right and one to the left are inverse to each other. Each gives the
+/// character that the other gave, and leads back to where that one stood.
+pub fn reads_are_inverse<Input: InputIndexer>(_input: &Input)
+    ensures right_then_left { IsReadBack (Input.text _input.now) rightwards leftwards }
+    ensures left_then_right { IsReadBack (Input.text _input.now) leftwards rightwards }
+{}

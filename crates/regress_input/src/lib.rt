@@ -10,4 +10,6 @@ pub mod scm;
 #[cfg(test)]
 mod tests;
 mod units;
+mod utf16;
 mod utf8;
+mod wide_units;

@@ -6,7 +6,9 @@ ghost use Rattle.regress_input.specs.Reading.{way, led_to, same_fold, characters
 
 use crate::cursor::{self, Direction};
 use crate::indexing::InputIndexer;
-pub use crate::indexing::{ASCIICharProperties, CharProperties, UTF8CharProperties};
+pub use crate::indexing::{
+    ASCIICharProperties, CharProperties, UTF8CharProperties, Utf16CharProperties,
+};
 use std::ops::Range;
 
 /// Whether the characters of a range stand once more on the direction's side of a boundary, read left to right. Then

@@ -1,0 +1,15 @@
+use Rattle.std.proofs.Common.{sym, ◌∙◌, ap, arith}
+use Rattle.regex_meaning.specs.Text.{rightwards, fold_code_point}
+use Rattle.regress_input.specs.Reading.{units_on}
+use Rattle.regress_input.proofs.OneUnit.{units-length}
+use Rattle.regress_input.proofs.indexing.ucs2_input.Ucs2InputInputIndexer.try_move_right.Goals as goal
+
+pub moved_right-to-requires : goal.moved_right-to-requires
+moved_right-to-requires c =
+    let it = c.args.self.now in
+    omega (arith, units-length it.input.now it.unicode (fold_code_point it.unicode))
+
+pub returns : goal.returns
+returns c =
+    let it = c.args.self.now in
+    c.position_at.ensures ∙ c.moved_right-to.ensures ∙ ap (λ n. units_on n rightwards c.args.amt c.args.pos.offset) (sym (units-length it.input.now it.unicode (fold_code_point it.unicode)))

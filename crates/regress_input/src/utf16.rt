@@ -1,0 +1,121 @@
+//! Characters in UTF-16, read from their units.
+
+ghost use Rattle.std.specs.Prelude.{◌≡◌, ◌<◌, ◌≤◌, length};
+ghost use Rattle.regex_meaning.specs.Text.{is_high_surrogate, is_low_surrogate, character_of_pair, is_unit_boundary as is_boundary_of};
+ghost use Rattle.regress_input.specs.Utf16.{is_pair_at, character_behind, character_before as character_ahead_of, if_boundary};
+
+/// Whether an offset is at most the length and a boundary of the text in UTF-16, so that it cuts no pair of surrogates.
+#[inline(always)]
+pub fn is_unit_boundary(units: &[u16], i: usize) -> bool
+    ensures { result ≡ is_boundary_of units.now i }
+{
+    if i == 0 {
+        return true;
+    }
+    if i >= units.len() {
+        return i == units.len();
+    }
+    !stands_pair(units, i - 1)
+}
+
+/// The offset, if it is a boundary.
+#[inline(always)]
+pub(crate) fn at_boundary(units: &[u16], to: Option<usize>) -> Option<usize>
+    ensures { result ≡ if_boundary units.now to }
+{
+    match to {
+        Some(at) => {
+            if is_unit_boundary(units, at) {
+                Some(at)
+            } else {
+                None
+            }
+        }
+        None => None,
+    }
+}
+
+/// The character that begins at a boundary, and where it ends.
+#[inline(always)]
+pub(crate) fn character_at(units: &[u16], at: usize) -> (u32, usize)
+    requires { at < length units.now }
+    ensures { result ≡ character_behind units.now at }
+{
+    if stands_pair(units, at) {
+        (character_of(units[at], units[at + 1]), at + 2)
+    } else {
+        (units[at] as u32, at + 1)
+    }
+}
+
+/// Where the character ends that begins at a boundary.
+#[inline(always)]
+pub(crate) fn end_of_character(units: &[u16], at: usize) -> usize
+    requires { at < length units.now }
+    ensures { result ≡ (character_behind units.now at).1 }
+{
+    if stands_pair(units, at) {
+        at + 2
+    } else {
+        at + 1
+    }
+}
+
+/// The character that ends at a boundary, and where it begins.
+#[inline(always)]
+pub(crate) fn character_before(units: &[u16], end: usize) -> (u32, usize)
+    requires some { 0 < end }
+    requires inside { end ≤ length units.now }
+    ensures { result ≡ character_ahead_of units.now end }
+{
+    if end >= 2 && stands_pair(units, end - 2) {
+        (character_of(units[end - 2], units[end - 1]), end - 2)
+    } else {
+        (units[end - 1] as u32, end - 1)
+    }
+}
+
+/// Where the character begins that ends at a boundary.
+#[inline(always)]
+pub(crate) fn start_of_character(units: &[u16], end: usize) -> usize
+    requires some { 0 < end }
+    requires inside { end ≤ length units.now }
+    ensures { result ≡ (character_ahead_of units.now end).1 }
+{
+    if end >= 2 && stands_pair(units, end - 2) {
+        end - 2
+    } else {
+        end - 1
+    }
+}
+
+// Whether a pair of surrogates stands at an offset.
+#[inline(always)]
+fn stands_pair(units: &[u16], at: usize) -> bool
+    requires { at < length units.now }
+    ensures { result ≡ is_pair_at units.now at }
+{
+    is_high(units[at]) && at + 1 < units.len() && is_low(units[at + 1])
+}
+
+#[inline(always)]
+fn is_high(unit: u16) -> bool
+    ensures { result ≡ is_high_surrogate unit }
+{
+    0xD800 <= unit && unit <= 0xDBFF
+}
+
+#[inline(always)]
+fn is_low(unit: u16) -> bool
+    ensures { result ≡ is_low_surrogate unit }
+{
+    0xDC00 <= unit && unit <= 0xDFFF
+}
+
+// The character of a pair.
+#[inline(always)]
+fn character_of(high: u16, low: u16) -> u32
+    ensures { result ≡ character_of_pair high low }
+{
+    0x1_0000 + (high as u32 % 0x400 * 0x400 + low as u32 % 0x400)
+}

@@ -6,3 +6,4 @@ mod matches;
 mod positions;
 mod ranges;
 mod reads;
+mod wide;

@@ -2,7 +2,7 @@
 
 use super::answers::{before_the_end, byte, character, found, past_bytes, seen};
 use crate::cursor::{Backward, Direction, Forward};
-use crate::indexing::{AsciiInput, InputIndexer, Utf8Input};
+use crate::indexing::{AsciiInput, InputIndexer, Utf8Input, reads_are_inverse};
 
 // Characters of one to four bytes: `a`, `é`, `€` and U+1F600.
 const EACH_LENGTH: &str = "a\u{e9}\u{20ac}\u{1f600}";
@@ -50,6 +50,7 @@ fn look_and_move_agree<Input: InputIndexer, Dir: Direction>(input: &Input, dir: 
 #[test]
 fn what_looks_answers_as_what_moves(rt: HostRuntime) {
     let utf8 = Utf8Input::new(EACH_LENGTH, false);
+    reads_are_inverse(&utf8);
     assert!(rt; look_and_move_agree(&utf8, Forward::new()));
     assert!(rt; look_and_move_agree(&utf8, Backward::new()));
     let ascii = AsciiInput::new("abc", false);

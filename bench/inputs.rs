@@ -1,5 +1,5 @@
 //! Times the loops of the static library `regress_input_bench` beside the same loops in Rust. For each it prints the
-//! least time of many runs of both, in nanoseconds for a byte of text, and their ratio. The runs alternate.
+//! least time of many runs of both, in nanoseconds for a unit of text, and their ratio. The runs alternate.
 
 use std::hint::black_box;
 use std::time::Instant;
@@ -17,6 +17,10 @@ unsafe extern "C" {
     fn regress_input_bench_utf8_left(bytes: *const u8, len: usize, stop: u32) -> usize;
     fn regress_input_bench_ascii_right(bytes: *const u8, len: usize, stop: u32) -> usize;
     fn regress_input_bench_ascii_left(bytes: *const u8, len: usize, stop: u32) -> usize;
+    fn regress_input_bench_utf16_right(units: *const u16, len: usize, stop: u32) -> usize;
+    fn regress_input_bench_utf16_left(units: *const u16, len: usize, stop: u32) -> usize;
+    fn regress_input_bench_ucs2_right(units: *const u16, len: usize, stop: u32) -> usize;
+    fn regress_input_bench_ucs2_left(units: *const u16, len: usize, stop: u32) -> usize;
     fn regress_input_bench_bracket(bytes: *const u8, len: usize) -> usize;
     fn regress_input_bench_bitmap(bytes: *const u8, len: usize) -> usize;
     fn regress_input_bench_literal(bytes: *const u8, len: usize) -> usize;
@@ -53,6 +57,54 @@ fn ascii_right(text: &str) -> usize {
 
 fn ascii_left(text: &str) -> usize {
     count_until(text.bytes().rev().map(u32::from))
+}
+
+// Reads of UTF-16, in which a pair of surrogates is one character.
+
+fn is_pair(high: u16, low: u16) -> bool {
+    high & 0xFC00 == 0xD800 && low & 0xFC00 == 0xDC00
+}
+
+fn of_pair(high: u16, low: u16) -> u32 {
+    0x1_0000 + ((high as u32 & 0x3FF) << 10 | low as u32 & 0x3FF)
+}
+
+fn utf16_right(units: &[u16]) -> usize {
+    let mut at = 0;
+    count_until(std::iter::from_fn(|| {
+        let &unit = units.get(at)?;
+        at += 1;
+        match units.get(at) {
+            Some(&low) if is_pair(unit, low) => {
+                at += 1;
+                Some(of_pair(unit, low))
+            }
+            _ => Some(unit as u32),
+        }
+    }))
+}
+
+fn utf16_left(units: &[u16]) -> usize {
+    let mut rest = units;
+    count_until(std::iter::from_fn(|| match rest {
+        [before @ .., high, low] if is_pair(*high, *low) => {
+            rest = before;
+            Some(of_pair(*high, *low))
+        }
+        [before @ .., unit] => {
+            rest = before;
+            Some(*unit as u32)
+        }
+        [] => None,
+    }))
+}
+
+fn ucs2_right(units: &[u16]) -> usize {
+    count_until(units.iter().map(|&unit| unit as u32))
+}
+
+fn ucs2_left(units: &[u16]) -> usize {
+    count_until(units.iter().rev().map(|&unit| unit as u32))
 }
 
 struct Class {
@@ -180,27 +232,54 @@ fn nanoseconds(f: &dyn Fn() -> usize) -> f64 {
     start.elapsed().as_nanos() as f64
 }
 
-fn compare(name: &str, text: &str, ours: &dyn Fn(&str) -> usize, theirs: &dyn Fn(&str) -> usize) {
+fn compare<T: ?Sized>(
+    name: &str,
+    units: usize,
+    text: &T,
+    ours: &dyn Fn(&T) -> usize,
+    theirs: &dyn Fn(&T) -> usize,
+) {
     assert_eq!(ours(text), theirs(text), "{name}");
     let (mut least, mut least_of_rust) = (f64::MAX, f64::MAX);
     for _ in 0..RUNS {
         least = least.min(nanoseconds(&|| ours(black_box(text))));
         least_of_rust = least_of_rust.min(nanoseconds(&|| theirs(black_box(text))));
     }
-    let bytes = text.len() as f64;
+    let units = units as f64;
     println!(
         "{name:28} {:7.3} {:7.3} {:6.2}",
-        least / bytes,
-        least_of_rust / bytes,
+        least / units,
+        least_of_rust / units,
         least / least_of_rust
     );
 }
 
+// The exported function, as a function of a text or of units.
+macro_rules! call {
+    ($f:ident, $($more:expr)?) => {
+        &|text| unsafe { $f(text.as_ptr(), text.len() $(, $more)?) }
+    };
+}
+
+fn compare_texts(name: &str, text: &str, ours: &dyn Fn(&str) -> usize, theirs: fn(&str) -> usize) {
+    compare(name, text.len(), text, ours, &theirs);
+}
+
+fn compare_units(
+    name: &str,
+    units: &[u16],
+    ours: &dyn Fn(&[u16]) -> usize,
+    theirs: fn(&[u16]) -> usize,
+) {
+    compare(name, units.len(), units, ours, &theirs);
+}
+
 fn main() {
-    let latin: Vec<String> = ('a'..='z').map(String::from).collect();
-    let lower: Vec<&str> = latin.iter().map(String::as_str).collect();
-    let ascii = text_of(&lower);
-    let mostly_ascii = text_of(&[&lower[..], &["\u{e9}", "\u{20ac}"]].concat());
+    let letters: Vec<String> = ('a'..='z').map(String::from).collect();
+    let letters: Vec<&str> = letters.iter().map(String::as_str).collect();
+    let and = |more: &[&str]| text_of(&[&letters[..], more].concat());
+    let ascii = and(&[]);
+    let mostly_ascii = and(&["\u{e9}", "\u{20ac}"]);
     let mixed = text_of(&[
         "a",
         "b",
@@ -211,84 +290,104 @@ fn main() {
         "\u{6f22}",
         "\u{1f600}",
     ]);
-    let letters = text_of(&[&lower[..], &["A", "Z", "7", "_", "\u{e9}", "\u{3b1}"]].concat());
-    let needles = text_of(&[&lower[..], &["needle"]].concat());
+    let in_class = and(&["A", "Z", "7", "_", "\u{e9}", "\u{3b1}"]);
+    let needles = and(&["needle"]);
+    let units: Vec<u16> = mixed.encode_utf16().collect();
+
     println!(
         "{:28} {:>7} {:>7} {:>6}",
-        "ns a byte", "here", "Rust", "ratio"
+        "ns a unit", "here", "Rust", "ratio"
     );
-    macro_rules! call {
-        ($f:ident) => {
-            &|text: &str| unsafe { $f(text.as_ptr(), text.len()) as usize }
-        };
-        ($f:ident, $byte:expr) => {
-            &|text: &str| unsafe { $f(text.as_ptr(), text.len(), $byte) }
-        };
-    }
     for (kind, text) in [
         ("ASCII", &ascii),
         ("mostly ASCII", &mostly_ascii),
         ("mixed", &mixed),
     ] {
-        compare(
-            &format!("right, {kind}"),
+        let right = format!("UTF-8 right, {kind}");
+        compare_texts(
+            &right,
             text,
             call!(regress_input_bench_utf8_right, STOP),
-            &utf8_right,
+            utf8_right,
         );
-        compare(
-            &format!("left, {kind}"),
+        let left = format!("UTF-8 left, {kind}");
+        compare_texts(
+            &left,
             text,
             call!(regress_input_bench_utf8_left, STOP),
-            &utf8_left,
+            utf8_left,
         );
     }
-    compare(
-        "right, AsciiInput",
+    compare_texts(
+        "ASCII right",
         &ascii,
         call!(regress_input_bench_ascii_right, STOP),
-        &ascii_right,
+        ascii_right,
     );
-    compare(
-        "left, AsciiInput",
+    compare_texts(
+        "ASCII left",
         &ascii,
         call!(regress_input_bench_ascii_left, STOP),
-        &ascii_left,
+        ascii_left,
     );
-    compare(
+    compare_units(
+        "UTF-16 right",
+        &units,
+        call!(regress_input_bench_utf16_right, STOP),
+        utf16_right,
+    );
+    compare_units(
+        "UTF-16 left",
+        &units,
+        call!(regress_input_bench_utf16_left, STOP),
+        utf16_left,
+    );
+    compare_units(
+        "UCS-2 right",
+        &units,
+        call!(regress_input_bench_ucs2_right, STOP),
+        ucs2_right,
+    );
+    compare_units(
+        "UCS-2 left",
+        &units,
+        call!(regress_input_bench_ucs2_left, STOP),
+        ucs2_left,
+    );
+    compare_texts(
         "bracket",
-        &letters,
-        call!(regress_input_bench_bracket),
-        &bracket,
+        &in_class,
+        call!(regress_input_bench_bracket,),
+        bracket,
     );
-    compare(
+    compare_texts(
         "ASCII bitmap",
         &ascii,
-        call!(regress_input_bench_bitmap),
-        &bitmap,
+        call!(regress_input_bench_bitmap,),
+        bitmap,
     );
-    compare(
+    compare_texts(
         "literal",
         &needles,
-        call!(regress_input_bench_literal),
-        &literal,
+        call!(regress_input_bench_literal,),
+        literal,
     );
-    compare(
+    compare_texts(
         "find one byte",
         &ascii,
         call!(regress_input_bench_find_one, b'#'),
-        &find_one,
+        find_one,
     );
-    compare(
+    compare_texts(
         "find three bytes",
         &ascii,
         call!(regress_input_bench_find_three, b'#'),
-        &find_three,
+        find_three,
     );
-    compare(
+    compare_texts(
         "find a byte set",
         &mixed,
         call!(regress_input_bench_find_bitmap, b'#'),
-        &find_bitmap,
+        find_bitmap,
     );
 }

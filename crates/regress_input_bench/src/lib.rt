@@ -1,5 +1,5 @@
 //! Loops over an input, to be timed from Rust beside the same loops written there (`bench/inputs.rs`). Each takes the
-//! bytes of a text.
+//! bytes of a text, or its 16-bit units.
 #![tactic(auto)]
 
 ghost use Rattle.std.specs.Prelude.{◌<◌, ◌≤◌, All, IfSome, IsAscii, IsUtf8};
@@ -10,7 +10,9 @@ use regress_input::cursor::{self, Direction, Forward};
 use regress_input::front::{
     AsciiBitmap, BracketContents, ByteBitmap, ByteSearcher, CodePointSet, Interval,
 };
-use regress_input::indexing::{AsciiInput, ElementType, InputIndexer, Utf8Input};
+use regress_input::indexing::{
+    AsciiInput, ElementType, InputIndexer, Ucs2Input, Utf8Input, Utf16Input,
+};
 use regress_input::scm::{Bracket, MatchByteSet, SingleCharMatcher};
 use std::alloc::{AllocError, Global};
 
@@ -135,6 +137,26 @@ pub extern "C" fn regress_input_bench_ascii_left(bytes: &[u8], stop: u32) -> usi
     requires ascii { IsAscii bytes.now }
 {
     count_left(&ascii(bytes), stop)
+}
+
+#[unsafe(no_mangle)]
+pub extern "C" fn regress_input_bench_utf16_right(units: &[u16], stop: u32) -> usize {
+    count_right(&Utf16Input::new(units, false), stop)
+}
+
+#[unsafe(no_mangle)]
+pub extern "C" fn regress_input_bench_utf16_left(units: &[u16], stop: u32) -> usize {
+    count_left(&Utf16Input::new(units, false), stop)
+}
+
+#[unsafe(no_mangle)]
+pub extern "C" fn regress_input_bench_ucs2_right(units: &[u16], stop: u32) -> usize {
+    count_right(&Ucs2Input::new(units, false), stop)
+}
+
+#[unsafe(no_mangle)]
+pub extern "C" fn regress_input_bench_ucs2_left(units: &[u16], stop: u32) -> usize {
+    count_left(&Ucs2Input::new(units, false), stop)
 }
 
 // Letters, digits, `_`, and the letters of two more scripts.

@@ -4,7 +4,7 @@ use super::answers::{byte, character, found, part, past_bytes, past_match, past_
 use super::characters::{folded, number};
 use super::matches::{class, matching};
 use crate::cursor::{Backward, Direction, Forward};
-use crate::indexing::{InputIndexer, Ucs2Input, Utf16Input, is_unit_boundary};
+use crate::indexing::{ElementType, InputIndexer, Ucs2Input, Utf16Input, is_unit_boundary};
 use crate::scm::Char;
 use std::test::Fail;
 
@@ -13,6 +13,12 @@ const WITH_A_PAIR: [u16; 4] = [0x61, 0xd83d, 0xde00, 0x61];
 
 // A low surrogate before a high one, which are no pair.
 const NO_PAIR: [u16; 2] = [0xde00, 0xd83d];
+
+// The offset past the first character, if it has this number.
+fn past_char<Input: InputIndexer>(input: &Input, code: u32) -> Option<usize> {
+    let c = Input::Element::try_from(code)?;
+    past_match(input, Forward::new(), &Char::<Input> { c }, 0)
+}
 
 #[test]
 fn a_pair_is_one_character_in_utf16(rt: HostRuntime) {
@@ -99,9 +105,8 @@ fn matchers_take_one_character_of_units(rt: HostRuntime) -> Result<(), Fail> {
     let ucs2 = Ucs2Input::new(&units, false);
     assert_eq!(rt; matching(&ucs2, Backward::new(), 1, 0, &bc), each);
     assert_eq!(rt; matching(&ucs2, Forward::new(), 1, 2, &bc), other);
-    let lone = Utf16Input::new(&[0xd800], false);
     assert_eq!(rt;
-        past_match(&lone, Forward::new(), &Char { c: 0xd800 }, 0),
+        past_char(&Utf16Input::new(&[0xd800], false), 0xd800),
         Some(1)
     );
     Ok(())

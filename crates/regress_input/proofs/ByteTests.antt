@@ -1,17 +1,17 @@
 -- Characters that are tested by their bytes.
-use Rattle.std.proofs.Common.{◌≡◌, ℕ, zero, suc, ◌+◌, ◌-◌, ◌*◌, ◌<◌, ◌≤◌, ◌≢◌, ◌⊎◌, inl, inr, ⊎_elim, List, [], ◌∷◌, ◌++◌, ◌&&◌, ◌||◌, length, get_or, take, drop, map, flat_map, slice_get, slice_range, Bool, true, false, cond, if◌then◌else◌, nat_eq, All, chars, IsUtf8, encode_utf8, Option, Some, None, option_and_then, refl, sym, ◌∙◌, ap, ap₂, subst, arith, ne_eqb, eqb-true, eq-eqb, take_at, length-append, length-drop}
+use Rattle.std.proofs.Common.{◌≡◌, ℕ, zero, suc, ◌+◌, ◌-◌, ◌<◌, ◌≤◌, ◌⊎◌, inl, inr, ⊎_elim, List, [], ◌∷◌, ◌++◌, ◌&&◌, ◌||◌, length, get_or, take, drop, flat_map, slice_range, Bool, true, false, if◌then◌else◌, nat_eq, All, chars, encode_utf8, Some, None, option_and_then, refl, sym, ◌∙◌, ap, ap₂, subst, arith, ne_eqb, eqb-true, eq-eqb, take_at}
 use lib.Pointwise.{pointwise}
-use lib.Utf8.{scalar, scalars, encode, encodes}
+use lib.Utf8.{scalars, encode, encodes}
 use Rattle.std.specs.Char.{IsScalar, len_utf8}
 use Rattle.std.specs.List.{list_any}
-use Rattle.std.proofs.lemmas.Option.{slice_get_past, slice_get_within, slice_get-get_or}
+use Rattle.std.proofs.lemmas.Option.{slice_get_past, slice_get-get_or}
 use Rattle.std.proofs.lemmas.List.Folds.{drop_split}
-use Rattle.std.proofs.lemmas.Str.{encodes_same, encode_same, length-encode, len_utf8_bounds, len_utf8_ascii, chars-encodes}
+use Rattle.std.proofs.lemmas.Str.{encodes_same, encode_same, length-encode, len_utf8_ascii, chars-encodes}
 use Rattle.regex_meaning.specs.Lists.{contains}
 use Rattle.regex_meaning.specs.Text.{Text, Direction, rightwards, leftwards}
 use Rattle.regex_meaning.specs.Tree.{byte_sequence}
 use Rattle.regex_meaning.specs.Outcomes.{accepts}
-use Rattle.regex_meaning.specs.Offsets.{IsText, IsBoundary, units, read, offset}
+use Rattle.regex_meaning.specs.Offsets.{IsText, IsBoundary, units, read}
 use Rattle.regress_input.specs.Reading.{IsInUtf8, bytes_of, byte_beside, one_on, led_to, past_if, past_bytes}
 use Rattle.regress_input.specs.Utf8.{StandsAt, EndsAt}
 use Rattle.regress_input.proofs.Spelled.{ReadsRight, ReadsLeft, reads_right, reads_left, at_end, before_character, at_start, behind_character, text_of, length-units}

@@ -2,11 +2,11 @@
 use Rattle.std.proofs.Common.{◌≡◌, ℕ, zero, suc, ◌+◌, ◌-◌, ◌<◌, ◌≤◌, ◌≢◌, ◌⊎◌, inl, inr, List, [], ◌∷◌, ◌++◌, ◌&&◌, length, take, drop, slice_get, slice_range, Bool, true, false, not, cond, nat_eq, eq-eqb, eqb-true, if◌then◌else◌, nat_le, Option, Some, None, option_map, refl, sym, ◌∙◌, ap, ap₂, subst, arith, le-leb, leb-true, add-one, length-take, length-drop}
 use lib.Pointwise.{pointwise}
 use Rattle.std.proofs.lemmas.Option.{slice_get_within}
-use Rattle.regex_meaning.specs.Text.{Text, Direction, rightwards, leftwards, next_character, moved, last_place, characters_left, characters_beside}
-use Rattle.regex_meaning.specs.Offsets.{IsText, IsBoundary, offset, units, read, place_at}
+use Rattle.regex_meaning.specs.Text.{Text, Direction, rightwards, leftwards, next_character, moved, characters_left, characters_beside}
+use Rattle.regex_meaning.specs.Offsets.{IsText, IsBoundary, offset, read}
 use Rattle.regex_meaning.proofs.TextLemmas.{offset-injective, offset-less, offset-le, place-le}
 use Rattle.regress_input.specs.Reading.{way, place, characters_between, past_spelled}
-use Rattle.regress_input.proofs.Places.{HasPlace, place_of_boundary, pair, StepRight, StepLeft, step_right, step_left, read-place}
+use Rattle.regress_input.proofs.Places.{HasPlace, place_of_boundary, pair, step_right, step_left, read-place}
 use Rattle.regress_input.proofs.Slices.{place_is}
 
 -- ---- Ranges, one character more

@@ -1,9 +1,9 @@
 -- Places of a text and their offsets.
-use Rattle.std.proofs.Common.{◌≡◌, ℕ, zero, suc, ◌+◌, ◌-◌, ◌<◌, ◌≤◌, ◌⊎◌, inl, inr, Bool, true, false, cond, IsTrue, List, [], ◌∷◌, length, get_or, take, drop, map, slice_get, slice_index, position, nat_eq, nat_lt, Option, Some, None, is_some, option_map, option_and_then, refl, sym, ◌∙◌, ap, subst, arith, lt-ltb, eq-eqb, eqb-true, ne_eqb, add-one, le_refl}
+use Rattle.std.proofs.Common.{◌≡◌, ℕ, zero, suc, ◌+◌, ◌-◌, ◌<◌, ◌≤◌, IsTrue, slice_get, Option, Some, None, is_some, option_map, option_and_then, refl, sym, ◌∙◌, ap, subst, arith, add-one, le_refl}
 use Rattle.std.proofs.lemmas.Option.{slice_get_within, some_pair_parts}
 use Rattle.regex_meaning.proofs.TextLemmas.{offset-less, offset-le, place_at-offset, offset-place_at}
-use Rattle.regex_meaning.specs.Text.{Text, Direction, rightwards, leftwards, next_character, moved, last_place}
-use Rattle.regex_meaning.specs.Offsets.{Rises, IsText, offset, units, place_at, IsBoundary, read_at, read}
+use Rattle.regex_meaning.specs.Text.{Text, Direction, rightwards, leftwards, last_place}
+use Rattle.regex_meaning.specs.Offsets.{IsText, offset, units, place_at, IsBoundary, read_at, read}
 
 -- a boundary has a place, which has its offset
 pub record HasPlace (text : Text) (at place : ℕ) : Type 0 where

@@ -1,12 +1,12 @@
 -- Ranges of texts whose characters are spelled by units.
-use Rattle.std.proofs.Common.{◌≡◌, ℕ, zero, suc, ◌+◌, ◌-◌, ◌<◌, ◌≤◌, List, [], ◌∷◌, ◌++◌, length, get_or, take, drop, map, flat_map, slice_range, Bool, true, false, ◌&&◌, nat_le, nat_eq, cond, if◌then◌else◌, Option, Some, None, unwrap_or, refl, sym, ◌∙◌, ap, ap₂, subst, arith, length-append, length-drop, length-take, take-append-drop, take-add, take_at, drop_at, add-one, le-leb, leb-true}
+use Rattle.std.proofs.Common.{◌≡◌, ℕ, zero, suc, ◌+◌, ◌-◌, ◌<◌, ◌≤◌, List, [], ◌∷◌, ◌++◌, length, get_or, take, drop, map, slice_range, Bool, true, false, ◌&&◌, nat_le, nat_eq, cond, if◌then◌else◌, Option, Some, None, unwrap_or, refl, sym, ◌∙◌, ap, ap₂, subst, arith, length-append, length-drop, length-take, take-add, drop_at, le-leb, leb-true}
 use Rattle.std.proofs.lemmas.List.Concat.{flat_map-append}
 use lib.Pointwise.{pointwise, bytes_decides}
 use Rattle.regex_meaning.specs.Text.{Text, Direction, rightwards, leftwards, offsets_from, moved, characters_left, characters_beside}
-use Rattle.regex_meaning.specs.Offsets.{IsText, offset, IsBoundary, place_at}
+use Rattle.regex_meaning.specs.Offsets.{offset, IsBoundary, place_at}
 use Rattle.regex_meaning.proofs.TextLemmas.{place-le, offset-IsBoundary}
 use Rattle.regress_input.specs.Reading.{place, part, characters_between, past_spelled, past_bytes}
-use Rattle.regress_input.proofs.Places.{HasPlace, place_of_boundary}
+use Rattle.regress_input.proofs.Places.{HasPlace}
 use Rattle.regress_input.proofs.Spelled.{text_of, is_text, spelling, Cut, cut, cut_at, offset-spelling}
 
 -- ---- Tests and options

@@ -1,9 +1,8 @@
 -- Texts whose characters are spelled by units, one after another.
-use Rattle.std.proofs.Common.{◌≡◌, ℕ, zero, suc, ◌+◌, ◌-◌, ◌<◌, ◌≤◌, List, [], ◌∷◌, ◌++◌, length, get_or, take, drop, map, flat_map, slice_get, Bool, Option, Some, None, option_map, refl, sym, ◌∙◌, ap, subst, arith, length-append, take-append-drop, take_at, drop_at, drop-cons, take-suc, take_all, length-take, length-drop, add-one}
+use Rattle.std.proofs.Common.{◌≡◌, ℕ, zero, suc, ◌+◌, ◌-◌, ◌<◌, ◌≤◌, List, [], ◌∷◌, ◌++◌, length, get_or, take, drop, map, flat_map, slice_get, Bool, Option, Some, None, option_map, refl, sym, ◌∙◌, ap, arith, length-append, take-append-drop, take_at, drop_at, take_all, length-take, length-drop, add-one}
 use Rattle.std.proofs.lemmas.List.Concat.{flat_map-append}
-use Rattle.std.proofs.lemmas.Option.{slice_get_within, get_or_from_slice_get}
-use Rattle.regex_meaning.specs.Text.{Text, Direction, rightwards, leftwards, offsets_from}
-use Rattle.regex_meaning.specs.Offsets.{Rises, IsText, offset, IsBoundary, place_at, read}
+use Rattle.regex_meaning.specs.Text.{Text, rightwards, leftwards, offsets_from}
+use Rattle.regex_meaning.specs.Offsets.{IsText, offset, IsBoundary, read}
 use Rattle.regex_meaning.proofs.TextLemmas.{offsets-rise, length-offsets, first-offset}
 use Rattle.regress_input.proofs.Places.{HasPlace, place_of_boundary, read-place}
 

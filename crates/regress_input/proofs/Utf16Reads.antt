@@ -1,14 +1,14 @@
 -- Characters in UTF-16, read from their units.
-use Rattle.std.proofs.Common.{◌≡◌, ◌≢◌, ℕ, zero, suc, ◌+◌, ◌-◌, ◌*◌, ◌/◌, ◌%◌, ◌<◌, ◌≤◌, ◌⊎◌, inl, inr, Bool, true, false, cond, if◌then◌else◌, not, ◌&&◌, List, [], ◌∷◌, ◌++◌, length, get_or, take, drop, map, flat_map, slice_get, slice_range, slice_index, nat_le, nat_eq, is_some, Option, Some, None, option_map, refl, sym, ◌∙◌, ap, ap₂, subst, arith, add-one, eq-eqb, ne_eqb, le-leb, leb-true, lt-ltb, le-ltb, ltb-true, ltb-false, get_or-drop}
-use Rattle.std.proofs.lemmas.Bool.{cases_Bool, and_parts, lt-leb}
-use Rattle.regex_meaning.specs.Text.{Text, Direction, rightwards, leftwards, is_high_surrogate, is_low_surrogate, character_of_pair, utf16_width, utf16_characters, utf16_text, is_unit_boundary, fold_code_point}
-use Rattle.regex_meaning.specs.Offsets.{IsText, IsBoundary, units, read, place_at}
+use Rattle.std.proofs.Common.{◌≡◌, ◌≢◌, ℕ, zero, suc, ◌+◌, ◌-◌, ◌/◌, ◌%◌, ◌<◌, ◌≤◌, ◌⊎◌, inl, inr, Bool, true, false, cond, if◌then◌else◌, not, ◌&&◌, List, [], ◌∷◌, ◌++◌, length, get_or, take, drop, flat_map, slice_get, slice_index, nat_le, nat_eq, Some, None, option_map, refl, sym, ◌∙◌, ap, ap₂, subst, arith, add-one, eq-eqb, ne_eqb, le-leb, leb-true, get_or-drop}
+use Rattle.std.proofs.lemmas.Bool.{and_parts, lt-leb}
+use Rattle.regex_meaning.specs.Text.{Text, rightwards, leftwards, is_high_surrogate, is_low_surrogate, character_of_pair, utf16_width, utf16_characters, utf16_text, is_unit_boundary, fold_code_point}
+use Rattle.regex_meaning.specs.Offsets.{IsBoundary, units, read}
 use Rattle.regex_meaning.specs.Laws.{is_within_pair}
 use Rattle.regex_meaning.proofs.TextLemmas.{utf16_text-IsText}
 use Rattle.regex_meaning.proofs.UnitLemmas.{unit_boundary-place_at, unit_boundary-between, units-utf16}
 use Rattle.regress_input.specs.Utf16.{AreUnits, is_pair_at, pair_at, character_behind, character_before}
-use Rattle.regress_input.proofs.Places.{HasPlace, pair, right_boundary, left_boundary, boundary_inside}
-use Rattle.regress_input.proofs.Spelled.{text_of, ReadsRight, ReadsLeft, reads_right, reads_left, at_end, before_character, at_start, behind_character}
+use Rattle.regress_input.proofs.Places.{pair, right_boundary, left_boundary, boundary_inside}
+use Rattle.regress_input.proofs.Spelled.{ReadsRight, ReadsLeft, reads_right, reads_left, at_end, before_character, at_start, behind_character}
 use Rattle.regress_input.proofs.Utf8Reads.{order}
 
 -- ---- The units of a character

@@ -1,10 +1,10 @@
 -- Characters in UTF-8, read from their bytes.
-use Rattle.std.proofs.Common.{◌≡◌, ℕ, zero, suc, ◌+◌, ◌-◌, ◌*◌, ◌<◌, ◌≤◌, ◌≢◌, ◌/◌, ◌⊎◌, inl, inr, ⊎_elim, ltb, lt-ltb, le-ltb, ltb-true, ltb-false, List, [], ◌∷◌, ◌++◌, ◌&&◌, Some, None, length, get_or, drop, flat_map, slice_get, Bool, true, false, encode_utf8, IsUtf8, chars, IsTrue, refl, sym, ◌∙◌, ap, ap₂, subst, option_map, Option, arith, length-append, length-drop, get_or-drop}
+use Rattle.std.proofs.Common.{◌≡◌, ℕ, zero, suc, ◌+◌, ◌-◌, ◌*◌, ◌<◌, ◌≤◌, ◌≢◌, ◌/◌, ◌⊎◌, inl, inr, ⊎_elim, ltb, lt-ltb, le-ltb, ltb-true, ltb-false, List, [], ◌∷◌, ◌++◌, ◌&&◌, Some, None, length, get_or, flat_map, slice_get, Bool, true, false, IsUtf8, chars, refl, sym, ◌∙◌, ap, ap₂, subst, option_map, arith, length-append, length-drop, get_or-drop}
 use Rattle.std.specs.Char.{IsScalar, len_utf8}
 use Rattle.std.proofs.lemmas.Str.{encodes-chars, scalars-chars, IsUtf8-had, length-encode, len_utf8_bounds}
 use lib.Utf8.{scalar, scalars, encode, encodes, next, scalar_cases}
 use Rattle.regex_meaning.specs.Text.{Text, utf8_text, rightwards, leftwards, fold_char}
-use Rattle.regex_meaning.specs.Offsets.{IsText, IsBoundary, units, read}
+use Rattle.regex_meaning.specs.Offsets.{IsBoundary, units, read}
 use Rattle.regress_input.specs.Utf8.{StandsAt, EndsAt}
 use Rattle.regress_input.specs.Reading.{bytes_of}
 use Rattle.regress_input.proofs.Spelled.{ReadsRight, ReadsLeft, reads_right, reads_left, at_end, before_character, at_start, behind_character}

@@ -1,5 +1,5 @@
 -- Texts whose units are bytes are those of UTF-8.
-use Rattle.std.specs.Prelude.{◌≡◌, ℕ, zero, suc, ◌<◌, Bool, List, [], ◌∷◌, map, chars, slice_index, IsUtf8, IsAscii}
+use Rattle.std.specs.Prelude.{◌≡◌, ℕ, suc, Bool, List, [], ◌∷◌, map, IsUtf8, IsAscii}
 use Rattle.std.proofs.Common.{refl, sym, ap, ap₂, subst}
 use Rattle.std.proofs.lemmas.Str.{encodes-chars, encodes-IsAscii, IsUtf8-from_ascii, IsUtf8-had, len_utf8_ascii}
 use Rattle.std.specs.Char.{len_utf8}

@@ -1,5 +1,5 @@
 -- Characters in UTF-16.
-use Rattle.std.specs.Prelude.{◌≡◌, ℕ, ◌+◌, ◌-◌, ◌<◌, ◌^◌, Bool, ◌&&◌, List, length, slice_index, nat_le, if◌then◌else◌, Option, Some, None, option_and_then}
+use Rattle.std.specs.Prelude.{ℕ, ◌+◌, ◌-◌, ◌<◌, ◌^◌, Bool, ◌&&◌, List, length, slice_index, nat_le, if◌then◌else◌, Option, Some, None, option_and_then}
 use Rattle.std.proofs.Common.{subst, sym}
 use Rattle.regex_meaning.specs.Text.{is_high_surrogate, is_low_surrogate, character_of_pair, is_unit_boundary, utf16_text}
 use Rattle.regex_meaning.specs.Offsets.{units}

@@ -1,8 +1,8 @@
-use Rattle.std.proofs.Common.{◌≡◌, ◌≢◌, inl, inr, sym, ◌∙◌, ap, Some, None, option_map, true, false}
+use Rattle.std.proofs.Common.{◌≡◌, ◌≢◌, inl, inr, sym, ◌∙◌, ap, None, option_map}
 use Rattle.regex_meaning.specs.Offsets.{read}
 use Rattle.regress_input.specs.Reading.{way, same_fold}
 use Rattle.regress_input.proofs.Places.{pair}
-use Rattle.regress_input.proofs.Compare.{Comparing, starts, stopped, none_at, none_there, differs, goes_on, nearer, unequal, equal}
+use Rattle.regress_input.proofs.Compare.{starts, stopped, none_at, none_there, differs, goes_on, nearer, unequal, equal}
 use Rattle.regress_input.proofs.matchers.backref_icase.Goals as goal
 use Rattle.regress_input.proofs.matchers.backref_icase.Goals.{then-FORWARD, else-FORWARD}
 

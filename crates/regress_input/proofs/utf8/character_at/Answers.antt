@@ -1,4 +1,4 @@
-use Rattle.std.proofs.Common.{◌≡◌, arith, sym, ◌∙◌, ap}
+use Rattle.std.proofs.Common.{arith}
 use Rattle.regress_input.proofs.Utf8Reads.{first_inside, second_inside, third_inside, fourth_inside, is_one, is_two, is_three, is_four}
 use Rattle.regress_input.proofs.utf8.character_at.Goals as goal
 

@@ -1,4 +1,4 @@
-use Rattle.std.proofs.Common.{◌≡◌, arith}
+use Rattle.std.proofs.Common.{arith}
 use Rattle.regress_input.proofs.Utf8Reads.{last_inside, third_back, fourth_back, back_one, back_two, back_three, back_four}
 use Rattle.regress_input.proofs.utf8.character_before.Goals as goal
 

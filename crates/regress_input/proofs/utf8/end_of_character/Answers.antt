@@ -1,5 +1,5 @@
 use Rattle.std.proofs.Common.{arith}
-use Rattle.regress_input.proofs.Utf8Reads.{first_inside, second_inside, third_inside, fourth_inside, is_one, is_two, is_three, is_four}
+use Rattle.regress_input.proofs.Utf8Reads.{first_inside, is_one, is_two, is_three, is_four}
 use Rattle.regress_input.proofs.utf8.end_of_character.Goals as goal
 
 pub bounds-bytes-at : goal.bounds-bytes-at

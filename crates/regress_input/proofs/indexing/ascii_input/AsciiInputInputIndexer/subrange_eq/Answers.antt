@@ -1,4 +1,4 @@
-use Rattle.std.proofs.Common.{◌∙◌, ap, slice_range, arith}
+use Rattle.std.proofs.Common.{◌∙◌, ap, slice_range}
 use Rattle.regex_meaning.specs.Text.{fold_ascii}
 use Rattle.regress_input.specs.Reading.{way, past_bytes}
 use Rattle.regress_input.proofs.OneUnit.{inside, literal-one}

@@ -1,4 +1,4 @@
-use Rattle.std.proofs.Common.{sym, arith}
+use Rattle.std.proofs.Common.{sym}
 use Rattle.regex_meaning.proofs.TextLemmas.{utf16_text-IsText}
 use Rattle.regress_input.proofs.Places.{boundary_inside, left_ahead, left_boundary}
 use Rattle.regress_input.proofs.Utf16Reads.{inside, read-start, left-is}

@@ -1,4 +1,4 @@
-use Rattle.std.proofs.Common.{sym, ◌∙◌, ap, Some, option_map, arith}
+use Rattle.std.proofs.Common.{sym, ◌∙◌, ap, option_map}
 use Rattle.regex_meaning.proofs.TextLemmas.{utf16_text-IsText}
 use Rattle.regress_input.proofs.Places.{boundary_inside, before_ahead, before_boundary}
 use Rattle.regress_input.proofs.Utf16Reads.{inside, read-start, left-past}

@@ -1,4 +1,4 @@
-use Rattle.std.proofs.Common.{◌≡◌, sym, Some, arith}
+use Rattle.std.proofs.Common.{◌≡◌, sym, Some}
 use Rattle.regex_meaning.specs.Text.{utf8_text, rightwards}
 use Rattle.regex_meaning.specs.Offsets.{read}
 use Rattle.regex_meaning.proofs.TextLemmas.{utf8_text-IsText}

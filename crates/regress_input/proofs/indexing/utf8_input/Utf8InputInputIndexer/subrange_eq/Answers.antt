@@ -1,4 +1,4 @@
-use Rattle.std.proofs.Common.{sym, ◌∙◌, ap, ap₂, length, arith, slice_range}
+use Rattle.std.proofs.Common.{◌∙◌, ap, ap₂, length, arith, slice_range}
 use Rattle.regress_input.specs.Reading.{way, past_bytes}
 use Rattle.regress_input.proofs.Utf8Reads.{boundary_inside}
 use Rattle.regress_input.proofs.Utf8Slices.{literal}

@@ -7,5 +7,6 @@ pub mod Utf8Slices
 pub mod ByteTests
 pub mod Compare
 pub mod OneUnit
+pub mod AsciiSets
 pub mod Utf16Reads
 pub mod Utf16Slices

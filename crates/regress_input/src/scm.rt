@@ -33,6 +33,7 @@ pub trait SingleCharMatcher<Input: InputIndexer, Dir: Direction> {
 }
 
 /// One character.
+#[derive(Drop)]
 pub struct Char<Input: InputIndexer> {
     pub c: Input::Element,
 }
@@ -50,6 +51,7 @@ impl<Input: InputIndexer, Dir: Direction> SingleCharMatcher<Input, Dir> for Char
 }
 
 /// Any of four characters, some of which may be the same.
+#[derive(Drop)]
 pub struct CharSet<'a> {
     pub chars: &'a [u32; MAX_CHAR_SET_LENGTH],
 }
@@ -75,6 +77,7 @@ fn contains_char(chars: &[u32; MAX_CHAR_SET_LENGTH], c: u32) -> bool
 }
 
 /// Any character of a class.
+#[derive(Drop)]
 pub struct Bracket<'a> {
     pub bc: &'a BracketContents,
 }
@@ -92,6 +95,7 @@ impl<'a, Input: InputIndexer, Dir: Direction> SingleCharMatcher<Input, Dir> for 
 }
 
 /// Any character.
+#[derive(Drop)]
 pub struct MatchAny {}
 
 impl MatchAny {
@@ -110,6 +114,7 @@ impl<Input: InputIndexer, Dir: Direction> SingleCharMatcher<Input, Dir> for Matc
 }
 
 /// Any character but those that end a line.
+#[derive(Drop)]
 pub struct MatchAnyExceptLineTerminator {}
 
 impl MatchAnyExceptLineTerminator {
@@ -132,6 +137,7 @@ impl<Input: InputIndexer, Dir: Direction> SingleCharMatcher<Input, Dir>
 }
 
 /// Any character of a set of ASCII bytes.
+#[derive(Drop)]
 pub struct MatchByteSet<'a, Bytes: ByteSet> {
     pub bytes: &'a Bytes,
 }
@@ -149,6 +155,7 @@ impl<'a, Input: InputIndexer, Dir: Direction, Bytes: ByteSet> SingleCharMatcher<
 }
 
 /// The same of an array that is held directly.
+#[derive(Drop)]
 pub struct MatchByteArraySet<ArraySet: SmallArraySet>(pub ByteArraySet<ArraySet>);
 
 impl<Input: InputIndexer, Dir: Direction, ArraySet: SmallArraySet> SingleCharMatcher<Input, Dir>
@@ -197,6 +204,7 @@ fn contains_number<Bytes: ByteSet>(bytes: &Bytes, c: u32) -> bool
 }
 
 /// The character of which these are the bytes in UTF-8.
+#[derive(Drop)]
 pub struct MatchByteSeq<'a, const N: usize>(pub &'a [u8; N]);
 
 impl<'a, const N: usize, Input: InputIndexer, Dir: Direction> SingleCharMatcher<Input, Dir>

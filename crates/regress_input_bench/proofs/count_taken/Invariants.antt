@@ -1,6 +1,6 @@
 use Rattle.std.proofs.Common.{◌-◌}
 use Rattle.regex_meaning.specs.Offsets.{units, IsBoundary}
-use Rattle.regress_input.proofs.tests.count_characters.Given as goal
+use Rattle.regress_input_bench.proofs.count_taken.Given as goal
 
 abbrev pub invariant-loop-pos : goal.invariant-loop-pos
 invariant-loop-pos g l = IsBoundary (g.Input.InputIndexer.text l.input) (g.Input.Position.PositionType.offset l.pos)

@@ -1,0 +1,6 @@
+use Rattle.std.proofs.Common.{refl, arith}
+use Rattle.regress_input.proofs.tests.matches.matching.Goals as goal
+
+pub past_match-requires-8 : goal.past_match-requires-8
+unfolding lib.Utf8.encode
+past_match-requires-8 g c = (omega arith, (0x7A, refl, refl))

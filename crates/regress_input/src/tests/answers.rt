@@ -1,0 +1,180 @@
+//! What calls answer, as numbers: places count characters from the left end, and offsets are in units.
+
+ghost use Rattle.std.specs.Prelude.{◌≡◌, ◌≤◌, IfSome};
+ghost use Rattle.regex_meaning.specs.Offsets.{IsBoundary, units};
+
+use crate::cursor::{self, Direction, Forward};
+use crate::front::ByteSearcher;
+use crate::indexing::{ElementType, InputIndexer};
+use crate::matchers::{backref, backref_icase};
+use crate::scm::SingleCharMatcher;
+
+// So many characters to the right, or at the right end.
+fn further<Input: InputIndexer>(
+    input: &Input,
+    pos: Input::Position,
+    count: usize,
+) -> Input::Position
+    requires { IsBoundary (Input.text input.now) (Input.Position.offset pos) }
+    ensures boundary { IsBoundary (Input.text input.now) (Input.Position.offset result) }
+    ensures onward { Input.Position.offset pos ≤ Input.Position.offset result }
+{
+    let mut at = pos;
+    for _ in 0..count {
+        let Some(next) = input.next_right_pos(at) else {
+            return at;
+        };
+        at = next;
+    }
+    at
+}
+
+fn position<Input: InputIndexer>(input: &Input, place: usize) -> Input::Position
+    ensures { IsBoundary (Input.text input.now) (Input.Position.offset result) }
+{
+    further(input, input.left_end(), place)
+}
+
+// The character beside a place, and the offset past it.
+pub(super) fn character<Input: InputIndexer, Dir: Direction>(
+    input: &Input,
+    dir: Dir,
+    place: usize,
+) -> Option<(u32, usize)> {
+    let mut pos = position(input, place);
+    let c = cursor::next(input, dir, &mut pos)?;
+    Some((c.as_u32(), input.pos_to_offset(pos)))
+}
+
+// The same by the calls that answer one of the two.
+pub(super) fn seen<Input: InputIndexer, Dir: Direction>(
+    input: &Input,
+    _dir: Dir,
+    place: usize,
+) -> Option<(u32, usize)> {
+    let pos = position(input, place);
+    let (c, past) = if Dir::FORWARD {
+        (input.peek_right(pos)?, input.next_right_pos(pos)?)
+    } else {
+        (input.peek_left(pos)?, input.next_left_pos(pos)?)
+    };
+    Some((c.as_u32(), input.pos_to_offset(past)))
+}
+
+// The position of an offset in units.
+fn unit_position<Input: InputIndexer>(input: &Input, offset: usize) -> Option<Input::Position>
+    ensures { IfSome result (λ p. Input.Position.offset p ≤ units (Input.text input.now)) }
+{
+    input.try_move_right(input.left_end(), offset)
+}
+
+// The offset so many units before the right end.
+pub(super) fn before_the_end<Input: InputIndexer>(input: &Input, amt: usize) -> Option<usize> {
+    let pos = input.try_move_left(input.right_end(), amt)?;
+    Some(input.pos_to_offset(pos))
+}
+
+// The byte beside an offset, and the offset past it.
+pub(super) fn byte<Input: InputIndexer, Dir: Direction>(
+    input: &Input,
+    dir: Dir,
+    offset: usize,
+) -> Option<(u8, usize)> {
+    let mut pos = unit_position(input, offset)?;
+    let byte = cursor::next_byte(input, dir, &mut pos)?;
+    Some((byte, input.pos_to_offset(pos)))
+}
+
+// The offset past these bytes.
+pub(super) fn past_bytes<const N: usize, Input: InputIndexer, Dir: Direction>(
+    input: &Input,
+    dir: Dir,
+    offset: usize,
+    bytes: &[u8; N],
+) -> Option<usize> {
+    let mut pos = unit_position(input, offset)?;
+    if cursor::try_match_lit(input, dir, &mut pos, bytes) {
+        Some(input.pos_to_offset(pos))
+    } else {
+        None
+    }
+}
+
+// The offset at which the bytes stand that are looked for.
+pub(super) fn found<Input: InputIndexer, Search: ByteSearcher>(
+    input: &Input,
+    offset: usize,
+    search: &Search,
+) -> Option<usize> {
+    let pos = unit_position(input, offset)?;
+    let at = input.find_bytes(pos, search)?;
+    Some(input.pos_to_offset(at))
+}
+
+// The first character of the text of a range, and its length.
+pub(super) fn part<Input: InputIndexer>(
+    input: &Input,
+    place: usize,
+    count: usize,
+) -> (Option<(u32, usize)>, usize) {
+    let start = position(input, place);
+    let end = further(input, start, count);
+    let sub = input.subinput(start..end);
+    (
+        character(&sub, Forward::new(), 0),
+        sub.pos_to_offset(sub.right_end()),
+    )
+}
+
+// The offset past the characters of a range, beside another place.
+pub(super) fn past_range<Input: InputIndexer, Dir: Direction>(
+    input: &Input,
+    dir: Dir,
+    place: usize,
+    count: usize,
+    beside: usize,
+) -> Option<usize> {
+    let start = position(input, place);
+    let end = further(input, start, count);
+    let mut pos = position(input, beside);
+    if backref(input, dir, start..end, &mut pos) {
+        Some(input.pos_to_offset(pos))
+    } else {
+        None
+    }
+}
+
+// The same where case does not count.
+pub(super) fn past_range_icase<Input: InputIndexer, Dir: Direction>(
+    input: &Input,
+    dir: Dir,
+    place: usize,
+    count: usize,
+    beside: usize,
+) -> Option<usize> {
+    let start = position(input, place);
+    let end = further(input, start, count);
+    let mut pos = position(input, beside);
+    if backref_icase(input, dir, start..end, &mut pos) {
+        Some(input.pos_to_offset(pos))
+    } else {
+        None
+    }
+}
+
+// The offset past the character that the matcher takes.
+pub(super) fn past_match<Input: InputIndexer, Dir: Direction, M: SingleCharMatcher<Input, Dir>>(
+    input: &Input,
+    dir: Dir,
+    matcher: &M,
+    place: usize,
+) -> Option<usize>
+    requires { M.can_match matcher.now }
+{
+    let mut pos = position(input, place);
+    if matcher.matches(input, dir, &mut pos) {
+        Some(input.pos_to_offset(pos))
+    } else {
+        None
+    }
+}

@@ -1,0 +1,81 @@
+//! Positions, and directions.
+
+ghost use Rattle.std.specs.Prelude.{◌≡◌, ◌+◌, ◌-◌, ◌<◌, ◌≤◌, ◌^◌, ℕ};
+
+use crate::position::{Backward, Direction, Forward, IndexPosition, PositionType};
+
+// A position of any type, moved on and back.
+fn there_and_back<P: PositionType>(p: P, units: usize) -> P
+    requires { P.offset p + units < 2 ^ 64 }
+    ensures { P.offset result ≡ P.offset p }
+{
+    let mut q = p + units;
+    q -= units;
+    q += units;
+    q - units
+}
+
+// Whether one position is before the other, and whether they are equal.
+fn compared<P: PositionType>(p: P, q: P) -> (bool, bool) {
+    (p < q, p == q)
+}
+
+fn offset_of<'a>(p: IndexPosition<'a>) -> usize {
+    p - IndexPosition::new(0)
+}
+
+fn kept<'a>(p: IndexPosition<'a>) -> usize
+    requires { ⟦<IndexPosition<'a> as PositionType>⟧.offset p < 1000 }
+{
+    offset_of(there_and_back(p, 7))
+}
+
+fn compared_in_order<'a>(p: IndexPosition<'a>, q: IndexPosition<'a>) -> (bool, bool) {
+    compared(p, q)
+}
+
+fn added<'a>(mut p: IndexPosition<'a>, units: usize) -> IndexPosition<'a>
+    requires { ⟦<IndexPosition<'a> as PositionType>⟧.offset p + units < 2 ^ 64 }
+    ensures { ⟦<IndexPosition<'a> as PositionType>⟧.offset result ≡ ⟦<IndexPosition<'a> as PositionType>⟧.offset p.entry + units }
+{
+    p += units;
+    p
+}
+
+fn taken_off<'a>(mut p: IndexPosition<'a>, units: usize) -> IndexPosition<'a>
+    requires { units ≤ ⟦<IndexPosition<'a> as PositionType>⟧.offset p }
+    ensures { ⟦<IndexPosition<'a> as PositionType>⟧.offset result ≡ ⟦<IndexPosition<'a> as PositionType>⟧.offset p.entry - units }
+{
+    p -= units;
+    p
+}
+
+#[test]
+fn positions_are_offsets(rt: HostRuntime) {
+    IndexPosition::check_size();
+    assert_eq!(rt; offset_of(IndexPosition::new(3) + 2), 5);
+    assert_eq!(rt; offset_of(IndexPosition::new(3) - 2), 1);
+    assert_eq!(rt; offset_of(added(IndexPosition::new(3), 4)), 7);
+    assert_eq!(rt; offset_of(taken_off(IndexPosition::new(3), 2)), 1);
+    assert_eq!(rt; kept(IndexPosition::new(3)), 3);
+}
+
+#[test]
+fn positions_are_compared_by_offsets(rt: HostRuntime) {
+    assert_eq!(rt;
+        compared_in_order(IndexPosition::new(3), IndexPosition::new(3)),
+        (false, true)
+    );
+    assert_eq!(rt;
+        compared_in_order(IndexPosition::new(3), IndexPosition::new(4)),
+        (true, false)
+    );
+}
+
+#[test]
+fn directions_know_their_way(rt: HostRuntime) {
+    let _forward = Forward::new();
+    let _backward = Backward::new();
+    assert!(rt; Forward::FORWARD);
+    assert!(rt; !Backward::FORWARD);
+}

@@ -1,0 +1,256 @@
+//! Loops over an input, to be timed from Rust beside the same loops written there (`bench/inputs.rs`). Each takes the
+//! bytes of a text, or its 16-bit units.
+#![tactic(auto)]
+
+ghost use Rattle.std.specs.Prelude.{◌<◌, ◌≤◌, All, IfSome, IsAscii, IsUtf8};
+ghost use Rattle.regex_meaning.specs.Offsets.{IsBoundary, units};
+ghost use Rattle.regex_pattern_front.specs.ByteSets.{ascii_bitmap_bytes};
+
+use regress_input::cursor::{self, Direction, Forward};
+use regress_input::front::{
+    AsciiBitmap, BracketContents, ByteBitmap, ByteSearcher, CodePointSet, Interval,
+};
+use regress_input::indexing::{
+    AsciiInput, ElementType, InputIndexer, Ucs2Input, Utf8Input, Utf16Input,
+};
+use regress_input::scm::{Bracket, MatchByteSet, SingleCharMatcher};
+use std::alloc::{AllocError, Global};
+
+// How many characters stand to the right of the left end, up to the first of this number.
+#[inline(always)]
+fn count_right<Input: InputIndexer>(input: &Input, stop: u32) -> usize {
+    let mut pos = input.left_end();
+    let mut count: usize = 0;
+    while let Some(c) = input.next_right(&mut pos) {
+        if c.as_u32() == stop {
+            return count;
+        }
+        count = count.wrapping_add(1);
+    }
+    count
+}
+
+// How many characters stand to the left of the right end, up to the first of this number.
+#[inline(always)]
+fn count_left<Input: InputIndexer>(input: &Input, stop: u32) -> usize {
+    let mut pos = input.right_end();
+    let mut count: usize = 0;
+    while let Some(c) = input.next_left(&mut pos) {
+        if c.as_u32() == stop {
+            return count;
+        }
+        count = count.wrapping_add(1);
+    }
+    count
+}
+
+// How many characters from the left end on the matcher takes.
+#[inline(always)]
+fn count_taken<Input: InputIndexer, Matcher: SingleCharMatcher<Input, Forward>>(
+    input: &Input,
+    matcher: &Matcher,
+) -> usize
+    requires { Matcher.can_match matcher.now }
+{
+    let mut pos = input.left_end();
+    let mut count: usize = 0;
+    while matcher.matches(input, Forward::new(), &mut pos) {
+        count = count.wrapping_add(1);
+    }
+    count
+}
+
+// The position of an offset in units.
+#[inline(always)]
+fn position_at<Input: InputIndexer>(input: &Input, offset: usize) -> Option<Input::Position>
+    ensures { IfSome result (λ p. Input.Position.offset p ≤ units (Input.text input.now)) }
+{
+    input.try_move_right(input.left_end(), offset)
+}
+
+// At how many offsets the literal stands.
+#[inline(always)]
+fn count_literals<const N: usize, Input: InputIndexer>(input: &Input, literal: &[u8; N]) -> usize {
+    let end = input.pos_to_offset(input.right_end());
+    let mut count: usize = 0;
+    let mut offset = 0;
+    while offset < end {
+        let Some(mut pos) = position_at(input, offset) else {
+            return count;
+        };
+        if cursor::try_match_lit(input, Forward::new(), &mut pos, literal) {
+            count = count.wrapping_add(1);
+        }
+        offset += 1;
+    }
+    count
+}
+
+// Where the bytes stand first, or the length.
+#[inline(always)]
+fn first_found<Input: InputIndexer, Search: ByteSearcher>(input: &Input, search: &Search) -> usize {
+    let found = input.find_bytes(input.left_end(), search);
+    let at = found.unwrap_or(input.right_end());
+    input.pos_to_offset(at)
+}
+
+#[inline(always)]
+fn utf8(bytes: &[u8]) -> Utf8Input<'_>
+    requires { IsUtf8 bytes.now }
+{
+    Utf8Input::new(unsafe { str::from_utf8_unchecked(bytes) }, false)
+}
+
+#[inline(always)]
+fn ascii(bytes: &[u8]) -> AsciiInput<'_>
+    requires utf8 { IsUtf8 bytes.now }
+    requires ascii { IsAscii bytes.now }
+{
+    AsciiInput::new(unsafe { str::from_utf8_unchecked(bytes) }, false)
+}
+
+#[unsafe(no_mangle)]
+pub extern "C" fn regress_input_bench_utf8_right(bytes: &[u8], stop: u32) -> usize
+    requires { IsUtf8 bytes.now }
+{
+    count_right(&utf8(bytes), stop)
+}
+
+#[unsafe(no_mangle)]
+pub extern "C" fn regress_input_bench_utf8_left(bytes: &[u8], stop: u32) -> usize
+    requires { IsUtf8 bytes.now }
+{
+    count_left(&utf8(bytes), stop)
+}
+
+#[unsafe(no_mangle)]
+pub extern "C" fn regress_input_bench_ascii_right(bytes: &[u8], stop: u32) -> usize
+    requires utf8 { IsUtf8 bytes.now }
+    requires ascii { IsAscii bytes.now }
+{
+    count_right(&ascii(bytes), stop)
+}
+
+#[unsafe(no_mangle)]
+pub extern "C" fn regress_input_bench_ascii_left(bytes: &[u8], stop: u32) -> usize
+    requires utf8 { IsUtf8 bytes.now }
+    requires ascii { IsAscii bytes.now }
+{
+    count_left(&ascii(bytes), stop)
+}
+
+#[unsafe(no_mangle)]
+pub extern "C" fn regress_input_bench_utf16_right(units: &[u16], stop: u32) -> usize {
+    count_right(&Utf16Input::new(units, false), stop)
+}
+
+#[unsafe(no_mangle)]
+pub extern "C" fn regress_input_bench_utf16_left(units: &[u16], stop: u32) -> usize {
+    count_left(&Utf16Input::new(units, false), stop)
+}
+
+#[unsafe(no_mangle)]
+pub extern "C" fn regress_input_bench_ucs2_right(units: &[u16], stop: u32) -> usize {
+    count_right(&Ucs2Input::new(units, false), stop)
+}
+
+#[unsafe(no_mangle)]
+pub extern "C" fn regress_input_bench_ucs2_left(units: &[u16], stop: u32) -> usize {
+    count_left(&Ucs2Input::new(units, false), stop)
+}
+
+// Letters, digits, `_`, and the letters of two more scripts.
+fn letters(alloc: Global) -> Result<BracketContents, AllocError> {
+    let intervals = [
+        Interval {
+            first: 0x30,
+            last: 0x39,
+        },
+        Interval {
+            first: 0x41,
+            last: 0x5A,
+        },
+        Interval {
+            first: 0x5F,
+            last: 0x5F,
+        },
+        Interval {
+            first: 0x61,
+            last: 0x7A,
+        },
+        Interval {
+            first: 0xC0,
+            last: 0x24F,
+        },
+        Interval {
+            first: 0x370,
+            last: 0x3FF,
+        },
+    ];
+    Ok(BracketContents {
+        invert: false,
+        cps: CodePointSet::from_intervals(alloc, &intervals)?,
+    })
+}
+
+/// 0 where the class could not be made.
+#[unsafe(no_mangle)]
+pub extern "C" fn regress_input_bench_bracket(alloc: Global, bytes: &[u8]) -> usize
+    requires { IsUtf8 bytes.now }
+{
+    match letters(alloc) {
+        Ok(bc) => count_taken(&utf8(bytes), &Bracket { bc: &bc }),
+        Err(_) => 0,
+    }
+}
+
+// The lower letters.
+#[inline(always)]
+fn lower_letters() -> AsciiBitmap
+    ensures { All (λ b. b < 128) (ascii_bitmap_bytes result) }
+{
+    let mut set = AsciiBitmap::default();
+    for byte in 0x61..0x7B {
+        set.set(byte);
+    }
+    set
+}
+
+#[unsafe(no_mangle)]
+pub extern "C" fn regress_input_bench_bitmap(bytes: &[u8]) -> usize
+    requires { IsUtf8 bytes.now }
+{
+    let set = lower_letters();
+    count_taken(&utf8(bytes), &MatchByteSet { bytes: &set })
+}
+
+#[unsafe(no_mangle)]
+pub extern "C" fn regress_input_bench_literal(bytes: &[u8]) -> usize
+    requires { IsUtf8 bytes.now }
+{
+    count_literals(&utf8(bytes), b"needle")
+}
+
+#[unsafe(no_mangle)]
+pub extern "C" fn regress_input_bench_find_one(bytes: &[u8], byte: u8) -> usize
+    requires { IsUtf8 bytes.now }
+{
+    first_found(&utf8(bytes), &[byte])
+}
+
+#[unsafe(no_mangle)]
+pub extern "C" fn regress_input_bench_find_three(bytes: &[u8], byte: u8) -> usize
+    requires { IsUtf8 bytes.now }
+{
+    first_found(&utf8(bytes), &[byte, 0x40, 0x24])
+}
+
+#[unsafe(no_mangle)]
+pub extern "C" fn regress_input_bench_find_bitmap(bytes: &[u8], byte: u8) -> usize
+    requires { IsUtf8 bytes.now }
+{
+    let mut set = ByteBitmap::default();
+    set.set(byte);
+    set.set(0x40);
+    first_found(&utf8(bytes), &set)
+}

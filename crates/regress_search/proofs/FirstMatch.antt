@@ -148,7 +148,7 @@ module _ (tree : Tree) (text : Text) (is : IsText text) where
       by None e = refl
       by (Some o) e = cc
 
-  on-from : (at p : ℕ) → place_at text at ≡ Some p → end_from tree text at ≡ None → first_found tree.root text at ≡ first_match tree.root text (p + 1)
+  pub on-from : (at p : ℕ) → place_at text at ≡ Some p → end_from tree text at ≡ None → first_found tree.root text at ≡ first_match tree.root text (p + 1)
   on-from at p q none =
       let place = offset-place_at text at p is q in
       found-at at p q ∙ first-unfolds tree.root text p place.1 ∙ ap (λ x. option_or x (first_match tree.root text (p + 1))) (none-at at p q none)

@@ -1,5 +1,5 @@
 -- What is left of a search after each turn.
-use Rattle.std.proofs.Common.{◌≡◌, ◌⊎◌, inl, inr, ℕ, zero, suc, ◌+◌, ◌<◌, ◌≤◌, List, [], ◌∷◌, ◌++◌, Option, Some, None, Bool, true, false, refl, ap, sym, ◌∙◌, subst, arith, map, reverse, append_assoc, append-nil, replicate, take, ◌-◌}
+use Rattle.std.proofs.Common.{◌≡◌, inl, inr, ℕ, zero, suc, ◌+◌, ◌<◌, ◌≤◌, List, [], ◌∷◌, ◌++◌, Option, Some, None, Bool, refl, ap, sym, ◌∙◌, subst, arith, map, reverse, append-nil, replicate, take, ◌-◌}
 use Rattle.std.proofs.lemmas.List.{reverse-append}
 use Rattle.std.specs.Prelude.{option_map, option_and_then, is_some, IsTrue, IsSome}
 use Rattle.std.specs.Option.{option_map_or}
@@ -8,21 +8,18 @@ use Rattle.regex_meaning.specs.Text.{Text, Direction, rightwards}
 use Rattle.regex_meaning.specs.Offsets.{IsText, IsBoundary, place_at, units}
 use Rattle.regex_meaning.specs.Layout.{Program}
 use Rattle.regex_meaning.specs.Ticks.{items_at}
-use Rattle.regex_meaning.proofs.TextLemmas.{offset-place_at, place_at-offset}
-use Rattle.regress_input.specs.Reading.{way}
+use Rattle.regex_meaning.proofs.TextLemmas.{offset-place_at}
 use Rattle.regress_program.specs.Code.{compiled}
 use Rattle.regress_machine.specs.Bytes.{ReadsBytes}
 use Rattle.regress_machine.specs.Machine as machine
 use Rattle.regress_machine.specs.Machine.{Thread, running, waiting, in_turn, Next, goes, scans, ends, asks, stuck, Found, nothing, found_at, resumed, act, search}
 use Rattle.regress_machine.specs.Finds.{initial, end_of, first_pair, end_in_offsets, CanSearch, turns_at}
-use Rattle.regress_machine.proofs.Search.{Later, waits-later, goes-later, scans-later, ends-found, never_stuck, Asked, asked-inner}
+use Rattle.regress_machine.proofs.Search.{Later, waits-later, goes-later, scans-later, ends-found, never_stuck, asked-inner}
 use Rattle.regress_machine.proofs.Whole.{searches-find}
 use Rattle.regress_search.specs.declared.pikevm.states.State.{State}
-use Rattle.regress_search.specs.declared.pikevm.states.Turn.{Turn}
-use Rattle.regress_search.specs.declared.pikevm.states.Turn.TheVariants.{Dead, Go, Fork, Scan, Ask, Done}
-use Rattle.regress_search.specs.States.{loop_of, state_of, preferred_last, next_of, waiting_of, running_of, TakesUp, CanTake}
+use Rattle.regress_search.specs.States.{loop_of, state_of, preferred_last, waiting_of, TakesUp, CanTake}
 use Rattle.regress_search.specs.Attempts.{end_from, turns_from, search_from, end_of_search}
-use Rattle.regress_search.proofs.Inside.{AllIn, NextIn, in-append, in-behind, in-resumed, act-inside}
+use Rattle.regress_search.proofs.Inside.{AllIn, NextIn, in-append, in-resumed, act-inside}
 
 -- how many steps a search takes
 abbrev pub steps_of : Option Found → ℕ

@@ -1,10 +1,11 @@
 -- What one attempt answers.
-use Rattle.std.specs.Prelude.{ℕ, List, [], ◌∷◌, Option, Some, None, option_map, option_and_then, nat_lt, if◌then◌else◌}
+use Rattle.std.specs.Prelude.{ℕ, Bool, true, false, [], ◌∷◌, Option, Some, option_map, option_and_then, nat_lt, if◌then◌else◌}
 use Rattle.std.specs.Option.{option_map_or}
 use Rattle.regex_meaning.specs.Tree.{Tree}
 use Rattle.regex_meaning.specs.Text.{Text, Direction, rightwards}
 use Rattle.regex_meaning.specs.Offsets.{place_at, read}
 use Rattle.regex_meaning.specs.Outcomes.{Groups}
+use Rattle.regex_meaning.specs.StartPredicate.{StartPredicate, start_anchored}
 use Rattle.regex_meaning.specs.Ticks.{items_at}
 use Rattle.regress_program.specs.Code.{compiled}
 use Rattle.regress_machine.specs.Machine.{State, running, Found, search}
@@ -30,3 +31,8 @@ search_from tree text at direction s = search (compiled tree) text (turns_from t
 -- where a search ends
 abbrev pub end_of_search : Option Found → Option State
 end_of_search found = option_and_then (λ f. f.end) found
+
+-- the predicate is that of trees with outcomes at the left end alone
+abbrev pub anchors : StartPredicate → Bool
+anchors start_anchored = true
+anchors _ = false

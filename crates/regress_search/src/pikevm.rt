@@ -12,7 +12,7 @@ ghost use Rattle.regress_machine.specs.Bytes.{ReadsBytes};
 ghost use Rattle.regress_machine.specs.Machine.{act, in_turn};
 ghost use Rattle.regress_machine.specs.Finds.{end_of};
 ghost use Rattle.regress_search.specs.Answers.{answer_of, range_of};
-ghost use Rattle.regress_search.specs.Attempts.{end_from, offset_behind, search_from, end_of_search};
+ghost use Rattle.regress_search.specs.Attempts.{anchors, end_from, offset_behind, search_from, end_of_search};
 ghost use Rattle.regress_search.specs.States.{groups_of, state_of, next_of, running_of, waiting_of, preferred_last, TakesUp, CanTake};
 
 mod actions;
@@ -25,7 +25,7 @@ use crate::exec::{Match, MatchProducer, SearchError};
 use regress_input::cursor::{Backward, Forward};
 use regress_input::indexing::{AsciiInput, InputIndexer, Utf8Input};
 use regress_input::position::PositionType;
-use regress_program::insn::CompiledRegex;
+use regress_program::insn::{CompiledRegex, StartPredicate};
 use std::alloc::{AllocError, Global};
 use std::ops::Range;
 
@@ -209,6 +209,14 @@ fn position_behind<Input: InputIndexer>(
     }
 }
 
+// Whether matches stand at the left end alone, so that behind a place without one there is none.
+#[inline(always)]
+fn is_anchored(program: &CompiledRegex) -> bool
+    ensures { result ≡ anchors (compiled (tree_of program.now)).start_pred }
+{
+    matches!(program.start_pred(), StartPredicate::StartAnchored)
+}
+
 impl<'r, Input: InputIndexer> MatchProducer for PikeVMExecutor<'r, Input> {
     type Position = Input::Position;
 
@@ -228,12 +236,16 @@ impl<'r, Input: InputIndexer> MatchProducer for PikeVMExecutor<'r, Input> {
         pos: Input::Position,
         next_start: &mut Option<Input::Position>,
     ) -> Result<Option<Match>, SearchError> {
+        let anchored = is_anchored(self.searched.program);
         let mut start = pos;
         'places: loop {
             if let Some(end) = attempt(&self.searched, &mut self.stack, start)? {
                 let found = successful_match(&self.searched, start, &end)?;
                 *next_start = position_behind(&self.searched.input, start, end.pos);
                 return Ok(Some(found));
+            }
+            if anchored {
+                return Ok(None);
             }
             match self.searched.input.next_right_pos(start) {
                 Some(next) => start = next,

@@ -11,7 +11,7 @@ use regex_pattern_front::optimizer::optimize;
 use regex_pattern_front::parse::try_parse;
 use regress_input::indexing::{AsciiInput, Utf8Input};
 use regress_program::emit::emit;
-use regress_program::insn::CompiledRegex;
+use regress_program::insn::{CompiledRegex, StartPredicate};
 use std::alloc::Global;
 use std::test::Fail;
 
@@ -25,9 +25,18 @@ fn program(alloc: Global, node: Node) -> Result<CompiledRegex, Fail> {
 }
 
 // The program of a pattern, with loops over one character or without.
-fn of_pattern(alloc: Global, pattern: &str, optimized: bool) -> Result<CompiledRegex, Fail> {
+fn of_pattern(
+    alloc: Global,
+    pattern: &str,
+    multiline: bool,
+    optimized: bool,
+) -> Result<CompiledRegex, Fail> {
     let code_points: Vec<u32> = pattern.chars().map(u32::from).collect(alloc)?;
-    let mut tree = try_parse(alloc, &code_points, Flags::default())?;
+    let flags = Flags {
+        multiline,
+        ..Flags::default()
+    };
+    let mut tree = try_parse(alloc, &code_points, flags)?;
     if optimized {
         optimize(&mut tree);
     }
@@ -79,13 +88,13 @@ fn listing(re: &CompiledRegex, text: &str, start: usize) -> Result<String, Fail>
     written(re.allocator(), executor, start)
 }
 
-// The list over a text of ASCII.
-fn ascii_listing(re: &CompiledRegex, text: &str) -> Result<Option<String>, Fail> {
-    if !text.is_ascii() {
+// The list over a text of ASCII from a start on, if it is one and the start is in it.
+fn ascii_listing(re: &CompiledRegex, text: &str, start: usize) -> Result<Option<String>, Fail> {
+    if !text.is_ascii() || start > text.len() {
         return Ok(None);
     }
     let executor = PikeVMExecutor::<AsciiInput>::new(re, text)?;
-    Ok(Some(written(re.allocator(), executor, 0)?))
+    Ok(Some(written(re.allocator(), executor, start)?))
 }
 
 #[test]
@@ -122,17 +131,42 @@ fn lists_of_patterns(rt: HostRuntime) -> Result<(), Fail> {
         ("a\\B.", "aa", "0..2 end"),
     ] {
         for optimized in [false, true] {
-            let re = of_pattern(alloc, pattern, optimized)?;
+            let re = of_pattern(alloc, pattern, false, optimized)?;
             assert_eq!(rt;
                 listing(&re, text, 0)?.as_str(),
                 wanted,
                 "{pattern} in {text}"
             );
-            if let Some(list) = ascii_listing(&re, text)? {
+            if let Some(list) = ascii_listing(&re, text, 0)? {
                 assert_eq!(rt; list.as_str(), wanted, "{pattern} in ASCII {text}");
             }
         }
     }
+    Ok(())
+}
+
+#[test]
+fn anchored_patterns_match_at_the_left_end_alone(rt: HostRuntime) -> Result<(), Fail> {
+    let alloc = rt.alloc();
+    for (pattern, multiline, text, start, wanted) in [
+        ("^a", false, "ba", 0, "end"),
+        ("^a", false, "ba", 1, "end"),
+        ("^a", false, "ab", 0, "0..1 end"),
+        ("^a", false, "\na", 0, "end"),
+        ("^a", true, "ba", 0, "end"),
+        ("^a", true, "ba", 1, "end"),
+        ("^a", true, "b\na", 0, "2..3 end"),
+        ("^a", true, "b\na", 1, "2..3 end"),
+        ("^a|a", false, "ba", 0, "1..2 end"),
+    ] {
+        let re = of_pattern(alloc, pattern, multiline, false)?;
+        let list = ascii_listing(&re, text, start)?.unwrap_or(String::new(alloc));
+        assert_eq!(rt; list.as_str(), wanted, "{pattern} in {text} from {start}");
+    }
+    let anchored = of_pattern(alloc, "^a", false, false)?;
+    assert!(rt; matches!(anchored.start_pred(), StartPredicate::StartAnchored));
+    let by_lines = of_pattern(alloc, "^a", true, false)?;
+    assert!(rt; matches!(by_lines.start_pred(), StartPredicate::Arbitrary));
     Ok(())
 }
 

@@ -1,9 +1,8 @@
-use Rattle.std.proofs.Common.{◌≡◌, ap, sym, subst, arith, ◌∙◌, ◌≤◌, true}
+use Rattle.std.proofs.Common.{◌≡◌, ap, sym, subst, ◌∙◌, ◌≤◌}
 use Rattle.std.specs.Prelude.{IsSome, option_map}
 use Rattle.regex_meaning.specs.Offsets.{units}
 use Rattle.regex_meaning.specs.Text.{rightwards}
 use Rattle.regex_pattern_front.specs.TreeOf.{tree_of}
-use Rattle.regress_program.specs.Code.{compiled}
 use Rattle.regress_input.proofs.Places.{boundary_inside}
 use Rattle.regress_machine.specs.Machine as machine
 use Rattle.regress_machine.specs.Finds.{end_of}

@@ -4,6 +4,7 @@ use Rattle.regress_machine.specs.Finds.{end_of}
 use Rattle.regress_search.specs.Attempts.{end_from}
 use Rattle.regress_search.specs.States.{groups_of, state_of}
 use Rattle.regress_search.proofs.FirstMatch.{goes-from_itself, goes-on, found-first, found-last}
+use Rattle.regress_search.proofs.Anchored.{found-anchored}
 use Rattle.regress_search.proofs.pikevm.PikeVMExecutorMatchProducer.next_match.Goals as goal
 
 pub places-init : goal.places-init
@@ -101,3 +102,17 @@ returns-in-None-clause-found g c =
     let from = rw (← same) at c.places.invariant.from in
     let none : end_from tree text start ≡ None = sym c.in_ok-end.ensures ∙ ap (option_map (λ s. end_of (state_of offset s))) c.in_default.is in
     rw (← same) (found-last tree text is (offset c.args.pos) start from none c.in-None.ensures.read)
+
+pub returns-then-anchored-clause-found : goal.returns-then-anchored-clause-found
+returns-then-anchored-clause-found g c =
+    let searched = c.places.self.searched in
+    let same = c.places.invariant.searched in
+    let tree = tree_of searched.program.now in
+    let text = g.Input.InputIndexer.text searched.input in
+    let is = g.met.Input.InputIndexer.is_text searched.input in
+    let offset = g.Input.Position.PositionType.offset in
+    let start = offset c.places.start in
+    let from = rw (← same) at c.places.invariant.from in
+    let none : end_from tree text start ≡ None = sym c.in_ok-end.ensures ∙ ap (option_map (λ s. end_of (state_of offset s))) c.in_default.is in
+    let anchored = rw (← same) at (sym c.if-anchored.ensures) in
+    rw (← same) (found-anchored tree text searched.well_formed searched.reads.scalars anchored (offset c.args.pos) start is from none)

@@ -1,10 +1,9 @@
-use Rattle.std.proofs.Common.{sym, subst, arith, map, [], ◌<◌, ◌∙◌, Some, ℕ, ◌+◌}
+use Rattle.std.proofs.Common.{sym, subst, arith, map, Some, ◌+◌}
 use Rattle.regex_meaning.proofs.TextLemmas.{IsBoundary-place}
 use Rattle.regex_pattern_front.specs.TreeOf.{tree_of}
 use Rattle.regress_input.specs.Reading.{way}
 use Rattle.regress_program.specs.Code.{compiled}
 use Rattle.regress_program.specs.Insns.{insn_of}
-use Rattle.regress_machine.specs.Machine as machine
 use Rattle.regress_machine.specs.Machine.{test_of}
 use Rattle.regress_search.specs.States.{state_of}
 use Rattle.regress_search.proofs.Reach.{IsReaching, reach-none, reach-most, reach-end, reach-more, reaching-boundary, some-of}

@@ -1,4 +1,4 @@
-use Rattle.std.proofs.Common.{ap, sym, subst, ◌∙◌, true, false, Some, None, Option, ℕ}
+use Rattle.std.proofs.Common.{ap, sym, subst, ◌∙◌, true, false}
 use Rattle.regress_input.specs.Reading.{led_to, way}
 use Rattle.regress_machine.specs.Machine.{read_group}
 use Rattle.regress_search.specs.States.{range_of, state_of, CanTake}

@@ -1,4 +1,4 @@
-use Rattle.std.proofs.Common.{◌≡◌, ◌∙◌, ap, sym, subst, ◌≤◌, true, false}
+use Rattle.std.proofs.Common.{◌∙◌, ap, sym, subst, ◌≤◌, true, false}
 use Rattle.regress_input.specs.Reading.{led_to, way, bytes_of, past_bytes, where_bytes}
 use Rattle.regress_search.specs.States.{state_of}
 use Rattle.regress_search.proofs.Readers.{literal-read}

@@ -7,10 +7,9 @@
 use anyhow::{Context, Result, bail};
 use regress_match::api::{Flags, Regex};
 use std::alloc::Global;
-use std::env;
-use std::fs;
 use std::rt::Clock;
 use std::time::Instant;
+use std::{env, fs};
 
 /// How often the file is searched.
 const PASSES: u32 = 5;

@@ -7,8 +7,6 @@ pub mod indexing;
 pub mod matchers;
 pub mod position;
 pub mod scm;
-#[cfg(test)]
-mod tests;
 mod units;
 mod utf16;
 mod utf8;

@@ -3,11 +3,11 @@
 ghost use Rattle.std.specs.Prelude.{◌≡◌, ◌≤◌, IfSome};
 ghost use Rattle.regex_meaning.specs.Offsets.{IsBoundary, units};
 
-use crate::cursor::{self, Direction, Forward};
-use crate::front::ByteSearcher;
-use crate::indexing::{ElementType, InputIndexer};
-use crate::matchers::{backref, backref_icase};
-use crate::scm::SingleCharMatcher;
+use regress_input::cursor::{self, Direction, Forward};
+use regress_input::front::ByteSearcher;
+use regress_input::indexing::{ElementType, InputIndexer};
+use regress_input::matchers::{backref, backref_icase};
+use regress_input::scm::SingleCharMatcher;
 
 // So many characters to the right, or at the right end.
 fn further<Input: InputIndexer>(
@@ -36,7 +36,7 @@ fn position<Input: InputIndexer>(input: &Input, place: usize) -> Input::Position
 }
 
 // The character beside a place, and the offset past it.
-pub(super) fn character<Input: InputIndexer, Dir: Direction>(
+pub(crate) fn character<Input: InputIndexer, Dir: Direction>(
     input: &Input,
     dir: Dir,
     place: usize,
@@ -47,7 +47,7 @@ pub(super) fn character<Input: InputIndexer, Dir: Direction>(
 }
 
 // The same by the calls that answer one of the two.
-pub(super) fn seen<Input: InputIndexer, Dir: Direction>(
+pub(crate) fn seen<Input: InputIndexer, Dir: Direction>(
     input: &Input,
     _dir: Dir,
     place: usize,
@@ -69,13 +69,13 @@ fn unit_position<Input: InputIndexer>(input: &Input, offset: usize) -> Option<In
 }
 
 // The offset so many units before the right end.
-pub(super) fn before_the_end<Input: InputIndexer>(input: &Input, amt: usize) -> Option<usize> {
+pub(crate) fn before_the_end<Input: InputIndexer>(input: &Input, amt: usize) -> Option<usize> {
     let pos = input.try_move_left(input.right_end(), amt)?;
     Some(input.pos_to_offset(pos))
 }
 
 // The byte beside an offset, and the offset past it.
-pub(super) fn byte<Input: InputIndexer, Dir: Direction>(
+pub(crate) fn byte<Input: InputIndexer, Dir: Direction>(
     input: &Input,
     dir: Dir,
     offset: usize,
@@ -86,7 +86,7 @@ pub(super) fn byte<Input: InputIndexer, Dir: Direction>(
 }
 
 // The offset past these bytes.
-pub(super) fn past_bytes<const N: usize, Input: InputIndexer, Dir: Direction>(
+pub(crate) fn past_bytes<const N: usize, Input: InputIndexer, Dir: Direction>(
     input: &Input,
     dir: Dir,
     offset: usize,
@@ -101,7 +101,7 @@ pub(super) fn past_bytes<const N: usize, Input: InputIndexer, Dir: Direction>(
 }
 
 // The offset at which the bytes stand that are looked for.
-pub(super) fn found<Input: InputIndexer, Search: ByteSearcher>(
+pub(crate) fn found<Input: InputIndexer, Search: ByteSearcher>(
     input: &Input,
     offset: usize,
     search: &Search,
@@ -112,7 +112,7 @@ pub(super) fn found<Input: InputIndexer, Search: ByteSearcher>(
 }
 
 // The first character of the text of a range, and its length.
-pub(super) fn part<Input: InputIndexer>(
+pub(crate) fn part<Input: InputIndexer>(
     input: &Input,
     place: usize,
     count: usize,
@@ -127,7 +127,7 @@ pub(super) fn part<Input: InputIndexer>(
 }
 
 // The offset past the characters of a range, beside another place.
-pub(super) fn past_range<Input: InputIndexer, Dir: Direction>(
+pub(crate) fn past_range<Input: InputIndexer, Dir: Direction>(
     input: &Input,
     dir: Dir,
     place: usize,
@@ -145,7 +145,7 @@ pub(super) fn past_range<Input: InputIndexer, Dir: Direction>(
 }
 
 // The same where case does not count.
-pub(super) fn past_range_icase<Input: InputIndexer, Dir: Direction>(
+pub(crate) fn past_range_icase<Input: InputIndexer, Dir: Direction>(
     input: &Input,
     dir: Dir,
     place: usize,
@@ -163,7 +163,7 @@ pub(super) fn past_range_icase<Input: InputIndexer, Dir: Direction>(
 }
 
 // The offset past the character that the matcher takes.
-pub(super) fn past_match<Input: InputIndexer, Dir: Direction, M: SingleCharMatcher<Input, Dir>>(
+pub(crate) fn past_match<Input: InputIndexer, Dir: Direction, M: SingleCharMatcher<Input, Dir>>(
     input: &Input,
     dir: Dir,
     matcher: &M,

@@ -1,6 +1,6 @@
 use Rattle.std.specs.Prelude.{◌≤◌}
 use Rattle.regex_meaning.specs.Offsets.{IsBoundary}
-use Rattle.regress_input.proofs.tests.answers.further.Given as goal
+use Rattle.regress_input_rows.proofs.answers.further.Given as goal
 
 abbrev pub invariant-loop : goal.invariant-loop
 invariant-loop g l =

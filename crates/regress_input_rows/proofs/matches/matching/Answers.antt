@@ -1,5 +1,5 @@
 use Rattle.std.proofs.Common.{refl, arith}
-use Rattle.regress_input.proofs.tests.matches.matching.Goals as goal
+use Rattle.regress_input_rows.proofs.matches.matching.Goals as goal
 
 pub past_match-requires-8 : goal.past_match-requires-8
 unfolding lib.Utf8.encode

@@ -2,7 +2,7 @@
 
 ghost use Rattle.std.specs.Prelude.{◌≡◌, ◌+◌, ◌-◌, ◌<◌, ◌≤◌, ◌^◌, ℕ};
 
-use crate::position::{Backward, Direction, Forward, IndexPosition, PositionType};
+use regress_input::position::{Backward, Direction, Forward, IndexPosition, PositionType};
 
 // A position of any type, moved on and back.
 fn there_and_back<P: PositionType>(p: P, units: usize) -> P

@@ -1,8 +1,8 @@
 //! Reading characters and bytes in both directions.
 
-use super::answers::{before_the_end, byte, character, found, past_bytes, seen};
-use crate::cursor::{Backward, Direction, Forward};
-use crate::indexing::{AsciiInput, InputIndexer, Utf8Input, reads_are_inverse};
+use crate::answers::{before_the_end, byte, character, found, past_bytes, seen};
+use regress_input::cursor::{Backward, Direction, Forward};
+use regress_input::indexing::{AsciiInput, InputIndexer, Utf8Input, reads_are_inverse};
 
 // Characters of one to four bytes: `a`, `é`, `€` and U+1F600.
 const EACH_LENGTH: &str = "a\u{e9}\u{20ac}\u{1f600}";
@@ -39,7 +39,10 @@ fn ascii_is_read_in_both_directions(rt: HostRuntime) {
 }
 
 // Whether the calls that look answer what those that move do, at each place but the last and at the last.
-fn look_and_move_agree<Input: InputIndexer, Dir: Direction>(input: &Input, dir: Dir) -> bool {
+pub(crate) fn look_and_move_agree<Input: InputIndexer, Dir: Direction>(
+    input: &Input,
+    dir: Dir,
+) -> bool {
     seen(input, dir, 0) == character(input, dir, 0)
         && seen(input, dir, 1) == character(input, dir, 1)
         && seen(input, dir, 2) == character(input, dir, 2)

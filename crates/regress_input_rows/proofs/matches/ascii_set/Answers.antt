@@ -1,5 +1,5 @@
 use Rattle.regress_input.proofs.AsciiSets.{below_128}
-use Rattle.regress_input.proofs.tests.matches.ascii_set.Goals as goal
+use Rattle.regress_input_rows.proofs.matches.ascii_set.Goals as goal
 
 pub returns : goal.returns
 returns c = below_128 _

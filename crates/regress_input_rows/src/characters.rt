@@ -1,15 +1,15 @@
 //! Numbers of characters, their folds, and the classes that patterns name.
 
-use crate::indexing::{AsciiInput, CharProperties, ElementType, InputIndexer, Utf8Input};
-use crate::matchers::{ASCIICharProperties, UTF8CharProperties};
+use regress_input::indexing::{AsciiInput, CharProperties, ElementType, InputIndexer, Utf8Input};
+use regress_input::matchers::{ASCIICharProperties, UTF8CharProperties};
 
 // The number of the element that has this number.
-pub(super) fn number<E: ElementType>(code: u32) -> Option<u32> {
+pub(crate) fn number<E: ElementType>(code: u32) -> Option<u32> {
     Some(E::try_from(code)?.as_u32())
 }
 
 // The fold of a character, and whether it is the same as another.
-pub(super) fn folded<Input: InputIndexer>(
+pub(crate) fn folded<Input: InputIndexer>(
     input: &Input,
     c: u32,
     other: u32,
@@ -20,7 +20,7 @@ pub(super) fn folded<Input: InputIndexer>(
 }
 
 // Whether it is a word character, one where case does not count, and ends a line.
-fn classes<Props: CharProperties>(code: u32) -> Option<(bool, bool, bool)> {
+pub(crate) fn classes<Props: CharProperties>(code: u32) -> Option<(bool, bool, bool)> {
     let c = Props::Element::try_from(code)?;
     Some((
         Props::is_word_char(c),

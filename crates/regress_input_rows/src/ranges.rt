@@ -1,8 +1,8 @@
 //! Ranges of a text: their own text, and where they stand once more.
 
-use super::answers::{part, past_range, past_range_icase};
-use crate::cursor::{Backward, Direction, Forward};
-use crate::indexing::{AsciiInput, Utf8Input};
+use crate::answers::{part, past_range, past_range_icase};
+use regress_input::cursor::{Backward, Direction, Forward};
+use regress_input::indexing::{AsciiInput, Utf8Input};
 
 #[test]
 fn a_range_is_a_text_of_its_own(rt: HostRuntime) {

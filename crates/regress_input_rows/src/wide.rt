@@ -1,11 +1,18 @@
 //! Texts of 16-bit units.
 
-use super::answers::{byte, character, found, part, past_bytes, past_match, past_range, seen};
-use super::characters::{folded, number};
-use super::matches::{class, matching};
-use crate::cursor::{Backward, Direction, Forward};
-use crate::indexing::{ElementType, InputIndexer, Ucs2Input, Utf16Input, is_unit_boundary};
-use crate::scm::Char;
+use crate::answers::{
+    before_the_end, byte, character, found, part, past_bytes, past_match, past_range,
+    past_range_icase, seen,
+};
+use crate::characters::{classes, folded, number};
+use crate::matches::{class, matching};
+use crate::reads::look_and_move_agree;
+use regress_input::cursor::{Backward, Direction, Forward};
+use regress_input::indexing::{
+    CharProperties, ElementType, InputIndexer, Ucs2Input, Utf16CharProperties, Utf16Input,
+    is_unit_boundary, reads_are_inverse,
+};
+use regress_input::scm::Char;
 use std::test::Fail;
 
 // `a`, U+1F600 and `a`.
@@ -57,6 +64,29 @@ fn surrogates_that_are_no_pair_are_two_characters(rt: HostRuntime) {
 }
 
 #[test]
+fn what_looks_at_units_answers_as_what_moves(rt: HostRuntime) {
+    let utf16 = Utf16Input::new(&WITH_A_PAIR, false);
+    reads_are_inverse(&utf16);
+    assert!(rt; look_and_move_agree(&utf16, Forward::new()));
+    assert!(rt; look_and_move_agree(&utf16, Backward::new()));
+    let ucs2 = Ucs2Input::new(&WITH_A_PAIR, false);
+    reads_are_inverse(&ucs2);
+    assert!(rt; look_and_move_agree(&ucs2, Forward::new()));
+    assert!(rt; look_and_move_agree(&ucs2, Backward::new()));
+}
+
+// A move counts units, and may end within a pair.
+#[test]
+fn moves_by_units_stay_inside(rt: HostRuntime) {
+    let utf16 = Utf16Input::new(&WITH_A_PAIR, false);
+    assert_eq!(rt; before_the_end(&utf16, 2), Some(2));
+    assert_eq!(rt; before_the_end(&utf16, 5), None);
+    let ucs2 = Ucs2Input::new(&WITH_A_PAIR, false);
+    assert_eq!(rt; before_the_end(&ucs2, 4), Some(0));
+    assert_eq!(rt; before_the_end(&ucs2, 5), None);
+}
+
+#[test]
 fn boundaries_cut_no_pair(rt: HostRuntime) {
     let pair = [0xd83d, 0xde00];
     assert!(rt; is_unit_boundary(&pair, 0) && !is_unit_boundary(&pair, 1));
@@ -89,6 +119,27 @@ fn a_range_ends_at_no_half_of_a_pair(rt: HostRuntime) {
     assert_eq!(rt;
         past_range(&Utf16Input::new(&pairs, false), Forward::new(), 0, 1, 1),
         Some(4)
+    );
+}
+
+// `k` before a pair, and the Kelvin sign, which has the fold of `k` with the flag `u` alone.
+#[test]
+fn a_range_of_units_stands_once_more_in_another_case(rt: HostRuntime) {
+    let units = [0x6b, 0xd83d, 0xde00, 0x4b, 0xd83d, 0xde00, 0x212a];
+    let utf16 = Utf16Input::new(&units, false);
+    assert_eq!(rt; past_range_icase(&utf16, Forward::new(), 0, 2, 2), Some(6));
+    assert_eq!(rt; past_range_icase(&utf16, Backward::new(), 0, 2, 4), Some(3));
+    assert_eq!(rt; past_range_icase(&utf16, Forward::new(), 0, 1, 4), None);
+    let folded = Utf16Input::new(&units, true);
+    assert_eq!(rt; past_range_icase(&folded, Forward::new(), 0, 1, 4), Some(7));
+    let ucs2 = Ucs2Input::new(&units, false);
+    assert_eq!(rt; past_range_icase(&ucs2, Forward::new(), 0, 2, 3), Some(5));
+    assert_eq!(rt; past_range_icase(&ucs2, Backward::new(), 0, 2, 5), Some(3));
+    assert_eq!(rt; past_range_icase(&ucs2, Forward::new(), 0, 1, 6), None);
+    let folded = Ucs2Input::new(&units, true);
+    assert_eq!(rt;
+        past_range_icase(&folded, Backward::new(), 0, 1, 7),
+        Some(6)
     );
 }
 
@@ -133,4 +184,26 @@ fn units_fold_as_the_flag_says(rt: HostRuntime) {
     let ucs2 = Ucs2Input::new(&[], false);
     assert!(rt; !ucs2.unicode());
     assert_eq!(rt; folded(&ucs2, 0x6b, 0x212a), Some((0x4b, false)));
+    assert_eq!(rt; Utf16CharProperties::fold(0x17f, true), 0x73);
+    assert_eq!(rt; Utf16CharProperties::fold(0x17f, false), 0x17f);
+}
+
+#[test]
+fn classes_of_units_are_those_that_patterns_name(rt: HostRuntime) {
+    assert_eq!(rt;
+        classes::<Utf16CharProperties>(0x7a),
+        Some((true, true, false))
+    );
+    assert_eq!(rt;
+        classes::<Utf16CharProperties>(0x17f),
+        Some((false, true, false))
+    );
+    assert_eq!(rt;
+        classes::<Utf16CharProperties>(0x2029),
+        Some((false, false, true))
+    );
+    assert_eq!(rt;
+        classes::<Utf16CharProperties>(0xd800),
+        Some((false, false, false))
+    );
 }

@@ -1,5 +1,5 @@
 use Rattle.std.proofs.Common.{refl, arith}
-use Rattle.regress_input.proofs.tests.matches.a_sequence_of_bytes_is_one_character.Goals as goal
+use Rattle.regress_input_rows.proofs.matches.a_sequence_of_bytes_is_one_character.Goals as goal
 
 pub past_match-requires : goal.past_match-requires
 unfolding lib.Utf8.encode

@@ -3,11 +3,11 @@
 ghost use Rattle.std.specs.Prelude.{◌<◌, All};
 ghost use Rattle.regex_pattern_front.specs.ByteSets.{ascii_bitmap_bytes};
 
-use super::answers::past_match;
-use crate::cursor::{Backward, Direction, Forward};
-use crate::front::{AsciiBitmap, BracketContents, ByteArraySet, CodePointSet, Interval};
-use crate::indexing::{AsciiInput, ElementType, InputIndexer, Utf8Input};
-use crate::scm::{
+use crate::answers::past_match;
+use regress_input::cursor::{Backward, Direction, Forward};
+use regress_input::front::{AsciiBitmap, BracketContents, ByteArraySet, CodePointSet, Interval};
+use regress_input::indexing::{AsciiInput, ElementType, InputIndexer, Utf8Input};
+use regress_input::scm::{
     Bracket, Char, CharSet, MatchAny, MatchAnyExceptLineTerminator, MatchByteArraySet,
     MatchByteSeq, MatchByteSet,
 };
@@ -25,7 +25,7 @@ fn ascii_set(byte: u8) -> AsciiBitmap
 }
 
 // The class of all characters but `a` to `m`.
-pub(super) fn class(alloc: Global) -> Result<BracketContents, Fail> {
+pub(crate) fn class(alloc: Global) -> Result<BracketContents, Fail> {
     let letters = [Interval {
         first: 0x61,
         last: 0x6d,
@@ -37,7 +37,7 @@ pub(super) fn class(alloc: Global) -> Result<BracketContents, Fail> {
 }
 
 // Which of the eight matchers of `z` take the character beside a place, and leave the position at this offset.
-pub(super) fn matching<Input: InputIndexer, Dir: Direction>(
+pub(crate) fn matching<Input: InputIndexer, Dir: Direction>(
     input: &Input,
     dir: Dir,
     place: usize,

@@ -1,0 +1,17 @@
+//! Rows of the inputs: each public call at concrete types, on texts of which the answers are known.
+#![tactic(auto)]
+
+#[cfg(test)]
+mod answers;
+#[cfg(test)]
+mod characters;
+#[cfg(test)]
+mod matches;
+#[cfg(test)]
+mod positions;
+#[cfg(test)]
+mod ranges;
+#[cfg(test)]
+mod reads;
+#[cfg(test)]
+mod wide;

@@ -15,8 +15,6 @@ mod ids;
 mod leaves;
 mod names;
 mod tally;
-#[cfg(test)]
-mod tests;
 mod texts;
 mod wellformed;
 

@@ -11,8 +11,6 @@ ghost use Rattle.regress_program.specs.Insns.{start_of};
 
 mod beginnings;
 mod bytesets;
-#[cfg(test)]
-mod tests;
 
 use crate::insn::StartPredicate;
 use crate::startpredicate::beginnings::{Beginning, begins};

@@ -1,14 +1,14 @@
 //! Programs written out.
 
-use super::listing::answer;
-use super::{
-    ANY_NUMBER, alt_of, bytes_of, char_of, compiled, ended, group_of, looking, repeated,
-    repeated_character,
+use crate::listing::answer;
+use crate::trees::{
+    ANY_NUMBER, alt_of, bytes_of, char_of, class_of, ended, group_of, looking, repeated,
+    repeated_character, tree_of,
 };
-use crate::insn::{CompiledRegex, StartPredicate};
-use regex_pattern_front::codepointset::{CodePointSet, Interval};
+use regex_pattern_front::codepointset::Interval;
 use regex_pattern_front::ir::Node;
-use regex_pattern_front::types::BracketContents;
+use regress_program::emit::emit;
+use regress_program::insn::{CompiledRegex, StartPredicate};
 use std::alloc::Global;
 use std::process::Abort;
 use std::test::Fail;
@@ -101,30 +101,34 @@ fn too_many_groups(rt: HostRuntime) -> Result<(), Fail> {
     Ok(())
 }
 
-// The class of one code point.
-fn class_of(alloc: Global, c: u32) -> Result<Node, Fail> {
-    let cps = CodePointSet::from_intervals(alloc, &[Interval { first: c, last: c }])?;
-    Ok(Node::Bracket(BracketContents { invert: false, cps }))
+// A loop over a group with a class of one letter.
+fn repeated_class(alloc: Global) -> Result<Node, Fail> {
+    let letter = [Interval {
+        first: 0xE9,
+        last: 0xE9,
+    }];
+    let group = group_of(alloc, 0, class_of(alloc, false, &letter)?)?;
+    ended(alloc, repeated(alloc, ANY_NUMBER, 0, 1, group)?)
+}
+
+fn has_parts(program: &CompiledRegex) -> bool {
+    let [bracket] = program.brackets() else {
+        return false;
+    };
+    bracket.cps.contains(0xE9)
+        && program.insns().len() == 7
+        && program.loops() == 1
+        && program.groups() == 1
+        && matches!(program.start_pred(), StartPredicate::Arbitrary)
+        && program.group_name(0).is_empty()
 }
 
 #[test]
 fn a_program_has_parts(rt: HostRuntime) -> Result<(), Fail> {
     let alloc = rt.alloc();
-    let class = class_of(alloc, 0xE9)?;
-    let group = group_of(alloc, 0, class)?;
-    let tree = repeated(alloc, ANY_NUMBER, 0, 1, group)?;
-    let program = compiled(alloc, ended(alloc, tree)?)?;
-    let copy = program.clone()?;
-    for program in [&program, &copy] {
-        assert_eq!(rt; program.insns().len(), 7);
-        assert_eq!(rt; program.loops(), 1);
-        assert_eq!(rt; program.groups(), 1);
-        let [bracket] = program.brackets() else {
-            return Err(Fail::from("not one bracket"));
-        };
-        assert!(rt; bracket.cps.contains(0xE9));
-        assert!(rt; matches!(program.start_pred(), StartPredicate::Arbitrary));
-        assert_eq!(rt; program.group_name(0), "");
-    }
+    let tree = tree_of(repeated_class(alloc)?);
+    let program = emit(alloc, &tree)?;
+    assert!(rt; has_parts(&program));
+    assert!(rt; has_parts(&program.clone()?));
     Ok(())
 }

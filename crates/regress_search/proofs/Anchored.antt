@@ -1,10 +1,10 @@
 -- Where a tree has outcomes at the left end alone, there is no match behind a place without one.
-use Rattle.std.proofs.Common.{◌≡◌, ℕ, zero, suc, ◌+◌, ◌-◌, ◌<◌, ◌≤◌, List, [], ◌∷◌, Option, Some, None, true, refl, ap, sym, ◌∙◌, subst, arith}
+use Rattle.std.proofs.Common.{◌≡◌, ℕ, zero, suc, ◌+◌, ◌-◌, ◌<◌, ◌≤◌, List, [], ◌∷◌, Option, Some, None, Bool, true, false, refl, ap, sym, ◌∙◌, subst, arith}
 use Rattle.std.specs.Prelude.{option_map, IsTrue, is_some}
 use Rattle.std.specs.List.{list_all}
 use Rattle.regex_meaning.specs.Tree.{Tree}
 use Rattle.regex_meaning.specs.Text.{Text, rightwards, last_place, is_scalar}
-use Rattle.regex_meaning.specs.Offsets.{IsText, place_at}
+use Rattle.regex_meaning.specs.Offsets.{IsText, place_at, read}
 use Rattle.regex_meaning.specs.Outcomes.{Outcome, outcomes}
 use Rattle.regex_meaning.specs.Find.{first_of, match_at, first_match, first_match_among, no_groups}
 use Rattle.regex_meaning.specs.Answers.{first_found, first_answer}
@@ -15,8 +15,8 @@ use Rattle.regex_meaning.proofs.WellFormedLemmas.{well_formed-iff}
 use Rattle.regex_meaning.proofs.FirstBytes.{true-eq}
 use Rattle.regex_meaning.proofs.Sound.{predicate-holds}
 use Rattle.regress_program.specs.Code.{compiled}
-use Rattle.regress_search.specs.Attempts.{anchors, end_from}
-use Rattle.regress_search.proofs.FirstMatch.{GoesFrom, on-from}
+use Rattle.regress_search.specs.Attempts.{anchors, end_from, tried_next}
+use Rattle.regress_search.proofs.FirstMatch.{GoesFrom, on-from, found-last}
 
 pub anchors-is : (p : StartPredicate) → anchors p ≡ true → p ≡ start_anchored
 anchors-is start_arbitrary e = cc
@@ -56,9 +56,21 @@ module _ (tree : Tree) (text : Text) (w : IsTrue (is_well_formed tree.root)) (sc
   none-later : (p : ℕ) → first_match tree.root text (p + 1) ≡ None
   none-later p = none-among (last_place text + 1 - (p + 1)) (p + 1) (omega arith) (omega arith)
 
-  pub found-anchored : (first at : ℕ) → IsText text → GoesFrom tree text first at → end_from tree text at ≡ None → None ≡ first_answer tree.root text first
+  found-anchored : (first at : ℕ) → IsText text → GoesFrom tree text first at → end_from tree text at ≡ None → None ≡ first_answer tree.root text first
   found-anchored first at is g none = sym (ap (option_map (answer tree.root text)) (g.same ∙ by (place_at text at) refl g.boundary))
     where
       by : (o : Option ℕ) → place_at text at ≡ o → IsTrue (is_some o) → first_found tree.root text at ≡ None
       by None q on = cc
       by (Some p) q on = on-from tree text is at p q none ∙ none-later p
+
+-- where another offset is tried, it is one character on
+pub tried-on : (text : Text) (at next : ℕ) (anchored : Bool) → Some next ≡ tried_next anchored text at → Some next ≡ option_map (λ (r : ℕ × ℕ). r.1) (read text rightwards at)
+tried-on text at next true e = cc
+tried-on text at next false e = e
+
+-- where none is tried, there is no match behind
+pub found-untried : (tree : Tree) (text : Text) → IsTrue (is_well_formed tree.root) → IsTrue (list_all is_scalar text.characters)
+    → (anchored : Bool) → anchors (compiled tree).start_pred ≡ anchored
+    → (first at : ℕ) → IsText text → GoesFrom tree text first at → end_from tree text at ≡ None → None ≡ tried_next anchored text at → None ≡ first_answer tree.root text first
+found-untried tree text w scalars true anchored first at is g none past = found-anchored tree text w scalars anchored first at is g none
+found-untried tree text w scalars false anchored first at is g none past = found-last tree text is first at g none past

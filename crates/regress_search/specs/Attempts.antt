@@ -1,5 +1,5 @@
 -- What one attempt answers.
-use Rattle.std.specs.Prelude.{ℕ, Bool, true, false, [], ◌∷◌, Option, Some, option_map, option_and_then, nat_lt, if◌then◌else◌}
+use Rattle.std.specs.Prelude.{ℕ, Bool, true, false, [], ◌∷◌, Option, Some, None, option_map, option_and_then, nat_lt, if◌then◌else◌}
 use Rattle.std.specs.Option.{option_map_or}
 use Rattle.regex_meaning.specs.Tree.{Tree}
 use Rattle.regex_meaning.specs.Text.{Text, Direction, rightwards}
@@ -36,3 +36,7 @@ end_of_search found = option_and_then (λ f. f.end) found
 abbrev pub anchors : StartPredicate → Bool
 anchors start_anchored = true
 anchors _ = false
+
+-- the offset that is tried behind one without a match: none where matches stand at the left end alone
+abbrev pub tried_next : (anchored : Bool) → Text → (at : ℕ) → Option ℕ
+tried_next anchored text at = if anchored then None else option_map (λ r. r.1) (read text rightwards at)

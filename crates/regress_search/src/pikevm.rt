@@ -12,7 +12,7 @@ ghost use Rattle.regress_machine.specs.Bytes.{ReadsBytes};
 ghost use Rattle.regress_machine.specs.Machine.{act, in_turn};
 ghost use Rattle.regress_machine.specs.Finds.{end_of};
 ghost use Rattle.regress_search.specs.Answers.{answer_of, range_of};
-ghost use Rattle.regress_search.specs.Attempts.{anchors, end_from, offset_behind, search_from, end_of_search};
+ghost use Rattle.regress_search.specs.Attempts.{anchors, end_from, offset_behind, tried_next, search_from, end_of_search};
 ghost use Rattle.regress_search.specs.States.{groups_of, state_of, next_of, running_of, waiting_of, preferred_last, TakesUp, CanTake};
 
 mod actions;
@@ -217,6 +217,23 @@ fn is_anchored(program: &CompiledRegex) -> bool
     matches!(program.start_pred(), StartPredicate::StartAnchored)
 }
 
+// The position to try behind one without a match: none where matches stand at the left end alone.
+#[inline(always)]
+fn next_try<Input: InputIndexer>(
+    input: &Input,
+    anchored: bool,
+    pos: Input::Position,
+) -> Option<Input::Position>
+    requires { IsBoundary (Input.text input.now) (Input.Position.offset pos) }
+    ensures { option_map Input.Position.offset result ≡ tried_next anchored (Input.text input.now) (Input.Position.offset pos) }
+{
+    if anchored {
+        None
+    } else {
+        input.next_right_pos(pos)
+    }
+}
+
 impl<'r, Input: InputIndexer> MatchProducer for PikeVMExecutor<'r, Input> {
     type Position = Input::Position;
 
@@ -244,10 +261,7 @@ impl<'r, Input: InputIndexer> MatchProducer for PikeVMExecutor<'r, Input> {
                 *next_start = position_behind(&self.searched.input, start, end.pos);
                 return Ok(Some(found));
             }
-            if anchored {
-                return Ok(None);
-            }
-            match self.searched.input.next_right_pos(start) {
+            match next_try(&self.searched.input, anchored, start) {
                 Some(next) => start = next,
                 None => return Ok(None),
             }

@@ -3,8 +3,8 @@ use Rattle.regex_pattern_front.specs.TreeOf.{tree_of}
 use Rattle.regress_machine.specs.Finds.{end_of}
 use Rattle.regress_search.specs.Attempts.{end_from}
 use Rattle.regress_search.specs.States.{groups_of, state_of}
-use Rattle.regress_search.proofs.FirstMatch.{goes-from_itself, goes-on, found-first, found-last}
-use Rattle.regress_search.proofs.Anchored.{found-anchored}
+use Rattle.regress_search.proofs.FirstMatch.{goes-from_itself, goes-on, found-first}
+use Rattle.regress_search.proofs.Anchored.{tried-on, found-untried}
 use Rattle.regress_search.proofs.pikevm.PikeVMExecutorMatchProducer.next_match.Goals as goal
 
 pub places-init : goal.places-init
@@ -73,7 +73,7 @@ places-preserved g c =
     let start = offset c.places.start in
     let from = rw (← same) at c.places.invariant.from in
     let none : end_from tree text start ≡ None = sym c.in_ok-end.ensures ∙ ap (option_map (λ s. end_of (state_of offset s))) c.in_default.is in
-    let on = goes-on tree text is (offset c.args.pos) start (offset c.in-Some-next_right_pos.next) from none c.in-Some-next_right_pos.ensures.read in
+    let on = goes-on tree text is (offset c.args.pos) start (offset c.in-Some-next_try.next) from none (tried-on text start (offset c.in-Some-next_try.next) _ c.in-Some-next_try.ensures) in
     record { from = rw (← same) on.0; searched = same; next_start = c.places.invariant.next_start }
 
 pub places-smaller : goal.places-smaller
@@ -87,8 +87,11 @@ places-smaller g c =
     let start = offset c.places.start in
     let from = rw (← same) at c.places.invariant.from in
     let none : end_from tree text start ≡ None = sym c.in_ok-end.ensures ∙ ap (option_map (λ s. end_of (state_of offset s))) c.in_default.is in
-    let on = goes-on tree text is (offset c.args.pos) start (offset c.in-Some-next_right_pos.next) from none c.in-Some-next_right_pos.ensures.read in
+    let on = goes-on tree text is (offset c.args.pos) start (offset c.in-Some-next_try.next) from none (tried-on text start (offset c.in-Some-next_try.next) _ c.in-Some-next_try.ensures) in
     rw (← same) on.1
+
+pub next_try-requires : goal.next_try-requires
+next_try-requires g c = rw c.places.invariant.searched c.places.invariant.from.boundary
 
 pub returns-in-None-clause-found : goal.returns-in-None-clause-found
 returns-in-None-clause-found g c =
@@ -101,18 +104,5 @@ returns-in-None-clause-found g c =
     let start = offset c.places.start in
     let from = rw (← same) at c.places.invariant.from in
     let none : end_from tree text start ≡ None = sym c.in_ok-end.ensures ∙ ap (option_map (λ s. end_of (state_of offset s))) c.in_default.is in
-    rw (← same) (found-last tree text is (offset c.args.pos) start from none c.in-None.ensures.read)
-
-pub returns-then-anchored-clause-found : goal.returns-then-anchored-clause-found
-returns-then-anchored-clause-found g c =
-    let searched = c.places.self.searched in
-    let same = c.places.invariant.searched in
-    let tree = tree_of searched.program.now in
-    let text = g.Input.InputIndexer.text searched.input in
-    let is = g.met.Input.InputIndexer.is_text searched.input in
-    let offset = g.Input.Position.PositionType.offset in
-    let start = offset c.places.start in
-    let from = rw (← same) at c.places.invariant.from in
-    let none : end_from tree text start ≡ None = sym c.in_ok-end.ensures ∙ ap (option_map (λ s. end_of (state_of offset s))) c.in_default.is in
-    let anchored = rw (← same) at (sym c.if-anchored.ensures) in
-    rw (← same) (found-anchored tree text searched.well_formed searched.reads.scalars anchored (offset c.args.pos) start is from none)
+    let anchored = rw (← same) at (sym c.is_anchored-anchored.ensures) in
+    rw (← same) (found-untried tree text searched.well_formed searched.reads.scalars _ anchored (offset c.args.pos) start is from none c.in-None.ensures)

@@ -1,5 +1,5 @@
 -- Which trees are refused.
-use Rattle.std.specs.Prelude.{◌≡◌, ℕ, Bool, ◌<◌, ◌≤◌, ◌^◌, false, length, IsTrue}
+use Rattle.std.specs.Prelude.{◌≡◌, Bool, ◌<◌, ◌≤◌, ◌^◌, false, length, IsTrue}
 use Rattle.regex_meaning.specs.Tree.{Tree, group_ids}
 use Rattle.regex_meaning.specs.WellFormed.{IsWellFormed}
 use Rattle.regex_meaning.specs.Layout.{reads_bytes}

@@ -1,4 +1,4 @@
-use Rattle.std.proofs.Common.{◌≡◌, ◌+◌, ◌∙◌, ap, false, arith, length, refl}
+use Rattle.std.proofs.Common.{◌≡◌, ◌∙◌, ap, false, arith, length, refl}
 use Rattle.regex_meaning.proofs.WellFormedLemmas.{well_formed-iff}
 use Rattle.regex_pattern_front.specs.TreeOf.{node_of}
 use Rattle.regress_program.specs.Code.{compiled}

@@ -1,4 +1,4 @@
-use Rattle.std.proofs.Common.{◌≡◌, ◌+◌, ◌≤◌, true, false, length, ◌∙◌, ap, sym, arith}
+use Rattle.std.proofs.Common.{◌≡◌, ◌≤◌, length, ◌∙◌, ap, sym, arith}
 use Rattle.regex_meaning.specs.Tree.{group_ids}
 use Rattle.regex_pattern_front.specs.TreeOf.{node_of}
 use Rattle.regress_program.specs.Ids.{is_seen, past}

@@ -6,7 +6,7 @@ use Rattle.regex_pattern_front.specs.TreeOf.{node_of, quantifier_of}
 use Rattle.regress_program.specs.Insns.{insn_of}
 use Rattle.regress_program.specs.Nodes.{cat_of}
 use Rattle.regex_meaning.specs.WellFormed.{fits_instructions}
-use Rattle.regress_program.specs.Emitting.{HasRoom, state_of, with_code, with_insn_at, lookaround_of}
+use Rattle.regress_program.specs.Emitting.{HasRoom, state_of, with_code, lookaround_of}
 use Rattle.regress_program.proofs.NodeLemmas.{node_of-Cat, cat_of-drop, both_first, both_second}
 use Rattle.regress_program.proofs.Weights.{weight, weight-child}
 use Rattle.regress_program.proofs.EmitLemmas.{with_code-cat, with_code-alt, room-first, room-rest, room-right, second_fits, end_fits, with_code-capture_group, with_code-loop_1_char_body, with_code-lookaround, with_code-loop, room-group, room-loop_1_char_body, room-lookaround, room-loop, room-unnamed, end_of_lookaround_fits, end_of_loop_fits}

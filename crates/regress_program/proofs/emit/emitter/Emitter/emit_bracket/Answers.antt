@@ -1,4 +1,4 @@
-use Rattle.std.proofs.Common.{◌≡◌, false, ◌∙◌, ap, sym, length}
+use Rattle.std.proofs.Common.{◌≡◌, false, ◌∙◌, sym, length}
 use Rattle.regress_program.proofs.NodeLemmas.{false_by_not}
 use Rattle.std.proofs.lemmas.List.{length-map}
 use Rattle.regex_meaning.specs.Layout.{is_ascii_set}

@@ -1,7 +1,6 @@
-use Rattle.std.proofs.Common.{◌≡◌, ℕ, ◌+◌, ◌-◌, ◌<◌, ◌≤◌, ◌^◌, [], ◌∙◌, ap, sym, arith, length, drop, get_or}
+use Rattle.std.proofs.Common.{◌≡◌, ◌+◌, ◌-◌, ◌<◌, [], ◌∙◌, ap, sym, arith, length, drop, get_or}
 use borrow.Author.Tests.{eqb-true}
 use Rattle.regex_meaning.specs.Tree.{string_set}
-use Rattle.regex_meaning.specs.Layout.{Alt, Jump}
 use Rattle.regress_program.specs.Code.{string_code, strings_code, strings_size}
 use Rattle.regress_program.specs.Emitting.{state_of, with_insns, with_code, code_points_of}
 use Rattle.regress_program.proofs.TextLemmas.{code_points-next, length-code_points, size_from, last_code, strings_step, strings_target, with_code-string_set, no_length, ne_zero}

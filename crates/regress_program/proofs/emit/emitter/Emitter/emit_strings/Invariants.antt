@@ -1,4 +1,4 @@
-use Rattle.std.proofs.Common.{◌≡◌, ◌+◌, ◌<◌, drop, length}
+use Rattle.std.proofs.Common.{◌≡◌, ◌+◌, drop, length}
 use Rattle.regress_program.specs.Code.{strings_code, strings_size}
 use Rattle.regress_program.specs.Emitting.{state_of, with_insns, code_points_of}
 use Rattle.regress_program.proofs.emit.emitter.Emitter.emit_strings.Given as goal

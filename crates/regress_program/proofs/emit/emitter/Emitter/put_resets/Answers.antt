@@ -1,4 +1,4 @@
-use Rattle.std.proofs.Common.{◌≡◌, ◌+◌, ◌∙◌, ap, sym}
+use Rattle.std.proofs.Common.{◌+◌, ◌∙◌, ap, sym}
 use Rattle.regress_program.specs.Code.{resets}
 use Rattle.regress_program.specs.Emitting.{state_of, with_insns}
 use Rattle.regress_program.proofs.TextLemmas.{insns_step, with_insns-none, resets-next, resets-past}

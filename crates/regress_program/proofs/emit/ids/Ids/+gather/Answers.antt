@@ -1,8 +1,8 @@
-use Rattle.std.proofs.Common.{◌≡◌, ℕ, ◌+◌, ◌<◌, ◌≤◌, ◌++◌, ◌&&◌, ◌||◌, max, min, true, false, [], refl, ◌∙◌, ap, sym, arith, drop}
+use Rattle.std.proofs.Common.{◌≡◌, ℕ, ◌+◌, ◌&&◌, ◌||◌, true, false, [], refl, ◌∙◌, ap, sym, arith, drop}
 use Rattle.std.specs.Prelude.{is_some}
 use Rattle.std.proofs.lemmas.List.{drop_all}
 use Rattle.regex_meaning.specs.Lists.{contains}
-use Rattle.regex_meaning.specs.Tree.{cat, alt, group_ids, every}
+use Rattle.regex_meaning.specs.Tree.{alt, group_ids, every}
 use Rattle.regex_meaning.specs.WellFormed.{names_the_groups_inside}
 use Rattle.regex_pattern_front.specs.TreeOf.{node_of}
 use Rattle.regress_program.specs.Nodes.{cat_of}

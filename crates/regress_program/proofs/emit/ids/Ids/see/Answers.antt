@@ -1,4 +1,3 @@
-use Rattle.std.proofs.Common.{arith}
 use Rattle.regress_program.proofs.IdLemmas.{seen-set}
 use Rattle.regress_program.proofs.emit.ids.Ids.see.Goals as goal
 

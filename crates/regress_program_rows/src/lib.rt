@@ -12,6 +12,8 @@ mod predicates;
 #[cfg(test)]
 mod programs;
 #[cfg(test)]
+mod rows;
+#[cfg(test)]
 mod trees;
 #[cfg(test)]
 mod units;

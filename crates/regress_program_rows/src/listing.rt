@@ -1,21 +1,28 @@
 //! Programs in words.
 
-use crate::trees::tree_of;
-use regex_pattern_front::ir::Node;
-use regress_program::emit::{EmitError, emit};
+use regex_pattern_front::ir::Regex;
+use regress_program::emit::{EmitError, emit, emit_units};
 use regress_program::insn::{Insn, LoopFields};
 use std::alloc::{AllocError, Global};
 use std::test::Fail;
 
-// What the compiler answers for a tree, in words.
-pub(crate) fn answer(alloc: Global, node: Node) -> Result<String, Fail> {
-    match emit(alloc, &tree_of(node)) {
-        Ok(program) => listing(alloc, program.insns()),
+// The program of a tree for texts in bytes, or why there is none.
+pub(crate) fn program(alloc: Global, tree: &Regex) -> Result<String, Fail> {
+    match emit(alloc, tree) {
+        Ok(compiled) => Ok(listing(alloc, compiled.program().insns())?),
         Err(error) => Ok(String::from_str(alloc, named(error))?),
     }
 }
 
-pub(crate) fn named(error: EmitError) -> &'static str {
+// The same for texts of 16-bit units.
+pub(crate) fn units(alloc: Global, tree: &Regex) -> Result<String, Fail> {
+    match emit_units(alloc, tree) {
+        Ok(compiled) => Ok(listing(alloc, compiled.program().insns())?),
+        Err(error) => Ok(String::from_str(alloc, named(error))?),
+    }
+}
+
+fn named(error: EmitError) -> &'static str {
     match error {
         EmitError::NotWellFormed => "NotWellFormed",
         EmitError::BytesInUnits => "BytesInUnits",
@@ -27,7 +34,7 @@ pub(crate) fn named(error: EmitError) -> &'static str {
 }
 
 // The instructions one after another.
-pub(crate) fn listing(alloc: Global, insns: &[Insn]) -> Result<String, Fail> {
+fn listing(alloc: Global, insns: &[Insn]) -> Result<String, AllocError> {
     let mut text = String::new(alloc);
     for insn in insns {
         if !text.is_empty() {

@@ -1,6 +1,6 @@
-//! Trees without a meaning.
+//! Trees without a meaning, and some beside them that have one.
 
-use crate::listing::answer;
+use crate::rows::{Question, Rows};
 use crate::trees::{
     ANY_NUMBER, alt_of, bytes_of, char_of, ended, group_of, looking, repeated, repeated_character,
 };
@@ -11,33 +11,19 @@ use std::test::Fail;
 
 const REFUSED: &str = "NotWellFormed";
 
-// What the compiler answers for a node behind another, before the end.
-fn answer_to(alloc: Global, node: Node) -> Result<String, Fail> {
-    answer(
-        alloc,
-        Node::Cat(vec![in alloc; Node::MatchAny, node, Node::Goal]?),
-    )
+// The node behind another, before the end.
+fn put(alloc: Global, rows: &mut Rows, node: Node, wanted: &'static str) -> Result<(), Fail> {
+    let root = Node::Cat(vec![in alloc; Node::MatchAny, node, Node::Goal]?);
+    rows.put(root, wanted)
 }
 
-// Whether that is that the tree is not well formed.
-fn refused(alloc: Global, node: Node) -> Result<bool, Fail> {
-    Ok(answer_to(alloc, node)?.as_str() == REFUSED)
-}
-
-// The same of a tree.
-fn refused_whole(alloc: Global, tree: Node) -> Result<bool, Fail> {
-    Ok(answer(alloc, tree)?.as_str() == REFUSED)
-}
-
-#[test]
-fn goals_that_are_not_last(rt: HostRuntime) -> Result<(), Fail> {
-    let alloc = rt.alloc();
-    assert!(rt; refused_whole(alloc, char_of('a'))?);
-    assert!(rt; refused_whole(alloc, Node::Cat(vec![in alloc; Node::Goal, char_of('a')]?))?);
-    assert!(rt; refused_whole(alloc, alt_of(alloc, Node::Goal, Node::Goal)?)?);
-    assert!(rt; refused_whole(alloc, ended(alloc, Node::Goal)?)?);
-    assert!(rt; refused_whole(alloc, Node::Cat(Vec::new(alloc)))?);
-    Ok(())
+fn put_goals_that_are_not_last(alloc: Global, rows: &mut Rows) -> Result<(), Fail> {
+    rows.put(char_of('a'), REFUSED)?;
+    let behind = Node::Cat(vec![in alloc; Node::Goal, char_of('a')]?);
+    rows.put(behind, REFUSED)?;
+    rows.put(alt_of(alloc, Node::Goal, Node::Goal)?, REFUSED)?;
+    rows.put(ended(alloc, Node::Goal)?, REFUSED)?;
+    rows.put(Node::Cat(Vec::new(alloc)), REFUSED)
 }
 
 fn two_groups(alloc: Global, first: u16, second: u16) -> Result<Node, Fail> {
@@ -46,33 +32,35 @@ fn two_groups(alloc: Global, first: u16, second: u16) -> Result<Node, Fail> {
     Ok(Node::Cat(vec![in alloc; first, second]?))
 }
 
-#[test]
-fn ids_that_do_not_stand_once(rt: HostRuntime) -> Result<(), Fail> {
-    let alloc = rt.alloc();
-    for (first, second, wanted) in [
-        (0, 0, REFUSED),
-        (0, 2, REFUSED),
-        (
-            1,
-            0,
-            "MatchAny, BeginCaptureGroup 1, EndCaptureGroup 1, BeginCaptureGroup 0, EndCaptureGroup 0, Goal",
-        ),
-    ] {
-        let text = answer_to(alloc, two_groups(alloc, first, second)?)?;
-        assert_eq!(rt; text.as_str(), wanted, "at {first} {second}");
-    }
-    Ok(())
+fn put_ids(alloc: Global, rows: &mut Rows) -> Result<(), Fail> {
+    put(alloc, rows, two_groups(alloc, 0, 0)?, REFUSED)?;
+    put(alloc, rows, two_groups(alloc, 0, 2)?, REFUSED)?;
+    put(
+        alloc,
+        rows,
+        two_groups(alloc, 1, 0)?,
+        "MatchAny, BeginCaptureGroup 1, EndCaptureGroup 1, BeginCaptureGroup 0, EndCaptureGroup 0, Goal",
+    )
 }
 
-#[test]
-fn groups_that_are_not_inside(rt: HostRuntime) -> Result<(), Fail> {
-    let alloc = rt.alloc();
+fn put_groups_that_are_not_inside(alloc: Global, rows: &mut Rows) -> Result<(), Fail> {
     let group = group_of(alloc, 0, char_of('a'))?;
-    assert!(rt; refused(alloc, repeated(alloc, ANY_NUMBER, 0, 0, group)?)?);
-    assert!(rt; refused(alloc, repeated(alloc, ANY_NUMBER, 0, 1, char_of('a'))?)?);
-    assert!(rt; refused(alloc, repeated(alloc, ANY_NUMBER, 1, 0, char_of('a'))?)?);
-    assert!(rt; refused(alloc, looking(alloc, false, 0, 1, char_of('a'))?)?);
-    Ok(())
+    put(
+        alloc,
+        rows,
+        repeated(alloc, ANY_NUMBER, 0, 0, group)?,
+        REFUSED,
+    )?;
+    for (first, end) in [(0, 1), (1, 0)] {
+        let node = repeated(alloc, ANY_NUMBER, first, end, char_of('a'))?;
+        put(alloc, rows, node, REFUSED)?;
+    }
+    put(
+        alloc,
+        rows,
+        looking(alloc, false, 0, 1, char_of('a'))?,
+        REFUSED,
+    )
 }
 
 fn reference_to(group: u32) -> Node {
@@ -88,68 +76,61 @@ fn group_and_reference(alloc: Global, group: u32) -> Result<Node, Fail> {
     Ok(Node::Cat(vec![in alloc; opened, reference_to(group)]?))
 }
 
-#[test]
-fn references_to_no_group(rt: HostRuntime) -> Result<(), Fail> {
-    let alloc = rt.alloc();
-    for (group, wanted) in [
-        (0, REFUSED),
-        (
-            1,
-            "MatchAny, BeginCaptureGroup 0, EndCaptureGroup 0, other, Goal",
-        ),
-        (2, REFUSED),
-    ] {
-        let text = answer_to(alloc, group_and_reference(alloc, group)?)?;
-        assert_eq!(rt; text.as_str(), wanted, "at {group}");
-    }
-    assert!(rt; refused(alloc, reference_to(1))?);
-    Ok(())
+fn put_references(alloc: Global, rows: &mut Rows) -> Result<(), Fail> {
+    put(alloc, rows, reference_to(1), REFUSED)?;
+    put(alloc, rows, group_and_reference(alloc, 0)?, REFUSED)?;
+    put(
+        alloc,
+        rows,
+        group_and_reference(alloc, 1)?,
+        "MatchAny, BeginCaptureGroup 0, EndCaptureGroup 0, other, Goal",
+    )?;
+    put(alloc, rows, group_and_reference(alloc, 2)?, REFUSED)
 }
 
-#[test]
-fn a_minimum_above_the_maximum(rt: HostRuntime) -> Result<(), Fail> {
-    let alloc = rt.alloc();
+fn put_minima_above_the_maximum(alloc: Global, rows: &mut Rows) -> Result<(), Fail> {
     for (min, max) in [(2, 1), (3, 2)] {
         let quant = Quantifier {
             min,
             max: Some(max),
             greedy: true,
         };
-        assert!(rt;
-            refused(alloc, repeated(alloc, quant, 0, 0, char_of('a'))?)?,
-            "at {min}"
-        );
-        assert!(rt;
-            refused(alloc, repeated_character(alloc, quant, char_of('a'))?)?,
-            "at {min}"
-        );
+        put(
+            alloc,
+            rows,
+            repeated(alloc, quant, 0, 0, char_of('a'))?,
+            REFUSED,
+        )?;
+        put(
+            alloc,
+            rows,
+            repeated_character(alloc, quant, char_of('a'))?,
+            REFUSED,
+        )?;
     }
     Ok(())
 }
 
-#[test]
-fn bodies_that_are_not_one_character(rt: HostRuntime) -> Result<(), Fail> {
-    let alloc = rt.alloc();
-    let row = Node::Cat(vec![in alloc; char_of('a')]?);
-    assert!(rt; refused(alloc, repeated_character(alloc, ANY_NUMBER, row)?)?);
-    assert!(rt; refused(alloc, repeated_character(alloc, ANY_NUMBER, Node::Empty)?)?);
-    let bytes = bytes_of(alloc, b"ab")?;
-    assert!(rt; refused(alloc, repeated_character(alloc, ANY_NUMBER, bytes)?)?);
-    Ok(())
+fn put_body(alloc: Global, rows: &mut Rows, body: Node) -> Result<(), Fail> {
+    put(
+        alloc,
+        rows,
+        repeated_character(alloc, ANY_NUMBER, body)?,
+        REFUSED,
+    )
 }
 
-#[test]
-fn bytes_that_are_no_text(rt: HostRuntime) -> Result<(), Fail> {
-    let alloc = rt.alloc();
-    for bytes in [
-        b"".as_slice(),
-        b"\xC3".as_slice(),
-        b"\xC0\x80".as_slice(),
-        b"\xED\xA0\x80".as_slice(),
-    ] {
-        assert!(rt; refused(alloc, bytes_of(alloc, bytes)?)?, "at {bytes:?}");
-    }
-    Ok(())
+fn put_bodies_that_are_not_one_character(alloc: Global, rows: &mut Rows) -> Result<(), Fail> {
+    put_body(alloc, rows, Node::Cat(vec![in alloc; char_of('a')]?))?;
+    put_body(alloc, rows, Node::Empty)?;
+    put_body(alloc, rows, bytes_of(alloc, b"ab")?)
+}
+
+fn put_bytes_that_are_no_text(alloc: Global, rows: &mut Rows) -> Result<(), Fail> {
+    put(alloc, rows, bytes_of(alloc, b"")?, REFUSED)?;
+    put(alloc, rows, bytes_of(alloc, b"\xC3")?, REFUSED)?;
+    put(alloc, rows, bytes_of(alloc, b"\xC0\x80")?, REFUSED)?;
+    put(alloc, rows, bytes_of(alloc, b"\xED\xA0\x80")?, REFUSED)
 }
 
 // A string with what is no character.
@@ -161,15 +142,37 @@ fn past_the_last_character(alloc: Global) -> Result<Node, Fail> {
     })
 }
 
+fn put_sets_that_fit_no_instruction(alloc: Global, rows: &mut Rows) -> Result<(), Fail> {
+    put(
+        alloc,
+        rows,
+        Node::ByteSet(Vec::from_slice(alloc, b"abcde")?),
+        REFUSED,
+    )?;
+    put(
+        alloc,
+        rows,
+        Node::ByteSet(Vec::from_slice(alloc, b"\x80")?),
+        REFUSED,
+    )?;
+    let five = Vec::from_slice(alloc, &[1, 2, 3, 4, 5])?;
+    put(alloc, rows, Node::CharSet(five), REFUSED)?;
+    put(alloc, rows, past_the_last_character(alloc)?, REFUSED)
+}
+
 #[test]
-fn sets_that_fit_no_instruction(rt: HostRuntime) -> Result<(), Fail> {
+fn trees_are_refused(rt: HostRuntime) -> Result<(), Fail> {
     let alloc = rt.alloc();
-    for members in [b"abcde".as_slice(), b"\x80".as_slice()] {
-        let set = Node::ByteSet(Vec::from_slice(alloc, members)?);
-        assert!(rt; refused(alloc, set)?, "at {members:?}");
-    }
-    let set = Node::CharSet(Vec::from_slice(alloc, &[1, 2, 3, 4, 5])?);
-    assert!(rt; refused(alloc, set)?);
-    assert!(rt; refused(alloc, past_the_last_character(alloc)?)?);
+    let mut rows = Rows::new(alloc);
+    put_goals_that_are_not_last(alloc, &mut rows)?;
+    put_ids(alloc, &mut rows)?;
+    put_groups_that_are_not_inside(alloc, &mut rows)?;
+    put_references(alloc, &mut rows)?;
+    put_minima_above_the_maximum(alloc, &mut rows)?;
+    put_bodies_that_are_not_one_character(alloc, &mut rows)?;
+    put_bytes_that_are_no_text(alloc, &mut rows)?;
+    put_sets_that_fit_no_instruction(alloc, &mut rows)?;
+    let differences = rows.differences(alloc, Question::Program)?;
+    assert_eq!(rt; differences.as_str(), "");
     Ok(())
 }

@@ -31,21 +31,21 @@ fn has_names(program: &CompiledRegex, first: &str, second: &str) -> bool {
         && program.group_name(usize::MAX).is_empty()
 }
 
-#[test]
-fn names_stand_under_their_ids(rt: HostRuntime) -> Result<(), Fail> {
-    let alloc = rt.alloc();
-    let tree = tree_of(names_in_a_lookbehind(alloc)?);
-    let program = emit(alloc, &tree)?;
-    assert!(rt; has_names(&program, "a", "b"));
-    assert!(rt; has_names(&program.clone()?, "a", "b"));
-    Ok(())
+fn both_have_names(program: &CompiledRegex, first: &str, second: &str) -> Result<bool, Fail> {
+    let copy = program.clone()?;
+    Ok(has_names(program, first, second) && has_names(&copy, first, second))
+}
+
+// Whether the tree's program and its copy have these names.
+fn agree(alloc: Global, root: Node, first: &str, second: &str) -> Result<bool, Fail> {
+    let program = emit(alloc, &tree_of(root))?;
+    both_have_names(&program, first, second)
 }
 
 #[test]
-fn groups_without_a_name(rt: HostRuntime) -> Result<(), Fail> {
+fn names_stand_under_their_ids(rt: HostRuntime) -> Result<(), Fail> {
     let alloc = rt.alloc();
-    let tree = tree_of(a_name_behind_none(alloc)?);
-    let program = emit(alloc, &tree)?;
-    assert!(rt; has_names(&program, "", "b"));
+    assert!(rt; agree(alloc, names_in_a_lookbehind(alloc)?, "a", "b")?);
+    assert!(rt; agree(alloc, a_name_behind_none(alloc)?, "", "b")?);
     Ok(())
 }

@@ -1,12 +1,14 @@
 //! Predicates of trees made by hand.
 
-use crate::trees::{ANY_NUMBER, alt_of, bytes_of, class_of, ended, looking, repeated, tree_of};
+use crate::rows::{Question, Rows};
+use crate::trees::{ANY_NUMBER, alt_of, bytes_of, class_of, ended, looking, repeated};
 use regex_pattern_front::bytesearch::{ByteBitmap, ByteSet};
 use regex_pattern_front::codepointset::Interval;
-use regex_pattern_front::ir::{AnchorType, Node, Quantifier};
+use regex_pattern_front::ir::{AnchorType, Node, Quantifier, Regex};
 use regress_program::insn::StartPredicate;
 use regress_program::startpredicate::predicate_for_re;
 use std::alloc::{AllocError, Global};
+use std::process::Abort;
 use std::test::Fail;
 
 fn listed(alloc: Global, name: &str, bytes: &[u8]) -> Result<String, AllocError> {
@@ -36,104 +38,103 @@ fn in_words(alloc: Global, predicate: &StartPredicate) -> Result<String, AllocEr
     }
 }
 
-// The predicate of a node and `Goal`, in words.
-fn answer(alloc: Global, node: Node) -> Result<String, Fail> {
-    let tree = tree_of(ended(alloc, node)?);
-    let predicate = predicate_for_re(alloc, &tree)?;
-    Ok(in_words(alloc, &predicate)?)
+pub(crate) fn predicate(alloc: Global, tree: &Regex) -> Result<String, Fail> {
+    Ok(in_words(alloc, &predicate_for_re(alloc, tree)?)?)
+}
+
+fn put(alloc: Global, rows: &mut Rows, node: Node, wanted: &'static str) -> Result<(), Fail> {
+    rows.put(ended(alloc, node)?, wanted)
 }
 
 fn either(alloc: Global, left: &[u8], right: &[u8]) -> Result<Node, Fail> {
     alt_of(alloc, bytes_of(alloc, left)?, bytes_of(alloc, right)?)
 }
 
-#[test]
-fn sequences(rt: HostRuntime) -> Result<(), Fail> {
-    let alloc = rt.alloc();
-    for (right, wanted) in [
-        (b"abc".as_slice(), "ByteSeq [97, 98, 99]"),
-        (b"abd".as_slice(), "ByteSeq [97, 98]"),
-        (b"xyz".as_slice(), "ByteSet2 [97, 120]"),
-    ] {
-        let text = answer(alloc, either(alloc, b"abc", right)?)?;
-        assert_eq!(rt; text.as_str(), wanted);
-    }
-    let text = answer(alloc, bytes_of(alloc, b"abc")?)?;
-    assert_eq!(rt; text.as_str(), "ByteSeq [97, 98, 99]");
-    Ok(())
+fn looped(alloc: Global, min: usize) -> Result<Node, Fail> {
+    let quant = Quantifier { min, ..ANY_NUMBER };
+    repeated(alloc, quant, 0, 0, bytes_of(alloc, b"abc")?)
 }
 
-#[test]
-fn loops(rt: HostRuntime) -> Result<(), Fail> {
-    let alloc = rt.alloc();
-    for (min, wanted) in [(0, "Arbitrary []"), (1, "ByteSeq [97, 98, 99]")] {
-        let quant = Quantifier { min, ..ANY_NUMBER };
-        let node = repeated(alloc, quant, 0, 0, bytes_of(alloc, b"abc")?)?;
-        let text = answer(alloc, node)?;
-        assert_eq!(rt; text.as_str(), wanted);
-    }
-    Ok(())
+fn put_sequences(alloc: Global, rows: &mut Rows) -> Result<(), Fail> {
+    put(
+        alloc,
+        rows,
+        bytes_of(alloc, b"abc")?,
+        "ByteSeq [97, 98, 99]",
+    )?;
+    put(
+        alloc,
+        rows,
+        either(alloc, b"abc", b"abd")?,
+        "ByteSeq [97, 98]",
+    )?;
+    put(
+        alloc,
+        rows,
+        either(alloc, b"abc", b"xyz")?,
+        "ByteSet2 [97, 120]",
+    )?;
+    put(alloc, rows, looped(alloc, 0)?, "Arbitrary []")?;
+    put(alloc, rows, looped(alloc, 1)?, "ByteSeq [97, 98, 99]")
 }
 
 fn before_letter(alloc: Global, first: Node) -> Result<Node, Fail> {
     Ok(Node::Cat(vec![in alloc; first, bytes_of(alloc, b"a")?]?))
 }
 
-#[test]
-fn lookaheads(rt: HostRuntime) -> Result<(), Fail> {
-    let alloc = rt.alloc();
+// Nodes that read nothing, before one that does.
+fn put_assertions(alloc: Global, rows: &mut Rows) -> Result<(), Fail> {
     let ahead = looking(alloc, false, 0, 0, bytes_of(alloc, b"b")?)?;
-    let text = answer(alloc, before_letter(alloc, ahead)?)?;
-    assert_eq!(rt; text.as_str(), "ByteSet1 [97]");
-    Ok(())
-}
-
-#[test]
-fn anchors(rt: HostRuntime) -> Result<(), Fail> {
-    let alloc = rt.alloc();
+    put(alloc, rows, before_letter(alloc, ahead)?, "ByteSet1 [97]")?;
     let start = Node::Anchor {
         anchor_type: AnchorType::StartOfLine,
         multiline: false,
     };
-    let text = answer(alloc, before_letter(alloc, start)?)?;
-    assert_eq!(rt; text.as_str(), "StartAnchored []");
-    Ok(())
-}
-
-#[test]
-fn sets(rt: HostRuntime) -> Result<(), Fail> {
-    let alloc = rt.alloc();
-    let none = answer(alloc, Node::ByteSet(Vec::new(alloc)))?;
-    assert_eq!(rt; none.as_str(), "Arbitrary []");
-    let members = vec![in alloc; 0x20AC, 0x61, 0x11_0000]?;
-    let text = answer(alloc, Node::CharSet(members))?;
-    assert_eq!(rt; text.as_str(), "ByteSet2 [97, 226]");
-    Ok(())
+    put(
+        alloc,
+        rows,
+        before_letter(alloc, start)?,
+        "StartAnchored []",
+    )
 }
 
 fn from_to(first: u32, last: u32) -> Interval {
     Interval { first, last }
 }
 
-#[test]
-fn classes(rt: HostRuntime) -> Result<(), Fail> {
-    let alloc = rt.alloc();
+// The class of the code points between `0x60` and `next`, and of those past `0xF_FFFF`.
+fn inverted(alloc: Global, next: u32) -> Result<Node, Fail> {
+    class_of(alloc, true, &[from_to(0, 0x60), from_to(next, 0xF_FFFF)])
+}
+
+fn put_sets(alloc: Global, rows: &mut Rows) -> Result<(), Fail> {
+    put(alloc, rows, Node::ByteSet(Vec::new(alloc)), "Arbitrary []")?;
+    let members = vec![in alloc; 0x20AC, 0x61, 0x11_0000]?;
+    put(alloc, rows, Node::CharSet(members), "ByteSet2 [97, 226]")?;
     let class = class_of(alloc, false, &[from_to(0x7E, 0x80)])?;
-    let text = answer(alloc, class)?;
-    assert_eq!(rt; text.as_str(), "ByteSet3 [126, 127, 194]");
-    Ok(())
+    put(alloc, rows, class, "ByteSet3 [126, 127, 194]")?;
+    put(
+        alloc,
+        rows,
+        inverted(alloc, 0x63)?,
+        "ByteSet3 [97, 98, 244]",
+    )?;
+    put(
+        alloc,
+        rows,
+        inverted(alloc, 0x64)?,
+        "ByteBracket [97, 98, 99, 244]",
+    )
 }
 
 #[test]
-fn inverted_classes(rt: HostRuntime) -> Result<(), Fail> {
+fn trees_have_these_predicates(rt: HostRuntime) -> Result<(), Fail> {
     let alloc = rt.alloc();
-    for (next, wanted) in [
-        (0x63, "ByteSet3 [97, 98, 244]"),
-        (0x64, "ByteBracket [97, 98, 99, 244]"),
-    ] {
-        let most = [from_to(0, 0x60), from_to(next, 0xF_FFFF)];
-        let text = answer(alloc, class_of(alloc, true, &most)?)?;
-        assert_eq!(rt; text.as_str(), wanted);
-    }
+    let mut rows = Rows::new(alloc);
+    put_sequences(alloc, &mut rows)?;
+    put_assertions(alloc, &mut rows)?;
+    put_sets(alloc, &mut rows)?;
+    let differences = rows.differences(alloc, Question::Predicate)?;
+    assert_eq!(rt; differences.as_str(), "");
     Ok(())
 }

@@ -1,9 +1,9 @@
 //! Programs written out.
 
-use crate::listing::answer;
+use crate::rows::{Question, Rows};
 use crate::trees::{
     ANY_NUMBER, alt_of, bytes_of, char_of, class_of, ended, group_of, looking, repeated,
-    repeated_character, tree_of,
+    repeated_character, string_behind, tree_of,
 };
 use regex_pattern_front::codepointset::Interval;
 use regex_pattern_front::ir::Node;
@@ -13,91 +13,69 @@ use std::alloc::Global;
 use std::process::Abort;
 use std::test::Fail;
 
-#[test]
-fn a_choice_between_rows(rt: HostRuntime) -> Result<(), Fail> {
-    let alloc = rt.alloc();
+fn a_choice_between_rows(alloc: Global) -> Result<Node, Fail> {
     let row = Node::Cat(vec![in alloc; char_of('a'), char_of('b')]?);
-    let tree = ended(alloc, alt_of(alloc, char_of('a'), row)?)?;
-    let text = answer(alloc, tree)?;
-    assert_eq!(rt;
-        text.as_str(),
-        "Alt 3, Char 97, Jump 5, Char 97, Char 98, Goal"
-    );
-    Ok(())
+    ended(alloc, alt_of(alloc, char_of('a'), row)?)
 }
 
-#[test]
-fn rows_and_leaves(rt: HostRuntime) -> Result<(), Fail> {
-    let alloc = rt.alloc();
-    let text = answer(alloc, Node::Goal)?;
-    assert_eq!(rt; text.as_str(), "Goal");
-    let tree = Node::Cat(vec![in alloc; Node::Empty, Node::MatchAny, Node::Goal]?);
-    let text = answer(alloc, tree)?;
-    assert_eq!(rt; text.as_str(), "MatchAny, Goal");
-    Ok(())
-}
-
-#[test]
-fn a_loop(rt: HostRuntime) -> Result<(), Fail> {
-    let alloc = rt.alloc();
-    let tree = repeated(alloc, ANY_NUMBER, 0, 0, char_of('a'))?;
-    let text = answer(alloc, ended(alloc, tree)?)?;
-    assert_eq!(rt;
-        text.as_str(),
-        "EnterLoop 0 0 18446744073709551615 true 3, Char 97, LoopAgain 0, Goal"
-    );
-    Ok(())
-}
-
-#[test]
-fn a_loop_over_a_group(rt: HostRuntime) -> Result<(), Fail> {
-    let alloc = rt.alloc();
+fn a_loop_over_a_group(alloc: Global) -> Result<Node, Fail> {
     let group = group_of(alloc, 0, char_of('a'))?;
     let inner = repeated(alloc, ANY_NUMBER, 0, 1, group)?;
-    let tree = repeated(alloc, ANY_NUMBER, 0, 1, inner)?;
-    let text = answer(alloc, ended(alloc, tree)?)?;
-    assert_eq!(rt;
-        text.as_str(),
-        "EnterLoop 0 0 18446744073709551615 true 9, ResetCaptureGroup 0, EnterLoop 1 0 18446744073709551615 true 8, ResetCaptureGroup 0, BeginCaptureGroup 0, Char 97, EndCaptureGroup 0, LoopAgain 2, LoopAgain 0, Goal"
-    );
-    Ok(())
+    ended(alloc, repeated(alloc, ANY_NUMBER, 0, 1, inner)?)
 }
 
-#[test]
-fn a_loop_over_one_character(rt: HostRuntime) -> Result<(), Fail> {
-    let alloc = rt.alloc();
-    let tree = repeated_character(alloc, ANY_NUMBER, char_of('a'))?;
-    let text = answer(alloc, ended(alloc, tree)?)?;
-    assert_eq!(rt;
-        text.as_str(),
-        "Loop1CharBody 0 18446744073709551615 true, Char 97, Goal"
-    );
-    Ok(())
-}
-
-#[test]
-fn bytes_inside_a_lookbehind(rt: HostRuntime) -> Result<(), Fail> {
-    let alloc = rt.alloc();
+fn bytes_inside_a_lookbehind(alloc: Global) -> Result<Node, Fail> {
     let bytes = bytes_of(alloc, b"abcdefghijklmnopq")?;
-    let tree = looking(alloc, true, 0, 0, bytes)?;
-    let text = answer(alloc, ended(alloc, tree)?)?;
-    assert_eq!(rt;
-        text.as_str(),
-        "Lookbehind false 0 0 4, ByteSeq1 q, ByteSeq16 abcdefghijklmnop, Goal, Goal"
-    );
-    Ok(())
+    ended(alloc, looking(alloc, true, 0, 0, bytes)?)
 }
 
-#[test]
-fn too_many_groups(rt: HostRuntime) -> Result<(), Fail> {
-    let alloc = rt.alloc();
+fn many_groups(alloc: Global) -> Result<Node, Fail> {
     let mut nodes = Vec::new(alloc);
     for id in 0..=u16::MAX {
         nodes.push(group_of(alloc, id, Node::Empty)?)?;
     }
     nodes.push(Node::Goal)?;
-    let text = answer(alloc, Node::Cat(nodes))?;
-    assert_eq!(rt; text.as_str(), "TooManyGroups");
+    Ok(Node::Cat(nodes))
+}
+
+fn programs(alloc: Global) -> Result<Rows, Fail> {
+    let mut rows = Rows::new(alloc);
+    rows.put(Node::Goal, "Goal")?;
+    let leaves = vec![in alloc; Node::Empty, Node::MatchAny, Node::Goal]?;
+    rows.put(Node::Cat(leaves), "MatchAny, Goal")?;
+    rows.put(
+        a_choice_between_rows(alloc)?,
+        "Alt 3, Char 97, Jump 5, Char 97, Char 98, Goal",
+    )?;
+    rows.put(
+        ended(alloc, repeated(alloc, ANY_NUMBER, 0, 0, char_of('a'))?)?,
+        "EnterLoop 0 0 18446744073709551615 true 3, Char 97, LoopAgain 0, Goal",
+    )?;
+    rows.put(
+        a_loop_over_a_group(alloc)?,
+        "EnterLoop 0 0 18446744073709551615 true 9, ResetCaptureGroup 0, EnterLoop 1 0 18446744073709551615 true 8, ResetCaptureGroup 0, BeginCaptureGroup 0, Char 97, EndCaptureGroup 0, LoopAgain 2, LoopAgain 0, Goal",
+    )?;
+    rows.put(
+        ended(alloc, repeated_character(alloc, ANY_NUMBER, char_of('a'))?)?,
+        "Loop1CharBody 0 18446744073709551615 true, Char 97, Goal",
+    )?;
+    rows.put(
+        bytes_inside_a_lookbehind(alloc)?,
+        "Lookbehind false 0 0 4, ByteSeq1 q, ByteSeq16 abcdefghijklmnop, Goal, Goal",
+    )?;
+    rows.put(
+        string_behind(alloc)?,
+        "Lookbehind false 0 0 4, Char 98, Char 97, Goal, Char 99, Goal",
+    )?;
+    rows.put(many_groups(alloc)?, "TooManyGroups")?;
+    Ok(rows)
+}
+
+#[test]
+fn trees_have_these_programs(rt: HostRuntime) -> Result<(), Fail> {
+    let alloc = rt.alloc();
+    let differences = programs(alloc)?.differences(alloc, Question::Program)?;
+    assert_eq!(rt; differences.as_str(), "");
     Ok(())
 }
 
@@ -123,12 +101,19 @@ fn has_parts(program: &CompiledRegex) -> bool {
         && program.group_name(0).is_empty()
 }
 
+fn both_have_parts(program: &CompiledRegex) -> Result<bool, Fail> {
+    let copy = program.clone()?;
+    Ok(has_parts(program) && has_parts(&copy))
+}
+
+// Whether the program of the class and its copy have their parts.
+fn parts_agree(alloc: Global) -> Result<bool, Fail> {
+    let program = emit(alloc, &tree_of(repeated_class(alloc)?))?;
+    both_have_parts(&program)
+}
+
 #[test]
 fn a_program_has_parts(rt: HostRuntime) -> Result<(), Fail> {
-    let alloc = rt.alloc();
-    let tree = tree_of(repeated_class(alloc)?);
-    let program = emit(alloc, &tree)?;
-    assert!(rt; has_parts(&program));
-    assert!(rt; has_parts(&program.clone()?));
+    assert!(rt; parts_agree(rt.alloc())?);
     Ok(())
 }

@@ -103,3 +103,13 @@ pub(crate) fn class_of(alloc: Global, invert: bool, intervals: &[Interval]) -> R
     let cps = CodePointSet::from_intervals(alloc, intervals)?;
     Ok(Node::Bracket(BracketContents { invert, cps }))
 }
+
+// A lookbehind of a string, before a character.
+pub(crate) fn string_behind(alloc: Global) -> Result<Node, Fail> {
+    let strings = Node::StringSet {
+        alternatives: vec![in alloc; vec![in alloc; 97, 98]?]?,
+        icase: false,
+    };
+    let behind = looking(alloc, true, 0, 0, strings)?;
+    Ok(Node::Cat(vec![in alloc; behind, char_of('c'), Node::Goal]?))
+}

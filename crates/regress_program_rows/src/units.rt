@@ -1,24 +1,16 @@
 //! Programs for texts of 16-bit units.
 
-use crate::listing::{listing, named};
+use crate::rows::{Question, Rows};
 use crate::trees::{
     ANY_NUMBER, alt_of, bytes_of, char_of, class_of, ended, group_of, looking, named_group,
-    repeated, tree_of,
+    repeated, string_behind, tree_of,
 };
 use regex_pattern_front::ir::Node;
-use regress_program::emit::{emit, emit_units};
+use regress_program::emit::emit_units;
 use regress_program::insn::CompiledUnits;
 use std::alloc::Global;
 use std::process::Abort;
 use std::test::Fail;
-
-// What the compiler answers for a tree, in words.
-fn answer(alloc: Global, node: Node) -> Result<String, Fail> {
-    match emit_units(alloc, &tree_of(node)) {
-        Ok(program) => listing(alloc, program.insns()),
-        Err(error) => Ok(String::from_str(alloc, named(error))?),
-    }
-}
 
 // A lookbehind of a character or a set of bytes.
 fn bytes_behind(alloc: Global) -> Result<Node, Fail> {
@@ -27,46 +19,25 @@ fn bytes_behind(alloc: Global) -> Result<Node, Fail> {
     looking(alloc, true, 0, 0, either)
 }
 
-#[test]
-fn nodes_that_read_bytes(rt: HostRuntime) -> Result<(), Fail> {
-    let alloc = rt.alloc();
-    let bytes = answer(alloc, ended(alloc, bytes_of(alloc, b"a")?)?)?;
-    assert_eq!(rt; bytes.as_str(), "BytesInUnits");
-    let behind = answer(alloc, ended(alloc, bytes_behind(alloc)?)?)?;
-    assert_eq!(rt; behind.as_str(), "BytesInUnits");
-    Ok(())
-}
-
 // A tree that is not well formed is refused as such, whatever stands in it.
-#[test]
-fn malformed_trees_of_bytes(rt: HostRuntime) -> Result<(), Fail> {
-    let alloc = rt.alloc();
-    let text = answer(alloc, bytes_of(alloc, b"a")?)?;
-    assert_eq!(rt; text.as_str(), "NotWellFormed");
-    Ok(())
-}
-
-// A lookbehind of a string, before a character.
-fn string_behind(alloc: Global) -> Result<Node, Fail> {
-    let strings = Node::StringSet {
-        alternatives: vec![in alloc; vec![in alloc; 97, 98]?]?,
-        icase: false,
-    };
-    let behind = looking(alloc, true, 0, 0, strings)?;
-    Ok(Node::Cat(vec![in alloc; behind, char_of('c'), Node::Goal]?))
+fn programs(alloc: Global) -> Result<Rows, Fail> {
+    let mut rows = Rows::new(alloc);
+    rows.put(bytes_of(alloc, b"a")?, "NotWellFormed")?;
+    rows.put(ended(alloc, bytes_of(alloc, b"a")?)?, "BytesInUnits")?;
+    rows.put(ended(alloc, bytes_behind(alloc)?)?, "BytesInUnits")?;
+    rows.put(ended(alloc, char_of('a'))?, "Char 97, Goal")?;
+    rows.put(
+        string_behind(alloc)?,
+        "Lookbehind false 0 0 4, Char 98, Char 97, Goal, Char 99, Goal",
+    )?;
+    Ok(rows)
 }
 
 #[test]
-fn the_instructions_of_both_programs(rt: HostRuntime) -> Result<(), Fail> {
+fn trees_have_these_programs(rt: HostRuntime) -> Result<(), Fail> {
     let alloc = rt.alloc();
-    let text = answer(alloc, ended(alloc, char_of('a'))?)?;
-    assert_eq!(rt; text.as_str(), "Char 97, Goal");
-    let wanted = "Lookbehind false 0 0 4, Char 98, Char 97, Goal, Char 99, Goal";
-    let tree = tree_of(string_behind(alloc)?);
-    let units = listing(alloc, emit_units(alloc, &tree)?.program().insns())?;
-    assert_eq!(rt; units.as_str(), wanted);
-    let bytes = listing(alloc, emit(alloc, &tree)?.program().insns())?;
-    assert_eq!(rt; bytes.as_str(), wanted);
+    let differences = programs(alloc)?.differences(alloc, Question::Units)?;
+    assert_eq!(rt; differences.as_str(), "");
     Ok(())
 }
 
@@ -90,12 +61,18 @@ fn has_parts(program: &CompiledUnits) -> bool {
         && !program.flags().unicode
 }
 
+fn both_have_parts(program: &CompiledUnits) -> Result<bool, Fail> {
+    let copy = program.clone()?;
+    Ok(has_parts(program) && has_parts(&copy))
+}
+
+fn parts_agree(alloc: Global) -> Result<bool, Fail> {
+    let program = emit_units(alloc, &tree_of(class_and_name(alloc)?))?;
+    both_have_parts(&program)
+}
+
 #[test]
 fn a_program_of_units_has_parts(rt: HostRuntime) -> Result<(), Fail> {
-    let alloc = rt.alloc();
-    let tree = tree_of(class_and_name(alloc)?);
-    let program = emit_units(alloc, &tree)?;
-    assert!(rt; has_parts(&program));
-    assert!(rt; has_parts(&program.clone()?));
+    assert!(rt; parts_agree(rt.alloc())?);
     Ok(())
 }

@@ -22,6 +22,8 @@ unsafe extern "C" {
     fn regress_input_bench_ucs2_right(units: *const u16, len: usize, stop: u32) -> usize;
     fn regress_input_bench_ucs2_left(units: *const u16, len: usize, stop: u32) -> usize;
     fn regress_input_bench_bracket(bytes: *const u8, len: usize) -> usize;
+    fn regress_input_bench_utf16_bracket(units: *const u16, len: usize) -> usize;
+    fn regress_input_bench_ucs2_bracket(units: *const u16, len: usize) -> usize;
     fn regress_input_bench_bitmap(bytes: *const u8, len: usize) -> usize;
     fn regress_input_bench_literal(bytes: *const u8, len: usize) -> usize;
     fn regress_input_bench_find_one(bytes: *const u8, len: usize, byte: u8) -> usize;
@@ -69,9 +71,9 @@ fn of_pair(high: u16, low: u16) -> u32 {
     0x1_0000 + ((high as u32 & 0x3FF) << 10 | low as u32 & 0x3FF)
 }
 
-fn utf16_right(units: &[u16]) -> usize {
+fn characters_of_utf16(units: &[u16]) -> impl Iterator<Item = u32> {
     let mut at = 0;
-    count_until(std::iter::from_fn(|| {
+    std::iter::from_fn(move || {
         let &unit = units.get(at)?;
         at += 1;
         match units.get(at) {
@@ -81,7 +83,11 @@ fn utf16_right(units: &[u16]) -> usize {
             }
             _ => Some(unit as u32),
         }
-    }))
+    })
+}
+
+fn utf16_right(units: &[u16]) -> usize {
+    count_until(characters_of_utf16(units))
 }
 
 fn utf16_left(units: &[u16]) -> usize {
@@ -131,7 +137,7 @@ impl Class {
     }
 }
 
-fn bracket(text: &str) -> usize {
+fn count_in_class(characters: impl Iterator<Item = u32>) -> usize {
     let intervals = [
         (0x30, 0x39),
         (0x41, 0x5A),
@@ -144,9 +150,19 @@ fn bracket(text: &str) -> usize {
         intervals: black_box(intervals.to_vec()),
         invert: black_box(false),
     };
-    text.chars()
-        .take_while(|&c| class.accepts(c as u32))
-        .count()
+    characters.take_while(|&c| class.accepts(c)).count()
+}
+
+fn bracket(text: &str) -> usize {
+    count_in_class(text.chars().map(u32::from))
+}
+
+fn utf16_bracket(units: &[u16]) -> usize {
+    count_in_class(characters_of_utf16(units))
+}
+
+fn ucs2_bracket(units: &[u16]) -> usize {
+    count_in_class(units.iter().map(|&unit| unit as u32))
 }
 
 struct Bitmap([u64; 2]);
@@ -293,6 +309,7 @@ fn main() {
     let in_class = and(&["A", "Z", "7", "_", "\u{e9}", "\u{3b1}"]);
     let needles = and(&["needle"]);
     let units: Vec<u16> = mixed.encode_utf16().collect();
+    let units_in_class: Vec<u16> = in_class.encode_utf16().collect();
 
     println!(
         "{:28} {:>7} {:>7} {:>6}",
@@ -355,10 +372,22 @@ fn main() {
         ucs2_left,
     );
     compare_texts(
-        "bracket",
+        "bracket, UTF-8",
         &in_class,
         call!(regress_input_bench_bracket,),
         bracket,
+    );
+    compare_units(
+        "bracket, UTF-16",
+        &units_in_class,
+        call!(regress_input_bench_utf16_bracket,),
+        utf16_bracket,
+    );
+    compare_units(
+        "bracket, UCS-2",
+        &units_in_class,
+        call!(regress_input_bench_ucs2_bracket,),
+        ucs2_bracket,
     );
     compare_texts(
         "ASCII bitmap",

@@ -193,15 +193,30 @@ fn letters(alloc: Global) -> Result<BracketContents, AllocError> {
     })
 }
 
-/// 0 where the class could not be made.
+// How many characters from the left end on are of the class; 0 where the class could not be made.
+#[inline(always)]
+fn count_in_class<Input: InputIndexer>(alloc: Global, input: &Input) -> usize {
+    match letters(alloc) {
+        Ok(bc) => count_taken(input, &Bracket { bc: &bc }),
+        Err(_) => 0,
+    }
+}
+
 #[unsafe(no_mangle)]
 pub extern "C" fn regress_input_bench_bracket(alloc: Global, bytes: &[u8]) -> usize
     requires { IsUtf8 bytes.now }
 {
-    match letters(alloc) {
-        Ok(bc) => count_taken(&utf8(bytes), &Bracket { bc: &bc }),
-        Err(_) => 0,
-    }
+    count_in_class(alloc, &utf8(bytes))
+}
+
+#[unsafe(no_mangle)]
+pub extern "C" fn regress_input_bench_utf16_bracket(alloc: Global, units: &[u16]) -> usize {
+    count_in_class(alloc, &Utf16Input::new(units, false))
+}
+
+#[unsafe(no_mangle)]
+pub extern "C" fn regress_input_bench_ucs2_bracket(alloc: Global, units: &[u16]) -> usize {
+    count_in_class(alloc, &Ucs2Input::new(units, false))
 }
 
 // The lower letters.

@@ -1,6 +1,6 @@
 //! Finding matches in turn.
 
-ghost use Rattle.std.specs.Prelude.{◌≡◌, ◌<◌, ◌≤◌, ◌⊎◌, ℕ, map, option_map, IfOk, OnErr, OnSome, IfNone, if◌then◌else◌, nat_le, not, Some, None, string_bytes};
+ghost use Rattle.std.specs.Prelude.{◌≡◌, ◌<◌, ◌≤◌, ◌⊎◌, ℕ, Bool, map, option_map, IfOk, OnErr, OnSome, IfNone, if◌then◌else◌, nat_le, not, Some, None, string_bytes};
 ghost use Rattle.std.specs.Iterator.{at_most};
 ghost use Rattle.std.specs.Option.{ForSome};
 ghost use Rattle.regex_meaning.specs.Tree.{Node};
@@ -8,9 +8,11 @@ ghost use Rattle.regex_meaning.specs.Text.{Text};
 ghost use Rattle.regex_meaning.specs.Offsets.{IsText, IsBoundary, units};
 ghost use Rattle.regex_meaning.specs.Answers.{first_answer, next_start as start_behind};
 ghost use Rattle.regex_meaning.specs.Names.{answers_from};
+ghost use Rattle.regex_pattern_front.specs.TreeOf.{tree_of};
 ghost use Rattle.regress_search.specs.ToCome.{ToCome, coming, Gives, items_left};
 
 use regress_input::position::PositionType;
+use regress_program::insn::CompiledRegex;
 use std::alloc::AllocError;
 use std::marker::Model;
 use std::ops::Range;
@@ -92,6 +94,31 @@ pub trait MatchProducer {
         ensures same_text { text self.new ≡ text self.old };
 
     ghost is_text: { (it : Self) → IsText (text it) };
+}
+
+/// A searcher that is made of a program and a text, whose type is a part of it.
+pub trait Searcher<'r>: MatchProducer {
+    type Text;
+
+    // Which texts it can search.
+    ghost can_search: { Self.Text → Type 0 };
+
+    // A text as it reads it, by the flag `unicode`.
+    ghost text_of: { Self.Text → (unicode : Bool) → Text };
+
+    /// Searches `text` with the program `re`.
+    fn new(re: &'r CompiledRegex, text: Self::Text) -> Result<Self, AllocError>
+    where
+        Self: Sized,
+        requires { can_search text }
+        ensures root { IfOk result (λ e. Self.root e ≡ (tree_of re.now).root) }
+        ensures text { IfOk result (λ e. Self.text e ≡ text_of text (tree_of re.now).flags.unicode) };
+}
+
+/// A searcher of a `str`.
+pub trait Executor<'r, 't>: Searcher<'r, Text = &'t str> {
+    /// Its like for texts of ASCII.
+    type AsAscii;
 }
 
 /// The matches of a pattern in a text from a start on. Contracts see the answers still to come.

@@ -1,6 +1,6 @@
 //! The executor that copies its states: as plain as can be, each way still to try a state of its own.
 
-ghost use Rattle.std.specs.Prelude.{◌≡◌, ◌<◌, ◌≤◌, ◌++◌, map, IsTrue, IsAscii, IsSome, IfOk, option_map, string_bytes};
+ghost use Rattle.std.specs.Prelude.{◌≡◌, ◌<◌, ◌≤◌, ◌++◌, map, IsTrue, IsAscii, IsSome, IfOk, option_map, string_bytes, ⊤};
 ghost use Rattle.regex_meaning.specs.Text.{ascii_text, utf8_text};
 ghost use Rattle.regex_meaning.specs.Offsets.{IsBoundary, units};
 ghost use Rattle.regex_meaning.specs.WellFormed.{is_well_formed};
@@ -21,7 +21,7 @@ mod states;
 
 use self::actions::take_turn;
 use self::states::{State, Turn, initial_state, resume};
-use crate::exec::{Match, MatchProducer, SearchError};
+use crate::exec::{Executor, Match, MatchProducer, SearchError, Searcher};
 use regress_input::cursor::{Backward, Forward};
 use regress_input::indexing::{AsciiInput, InputIndexer, Utf8Input};
 use regress_input::position::PositionType;
@@ -269,12 +269,14 @@ impl<'r, Input: InputIndexer> MatchProducer for PikeVMExecutor<'r, Input> {
     }
 }
 
-impl<'r, 't> PikeVMExecutor<'r, Utf8Input<'t>> {
-    /// Searches `text` with the program `re`.
-    pub fn new(re: &'r CompiledRegex, text: &'t str) -> Result<Self, AllocError>
-        ensures root { IfOk result (λ e. ⟦<PikeVMExecutor<'r, Utf8Input<'t>> as MatchProducer>⟧.root e ≡ (tree_of re.now).root) }
-        ensures text { IfOk result (λ e. ⟦<PikeVMExecutor<'r, Utf8Input<'t>> as MatchProducer>⟧.text e ≡ utf8_text text.now (tree_of re.now).flags.unicode) }
-    {
+impl<'r, 't> Searcher<'r> for PikeVMExecutor<'r, Utf8Input<'t>> {
+    type Text = &'t str;
+
+    ghost can_search = { λ _. ⊤ };
+
+    ghost text_of = { λ text. utf8_text text.now };
+
+    fn new(re: &'r CompiledRegex, text: &'t str) -> Result<Self, AllocError> {
         let flags = re.flags();
         let _well_formed = re.insns();
         let searched = Searched {
@@ -288,13 +290,18 @@ impl<'r, 't> PikeVMExecutor<'r, Utf8Input<'t>> {
     }
 }
 
-impl<'r, 't> PikeVMExecutor<'r, AsciiInput<'t>> {
-    /// Searches `text`, which is of ASCII, with the program `re`. `is_ascii` is the test of what is asked.
-    pub fn new(re: &'r CompiledRegex, text: &'t str) -> Result<Self, AllocError>
-        requires { IsAscii text.now }
-        ensures root { IfOk result (λ e. ⟦<PikeVMExecutor<'r, AsciiInput<'t>> as MatchProducer>⟧.root e ≡ (tree_of re.now).root) }
-        ensures text { IfOk result (λ e. ⟦<PikeVMExecutor<'r, AsciiInput<'t>> as MatchProducer>⟧.text e ≡ ascii_text text.now (tree_of re.now).flags.unicode) }
-    {
+impl<'r, 't> Executor<'r, 't> for PikeVMExecutor<'r, Utf8Input<'t>> {
+    type AsAscii = PikeVMExecutor<'r, AsciiInput<'t>>;
+}
+
+impl<'r, 't> Searcher<'r> for PikeVMExecutor<'r, AsciiInput<'t>> {
+    type Text = &'t str;
+
+    ghost can_search = { λ text. IsAscii text.now };
+
+    ghost text_of = { λ text. ascii_text text.now };
+
+    fn new(re: &'r CompiledRegex, text: &'t str) -> Result<Self, AllocError> {
         let flags = re.flags();
         let _well_formed = re.insns();
         let searched = Searched {
@@ -306,4 +313,8 @@ impl<'r, 't> PikeVMExecutor<'r, AsciiInput<'t>> {
             stack: Vec::new(re.allocator()),
         })
     }
+}
+
+impl<'r, 't> Executor<'r, 't> for PikeVMExecutor<'r, AsciiInput<'t>> {
+    type AsAscii = Self;
 }

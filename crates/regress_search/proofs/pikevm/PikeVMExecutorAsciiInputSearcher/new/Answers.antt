@@ -1,12 +1,12 @@
 use Rattle.std.proofs.Common.{ap, sym, subst, ◌∙◌, refl}
-use Rattle.std.proofs.lemmas.Str.{is_utf8-from_IsUtf8}
 use Rattle.regress_machine.specs.Bytes.{ReadsBytes}
-use Rattle.regress_machine.proofs.ByteTexts.{utf8_text-ReadsBytes}
+use Rattle.regress_machine.proofs.ByteTexts.{ascii_text-ReadsBytes}
 use Rattle.regex_meaning.specs.Text.{Text}
 use Rattle.regex_meaning.specs.Tree.{Flags}
 use Rattle.regex_pattern_front.specs.TreeOf.{tree_of}
 use Rattle.regress_search.proofs.FirstMatch.{flags-compiled}
-use Rattle.regress_search.proofs.pikevm.PikeVMExecutor+Utf8Input.new.Goals as goal
+use Rattle.regress_search.proofs.Searchable.{all-ascii}
+use Rattle.regress_search.proofs.pikevm.PikeVMExecutorAsciiInputSearcher.new.Goals as goal
 
 pub invariant_of-searched : goal.invariant_of-searched
 invariant_of-searched c = record {
@@ -14,6 +14,6 @@ invariant_of-searched c = record {
       ap (λ (t : Text). t.unicode) c.new.ensures
       ∙ ap (λ (f : Flags). f.unicode) (c.flags-flags.ensures ∙ flags-compiled (tree_of c.args.re.now));
   well_formed = c.insns-well_formed.ensures.well_formed;
-  reads = subst ReadsBytes (sym c.new.ensures) (utf8_text-ReadsBytes c.args.text.now c.flags-flags.result.unicode (is_utf8-from_IsUtf8 c.args.text.now c.utf8.text));
+  reads = subst ReadsBytes (sym c.new.ensures) (ascii_text-ReadsBytes c.args.text.now c.flags-flags.result.unicode (all-ascii c.args.text.now c.requires));
   bytes = refl;
 }

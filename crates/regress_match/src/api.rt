@@ -13,7 +13,7 @@ use regress_input::indexing::{AsciiInput, Utf8Input};
 use regress_program::emit::{EmitError, emit};
 use regress_program::insn::CompiledRegex;
 use regress_search::exec;
-use regress_search::exec::{Match, MatchProducer, SearchError};
+use regress_search::exec::{Match, MatchProducer, SearchError, Searcher};
 use regress_search::pikevm::PikeVMExecutor;
 use std::alloc::{AllocError, Global};
 use std::snapshot::Snapshot;

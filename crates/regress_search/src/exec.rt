@@ -96,14 +96,14 @@ pub trait MatchProducer {
     ghost is_text: { (it : Self) → IsText (text it) };
 }
 
-/// A searcher that is made of a program and a text, whose type is a part of it.
+/// A producer of matches that is made of a program and a text. `can_search` says which texts it takes, and `text_of`
+/// what characters it reads in one, by the flag `unicode`.
 pub trait Searcher<'r>: MatchProducer {
+    /// The text as it is given, with its lifetime.
     type Text;
 
-    // Which texts it can search.
     ghost can_search: { Self.Text → Type 0 };
 
-    // A text as it reads it, by the flag `unicode`.
     ghost text_of: { Self.Text → (unicode : Bool) → Text };
 
     /// Searches `text` with the program `re`.
@@ -115,9 +115,9 @@ pub trait Searcher<'r>: MatchProducer {
         ensures text { IfOk result (λ e. Self.text e ≡ text_of text (tree_of re.now).flags.unicode) };
 }
 
-/// A searcher of a `str`.
+/// Runs a program for bytes over a `str`. What makes one is `new` of `Searcher`.
 pub trait Executor<'r, 't>: Searcher<'r, Text = &'t str> {
-    /// Its like for texts of ASCII.
+    /// The executor of this kind over texts of ASCII. Where a function needs that it is one, its bounds say so.
     type AsAscii;
 }
 

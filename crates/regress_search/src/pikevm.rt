@@ -297,6 +297,7 @@ impl<'r, 't> Executor<'r, 't> for PikeVMExecutor<'r, Utf8Input<'t>> {
 impl<'r, 't> Searcher<'r> for PikeVMExecutor<'r, AsciiInput<'t>> {
     type Text = &'t str;
 
+    // `is_ascii` is the test
     ghost can_search = { λ text. IsAscii text.now };
 
     ghost text_of = { λ text. ascii_text text.now };

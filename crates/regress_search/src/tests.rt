@@ -3,7 +3,7 @@
 ghost use Rattle.std.specs.Prelude.{◌≡◌, ◌⊎◌, ◌<◌, length};
 ghost use Rattle.regex_meaning.specs.Offsets.{IsBoundary, units};
 
-use crate::exec::{Match, MatchProducer, Matches};
+use crate::exec::{Match, MatchProducer, Matches, Searcher};
 use crate::pikevm::PikeVMExecutor;
 use regex_pattern_front::flags::Flags;
 use regex_pattern_front::ir::{Node, Regex};

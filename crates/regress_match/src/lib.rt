@@ -6,5 +6,3 @@
 
 pub mod api;
 pub mod program;
-#[cfg(test)]
-mod tests;

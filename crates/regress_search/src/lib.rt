@@ -3,5 +3,3 @@
 
 pub mod exec;
 pub mod pikevm;
-#[cfg(test)]
-mod tests;

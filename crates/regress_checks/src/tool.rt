@@ -1,8 +1,6 @@
-//! What the program writes and answers, and the flags of letters.
+//! What the program prints and answers.
 
-use crate::api::{Flags, Regex};
-use crate::program::run;
-use regress_search::exec::{MatchProducer, Matches};
+use regress_match::program::run;
 use std::alloc::Global;
 use std::io;
 use std::io::Write;
@@ -126,88 +124,5 @@ fn a_failed_complaint_is_a_refusal(rt: HostRuntime) -> Result<(), Fail> {
     assert_eq!(rt; run(alloc, &words, &mut out, &mut err), 2);
     assert!(rt; out.is_empty());
     assert_eq!(rt; err.tried, 1);
-    Ok(())
-}
-
-#[test]
-fn letters_are_flags(rt: HostRuntime) {
-    let wanted = Flags {
-        icase: true,
-        multiline: true,
-        unicode: true,
-        ..Flags::default()
-    };
-    assert_eq!(rt; Flags::from("gimuy"), wanted);
-    assert_eq!(rt; Flags::from(""), Flags::default());
-}
-
-// The ranges of matches, each with a blank behind it.
-fn ranges_of<P: MatchProducer + Drop>(alloc: Global, matches: Matches<P>) -> Result<String, Fail> {
-    let mut words = String::new(alloc);
-    for item in matches {
-        let range = item?.range;
-        let start = range.start;
-        let end = range.end;
-        write!(words, "{start}..{end} ")?;
-    }
-    Ok(words)
-}
-
-#[test]
-fn searches_begin_where_they_are_told(rt: HostRuntime) -> Result<(), Fail> {
-    let alloc = rt.alloc();
-    let re = Regex::new(alloc, "b")?;
-    let text = "abéb";
-    let found = re.find(text)?.ok_or("no match")?;
-    assert_eq!(rt; found.range, 1..2);
-    assert!(rt; re.find("é")?.is_none());
-    let all = ranges_of(alloc, re.find_iter(text)?)?;
-    assert_eq!(rt; all.as_str(), "1..2 4..5 ");
-    for (start, wanted) in [
-        (0, "1..2 4..5 "),
-        (2, "4..5 "),
-        (4, "4..5 "),
-        (5, ""),
-        (6, ""),
-    ] {
-        if text.is_char_boundary(start) || text.len() < start {
-            let found = ranges_of(alloc, re.find_from(text, start)?)?;
-            assert_eq!(rt; found.as_str(), wanted, "from {start}");
-        }
-    }
-    Ok(())
-}
-
-#[test]
-fn searches_of_ascii_find_the_same(rt: HostRuntime) -> Result<(), Fail> {
-    let alloc = rt.alloc();
-    let re = Regex::with_flags(alloc, "x?s", Flags::from("iu"))?;
-    let text = "aXsS";
-    if !text.is_ascii() {
-        return Err(Fail::from("a text beyond ASCII"));
-    }
-    let found = re.find_ascii(text)?.ok_or("no match")?;
-    assert_eq!(rt; found.range, 1..3);
-    let all = ranges_of(alloc, re.find_iter_ascii(text)?)?;
-    assert_eq!(rt; all.as_str(), "1..3 3..4 ");
-    for (start, wanted) in [(1, "1..3 3..4 "), (2, "2..3 3..4 "), (4, ""), (5, "")] {
-        let found = ranges_of(alloc, re.find_from_ascii(text, start)?)?;
-        assert_eq!(rt; found.as_str(), wanted, "from {start}");
-    }
-    Ok(())
-}
-
-#[test]
-fn trees_run_as_parsed_find_the_same(rt: HostRuntime) -> Result<(), Fail> {
-    let alloc = rt.alloc();
-    for no_opt in [false, true] {
-        let flags = Flags {
-            no_opt,
-            ..Flags::default()
-        };
-        let re = Regex::with_flags(alloc, "a|b", flags)?;
-        let found = ranges_of(alloc, re.find_iter("abc")?)?;
-        assert_eq!(rt; found.as_str(), "0..1 1..2 ", "no_opt {no_opt}");
-    }
     Ok(())
 }

@@ -1,0 +1,17 @@
+//! Tests of what stands on all crates together. It has no code that others use.
+#![tactic(auto)]
+
+#[cfg(test)]
+mod anchored;
+#[cfg(test)]
+mod lines;
+#[cfg(test)]
+mod public;
+#[cfg(test)]
+mod rows;
+#[cfg(test)]
+mod starts;
+#[cfg(test)]
+mod tool;
+#[cfg(test)]
+mod trees;

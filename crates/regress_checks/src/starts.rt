@@ -1,0 +1,10 @@
+//! Where searches may start.
+
+ghost use Rattle.std.specs.Prelude.{◌<◌, ◌⊎◌, IsCharBoundary, IsTrue, length};
+
+// Whether an offset is a boundary of the text's characters, or past the end.
+pub fn is_start(text: &str, offset: usize) -> bool
+    ensures { IsTrue result → IsCharBoundary text.now offset ⊎ (length text.now < offset) }
+{
+    text.is_char_boundary(offset) || text.len() < offset
+}

@@ -3,20 +3,22 @@
 
 use regress_search::exec::{Match, MatchProducer, Matches};
 use std::alloc::Global;
+use std::ops::Range;
 use std::test::Fail;
 
+fn write_range(line: &mut String, range: &Range<usize>) -> Result<(), Fail> {
+    let start = range.start;
+    let end = range.end;
+    Ok(write!(line, "{start}..{end}")?)
+}
+
 fn write_match(line: &mut String, found: &Match) -> Result<(), Fail> {
-    let start = found.range.start;
-    let end = found.range.end;
-    write!(line, "{start}..{end}")?;
+    write_range(line, &found.range)?;
     for group in &found.captures {
+        line.push(' ')?;
         match group {
-            Some(range) => {
-                let start = range.start;
-                let end = range.end;
-                write!(line, " {start}..{end}")?;
-            }
-            None => line.push_str(" -")?,
+            Some(range) => write_range(line, range)?,
+            None => line.push('-')?,
         }
     }
     Ok(())

@@ -4,6 +4,7 @@ use regress_match::program::run;
 use std::alloc::Global;
 use std::io;
 use std::io::Write;
+use std::process::Abort;
 use std::test::Fail;
 
 // The words as the program is given them.
@@ -18,10 +19,31 @@ fn words_of(alloc: Global, texts: &[Option<&str>]) -> Result<Vec<Option<String>>
     Ok(words)
 }
 
+// Asserts what the program answers, prints and tells where it is given these words.
+fn assert_ran(
+    rt: &impl Abort,
+    alloc: Global,
+    words: &[Option<&str>],
+    status: u8,
+    printed: &str,
+    told: &str,
+) -> Result<(), Fail> {
+    let given = words_of(alloc, words)?;
+    let mut out = Vec::new(alloc);
+    let mut err = Vec::new(alloc);
+    let got = run(alloc, &given, &mut out, &mut err);
+    assert_eq!(rt; got, status, "the status of {words:?}");
+    assert_eq!(rt;
+        out.as_slice(),
+        printed.as_bytes(),
+        "the output of {words:?}"
+    );
+    assert_eq!(rt; err.as_slice(), told.as_bytes(), "the error of {words:?}");
+    Ok(())
+}
+
 #[test]
 fn searches_print_their_matches(rt: HostRuntime) -> Result<(), Fail> {
-    let alloc = rt.alloc();
-    let refused = "pattern refused\n";
     for (pattern, text, printed, told, status) in [
         ("a|ab", "abc", "0..1\n", "", 0),
         ("ab|a", "aab", "0..1\n1..3\n", "", 0),
@@ -31,37 +53,23 @@ fn searches_print_their_matches(rt: HostRuntime) -> Result<(), Fail> {
         ("z", "abc", "", "", 1),
         ("a*", "a", "0..1\n1..1\n", "", 0),
         ("(a)|b", "ab", "0..1 0..1\n1..2 -\n", "", 0),
-        ("(", "", "", refused, 2),
+        ("(", "", "", "pattern refused\n", 2),
     ] {
-        let words = words_of(alloc, &[Some(pattern), Some(""), Some(text)])?;
-        let mut out = Vec::new(alloc);
-        let mut err = Vec::new(alloc);
-        let got = run(alloc, &words, &mut out, &mut err);
-        assert_eq!(rt; got, status, "the status of {pattern}");
-        assert_eq!(rt;
-            out.as_slice(),
-            printed.as_bytes(),
-            "the output of {pattern}"
-        );
-        assert_eq!(rt; err.as_slice(), told.as_bytes(), "the error of {pattern}");
+        let words = [Some(pattern), Some(""), Some(text)];
+        assert_ran(&rt, rt.alloc(), &words, status, printed, told)?;
     }
     Ok(())
 }
 
 #[test]
 fn other_words_are_refused(rt: HostRuntime) -> Result<(), Fail> {
-    let alloc = rt.alloc();
-    let usage = "usage: regress-tool PATTERN FLAGS TEXT\n";
-    let one = words_of(alloc, &[Some("a")])?;
-    let four = words_of(alloc, &[Some("a"), Some(""), Some("a"), Some("a")])?;
-    let no_text = words_of(alloc, &[Some("a"), Some(""), None])?;
-    for (row, words) in [("one", &one), ("four", &four), ("no text", &no_text)] {
-        let mut out = Vec::new(alloc);
-        let mut err = Vec::new(alloc);
-        let got = run(alloc, words, &mut out, &mut err);
-        assert_eq!(rt; got, 2, "the status of {row}");
-        assert!(rt; out.is_empty(), "the output of {row}");
-        assert_eq!(rt; err.as_slice(), usage.as_bytes(), "the error of {row}");
+    for words in [
+        [Some("a")].as_slice(),
+        [Some("a"), Some(""), Some("a"), Some("a")].as_slice(),
+        [Some("a"), Some(""), None].as_slice(),
+    ] {
+        let usage = "usage: regress-tool PATTERN FLAGS TEXT\n";
+        assert_ran(&rt, rt.alloc(), words, 2, "", usage)?;
     }
     Ok(())
 }

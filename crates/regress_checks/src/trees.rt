@@ -6,24 +6,34 @@ use regex_pattern_front::flags::Flags;
 use regex_pattern_front::ir::{Node, Quantifier, Regex};
 use regress_input::indexing::Utf8Input;
 use regress_program::emit::emit;
+use regress_program::insn::CompiledRegex;
 use regress_search::exec::Matches;
 use regress_search::pikevm::PikeVMExecutor;
 use std::alloc::Global;
 use std::test::Fail;
 
-// The matches of these nodes in a row, from a start on.
-fn found(alloc: Global, mut nodes: Vec<Node>, text: &str, start: usize) -> Result<String, Fail> {
-    if !is_start(text, start) {
-        return Err(Fail::from("a start within a character"));
-    }
+// The program of these nodes and `Goal`.
+fn program(alloc: Global, mut nodes: Vec<Node>) -> Result<CompiledRegex, Fail> {
     nodes.push(Node::Goal)?;
     let tree = Regex {
         node: Node::Cat(nodes),
         flags: Flags::default(),
     };
-    let re = emit(alloc, &tree)?;
-    let executor = PikeVMExecutor::<Utf8Input>::new(&re, text)?;
-    all(alloc, Matches::new(executor, start))
+    Ok(emit(alloc, &tree)?)
+}
+
+// The matches of a program from a start on.
+fn found_from(re: &CompiledRegex, text: &str, start: usize) -> Result<String, Fail> {
+    if !is_start(text, start) {
+        return Err(Fail::from("a start within a character"));
+    }
+    let executor = PikeVMExecutor::<Utf8Input>::new(re, text)?;
+    all(re.allocator(), Matches::new(executor, start))
+}
+
+// The matches of these nodes.
+fn found(alloc: Global, nodes: Vec<Node>, text: &str) -> Result<String, Fail> {
+    found_from(&program(alloc, nodes)?, text, 0)
 }
 
 fn char_of(c: u32) -> Node {
@@ -85,109 +95,99 @@ fn any_times(alloc: Global, loopee: Node) -> Result<Node, Fail> {
 }
 
 #[test]
-fn characters_that_texts_do_not_have(rt: HostRuntime) -> Result<(), Fail> {
+fn texts_do_not_have_some_characters(rt: HostRuntime) -> Result<(), Fail> {
     let alloc = rt.alloc();
-    let surrogates = any_times(alloc, char_of(0xD800))?;
-    let no_bytes = any_times(alloc, Node::ByteSet(Vec::new(alloc)))?;
-    for (row, nodes, wanted) in [
-        (
-            "surrogates, then a letter",
-            vec![in alloc; surrogates, char_of(0x61)]?,
-            "0..1",
-        ),
-        (
-            "past the last code point",
-            vec![in alloc; char_of(0x11_0000)]?,
-            "",
-        ),
-        (
-            "no character",
-            vec![in alloc; Node::CharSet(Vec::new(alloc))]?,
-            "",
-        ),
-        (
-            "any number of no byte, then a letter",
-            vec![in alloc; no_bytes, char_of(0x61)]?,
-            "0..1",
-        ),
+    for (row, node) in [
+        ("past the last code point", char_of(0x11_0000)),
+        ("no character", Node::CharSet(Vec::new(alloc))),
     ] {
-        assert_eq!(rt; found(alloc, nodes, "a", 0)?.as_str(), wanted, "{row}");
+        let line = found(alloc, vec![in alloc; node]?, "a")?;
+        assert_eq!(rt; line.as_str(), "", "{row}");
     }
     Ok(())
 }
 
 #[test]
-fn bytes_stand_in_reading_order(rt: HostRuntime) -> Result<(), Fail> {
+fn loops_over_such_characters_match_nothing(rt: HostRuntime) -> Result<(), Fail> {
     let alloc = rt.alloc();
-    let letters = "abcdefghijklmnopq";
-    let euros = "€€€€€€";
-    for (row, nodes, text, wanted) in [
-        (
-            "seventeen bytes behind",
-            vec![in alloc; behind(alloc, bytes(alloc, letters)?)?]?,
-            letters,
-            "17..17",
-        ),
-        (
-            "two pieces",
-            vec![in alloc; bytes(alloc, euros)?]?,
-            euros,
-            "0..18",
-        ),
-        (
-            "two pieces behind a character",
-            vec![in alloc; Node::MatchAny, bytes(alloc, euros)?]?,
-            "x€€€€€€€",
-            "0..19",
-        ),
-        (
-            "one character too few",
-            vec![in alloc; Node::MatchAny, bytes(alloc, euros)?]?,
-            "x€€€€€",
-            "",
-        ),
-        (
-            "a character behind two pieces",
-            vec![in alloc; behind(alloc, bytes(alloc, euros)?)?, Node::MatchAny]?,
-            "€€€€€€x",
-            "18..19",
-        ),
-        (
-            "one character",
-            vec![in alloc; bytes(alloc, "é")?]?,
-            "aé",
-            "1..3",
-        ),
+    for (row, loopee) in [
+        ("a surrogate", char_of(0xD800)),
+        ("no byte", Node::ByteSet(Vec::new(alloc))),
     ] {
-        assert_eq!(rt; found(alloc, nodes, text, 0)?.as_str(), wanted, "{row}");
+        let none = any_times(alloc, loopee)?;
+        let line = found(alloc, vec![in alloc; none, char_of(0x61)]?, "a")?;
+        assert_eq!(rt; line.as_str(), "0..1", "{row}");
     }
     Ok(())
 }
 
 #[test]
-fn strings_stand_in_reading_order(rt: HostRuntime) -> Result<(), Fail> {
+fn bytes_are_read_in_pieces(rt: HostRuntime) -> Result<(), Fail> {
+    let alloc = rt.alloc();
+    for (sequence, text, wanted) in [("€€€€€€", "€€€€€€", "0..18"), ("é", "aé", "1..3")] {
+        let line = found(alloc, vec![in alloc; bytes(alloc, sequence)?]?, text)?;
+        assert_eq!(rt; line.as_str(), wanted, "{sequence}");
+    }
+    Ok(())
+}
+
+#[test]
+fn bytes_are_read_behind_a_character(rt: HostRuntime) -> Result<(), Fail> {
+    let alloc = rt.alloc();
+    for (text, wanted) in [("x€€€€€€€", "0..19"), ("x€€€€€", "")] {
+        let sequence = bytes(alloc, "€€€€€€")?;
+        let line = found(alloc, vec![in alloc; Node::MatchAny, sequence]?, text)?;
+        assert_eq!(rt; line.as_str(), wanted, "{text}");
+    }
+    Ok(())
+}
+
+#[test]
+fn bytes_stand_in_reading_order_behind(rt: HostRuntime) -> Result<(), Fail> {
+    let alloc = rt.alloc();
+    let text = "abcdefghijklmnopq";
+    let letters = behind(alloc, bytes(alloc, text)?)?;
+    let line = found(alloc, vec![in alloc; letters]?, text)?;
+    assert_eq!(rt; line.as_str(), "17..17", "seventeen letters");
+    let euros = behind(alloc, bytes(alloc, "€€€€€€")?)?;
+    let line = found(alloc, vec![in alloc; euros, Node::MatchAny]?, "€€€€€€x")?;
+    assert_eq!(rt; line.as_str(), "18..19", "before a character");
+    Ok(())
+}
+
+#[test]
+fn a_string_stands_in_reading_order_behind(rt: HostRuntime) -> Result<(), Fail> {
     let alloc = rt.alloc();
     let ab = behind(alloc, strings(alloc, &[&[0x61, 0x62]])?)?;
-    let line = found(alloc, vec![in alloc; ab]?, "ab", 0)?;
-    assert_eq!(rt; line.as_str(), "2..2", "a string behind");
-    let either = strings(alloc, &[&[0x61], &[0x61, 0x62]])?;
-    let line = found(alloc, vec![in alloc; either, char_of(0x63)]?, "abc", 0)?;
-    assert_eq!(rt; line.as_str(), "0..3", "one string or another");
+    let line = found(alloc, vec![in alloc; ab]?, "ab")?;
+    assert_eq!(rt; line.as_str(), "2..2");
     Ok(())
 }
 
 #[test]
-fn loops_of_any_length_end(rt: HostRuntime) -> Result<(), Fail> {
+fn another_string_is_tried(rt: HostRuntime) -> Result<(), Fail> {
+    let alloc = rt.alloc();
+    let either = strings(alloc, &[&[0x61], &[0x61, 0x62]])?;
+    let line = found(alloc, vec![in alloc; either, char_of(0x63)]?, "abc")?;
+    assert_eq!(rt; line.as_str(), "0..3");
+    Ok(())
+}
+
+#[test]
+fn a_thousand_empty_iterations_end(rt: HostRuntime) -> Result<(), Fail> {
     let alloc = rt.alloc();
     let empty = times(alloc, 1000, Some(1000), Node::Empty)?;
+    let line = found(alloc, vec![in alloc; empty]?, "")?;
+    assert_eq!(rt; line.as_str(), "0..0");
+    Ok(())
+}
+
+#[test]
+fn the_greatest_minimum_is_not_met(rt: HostRuntime) -> Result<(), Fail> {
+    let alloc = rt.alloc();
     let longest = times(alloc, usize::MAX, None, char_of(0x61))?;
-    for (row, node, text, wanted) in [
-        ("a thousand times nothing", empty, "", "0..0"),
-        ("more letters than there are", longest, "a", ""),
-    ] {
-        let line = found(alloc, vec![in alloc; node]?, text, 0)?;
-        assert_eq!(rt; line.as_str(), wanted, "{row}");
-    }
+    let line = found(alloc, vec![in alloc; longest]?, "a")?;
+    assert_eq!(rt; line.as_str(), "");
     Ok(())
 }
 
@@ -195,7 +195,7 @@ fn loops_of_any_length_end(rt: HostRuntime) -> Result<(), Fail> {
 fn lookarounds_name_groups_past_the_last(rt: HostRuntime) -> Result<(), Fail> {
     let alloc = rt.alloc();
     let ahead = look(alloc, false, 5, char_of(0x61))?;
-    let line = found(alloc, vec![in alloc; ahead]?, "a", 0)?;
+    let line = found(alloc, vec![in alloc; ahead]?, "a")?;
     assert_eq!(rt; line.as_str(), "0..0");
     Ok(())
 }
@@ -203,6 +203,8 @@ fn lookarounds_name_groups_past_the_last(rt: HostRuntime) -> Result<(), Fail> {
 #[test]
 fn any_character_and_none(rt: HostRuntime) -> Result<(), Fail> {
     let alloc = rt.alloc();
+    let any = program(alloc, vec![in alloc; Node::MatchAny]?)?;
+    let empty = program(alloc, vec![in alloc; Node::Empty]?)?;
     for (text, start, of_any, of_empty) in [
         ("é€", 0, "0..2; 2..5", "0..0; 2..2; 5..5"),
         ("a", 0, "0..1", "0..0; 1..1"),
@@ -211,13 +213,13 @@ fn any_character_and_none(rt: HostRuntime) -> Result<(), Fail> {
         ("é€", 6, "", ""),
         ("", 1, "", ""),
     ] {
-        let line = found(alloc, vec![in alloc; Node::MatchAny]?, text, start)?;
+        let line = found_from(&any, text, start)?;
         assert_eq!(rt;
             line.as_str(),
             of_any,
             "any character of {text} from {start}"
         );
-        let line = found(alloc, vec![in alloc; Node::Empty]?, text, start)?;
+        let line = found_from(&empty, text, start)?;
         assert_eq!(rt; line.as_str(), of_empty, "nothing in {text} from {start}");
     }
     Ok(())

@@ -79,10 +79,10 @@ pub(crate) fn byte<Input: InputIndexer, Dir: Direction>(
     input: &Input,
     dir: Dir,
     offset: usize,
-) -> Option<(u8, usize)> {
+) -> Option<(u32, usize)> {
     let mut pos = unit_position(input, offset)?;
     let byte = cursor::next_byte(input, dir, &mut pos)?;
-    Some((byte, input.pos_to_offset(pos)))
+    Some((u32::from(byte), input.pos_to_offset(pos)))
 }
 
 // The offset past these bytes.

@@ -14,4 +14,6 @@ mod ranges;
 #[cfg(test)]
 mod reads;
 #[cfg(test)]
+mod tables;
+#[cfg(test)]
 mod wide;

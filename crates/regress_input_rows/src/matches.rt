@@ -4,6 +4,7 @@ ghost use Rattle.std.specs.Prelude.{◌<◌, All};
 ghost use Rattle.regex_pattern_front.specs.ByteSets.{ascii_bitmap_bytes};
 
 use crate::answers::past_match;
+use crate::tables::{LEFT, RIGHT};
 use regress_input::cursor::{Backward, Direction, Forward};
 use regress_input::front::{AsciiBitmap, BracketContents, ByteArraySet, CodePointSet, Interval};
 use regress_input::indexing::{AsciiInput, ElementType, InputIndexer, Utf8Input};
@@ -37,7 +38,7 @@ pub(crate) fn class(alloc: Global) -> Result<BracketContents, Fail> {
 }
 
 // Which of the eight matchers of `z` take the character beside a place, and leave the position at this offset.
-pub(crate) fn matching<Input: InputIndexer, Dir: Direction>(
+fn matching<Input: InputIndexer, Dir: Direction>(
     input: &Input,
     dir: Dir,
     place: usize,
@@ -71,45 +72,83 @@ pub(crate) fn matching<Input: InputIndexer, Dir: Direction>(
     ])
 }
 
+// The first row that is answered otherwise, counted from 0, and its answer.
+pub(crate) fn mismatched<Input: InputIndexer>(
+    input: &Input,
+    bc: &BracketContents,
+    rows: &[(bool, usize, usize, [bool; 8])],
+) -> Option<(usize, Option<[bool; 8]>)> {
+    for (row, &(right, place, to, wanted)) in rows.iter().enumerate() {
+        let answer = if right {
+            matching(input, Forward::new(), place, to, bc)
+        } else {
+            matching(input, Backward::new(), place, to, bc)
+        };
+        if answer != Some(wanted) {
+            return Some((row, answer));
+        }
+    }
+    None
+}
+
 #[test]
 fn matchers_take_one_character(rt: HostRuntime) -> Result<(), Fail> {
     let bc = class(rt.alloc())?;
-    let each = Some([true; 8]);
-    let none = Some([false; 8]);
+    let each = [true; 8];
+    let none = [false; 8];
     let utf8 = Utf8Input::new("\u{20ac}z\n", false);
-    assert_eq!(rt; matching(&utf8, Forward::new(), 1, 4, &bc), each);
-    assert_eq!(rt; matching(&utf8, Backward::new(), 2, 3, &bc), each);
-    assert_eq!(rt; matching(&utf8, Forward::new(), 3, 5, &bc), none);
-    assert_eq!(rt; matching(&utf8, Backward::new(), 0, 0, &bc), none);
+    let rows = [
+        (RIGHT, 1, 4, each),
+        (LEFT, 2, 3, each),
+        (RIGHT, 3, 5, none),
+        (LEFT, 0, 0, none),
+    ];
+    assert_eq!(rt; mismatched(&utf8, &bc, &rows), None);
     let ascii = AsciiInput::new("az", false);
-    assert_eq!(rt; matching(&ascii, Forward::new(), 1, 2, &bc), each);
-    assert_eq!(rt; matching(&ascii, Backward::new(), 2, 1, &bc), each);
-    assert_eq!(rt; matching(&ascii, Forward::new(), 2, 2, &bc), none);
+    let rows = [(RIGHT, 1, 2, each), (LEFT, 2, 1, each), (RIGHT, 2, 2, none)];
+    assert_eq!(rt; mismatched(&ascii, &bc, &rows), None);
     Ok(())
 }
 
 #[test]
 fn matchers_tell_characters_apart(rt: HostRuntime) -> Result<(), Fail> {
     let bc = class(rt.alloc())?;
+    let euro = [false, true, true, true, true, false, false, false];
+    let line = [false, false, true, true, false, false, false, false];
+    let letter = [false, false, false, true, true, false, false, false];
     let utf8 = Utf8Input::new("\u{20ac}\na", false);
-    let euro = Some([false, true, true, true, true, false, false, false]);
-    assert_eq!(rt; matching(&utf8, Forward::new(), 0, 3, &bc), euro);
-    assert_eq!(rt; matching(&utf8, Backward::new(), 1, 0, &bc), euro);
-    let line = Some([false, false, true, true, false, false, false, false]);
-    assert_eq!(rt; matching(&utf8, Forward::new(), 1, 4, &bc), line);
-    let letter = Some([false, false, false, true, true, false, false, false]);
-    assert_eq!(rt; matching(&utf8, Forward::new(), 2, 5, &bc), letter);
+    let rows = [
+        (RIGHT, 0, 3, euro),
+        (LEFT, 1, 0, euro),
+        (RIGHT, 1, 4, line),
+        (RIGHT, 2, 5, letter),
+    ];
+    assert_eq!(rt; mismatched(&utf8, &bc, &rows), None);
     let ascii = AsciiInput::new("a\n", false);
-    assert_eq!(rt; matching(&ascii, Forward::new(), 0, 1, &bc), letter);
-    assert_eq!(rt; matching(&ascii, Backward::new(), 2, 1, &bc), line);
+    let rows = [(RIGHT, 0, 1, letter), (LEFT, 2, 1, line)];
+    assert_eq!(rt; mismatched(&ascii, &bc, &rows), None);
     Ok(())
+}
+
+fn past_euro<Input: InputIndexer, Dir: Direction>(
+    input: &Input,
+    dir: Dir,
+    place: usize,
+) -> Option<usize> {
+    past_match(input, dir, &MatchByteSeq(b"\xe2\x82\xac"), place)
+}
+
+// The bytes of `€` beside both places of a text of it.
+fn past_euros<Input: InputIndexer>(input: &Input) -> [Option<usize>; 3] {
+    [
+        past_euro(input, Forward::new(), 0),
+        past_euro(input, Backward::new(), 1),
+        past_euro(input, Forward::new(), 1),
+    ]
 }
 
 #[test]
 fn a_sequence_of_bytes_is_one_character(rt: HostRuntime) {
     let utf8 = Utf8Input::new("\u{20ac}", false);
-    let euro = MatchByteSeq(b"\xe2\x82\xac");
-    assert_eq!(rt; past_match(&utf8, Forward::new(), &euro, 0), Some(3));
-    assert_eq!(rt; past_match(&utf8, Backward::new(), &euro, 1), Some(0));
-    assert_eq!(rt; past_match(&utf8, Forward::new(), &euro, 1), None);
+    assert_eq!(rt; past_euros(&utf8), [Some(3), Some(0), None]);
 }

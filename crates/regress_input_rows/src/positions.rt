@@ -53,11 +53,14 @@ fn taken_off<'a>(mut p: IndexPosition<'a>, units: usize) -> IndexPosition<'a>
 #[test]
 fn positions_are_offsets(rt: HostRuntime) {
     IndexPosition::check_size();
-    assert_eq!(rt; offset_of(IndexPosition::new(3) + 2), 5);
-    assert_eq!(rt; offset_of(IndexPosition::new(3) - 2), 1);
-    assert_eq!(rt; offset_of(added(IndexPosition::new(3), 4)), 7);
-    assert_eq!(rt; offset_of(taken_off(IndexPosition::new(3), 2)), 1);
-    assert_eq!(rt; kept(IndexPosition::new(3)), 3);
+    let offsets = [
+        offset_of(IndexPosition::new(3) + 2),
+        offset_of(IndexPosition::new(3) - 2),
+        offset_of(added(IndexPosition::new(3), 4)),
+        offset_of(taken_off(IndexPosition::new(3), 2)),
+        kept(IndexPosition::new(3)),
+    ];
+    assert_eq!(rt; offsets, [5, 1, 7, 1, 3]);
 }
 
 #[test]

@@ -1,16 +1,16 @@
 //! Texts of 16-bit units.
 
-use crate::answers::{
-    before_the_end, byte, character, found, part, past_bytes, past_match, past_range,
-    past_range_icase, seen,
+use crate::answers::past_match;
+use crate::characters::{classes, number, two_folds};
+use crate::matches::{class, mismatched};
+use crate::reads::look_and_move_differ;
+use crate::tables::{
+    Find, LEFT, RIGHT, Read, misfound_ucs2, misfound_utf16, misread_ucs2, misread_utf16,
 };
-use crate::characters::{classes, folded, number};
-use crate::matches::{class, matching};
-use crate::reads::look_and_move_agree;
-use regress_input::cursor::{Backward, Direction, Forward};
+use regress_input::cursor::{Direction, Forward};
 use regress_input::indexing::{
     CharProperties, ElementType, InputIndexer, Ucs2Input, Utf16CharProperties, Utf16Input,
-    is_unit_boundary, reads_are_inverse,
+    is_unit_boundary,
 };
 use regress_input::scm::Char;
 use std::test::Fail;
@@ -29,61 +29,69 @@ fn past_char<Input: InputIndexer>(input: &Input, code: u32) -> Option<usize> {
 
 #[test]
 fn a_pair_is_one_character_in_utf16(rt: HostRuntime) {
-    let input = Utf16Input::new(&WITH_A_PAIR, false);
-    assert_eq!(rt; character(&input, Forward::new(), 0), Some((0x61, 1)));
-    assert_eq!(rt; character(&input, Forward::new(), 1), Some((0x1_f600, 3)));
-    assert_eq!(rt; character(&input, Forward::new(), 2), Some((0x61, 4)));
-    assert_eq!(rt; character(&input, Backward::new(), 3), Some((0x61, 3)));
-    assert_eq!(rt; character(&input, Backward::new(), 2), Some((0x1_f600, 1)));
-    assert_eq!(rt; seen(&input, Forward::new(), 1), Some((0x1_f600, 3)));
-    assert_eq!(rt; seen(&input, Backward::new(), 2), Some((0x1_f600, 1)));
-    assert_eq!(rt; part(&input, 1, 1), (Some((0x1_f600, 2)), 2));
+    let reads = [
+        (Read::Character(RIGHT, 0), Some((0x61, 1))),
+        (Read::Character(RIGHT, 1), Some((0x1_f600, 3))),
+        (Read::Character(RIGHT, 2), Some((0x61, 4))),
+        (Read::Character(LEFT, 3), Some((0x61, 3))),
+        (Read::Character(LEFT, 2), Some((0x1_f600, 1))),
+        (Read::Part(1, 1), Some((0x1_f600, 2))),
+    ];
+    assert_eq!(rt; misread_utf16(&WITH_A_PAIR, &reads), None);
+    let length = [(Find::PartEnd(1, 1), Some(2))];
+    assert_eq!(rt; misfound_utf16(&WITH_A_PAIR, false, &length), None);
 }
 
 #[test]
 fn a_pair_is_two_characters_in_ucs2(rt: HostRuntime) {
-    let input = Ucs2Input::new(&WITH_A_PAIR, false);
-    assert_eq!(rt; character(&input, Forward::new(), 1), Some((0xd83d, 2)));
-    assert_eq!(rt; character(&input, Forward::new(), 2), Some((0xde00, 3)));
-    assert_eq!(rt; character(&input, Forward::new(), 3), Some((0x61, 4)));
-    assert_eq!(rt; character(&input, Backward::new(), 3), Some((0xde00, 2)));
-    assert_eq!(rt; seen(&input, Forward::new(), 1), Some((0xd83d, 2)));
-    assert_eq!(rt; seen(&input, Backward::new(), 3), Some((0xde00, 2)));
-    assert_eq!(rt; part(&input, 1, 1), (Some((0xd83d, 1)), 1));
+    let reads = [
+        (Read::Character(RIGHT, 1), Some((0xd83d, 2))),
+        (Read::Character(RIGHT, 2), Some((0xde00, 3))),
+        (Read::Character(RIGHT, 3), Some((0x61, 4))),
+        (Read::Character(LEFT, 3), Some((0xde00, 2))),
+        (Read::Part(1, 1), Some((0xd83d, 1))),
+    ];
+    assert_eq!(rt; misread_ucs2(&WITH_A_PAIR, &reads), None);
+    let length = [(Find::PartEnd(1, 1), Some(1))];
+    assert_eq!(rt; misfound_ucs2(&WITH_A_PAIR, false, &length), None);
 }
 
 #[test]
 fn surrogates_that_are_no_pair_are_two_characters(rt: HostRuntime) {
-    let utf16 = Utf16Input::new(&NO_PAIR, false);
-    assert_eq!(rt; character(&utf16, Forward::new(), 0), Some((0xde00, 1)));
-    assert_eq!(rt; character(&utf16, Forward::new(), 1), Some((0xd83d, 2)));
-    assert_eq!(rt; character(&utf16, Backward::new(), 2), Some((0xd83d, 1)));
-    let ucs2 = Ucs2Input::new(&NO_PAIR, false);
-    assert_eq!(rt; character(&ucs2, Forward::new(), 0), Some((0xde00, 1)));
-    assert_eq!(rt; character(&ucs2, Backward::new(), 2), Some((0xd83d, 1)));
+    let utf16 = [
+        (Read::Character(RIGHT, 0), Some((0xde00, 1))),
+        (Read::Character(RIGHT, 1), Some((0xd83d, 2))),
+        (Read::Character(LEFT, 2), Some((0xd83d, 1))),
+    ];
+    assert_eq!(rt; misread_utf16(&NO_PAIR, &utf16), None);
+    let ucs2 = [
+        (Read::Character(RIGHT, 0), Some((0xde00, 1))),
+        (Read::Character(LEFT, 2), Some((0xd83d, 1))),
+    ];
+    assert_eq!(rt; misread_ucs2(&NO_PAIR, &ucs2), None);
 }
 
 #[test]
 fn what_looks_at_units_answers_as_what_moves(rt: HostRuntime) {
     let utf16 = Utf16Input::new(&WITH_A_PAIR, false);
-    reads_are_inverse(&utf16);
-    assert!(rt; look_and_move_agree(&utf16, Forward::new()));
-    assert!(rt; look_and_move_agree(&utf16, Backward::new()));
+    assert_eq!(rt; look_and_move_differ(&utf16), None);
     let ucs2 = Ucs2Input::new(&WITH_A_PAIR, false);
-    reads_are_inverse(&ucs2);
-    assert!(rt; look_and_move_agree(&ucs2, Forward::new()));
-    assert!(rt; look_and_move_agree(&ucs2, Backward::new()));
+    assert_eq!(rt; look_and_move_differ(&ucs2), None);
 }
 
 // A move counts units, and may end within a pair.
 #[test]
 fn moves_by_units_stay_inside(rt: HostRuntime) {
-    let utf16 = Utf16Input::new(&WITH_A_PAIR, false);
-    assert_eq!(rt; before_the_end(&utf16, 2), Some(2));
-    assert_eq!(rt; before_the_end(&utf16, 5), None);
-    let ucs2 = Ucs2Input::new(&WITH_A_PAIR, false);
-    assert_eq!(rt; before_the_end(&ucs2, 4), Some(0));
-    assert_eq!(rt; before_the_end(&ucs2, 5), None);
+    let utf16 = [
+        (Find::BeforeTheEnd(2), Some(2)),
+        (Find::BeforeTheEnd(5), None),
+    ];
+    assert_eq!(rt; misfound_utf16(&WITH_A_PAIR, false, &utf16), None);
+    let ucs2 = [
+        (Find::BeforeTheEnd(4), Some(0)),
+        (Find::BeforeTheEnd(5), None),
+    ];
+    assert_eq!(rt; misfound_ucs2(&WITH_A_PAIR, false, &ucs2), None);
 }
 
 #[test]
@@ -98,112 +106,110 @@ fn boundaries_cut_no_pair(rt: HostRuntime) {
 #[test]
 fn a_range_ends_at_no_half_of_a_pair(rt: HostRuntime) {
     let behind = [0xd83d, 0xd83d, 0xde00];
-    assert_eq!(rt;
-        past_range(&Utf16Input::new(&behind, false), Forward::new(), 0, 1, 1),
-        None
-    );
-    assert_eq!(rt;
-        past_range(&Ucs2Input::new(&behind, false), Forward::new(), 0, 1, 1),
-        Some(2)
-    );
+    let utf16 = [(Find::PastRange(RIGHT, 0, 1, 1), None)];
+    assert_eq!(rt; misfound_utf16(&behind, false, &utf16), None);
+    let ucs2 = [(Find::PastRange(RIGHT, 0, 1, 1), Some(2))];
+    assert_eq!(rt; misfound_ucs2(&behind, false, &ucs2), None);
     let before = [0xde00, 0xd83d, 0xde00];
-    assert_eq!(rt;
-        past_range(&Utf16Input::new(&before, false), Backward::new(), 0, 1, 2),
-        None
-    );
-    assert_eq!(rt;
-        past_range(&Ucs2Input::new(&before, false), Backward::new(), 0, 1, 3),
-        Some(2)
-    );
+    let utf16 = [(Find::PastRange(LEFT, 0, 1, 2), None)];
+    assert_eq!(rt; misfound_utf16(&before, false, &utf16), None);
+    let ucs2 = [(Find::PastRange(LEFT, 0, 1, 3), Some(2))];
+    assert_eq!(rt; misfound_ucs2(&before, false, &ucs2), None);
     let pairs = [0xd83d, 0xde00, 0xd83d, 0xde00];
-    assert_eq!(rt;
-        past_range(&Utf16Input::new(&pairs, false), Forward::new(), 0, 1, 1),
-        Some(4)
-    );
+    let utf16 = [(Find::PastRange(RIGHT, 0, 1, 1), Some(4))];
+    assert_eq!(rt; misfound_utf16(&pairs, false, &utf16), None);
 }
 
 // `k` before a pair, and the Kelvin sign, which has the fold of `k` with the flag `u` alone.
+const TWO_CASES: [u16; 7] = [0x6b, 0xd83d, 0xde00, 0x4b, 0xd83d, 0xde00, 0x212a];
+
 #[test]
 fn a_range_of_units_stands_once_more_in_another_case(rt: HostRuntime) {
-    let units = [0x6b, 0xd83d, 0xde00, 0x4b, 0xd83d, 0xde00, 0x212a];
-    let utf16 = Utf16Input::new(&units, false);
-    assert_eq!(rt; past_range_icase(&utf16, Forward::new(), 0, 2, 2), Some(6));
-    assert_eq!(rt; past_range_icase(&utf16, Backward::new(), 0, 2, 4), Some(3));
-    assert_eq!(rt; past_range_icase(&utf16, Forward::new(), 0, 1, 4), None);
-    let folded = Utf16Input::new(&units, true);
-    assert_eq!(rt; past_range_icase(&folded, Forward::new(), 0, 1, 4), Some(7));
-    let ucs2 = Ucs2Input::new(&units, false);
-    assert_eq!(rt; past_range_icase(&ucs2, Forward::new(), 0, 2, 3), Some(5));
-    assert_eq!(rt; past_range_icase(&ucs2, Backward::new(), 0, 2, 5), Some(3));
-    assert_eq!(rt; past_range_icase(&ucs2, Forward::new(), 0, 1, 6), None);
-    let folded = Ucs2Input::new(&units, true);
-    assert_eq!(rt;
-        past_range_icase(&folded, Backward::new(), 0, 1, 7),
-        Some(6)
-    );
+    let utf16 = [
+        (Find::PastRangeIcase(RIGHT, 0, 2, 2), Some(6)),
+        (Find::PastRangeIcase(LEFT, 0, 2, 4), Some(3)),
+        (Find::PastRangeIcase(RIGHT, 0, 1, 4), None),
+    ];
+    assert_eq!(rt; misfound_utf16(&TWO_CASES, false, &utf16), None);
+    let folded = [(Find::PastRangeIcase(RIGHT, 0, 1, 4), Some(7))];
+    assert_eq!(rt; misfound_utf16(&TWO_CASES, true, &folded), None);
+    let ucs2 = [
+        (Find::PastRangeIcase(RIGHT, 0, 2, 3), Some(5)),
+        (Find::PastRangeIcase(LEFT, 0, 2, 5), Some(3)),
+        (Find::PastRangeIcase(RIGHT, 0, 1, 6), None),
+    ];
+    assert_eq!(rt; misfound_ucs2(&TWO_CASES, false, &ucs2), None);
+    let folded = [(Find::PastRangeIcase(LEFT, 0, 1, 7), Some(6))];
+    assert_eq!(rt; misfound_ucs2(&TWO_CASES, true, &folded), None);
 }
 
 // A unit is not its low byte, and a surrogate alone is a character.
 #[test]
 fn matchers_take_one_character_of_units(rt: HostRuntime) -> Result<(), Fail> {
     let bc = class(rt.alloc())?;
-    let each = Some([true; 8]);
-    let other = Some([false, false, true, true, true, false, false, false]);
+    let other = [false, false, true, true, true, false, false, false];
     let units = [0x7a, 0x017a];
     let utf16 = Utf16Input::new(&units, false);
-    assert_eq!(rt; matching(&utf16, Forward::new(), 0, 1, &bc), each);
-    assert_eq!(rt; matching(&utf16, Backward::new(), 2, 1, &bc), other);
+    let rows = [(RIGHT, 0, 1, [true; 8]), (LEFT, 2, 1, other)];
+    assert_eq!(rt; mismatched(&utf16, &bc, &rows), None);
     let ucs2 = Ucs2Input::new(&units, false);
-    assert_eq!(rt; matching(&ucs2, Backward::new(), 1, 0, &bc), each);
-    assert_eq!(rt; matching(&ucs2, Forward::new(), 1, 2, &bc), other);
-    assert_eq!(rt;
-        past_char(&Utf16Input::new(&[0xd800], false), 0xd800),
-        Some(1)
-    );
+    let rows = [(LEFT, 1, 0, [true; 8]), (RIGHT, 1, 2, other)];
+    assert_eq!(rt; mismatched(&ucs2, &bc, &rows), None);
+    let alone = Utf16Input::new(&[0xd800], false);
+    assert_eq!(rt; past_char(&alone, 0xd800), Some(1));
     Ok(())
 }
 
 #[test]
 fn units_are_no_bytes(rt: HostRuntime) {
-    let utf16 = Utf16Input::new(&WITH_A_PAIR, false);
-    assert_eq!(rt; byte(&utf16, Forward::new(), 0), None);
-    assert_eq!(rt; past_bytes(&utf16, Backward::new(), 1, b"a"), None);
-    assert_eq!(rt; found(&utf16, 0, b"a"), None);
-    let ucs2 = Ucs2Input::new(&WITH_A_PAIR, false);
-    assert_eq!(rt; byte(&ucs2, Backward::new(), 1), None);
-    assert_eq!(rt; past_bytes(&ucs2, Forward::new(), 0, b"a"), None);
-    assert_eq!(rt; found(&ucs2, 0, b"a"), None);
+    let utf16 = [
+        (Find::PastByte(LEFT, 1, *b"a"), None),
+        (Find::Byte(0, *b"a"), None),
+    ];
+    assert_eq!(rt;
+        misread_utf16(&WITH_A_PAIR, &[(Read::Byte(RIGHT, 0), None)]),
+        None
+    );
+    assert_eq!(rt; misfound_utf16(&WITH_A_PAIR, false, &utf16), None);
+    let ucs2 = [
+        (Find::PastByte(RIGHT, 0, *b"a"), None),
+        (Find::Byte(0, *b"a"), None),
+    ];
+    assert_eq!(rt;
+        misread_ucs2(&WITH_A_PAIR, &[(Read::Byte(LEFT, 1), None)]),
+        None
+    );
+    assert_eq!(rt; misfound_ucs2(&WITH_A_PAIR, false, &ucs2), None);
 }
 
 #[test]
 fn units_fold_as_the_flag_says(rt: HostRuntime) {
     assert_eq!(rt; number::<u32>(0xffff_ffff), Some(0xffff_ffff));
-    let utf16 = Utf16Input::new(&[], true);
-    assert!(rt; utf16.unicode());
-    assert_eq!(rt; folded(&utf16, 0x4b, 0x212a), Some((0x6b, true)));
-    let ucs2 = Ucs2Input::new(&[], false);
-    assert!(rt; !ucs2.unicode());
-    assert_eq!(rt; folded(&ucs2, 0x6b, 0x212a), Some((0x4b, false)));
-    assert_eq!(rt; Utf16CharProperties::fold(0x17f, true), 0x73);
-    assert_eq!(rt; Utf16CharProperties::fold(0x17f, false), 0x17f);
+    let kelvin = [(0x4b, 0x212a), (0x6b, 0x212a)];
+    let utf16 = two_folds(&Utf16Input::new(&[], true), kelvin);
+    assert_eq!(rt; utf16, (true, [Some((0x6b, true)), Some((0x6b, true))]));
+    let ucs2 = two_folds(&Ucs2Input::new(&[], false), kelvin);
+    assert_eq!(rt; ucs2, (false, [Some((0x4b, false)), Some((0x4b, false))]));
+    let long_s = [
+        Utf16CharProperties::fold(0x17f, true),
+        Utf16CharProperties::fold(0x17f, false),
+    ];
+    assert_eq!(rt; long_s, [0x73, 0x17f]);
 }
 
 #[test]
 fn classes_of_units_are_those_that_patterns_name(rt: HostRuntime) {
-    assert_eq!(rt;
+    let units = [
         classes::<Utf16CharProperties>(0x7a),
-        Some((true, true, false))
-    );
-    assert_eq!(rt;
         classes::<Utf16CharProperties>(0x17f),
-        Some((false, true, false))
-    );
-    assert_eq!(rt;
         classes::<Utf16CharProperties>(0x2029),
-        Some((false, false, true))
-    );
-    assert_eq!(rt;
         classes::<Utf16CharProperties>(0xd800),
-        Some((false, false, false))
-    );
+    ];
+    let wanted = [
+        Some((true, true, false)),
+        Some((false, true, false)),
+        Some((false, false, true)),
+        Some((false, false, false)),
+    ];
+    assert_eq!(rt; units, wanted);
 }

@@ -7,7 +7,7 @@ use regex_pattern_front::ir::{Node, Quantifier, Regex};
 use regress_input::indexing::Utf8Input;
 use regress_program::emit::emit;
 use regress_program::insn::CompiledRegex;
-use regress_search::exec::Matches;
+use regress_search::exec::{Matches, Searcher};
 use regress_search::pikevm::PikeVMExecutor;
 use std::alloc::Global;
 use std::test::Fail;

@@ -134,9 +134,11 @@ impl<'a> Row<'a> {
 
 // The text of a row, with its line feeds.
 fn text_of(alloc: Global, written: &str) -> Result<String, Fail> {
-    let mut text = String::new(alloc);
-    for c in written.chars() {
-        text.push(if c == '␤' { '\n' } else { c })?;
+    let mut lines = written.split('␤');
+    let mut text = String::from_str(alloc, lines.next().unwrap_or(""))?;
+    for line in lines {
+        text.push_str("\n")?;
+        text.push_str(line)?;
     }
     Ok(text)
 }

@@ -19,10 +19,11 @@ fn words_of(alloc: Global, texts: &[Option<&str>]) -> Result<Vec<Option<String>>
     Ok(words)
 }
 
-// Asserts what the program answers, prints and tells where it is given these words.
+// Asserts what the program answers, prints and tells where it is given a row's words.
 fn assert_ran(
     rt: &impl Abort,
     alloc: Global,
+    row: &str,
     words: &[Option<&str>],
     status: u8,
     printed: &str,
@@ -32,13 +33,9 @@ fn assert_ran(
     let mut out = Vec::new(alloc);
     let mut err = Vec::new(alloc);
     let got = run(alloc, &given, &mut out, &mut err);
-    assert_eq!(rt; got, status, "the status of {words:?}");
-    assert_eq!(rt;
-        out.as_slice(),
-        printed.as_bytes(),
-        "the output of {words:?}"
-    );
-    assert_eq!(rt; err.as_slice(), told.as_bytes(), "the error of {words:?}");
+    assert_eq!(rt; got, status, "the status of {row}");
+    assert_eq!(rt; out.as_slice(), printed.as_bytes(), "the output of {row}");
+    assert_eq!(rt; err.as_slice(), told.as_bytes(), "the error of {row}");
     Ok(())
 }
 
@@ -56,20 +53,23 @@ fn searches_print_their_matches(rt: HostRuntime) -> Result<(), Fail> {
         ("(", "", "", "pattern refused\n", 2),
     ] {
         let words = [Some(pattern), Some(""), Some(text)];
-        assert_ran(&rt, rt.alloc(), &words, status, printed, told)?;
+        assert_ran(&rt, rt.alloc(), pattern, &words, status, printed, told)?;
     }
     Ok(())
 }
 
 #[test]
 fn other_words_are_refused(rt: HostRuntime) -> Result<(), Fail> {
-    for words in [
-        [Some("a")].as_slice(),
-        [Some("a"), Some(""), Some("a"), Some("a")].as_slice(),
-        [Some("a"), Some(""), None].as_slice(),
+    for (row, words) in [
+        ("one word", [Some("a")].as_slice()),
+        (
+            "four words",
+            [Some("a"), Some(""), Some("a"), Some("a")].as_slice(),
+        ),
+        ("no text", [Some("a"), Some(""), None].as_slice()),
     ] {
         let usage = "usage: regress-tool PATTERN FLAGS TEXT\n";
-        assert_ran(&rt, rt.alloc(), words, 2, "", usage)?;
+        assert_ran(&rt, rt.alloc(), row, words, 2, "", usage)?;
     }
     Ok(())
 }

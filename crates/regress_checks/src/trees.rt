@@ -31,9 +31,9 @@ fn found_from(re: &CompiledRegex, text: &str, start: usize) -> Result<String, Fa
     all(re.allocator(), Matches::new(executor, start))
 }
 
-// The matches of these nodes.
-fn found(alloc: Global, nodes: Vec<Node>, text: &str) -> Result<String, Fail> {
-    found_from(&program(alloc, nodes)?, text, 0)
+// The matches of these nodes from a start on.
+fn found(alloc: Global, nodes: Vec<Node>, text: &str, start: usize) -> Result<String, Fail> {
+    found_from(&program(alloc, nodes)?, text, start)
 }
 
 fn char_of(c: u32) -> Node {
@@ -101,7 +101,7 @@ fn texts_do_not_have_some_characters(rt: HostRuntime) -> Result<(), Fail> {
         ("past the last code point", char_of(0x11_0000)),
         ("no character", Node::CharSet(Vec::new(alloc))),
     ] {
-        let line = found(alloc, vec![in alloc; node]?, "a")?;
+        let line = found(alloc, vec![in alloc; node]?, "a", 0)?;
         assert_eq!(rt; line.as_str(), "", "{row}");
     }
     Ok(())
@@ -115,7 +115,7 @@ fn loops_over_such_characters_match_nothing(rt: HostRuntime) -> Result<(), Fail>
         ("no byte", Node::ByteSet(Vec::new(alloc))),
     ] {
         let none = any_times(alloc, loopee)?;
-        let line = found(alloc, vec![in alloc; none, char_of(0x61)]?, "a")?;
+        let line = found(alloc, vec![in alloc; none, char_of(0x61)]?, "a", 0)?;
         assert_eq!(rt; line.as_str(), "0..1", "{row}");
     }
     Ok(())
@@ -125,7 +125,7 @@ fn loops_over_such_characters_match_nothing(rt: HostRuntime) -> Result<(), Fail>
 fn bytes_are_read_in_pieces(rt: HostRuntime) -> Result<(), Fail> {
     let alloc = rt.alloc();
     for (sequence, text, wanted) in [("€€€€€€", "€€€€€€", "0..18"), ("é", "aé", "1..3")] {
-        let line = found(alloc, vec![in alloc; bytes(alloc, sequence)?]?, text)?;
+        let line = found(alloc, vec![in alloc; bytes(alloc, sequence)?]?, text, 0)?;
         assert_eq!(rt; line.as_str(), wanted, "{sequence}");
     }
     Ok(())
@@ -136,7 +136,7 @@ fn bytes_are_read_behind_a_character(rt: HostRuntime) -> Result<(), Fail> {
     let alloc = rt.alloc();
     for (text, wanted) in [("x€€€€€€€", "0..19"), ("x€€€€€", "")] {
         let sequence = bytes(alloc, "€€€€€€")?;
-        let line = found(alloc, vec![in alloc; Node::MatchAny, sequence]?, text)?;
+        let line = found(alloc, vec![in alloc; Node::MatchAny, sequence]?, text, 0)?;
         assert_eq!(rt; line.as_str(), wanted, "{text}");
     }
     Ok(())
@@ -147,10 +147,10 @@ fn bytes_stand_in_reading_order_behind(rt: HostRuntime) -> Result<(), Fail> {
     let alloc = rt.alloc();
     let text = "abcdefghijklmnopq";
     let letters = behind(alloc, bytes(alloc, text)?)?;
-    let line = found(alloc, vec![in alloc; letters]?, text)?;
+    let line = found(alloc, vec![in alloc; letters]?, text, 0)?;
     assert_eq!(rt; line.as_str(), "17..17", "seventeen letters");
     let euros = behind(alloc, bytes(alloc, "€€€€€€")?)?;
-    let line = found(alloc, vec![in alloc; euros, Node::MatchAny]?, "€€€€€€x")?;
+    let line = found(alloc, vec![in alloc; euros, Node::MatchAny]?, "€€€€€€x", 0)?;
     assert_eq!(rt; line.as_str(), "18..19", "before a character");
     Ok(())
 }
@@ -159,7 +159,7 @@ fn bytes_stand_in_reading_order_behind(rt: HostRuntime) -> Result<(), Fail> {
 fn a_string_stands_in_reading_order_behind(rt: HostRuntime) -> Result<(), Fail> {
     let alloc = rt.alloc();
     let ab = behind(alloc, strings(alloc, &[&[0x61, 0x62]])?)?;
-    let line = found(alloc, vec![in alloc; ab]?, "ab")?;
+    let line = found(alloc, vec![in alloc; ab]?, "ab", 0)?;
     assert_eq!(rt; line.as_str(), "2..2");
     Ok(())
 }
@@ -168,7 +168,7 @@ fn a_string_stands_in_reading_order_behind(rt: HostRuntime) -> Result<(), Fail> 
 fn another_string_is_tried(rt: HostRuntime) -> Result<(), Fail> {
     let alloc = rt.alloc();
     let either = strings(alloc, &[&[0x61], &[0x61, 0x62]])?;
-    let line = found(alloc, vec![in alloc; either, char_of(0x63)]?, "abc")?;
+    let line = found(alloc, vec![in alloc; either, char_of(0x63)]?, "abc", 0)?;
     assert_eq!(rt; line.as_str(), "0..3");
     Ok(())
 }
@@ -177,7 +177,7 @@ fn another_string_is_tried(rt: HostRuntime) -> Result<(), Fail> {
 fn a_thousand_empty_iterations_end(rt: HostRuntime) -> Result<(), Fail> {
     let alloc = rt.alloc();
     let empty = times(alloc, 1000, Some(1000), Node::Empty)?;
-    let line = found(alloc, vec![in alloc; empty]?, "")?;
+    let line = found(alloc, vec![in alloc; empty]?, "", 0)?;
     assert_eq!(rt; line.as_str(), "0..0");
     Ok(())
 }
@@ -186,7 +186,7 @@ fn a_thousand_empty_iterations_end(rt: HostRuntime) -> Result<(), Fail> {
 fn the_greatest_minimum_is_not_met(rt: HostRuntime) -> Result<(), Fail> {
     let alloc = rt.alloc();
     let longest = times(alloc, usize::MAX, None, char_of(0x61))?;
-    let line = found(alloc, vec![in alloc; longest]?, "a")?;
+    let line = found(alloc, vec![in alloc; longest]?, "a", 0)?;
     assert_eq!(rt; line.as_str(), "");
     Ok(())
 }
@@ -195,7 +195,7 @@ fn the_greatest_minimum_is_not_met(rt: HostRuntime) -> Result<(), Fail> {
 fn lookarounds_name_groups_past_the_last(rt: HostRuntime) -> Result<(), Fail> {
     let alloc = rt.alloc();
     let ahead = look(alloc, false, 5, char_of(0x61))?;
-    let line = found(alloc, vec![in alloc; ahead]?, "a")?;
+    let line = found(alloc, vec![in alloc; ahead]?, "a", 0)?;
     assert_eq!(rt; line.as_str(), "0..0");
     Ok(())
 }
@@ -203,8 +203,6 @@ fn lookarounds_name_groups_past_the_last(rt: HostRuntime) -> Result<(), Fail> {
 #[test]
 fn any_character_and_none(rt: HostRuntime) -> Result<(), Fail> {
     let alloc = rt.alloc();
-    let any = program(alloc, vec![in alloc; Node::MatchAny]?)?;
-    let empty = program(alloc, vec![in alloc; Node::Empty]?)?;
     for (text, start, of_any, of_empty) in [
         ("é€", 0, "0..2; 2..5", "0..0; 2..2; 5..5"),
         ("a", 0, "0..1", "0..0; 1..1"),
@@ -213,13 +211,13 @@ fn any_character_and_none(rt: HostRuntime) -> Result<(), Fail> {
         ("é€", 6, "", ""),
         ("", 1, "", ""),
     ] {
-        let line = found_from(&any, text, start)?;
+        let line = found(alloc, vec![in alloc; Node::MatchAny]?, text, start)?;
         assert_eq!(rt;
             line.as_str(),
             of_any,
             "any character of {text} from {start}"
         );
-        let line = found_from(&empty, text, start)?;
+        let line = found(alloc, vec![in alloc; Node::Empty]?, text, start)?;
         assert_eq!(rt; line.as_str(), of_empty, "nothing in {text} from {start}");
     }
     Ok(())

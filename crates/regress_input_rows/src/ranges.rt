@@ -12,19 +12,20 @@ fn a_range_is_a_text_of_its_own(rt: HostRuntime) {
         (Read::Part(1, 2), Some((0x20ac, 3))),
         (Read::Part(1, 0), None),
     ];
-    assert_eq!(rt; misread_utf8(text, &first), None);
     let length = [
         (Find::PartEnd(1, 2), Some(4)),
         (Find::PartEnd(1, 0), Some(0)),
     ];
-    assert_eq!(rt; misfound_utf8(text, false, &length), None);
-    let first = [(Read::Part(1, 1), Some((0x62, 1)))];
-    assert_eq!(rt; misread_ascii(&AsciiInput::new("abc", false), &first), None);
-    let length = [(Find::PartEnd(1, 1), Some(1))];
-    assert_eq!(rt;
-        misfound_ascii(&AsciiInput::new("abc", false), &length),
-        None
+    let utf8 = (
+        misread_utf8(text, &first),
+        misfound_utf8(text, false, &length),
     );
+    let input = AsciiInput::new("abc", false);
+    let ascii = (
+        misread_ascii(&input, &[(Read::Part(1, 1), Some((0x62, 1)))]),
+        misfound_ascii(&input, &[(Find::PartEnd(1, 1), Some(1))]),
+    );
+    assert_eq!(rt; (utf8, ascii), ((None, None), (None, None)));
 }
 
 // `ab` is found as it is written, and not reversed, on either side.
@@ -38,16 +39,16 @@ fn a_range_stands_once_more(rt: HostRuntime) {
         (Find::PastRange(LEFT, 0, 2, 3), None),
         (Find::PastRange(LEFT, 0, 0, 5), Some(7)),
     ];
-    assert_eq!(rt; misfound_utf8("\u{e9}b\u{e9}bx", false, &utf8), None);
     let ascii = [
         (Find::PastRange(RIGHT, 0, 2, 2), Some(4)),
         (Find::PastRange(LEFT, 0, 2, 4), Some(2)),
         (Find::PastRange(LEFT, 0, 2, 3), None),
     ];
-    assert_eq!(rt;
+    let answers = [
+        misfound_utf8("\u{e9}b\u{e9}bx", false, &utf8),
         misfound_ascii(&AsciiInput::new("abab", false), &ascii),
-        None
-    );
+    ];
+    assert_eq!(rt; answers, [None; 2]);
 }
 
 // The Kelvin sign has the fold of `k` with the flag `u` alone, and takes three bytes.
@@ -58,19 +59,19 @@ fn a_range_stands_once_more_in_another_case(rt: HostRuntime) {
         (Find::PastRangeIcase(LEFT, 2, 1, 2), Some(1)),
         (Find::PastRangeIcase(LEFT, 0, 2, 3), None),
     ];
-    assert_eq!(rt; misfound_utf8("ak\u{212a}A", true, &folded), None);
     let other = [
         (Find::PastRangeIcase(RIGHT, 0, 1, 1), None),
         (Find::PastRangeIcase(RIGHT, 0, 1, 2), Some(5)),
     ];
-    assert_eq!(rt; misfound_utf8("k\u{212a}K", false, &other), None);
     let ascii = [
         (Find::PastRangeIcase(RIGHT, 0, 2, 2), Some(4)),
         (Find::PastRangeIcase(LEFT, 0, 2, 4), Some(2)),
         (Find::PastRangeIcase(LEFT, 0, 2, 3), None),
     ];
-    assert_eq!(rt;
+    let answers = [
+        misfound_utf8("ak\u{212a}A", true, &folded),
+        misfound_utf8("k\u{212a}K", false, &other),
         misfound_ascii(&AsciiInput::new("abAB", false), &ascii),
-        None
-    );
+    ];
+    assert_eq!(rt; answers, [None; 3]);
 }

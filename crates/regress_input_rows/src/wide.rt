@@ -37,9 +37,12 @@ fn a_pair_is_one_character_in_utf16(rt: HostRuntime) {
         (Read::Character(LEFT, 2), Some((0x1_f600, 1))),
         (Read::Part(1, 1), Some((0x1_f600, 2))),
     ];
-    assert_eq!(rt; misread_utf16(&WITH_A_PAIR, &reads), None);
     let length = [(Find::PartEnd(1, 1), Some(2))];
-    assert_eq!(rt; misfound_utf16(&WITH_A_PAIR, false, &length), None);
+    let answers = (
+        misread_utf16(&WITH_A_PAIR, &reads),
+        misfound_utf16(&WITH_A_PAIR, false, &length),
+    );
+    assert_eq!(rt; answers, (None, None));
 }
 
 #[test]
@@ -51,9 +54,12 @@ fn a_pair_is_two_characters_in_ucs2(rt: HostRuntime) {
         (Read::Character(LEFT, 3), Some((0xde00, 2))),
         (Read::Part(1, 1), Some((0xd83d, 1))),
     ];
-    assert_eq!(rt; misread_ucs2(&WITH_A_PAIR, &reads), None);
     let length = [(Find::PartEnd(1, 1), Some(1))];
-    assert_eq!(rt; misfound_ucs2(&WITH_A_PAIR, false, &length), None);
+    let answers = (
+        misread_ucs2(&WITH_A_PAIR, &reads),
+        misfound_ucs2(&WITH_A_PAIR, false, &length),
+    );
+    assert_eq!(rt; answers, (None, None));
 }
 
 #[test]
@@ -63,20 +69,23 @@ fn surrogates_that_are_no_pair_are_two_characters(rt: HostRuntime) {
         (Read::Character(RIGHT, 1), Some((0xd83d, 2))),
         (Read::Character(LEFT, 2), Some((0xd83d, 1))),
     ];
-    assert_eq!(rt; misread_utf16(&NO_PAIR, &utf16), None);
     let ucs2 = [
         (Read::Character(RIGHT, 0), Some((0xde00, 1))),
         (Read::Character(LEFT, 2), Some((0xd83d, 1))),
     ];
-    assert_eq!(rt; misread_ucs2(&NO_PAIR, &ucs2), None);
+    let answers = [
+        misread_utf16(&NO_PAIR, &utf16),
+        misread_ucs2(&NO_PAIR, &ucs2),
+    ];
+    assert_eq!(rt; answers, [None; 2]);
 }
 
 #[test]
 fn what_looks_at_units_answers_as_what_moves(rt: HostRuntime) {
     let utf16 = Utf16Input::new(&WITH_A_PAIR, false);
-    assert_eq!(rt; look_and_move_differ(&utf16), None);
     let ucs2 = Ucs2Input::new(&WITH_A_PAIR, false);
-    assert_eq!(rt; look_and_move_differ(&ucs2), None);
+    let answers = [look_and_move_differ(&utf16), look_and_move_differ(&ucs2)];
+    assert_eq!(rt; answers, [None; 2]);
 }
 
 // A move counts units, and may end within a pair.
@@ -86,12 +95,15 @@ fn moves_by_units_stay_inside(rt: HostRuntime) {
         (Find::BeforeTheEnd(2), Some(2)),
         (Find::BeforeTheEnd(5), None),
     ];
-    assert_eq!(rt; misfound_utf16(&WITH_A_PAIR, false, &utf16), None);
     let ucs2 = [
         (Find::BeforeTheEnd(4), Some(0)),
         (Find::BeforeTheEnd(5), None),
     ];
-    assert_eq!(rt; misfound_ucs2(&WITH_A_PAIR, false, &ucs2), None);
+    let answers = [
+        misfound_utf16(&WITH_A_PAIR, false, &utf16),
+        misfound_ucs2(&WITH_A_PAIR, false, &ucs2),
+    ];
+    assert_eq!(rt; answers, [None; 2]);
 }
 
 #[test]
@@ -106,18 +118,20 @@ fn boundaries_cut_no_pair(rt: HostRuntime) {
 #[test]
 fn a_range_ends_at_no_half_of_a_pair(rt: HostRuntime) {
     let behind = [0xd83d, 0xd83d, 0xde00];
-    let utf16 = [(Find::PastRange(RIGHT, 0, 1, 1), None)];
-    assert_eq!(rt; misfound_utf16(&behind, false, &utf16), None);
-    let ucs2 = [(Find::PastRange(RIGHT, 0, 1, 1), Some(2))];
-    assert_eq!(rt; misfound_ucs2(&behind, false, &ucs2), None);
     let before = [0xde00, 0xd83d, 0xde00];
-    let utf16 = [(Find::PastRange(LEFT, 0, 1, 2), None)];
-    assert_eq!(rt; misfound_utf16(&before, false, &utf16), None);
-    let ucs2 = [(Find::PastRange(LEFT, 0, 1, 3), Some(2))];
-    assert_eq!(rt; misfound_ucs2(&before, false, &ucs2), None);
     let pairs = [0xd83d, 0xde00, 0xd83d, 0xde00];
-    let utf16 = [(Find::PastRange(RIGHT, 0, 1, 1), Some(4))];
-    assert_eq!(rt; misfound_utf16(&pairs, false, &utf16), None);
+    let answers = [
+        misfound_utf16(&behind, false, &[(Find::PastRange(RIGHT, 0, 1, 1), None)]),
+        misfound_ucs2(
+            &behind,
+            false,
+            &[(Find::PastRange(RIGHT, 0, 1, 1), Some(2))],
+        ),
+        misfound_utf16(&before, false, &[(Find::PastRange(LEFT, 0, 1, 2), None)]),
+        misfound_ucs2(&before, false, &[(Find::PastRange(LEFT, 0, 1, 3), Some(2))]),
+        misfound_utf16(&pairs, false, &[(Find::PastRange(RIGHT, 0, 1, 1), Some(4))]),
+    ];
+    assert_eq!(rt; answers, [None; 5]);
 }
 
 // `k` before a pair, and the Kelvin sign, which has the fold of `k` with the flag `u` alone.
@@ -130,17 +144,20 @@ fn a_range_of_units_stands_once_more_in_another_case(rt: HostRuntime) {
         (Find::PastRangeIcase(LEFT, 0, 2, 4), Some(3)),
         (Find::PastRangeIcase(RIGHT, 0, 1, 4), None),
     ];
-    assert_eq!(rt; misfound_utf16(&TWO_CASES, false, &utf16), None);
-    let folded = [(Find::PastRangeIcase(RIGHT, 0, 1, 4), Some(7))];
-    assert_eq!(rt; misfound_utf16(&TWO_CASES, true, &folded), None);
+    let utf16_folded = [(Find::PastRangeIcase(RIGHT, 0, 1, 4), Some(7))];
     let ucs2 = [
         (Find::PastRangeIcase(RIGHT, 0, 2, 3), Some(5)),
         (Find::PastRangeIcase(LEFT, 0, 2, 5), Some(3)),
         (Find::PastRangeIcase(RIGHT, 0, 1, 6), None),
     ];
-    assert_eq!(rt; misfound_ucs2(&TWO_CASES, false, &ucs2), None);
-    let folded = [(Find::PastRangeIcase(LEFT, 0, 1, 7), Some(6))];
-    assert_eq!(rt; misfound_ucs2(&TWO_CASES, true, &folded), None);
+    let ucs2_folded = [(Find::PastRangeIcase(LEFT, 0, 1, 7), Some(6))];
+    let answers = [
+        misfound_utf16(&TWO_CASES, false, &utf16),
+        misfound_utf16(&TWO_CASES, true, &utf16_folded),
+        misfound_ucs2(&TWO_CASES, false, &ucs2),
+        misfound_ucs2(&TWO_CASES, true, &ucs2_folded),
+    ];
+    assert_eq!(rt; answers, [None; 4]);
 }
 
 // A unit is not its low byte, and a surrogate alone is a character.
@@ -166,20 +183,19 @@ fn units_are_no_bytes(rt: HostRuntime) {
         (Find::PastByte(LEFT, 1, *b"a"), None),
         (Find::Byte(0, *b"a"), None),
     ];
-    assert_eq!(rt;
-        misread_utf16(&WITH_A_PAIR, &[(Read::Byte(RIGHT, 0), None)]),
-        None
-    );
-    assert_eq!(rt; misfound_utf16(&WITH_A_PAIR, false, &utf16), None);
     let ucs2 = [
         (Find::PastByte(RIGHT, 0, *b"a"), None),
         (Find::Byte(0, *b"a"), None),
     ];
-    assert_eq!(rt;
+    let found = [
+        misfound_utf16(&WITH_A_PAIR, false, &utf16),
+        misfound_ucs2(&WITH_A_PAIR, false, &ucs2),
+    ];
+    let read = [
+        misread_utf16(&WITH_A_PAIR, &[(Read::Byte(RIGHT, 0), None)]),
         misread_ucs2(&WITH_A_PAIR, &[(Read::Byte(LEFT, 1), None)]),
-        None
-    );
-    assert_eq!(rt; misfound_ucs2(&WITH_A_PAIR, false, &ucs2), None);
+    ];
+    assert_eq!(rt; (found, read), ([None; 2], [None; 2]));
 }
 
 #[test]

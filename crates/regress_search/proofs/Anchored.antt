@@ -1,6 +1,7 @@
 -- Where a tree has outcomes at the left end alone, there is no match behind a place without one.
 use Rattle.std.proofs.Common.{◌≡◌, ℕ, zero, suc, ◌+◌, ◌-◌, ◌<◌, ◌≤◌, List, [], ◌∷◌, Option, Some, None, Bool, true, false, refl, ap, sym, ◌∙◌, subst, arith}
 use Rattle.std.specs.Prelude.{option_map, IsTrue, is_some}
+use Rattle.std.specs.Option.{option_map_or}
 use Rattle.std.specs.List.{list_all}
 use Rattle.regex_meaning.specs.Tree.{Tree}
 use Rattle.regex_meaning.specs.Text.{Text, rightwards, last_place, is_scalar}
@@ -68,9 +69,15 @@ pub tried-on : (text : Text) (at next : ℕ) (anchored : Bool) → Some next ≡
 tried-on text at next true e = cc
 tried-on text at next false e = e
 
+-- a predicate that is known says whether matches stand at the left end alone
+pub anchored-by : {X : Type 0} (o : Option X) (f : X → StartPredicate) (p : StartPredicate) (anchored : Bool) → anchored ≡ option_map_or (λ x. anchors (f x)) o false
+    → option_map f o ≡ option_map (λ x. p) o → anchored ≡ true → (anchors p ≡ true) × IsTrue (is_some o)
+anchored-by None f p anchored e same is = cc
+anchored-by (Some x) f p anchored e same is = (let known : f x ≡ p = cc in ap anchors (sym known) ∙ sym e ∙ is, refl)
+
 -- where none is tried, there is no match behind
-pub found-untried : (tree : Tree) (text : Text) → IsTrue (is_well_formed tree.root) → IsTrue (list_all is_scalar text.characters)
-    → (anchored : Bool) → anchors (compiled tree).start_pred ≡ anchored
+pub found-untried : (tree : Tree) (text : Text) → IsTrue (is_well_formed tree.root)
+    → (anchored : Bool) → (anchored ≡ true → (anchors (compiled tree).start_pred ≡ true) × IsTrue (list_all is_scalar text.characters))
     → (first at : ℕ) → IsText text → GoesFrom tree text first at → end_from tree text at ≡ None → None ≡ tried_next anchored text at → None ≡ first_answer tree.root text first
-found-untried tree text w scalars true anchored first at is g none past = found-anchored tree text w scalars anchored first at is g none
-found-untried tree text w scalars false anchored first at is g none past = found-last tree text is first at g none past
+found-untried tree text w true by first at is g none past = let anchored = by refl in found-anchored tree text w anchored.1 anchored.0 first at is g none
+found-untried tree text w false by first at is g none past = found-last tree text is first at g none past

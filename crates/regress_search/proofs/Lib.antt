@@ -6,3 +6,6 @@ pub mod Anchored
 pub mod Inside
 pub mod Readers
 pub mod Reach
+pub mod Passing
+pub mod Fetched
+pub mod Literals

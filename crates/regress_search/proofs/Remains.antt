@@ -1,12 +1,12 @@
 -- What is left of a search after each turn.
 use Rattle.std.proofs.Common.{◌≡◌, inl, inr, ℕ, zero, suc, ◌+◌, ◌<◌, ◌≤◌, List, [], ◌∷◌, ◌++◌, Option, Some, None, Bool, refl, ap, sym, ◌∙◌, subst, arith, map, reverse, append-nil, replicate, take, ◌-◌}
 use Rattle.std.proofs.lemmas.List.{reverse-append}
-use Rattle.std.specs.Prelude.{option_map, option_and_then, is_some, IsTrue, IsSome}
+use Rattle.std.specs.Prelude.{option_map, option_and_then, is_some, IsTrue, IsSome, slice_get}
 use Rattle.std.specs.Option.{option_map_or}
 use Rattle.regex_meaning.specs.Tree.{Tree}
 use Rattle.regex_meaning.specs.Text.{Text, Direction, rightwards}
 use Rattle.regex_meaning.specs.Offsets.{IsText, IsBoundary, place_at, units}
-use Rattle.regex_meaning.specs.Layout.{Program}
+use Rattle.regex_meaning.specs.Layout.{Program, Insn}
 use Rattle.regex_meaning.specs.Ticks.{items_at}
 use Rattle.regex_meaning.proofs.TextLemmas.{offset-place_at}
 use Rattle.regress_program.specs.Code.{compiled}
@@ -18,6 +18,7 @@ use Rattle.regress_machine.proofs.Search.{Later, waits-later, goes-later, scans-
 use Rattle.regress_machine.proofs.Whole.{searches-find}
 use Rattle.regress_search.specs.declared.pikevm.states.State.{State}
 use Rattle.regress_search.specs.States.{loop_of, state_of, preferred_last, waiting_of, TakesUp, CanTake}
+use Rattle.regress_search.specs.Passing.{is_literal}
 use Rattle.regress_search.specs.Attempts.{end_from, turns_from, search_from, end_of_search}
 use Rattle.regress_search.proofs.Inside.{AllIn, NextIn, in-append, in-resumed, act-inside}
 
@@ -95,9 +96,9 @@ module _ (program : Program) (text : Text) (turns : ℕ) (d : Direction) where
         by : (n : ℕ) → turns ≡ n → None ≡ end
         by n q = let e : Some nothing ≡ Some r.found = r.searches in let is : nothing ≡ r.found = cc in ap (λ (f : Found). f.end) is ∙ r.ends_there
 
-    module _ (is : IsText text) (reads : ReadsBytes text) where
+    module _ (is : IsText text) (reads : (i : ℕ) (insn : Insn) → slice_get program.insns i ≡ Some insn → IsTrue (is_literal insn) → ReadsBytes text) where
       next-inside : (s : machine.State) (ts : List Thread) (x : Next) → Remains top end (running s ∷ ts) → act program text d s ≡ x → NextIn (units text) x
-      next-inside s ts x r e = subst (NextIn (units text)) e (act-inside text is reads program d _ s r.inside.0)
+      next-inside s ts x r e = subst (NextIn (units text)) e (act-inside text is program d (slice_get program.insns s.ip) s (reads s.ip) r.inside.0)
 
       pub left-goes : (s : machine.State) (ss ts : List Thread) → Remains top end (running s ∷ ts) → act program text d s ≡ goes ss → Left top end (running s ∷ ts) (ss ++ ts)
       left-goes s ss ts r e =
@@ -210,7 +211,7 @@ begins tree text at can on = by (place_at text at) refl on
 
 -- ---- Turns of the executor
 
-module _ {P : Type 0} (offset : P → ℕ) (program : Program) (text : Text) (turns : ℕ) (d : Direction) (top : ℕ) (end : Option machine.State) (is : IsText text) (reads : ReadsBytes text) where
+module _ {P : Type 0} (offset : P → ℕ) (program : Program) (text : Text) (turns : ℕ) (d : Direction) (top : ℕ) (end : Option machine.State) (is : IsText text) (reads : (i : ℕ) (insn : Insn) → slice_get program.insns i ≡ Some insn → IsTrue (is_literal insn) → ReadsBytes text) where
   module _ (ts : List Thread) (r : Remains program text turns d top end ts) (s : State P) (rest : List (State P)) (up : TakesUp offset ts (Some s) rest) where
     abbrev taken_up : List Thread
     taken_up = running (state_of offset s) ∷ waiting_of offset rest

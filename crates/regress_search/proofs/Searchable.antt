@@ -10,17 +10,17 @@ use Rattle.regex_meaning.specs.WellFormed.{is_well_formed}
 use Rattle.regex_meaning.proofs.WellFormedLemmas.{well_formed-iff}
 use Rattle.regress_program.specs.Code.{compiled}
 use Rattle.regress_program.proofs.CodeLemmas.{compiled-is_code}
-use Rattle.regress_machine.specs.Bytes.{ReadsBytes}
+use Rattle.regress_machine.specs.Bytes.{ReadsBytes, reads_bytes}
 use Rattle.regress_machine.specs.Finds.{CanSearch}
 
 pub can-search : (tree : Tree) (text : Text) → IsTrue (is_well_formed tree.root) → IsText text → text.unicode ≡ tree.flags.unicode
-    → ReadsBytes text → CanSearch (compiled tree) tree text
+    → (IsTrue (reads_bytes tree.root) → ReadsBytes text) → CanSearch (compiled tree) tree text
 can-search tree text w is u b = record {
   code = (compiled-is_code tree ((well_formed-iff tree.root).0 w)).code;
   well_formed = (well_formed-iff tree.root).0 w;
   is_text = is;
   unicode = u;
-  bytes = λ _. b;
+  bytes = b;
 }
 
 -- the bytes of ASCII, by the test of each

@@ -1,4 +1,5 @@
 pub mod Answers
 pub mod ToCome
+pub mod Passing
 pub mod States
 pub mod Attempts

@@ -3,3 +3,5 @@
 
 pub mod exec;
 pub mod pikevm;
+pub mod reading;
+pub mod searched;

@@ -1,13 +1,15 @@
 //! The executor that copies its states: as plain as can be, each way still to try a state of its own.
 
-ghost use Rattle.std.specs.Prelude.{◌≡◌, ◌<◌, ◌≤◌, ◌++◌, map, IsTrue, IsAscii, IsSome, IfOk, option_map, string_bytes, ⊤};
+ghost use Rattle.std.specs.Prelude.{◌≡◌, ◌<◌, ◌≤◌, ◌++◌, map, IsTrue, IsAscii, IsSome, IfOk, option_map, string_bytes, ⊤, false};
 ghost use Rattle.regex_meaning.specs.Text.{ascii_text, utf8_text};
 ghost use Rattle.regex_meaning.specs.Offsets.{IsBoundary, units};
 ghost use Rattle.regex_meaning.specs.WellFormed.{is_well_formed};
 ghost use Rattle.regex_meaning.specs.Names.{names_by_id};
 ghost use Rattle.regex_pattern_front.specs.TreeOf.{tree_of};
 ghost use Rattle.regress_input.specs.Reading.{way};
+ghost use Rattle.std.specs.Option.{option_map_or};
 ghost use Rattle.regress_program.specs.Code.{compiled};
+ghost use Rattle.regress_program.specs.Insns.{insn_of, start_of};
 ghost use Rattle.regress_machine.specs.Bytes.{ReadsBytes};
 ghost use Rattle.regress_machine.specs.Machine.{act, in_turn};
 ghost use Rattle.regress_machine.specs.Finds.{end_of};
@@ -16,29 +18,18 @@ ghost use Rattle.regress_search.specs.Attempts.{anchors, end_from, offset_behind
 ghost use Rattle.regress_search.specs.States.{groups_of, state_of, next_of, running_of, waiting_of, preferred_last, TakesUp, CanTake};
 
 mod actions;
-mod readers;
 mod states;
 
 use self::actions::take_turn;
 use self::states::{State, Turn, initial_state, resume};
 use crate::exec::{Executor, Match, MatchProducer, SearchError, Searcher};
+use crate::searched::Searched;
 use regress_input::cursor::{Backward, Forward};
 use regress_input::indexing::{AsciiInput, InputIndexer, Utf8Input};
 use regress_input::position::PositionType;
-use regress_program::insn::{CompiledRegex, StartPredicate};
+use regress_program::insn::{CompiledRegex, Insn, Program, StartPredicate};
 use std::alloc::{AllocError, Global};
 use std::ops::Range;
-
-// What an executor searches, and with which program.
-#[derive(Drop)]
-struct Searched<'r, Input: InputIndexer> {
-    program: &'r CompiledRegex,
-    input: Input,
-    ghost unicode: { (Input.text input).unicode ≡ (tree_of program.now).flags.unicode },
-    ghost well_formed: { IsTrue (is_well_formed (tree_of program.now).root) },
-    ghost reads: { ReadsBytes (Input.text input) },
-    ghost bytes: { IsTrue Input.Units.ARE_BYTES },
-}
 
 /// Runs a program over a text by copies of whole states.
 #[derive(Drop)]
@@ -52,17 +43,19 @@ pub struct PikeVMExecutor<'r, Input: InputIndexer> {
 #[inline(always)]
 fn turn_in<Input: InputIndexer>(
     searched: &Searched<'_, Input>,
+    insns: &[Insn],
     forward: bool,
     state: State<Input::Position>,
 ) -> Result<Turn<Input::Position>, AllocError>
+    requires code { map insn_of insns.now ≡ (compiled (tree_of searched.now.program.now)).insns }
     requires can { CanTake (act (compiled (tree_of searched.now.program.now)) (Input.text searched.now.input) (way forward) (state_of Input.Position.offset state)) }
     requires inside { Input.Position.offset state.pos ≤ units (Input.text searched.now.input) }
     ensures { IfOk result (λ t. next_of Input.Position.offset t ≡ act (compiled (tree_of searched.now.program.now)) (Input.text searched.now.input) (way forward) (state_of Input.Position.offset state)) }
 {
     if forward {
-        take_turn(searched.program, &searched.input, Forward, state)
+        take_turn(searched, insns, Forward, state)
     } else {
-        take_turn(searched.program, &searched.input, Backward, state)
+        take_turn(searched, insns, Backward, state)
     }
 }
 
@@ -104,12 +97,13 @@ fn run<Input: InputIndexer>(
     ensures { IfOk result (λ r. option_map (λ s. state_of Input.Position.offset s) r ≡ end_of_search (search_from (tree_of searched.now.program.now) (Input.text searched.now.input) (Input.Position.offset at) (way forward) (state_of Input.Position.offset start))) }
 {
     stack.clear();
+    let insns = searched.program.insns();
     let mut next = Some(start);
     'search: loop {
         let Some(state) = take_up(next, stack) else {
             return Ok(None);
         };
-        match turn_in(searched, forward, state)? {
+        match turn_in(searched, insns, forward, state)? {
             Turn::Dead => next = None,
             Turn::Go(state) => next = Some(state),
             Turn::Fork(preferred, other) => {
@@ -166,7 +160,7 @@ fn offsets_of<Input: InputIndexer>(
 }
 
 // The names of a program's groups once more.
-fn names_of(program: &CompiledRegex) -> Result<Vec<String>, AllocError>
+fn names_of(program: &Program) -> Result<Vec<String>, AllocError>
     ensures { IfOk result (λ v. map string_bytes v.items ≡ (compiled (tree_of program.now)).group_names) }
 {
     let alloc = program.allocator();
@@ -211,10 +205,10 @@ fn position_behind<Input: InputIndexer>(
 
 // Whether matches stand at the left end alone, so that behind a place without one there is none.
 #[inline(always)]
-fn is_anchored(program: &CompiledRegex) -> bool
-    ensures { result ≡ anchors (compiled (tree_of program.now)).start_pred }
+fn is_anchored<Input: InputIndexer>(searched: &Searched<'_, Input>) -> bool
+    ensures { result ≡ option_map_or (λ p. anchors (start_of p.now)) searched.now.start_pred false }
 {
-    matches!(program.start_pred(), StartPredicate::StartAnchored)
+    matches!(searched.start_pred, Some(StartPredicate::StartAnchored))
 }
 
 // The position to try behind one without a match: none where matches stand at the left end alone.
@@ -253,7 +247,7 @@ impl<'r, Input: InputIndexer> MatchProducer for PikeVMExecutor<'r, Input> {
         pos: Input::Position,
         next_start: &mut Option<Input::Position>,
     ) -> Result<Option<Match>, SearchError> {
-        let anchored = is_anchored(self.searched.program);
+        let anchored = is_anchored(&self.searched);
         let mut start = pos;
         'places: loop {
             if let Some(end) = attempt(&self.searched, &mut self.stack, start)? {
@@ -280,7 +274,8 @@ impl<'r, 't> Searcher<'r> for PikeVMExecutor<'r, Utf8Input<'t>> {
         let flags = re.flags();
         let _well_formed = re.insns();
         let searched = Searched {
-            program: re,
+            program: re.program(),
+            start_pred: Some(re.start_pred()),
             input: Utf8Input::new(text, flags.unicode),
         };
         Ok(PikeVMExecutor {
@@ -306,7 +301,8 @@ impl<'r, 't> Searcher<'r> for PikeVMExecutor<'r, AsciiInput<'t>> {
         let flags = re.flags();
         let _well_formed = re.insns();
         let searched = Searched {
-            program: re,
+            program: re.program(),
+            start_pred: Some(re.start_pred()),
             input: AsciiInput::new(text, flags.unicode),
         };
         Ok(PikeVMExecutor {

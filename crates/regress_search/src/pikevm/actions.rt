@@ -1,56 +1,56 @@
 //! One turn: what the instruction at a state does.
 
-ghost use Rattle.std.specs.Prelude.{◌≡◌, ◌<◌, ◌≤◌, ◌^◌, ◌+◌, ℕ, Bool, IfOk, OnOk, IsTrue, IsSome, if◌then◌else◌, reverse, ◌++◌, Some, map, [], ◌∷◌, length};
+ghost use Rattle.std.specs.Prelude.{◌≡◌, ◌<◌, ◌≤◌, ◌^◌, ◌+◌, ℕ, Bool, IfOk, OnOk, IsTrue, IsSome, if◌then◌else◌, reverse, ◌++◌, Some, map, [], ◌∷◌, length, slice_get};
 ghost use Rattle.regex_meaning.specs.Offsets.{IsBoundary, place_at, units};
 ghost use Rattle.regex_pattern_front.specs.TreeOf.{tree_of};
 ghost use Rattle.regress_input.specs.Reading.{way};
 ghost use Rattle.regress_program.specs.Code.{compiled};
 ghost use Rattle.regress_program.specs.Insns.{insn_of, loop_fields_of};
-ghost use Rattle.regress_machine.specs.Bytes.{ReadsBytes};
-ghost use Rattle.regress_machine.specs.Machine.{running, waiting, goes, asks, at_ip, next_ip, with_some, span, test_of, scan as scan_from, loop_turn, again_with, again_at, act, act_on};
-ghost use Rattle.regress_search.specs.States.{state_of, loop_of, next_of, opened, closed, reset, entered_at, behind_at, IsReached, CanTake, is_reader};
+ghost use Rattle.regress_machine.specs.Machine.{running, waiting, goes, asks, at_ip, next_ip, with_some, span, test_of, read_group, scan as scan_from, loop_turn, again_with, again_at, act, act_on};
+ghost use Rattle.regress_search.specs.States.{state_of, loop_of, next_of, opened, closed, reset, entered_at, behind_at, IsReached, CanTake, range_of, groups_of};
+ghost use Rattle.regress_search.specs.Passing.{IsInBytes, is_literal, is_reader};
 
-use super::readers;
 use super::states::{LoopData, State, Turn, copy_of};
+use crate::reading::{self, stands_again};
+use crate::searched::Searched;
 use regex_pattern_front::types::{CaptureGroupID, LoopID};
 use regress_input::cursor::Direction;
 use regress_input::indexing::InputIndexer;
 use regress_input::position::PositionType;
-use regress_program::insn::{CompiledRegex, Insn, LoopFields};
+use regress_program::insn::{Insn, LoopFields};
 use std::alloc::AllocError;
 
 /// What the instruction at the state does.
 #[inline(always)]
 pub(crate) fn take_turn<Input: InputIndexer, Dir: Direction>(
-    program: &CompiledRegex,
-    input: &Input,
+    searched: &Searched<'_, Input>,
+    insns: &[Insn],
     dir: Dir,
     state: State<Input::Position>,
 ) -> Result<Turn<Input::Position>, AllocError>
-    requires can { CanTake (act (compiled (tree_of program.now)) (Input.text input.now) (way Dir.FORWARD) (state_of Input.Position.offset state)) }
-    requires reads { ReadsBytes (Input.text input.now) }
-    requires bytes { IsTrue Input.Units.ARE_BYTES }
-    requires inside { Input.Position.offset state.pos ≤ units (Input.text input.now) }
-    ensures { IfOk result (λ t. next_of Input.Position.offset t ≡ act (compiled (tree_of program.now)) (Input.text input.now) (way Dir.FORWARD) (state_of Input.Position.offset state)) }
+    requires code { map insn_of insns.now ≡ (compiled (tree_of searched.now.program.now)).insns }
+    requires can { CanTake (act (compiled (tree_of searched.now.program.now)) (Input.text searched.now.input) (way Dir.FORWARD) (state_of Input.Position.offset state)) }
+    requires inside { Input.Position.offset state.pos ≤ units (Input.text searched.now.input) }
+    ensures { IfOk result (λ t. next_of Input.Position.offset t ≡ act (compiled (tree_of searched.now.program.now)) (Input.text searched.now.input) (way Dir.FORWARD) (state_of Input.Position.offset state)) }
 {
-    let insn = program.insns()[state.ip];
-    perform(insn, program, input, dir, state)
+    let insn = insns[state.ip];
+    perform(insn, searched, insns, dir, state)
 }
 
-// What one instruction does: those that do not read, here.
+// What one instruction does.
 fn perform<Input: InputIndexer, Dir: Direction>(
     insn: Insn,
-    program: &CompiledRegex,
-    input: &Input,
+    searched: &Searched<'_, Input>,
+    insns: &[Insn],
     dir: Dir,
     mut state: State<Input::Position>,
 ) -> Result<Turn<Input::Position>, AllocError>
-    requires can { CanTake (act_on (compiled (tree_of program.now)) (Input.text input.now) (way Dir.FORWARD) (Some (insn_of insn)) (state_of Input.Position.offset state)) }
-    requires reads { ReadsBytes (Input.text input.now) }
-    requires bytes { IsTrue Input.Units.ARE_BYTES }
-    requires inside { Input.Position.offset state.pos ≤ units (Input.text input.now) }
+    requires code { map insn_of insns.now ≡ (compiled (tree_of searched.now.program.now)).insns }
+    requires can { CanTake (act_on (compiled (tree_of searched.now.program.now)) (Input.text searched.now.input) (way Dir.FORWARD) (Some (insn_of insn)) (state_of Input.Position.offset state)) }
+    requires bytes { IsTrue (is_literal (insn_of insn)) → IsInBytes (Input.text searched.now.input) Input.Units.ARE_BYTES }
+    requires inside { Input.Position.offset state.pos ≤ units (Input.text searched.now.input) }
     requires within { state.ip + 1 < 2 ^ 64 }
-    ensures { IfOk result (λ t. next_of Input.Position.offset t ≡ act_on (compiled (tree_of program.now)) (Input.text input.now) (way Dir.FORWARD) (Some (insn_of insn)) (state_of Input.Position.offset state)) }
+    ensures { IfOk result (λ t. next_of Input.Position.offset t ≡ act_on (compiled (tree_of searched.now.program.now)) (Input.text searched.now.input) (way Dir.FORWARD) (Some (insn_of insn)) (state_of Input.Position.offset state)) }
 {
     match insn {
         Insn::Goal => Ok(Turn::Done(state)),
@@ -64,7 +64,7 @@ fn perform<Input: InputIndexer, Dir: Direction>(
             begin_iteration(fields, begin, 0, state)
         }
         Insn::LoopAgain { begin } => {
-            let head = program.insns()[begin as usize];
+            let head = insns[begin as usize];
             end_body(head, begin as usize, state)
         }
         Insn::Loop1CharBody {
@@ -72,14 +72,13 @@ fn perform<Input: InputIndexer, Dir: Direction>(
             max_iters,
             greedy,
         } => {
-            let body = program.insns()[state.ip + 1];
-            scan(
-                min_iters, max_iters, greedy, body, program, input, dir, state,
-            )
+            let body = insns[state.ip + 1];
+            scan(min_iters, max_iters, greedy, body, searched, dir, state)
         }
         Insn::BeginCaptureGroup(id) => Ok(open_group(id, state)),
         Insn::EndCaptureGroup(id) => Ok(close_group(id, dir, state)),
         Insn::ResetCaptureGroup(id) => Ok(reset_group(id, state)),
+        Insn::BackRef { group, icase } => Ok(read_back(group, icase, searched, dir, state)),
         Insn::Lookahead {
             negate,
             continuation,
@@ -90,48 +89,30 @@ fn perform<Input: InputIndexer, Dir: Direction>(
             continuation,
             ..
         } => ask(false, negate, continuation, state),
-        _ => Ok(read(insn, program, input, dir, state)),
+        _ => Ok(read(insn, searched, dir, state)),
     }
 }
 
-// What an instruction does that reads or looks at the text.
+// What an instruction does that only reads or looks: it leads on, or the way has failed.
 #[inline(always)]
 fn read<Input: InputIndexer, Dir: Direction>(
     insn: Insn,
-    program: &CompiledRegex,
-    input: &Input,
+    searched: &Searched<'_, Input>,
     dir: Dir,
-    state: State<Input::Position>,
+    mut state: State<Input::Position>,
 ) -> Turn<Input::Position>
-    requires can { CanTake (act_on (compiled (tree_of program.now)) (Input.text input.now) (way Dir.FORWARD) (Some (insn_of insn)) (state_of Input.Position.offset state)) }
+    requires can { CanTake (act_on (compiled (tree_of searched.now.program.now)) (Input.text searched.now.input) (way Dir.FORWARD) (Some (insn_of insn)) (state_of Input.Position.offset state)) }
     requires reader { IsTrue (is_reader (insn_of insn)) }
-    requires reads { ReadsBytes (Input.text input.now) }
-    requires bytes { IsTrue Input.Units.ARE_BYTES }
-    requires inside { Input.Position.offset state.pos ≤ units (Input.text input.now) }
+    requires bytes { IsTrue (is_literal (insn_of insn)) → IsInBytes (Input.text searched.now.input) Input.Units.ARE_BYTES }
+    requires inside { Input.Position.offset state.pos ≤ units (Input.text searched.now.input) }
     requires within { state.ip + 1 < 2 ^ 64 }
-    ensures { next_of Input.Position.offset result ≡ act_on (compiled (tree_of program.now)) (Input.text input.now) (way Dir.FORWARD) (Some (insn_of insn)) (state_of Input.Position.offset state) }
+    ensures { next_of Input.Position.offset result ≡ act_on (compiled (tree_of searched.now.program.now)) (Input.text searched.now.input) (way Dir.FORWARD) (Some (insn_of insn)) (state_of Input.Position.offset state) }
 {
-    match insn {
-        Insn::StartOfLine { multiline } => readers::at_line_start(multiline, input, state),
-        Insn::EndOfLine { multiline } => readers::at_line_end(multiline, input, state),
-        Insn::WordBoundary { invert } => readers::at_word_boundary(invert, false, input, state),
-        Insn::WordBoundaryUnicodeICase { invert } => {
-            readers::at_word_boundary(invert, true, input, state)
-        }
-        Insn::BackRef { group, icase } => readers::read_back(group, icase, input, dir, state),
-        Insn::JustFail => Turn::Dead,
-        Insn::Char(_) => readers::read_character(insn, program, input, dir, state),
-        Insn::CharSet(_) => readers::read_character(insn, program, input, dir, state),
-        Insn::ByteSet2(_) => readers::read_character(insn, program, input, dir, state),
-        Insn::ByteSet3(_) => readers::read_character(insn, program, input, dir, state),
-        Insn::ByteSet4(_) => readers::read_character(insn, program, input, dir, state),
-        Insn::AsciiBracket(_) => readers::read_character(insn, program, input, dir, state),
-        Insn::Bracket(_) => readers::read_character(insn, program, input, dir, state),
-        Insn::MatchAny => readers::read_character(insn, program, input, dir, state),
-        Insn::MatchAnyExceptLineTerminator => readers::read_character(
-            insn, program, input, dir, state,
-        ),
-        _ => readers::read_literal(readers::literal(&insn), input, dir, state),
+    if reading::passes(searched, insn, dir, &mut state.pos) {
+        state.ip += 1;
+        Turn::Go(state)
+    } else {
+        Turn::Dead
     }
 }
 
@@ -213,6 +194,48 @@ fn reset_group<P: PositionType>(id: CaptureGroupID, mut state: State<P>) -> Turn
     state.ip += 1;
     state.groups[id as usize] = None;
     Turn::Go(state)
+}
+
+// ---- Backreferences
+
+// The characters of a group once more.
+fn read_back<Input: InputIndexer, Dir: Direction>(
+    group: u32,
+    icase: bool,
+    searched: &Searched<'_, Input>,
+    dir: Dir,
+    state: State<Input::Position>,
+) -> Turn<Input::Position>
+    requires can { CanTake (with_some (slice_get (groups_of Input.Position.offset state.groups.items) group) (λ range. read_group (Input.text searched.now.input) icase (way Dir.FORWARD) range (state_of Input.Position.offset state))) }
+    requires within { state.ip + 1 < 2 ^ 64 }
+    ensures { next_of Input.Position.offset result ≡ with_some (slice_get (groups_of Input.Position.offset state.groups.items) group) (λ range. read_group (Input.text searched.now.input) icase (way Dir.FORWARD) range (state_of Input.Position.offset state)) }
+{
+    let range = state.groups[group as usize];
+    read_again(range, icase, searched, dir, state)
+}
+
+// The characters of a range once more; where there is no range there are none.
+fn read_again<Input: InputIndexer, Dir: Direction>(
+    range: Option<(Input::Position, Input::Position)>,
+    icase: bool,
+    searched: &Searched<'_, Input>,
+    dir: Dir,
+    mut state: State<Input::Position>,
+) -> Turn<Input::Position>
+    requires can { CanTake (read_group (Input.text searched.now.input) icase (way Dir.FORWARD) (range_of Input.Position.offset range) (state_of Input.Position.offset state)) }
+    requires within { state.ip + 1 < 2 ^ 64 }
+    ensures { next_of Input.Position.offset result ≡ read_group (Input.text searched.now.input) icase (way Dir.FORWARD) (range_of Input.Position.offset range) (state_of Input.Position.offset state) }
+{
+    let Some(span) = range else {
+        state.ip += 1;
+        return Turn::Go(state);
+    };
+    if stands_again(span.0, span.1, icase, &searched.input, dir, &mut state.pos) {
+        state.ip += 1;
+        Turn::Go(state)
+    } else {
+        Turn::Dead
+    }
 }
 
 // ---- Loops
@@ -309,17 +332,16 @@ fn scan<Input: InputIndexer, Dir: Direction>(
     max_iters: usize,
     greedy: bool,
     body: Insn,
-    program: &CompiledRegex,
-    input: &Input,
+    searched: &Searched<'_, Input>,
     dir: Dir,
     state: State<Input::Position>,
 ) -> Result<Turn<Input::Position>, AllocError>
-    requires can { CanTake (with_some (test_of (compiled (tree_of program.now)) (Some (insn_of body))) (λ test. with_some (place_at (Input.text input.now) (Input.Position.offset state.pos)) (λ p. scan_from (Input.text input.now) min_iters max_iters greedy test (way Dir.FORWARD) p (state_of Input.Position.offset state)))) }
-    requires reads { ReadsBytes (Input.text input.now) }
+    requires can { CanTake (with_some (test_of (compiled (tree_of searched.now.program.now)) (Some (insn_of body))) (λ test. with_some (place_at (Input.text searched.now.input) (Input.Position.offset state.pos)) (λ p. scan_from (Input.text searched.now.input) min_iters max_iters greedy test (way Dir.FORWARD) p (state_of Input.Position.offset state)))) }
+    requires bytes { IsTrue (is_literal (insn_of body)) → IsInBytes (Input.text searched.now.input) Input.Units.ARE_BYTES }
     requires within { state.ip + 2 < 2 ^ 64 }
-    ensures { IfOk result (λ t. next_of Input.Position.offset t ≡ with_some (test_of (compiled (tree_of program.now)) (Some (insn_of body))) (λ test. with_some (place_at (Input.text input.now) (Input.Position.offset state.pos)) (λ p. scan_from (Input.text input.now) min_iters max_iters greedy test (way Dir.FORWARD) p (state_of Input.Position.offset state)))) }
+    ensures { IfOk result (λ t. next_of Input.Position.offset t ≡ with_some (test_of (compiled (tree_of searched.now.program.now)) (Some (insn_of body))) (λ test. with_some (place_at (Input.text searched.now.input) (Input.Position.offset state.pos)) (λ p. scan_from (Input.text searched.now.input) min_iters max_iters greedy test (way Dir.FORWARD) p (state_of Input.Position.offset state)))) }
 {
-    let (tries, states) = reached(min_iters, max_iters, body, program, input, dir, &state)?;
+    let (tries, states) = reached(min_iters, max_iters, body, searched, dir, &state)?;
     Ok(Turn::Scan(tries, preferred_last(greedy, states)))
 }
 
@@ -338,16 +360,15 @@ fn reached<Input: InputIndexer, Dir: Direction>(
     min_iters: usize,
     max_iters: usize,
     body: Insn,
-    program: &CompiledRegex,
-    input: &Input,
+    searched: &Searched<'_, Input>,
     dir: Dir,
     state: &State<Input::Position>,
 ) -> Result<(usize, Vec<State<Input::Position>>), AllocError>
-    requires test { IsSome (test_of (compiled (tree_of program.now)) (Some (insn_of body))) }
-    requires boundary { IsBoundary (Input.text input.now) (Input.Position.offset state.now.pos) }
-    requires reads { ReadsBytes (Input.text input.now) }
+    requires test { IsSome (test_of (compiled (tree_of searched.now.program.now)) (Some (insn_of body))) }
+    requires boundary { IsBoundary (Input.text searched.now.input) (Input.Position.offset state.now.pos) }
+    requires bytes { IsTrue (is_literal (insn_of body)) → IsInBytes (Input.text searched.now.input) Input.Units.ARE_BYTES }
     requires within { state.now.ip + 2 < 2 ^ 64 }
-    ensures { IfOk result (λ r. (test : ℕ → Bool) (p : ℕ) → test_of (compiled (tree_of program.now)) (Some (insn_of body)) ≡ Some test → place_at (Input.text input.now) (Input.Position.offset state.now.pos) ≡ Some p → IsReached (Input.text input.now) test (way Dir.FORWARD) min_iters max_iters p (state_of Input.Position.offset state.now) r.0 (map (λ s. state_of Input.Position.offset s) r.1.items)) }
+    ensures { IfOk result (λ r. (test : ℕ → Bool) (p : ℕ) → test_of (compiled (tree_of searched.now.program.now)) (Some (insn_of body)) ≡ Some test → place_at (Input.text searched.now.input) (Input.Position.offset state.now.pos) ≡ Some p → IsReached (Input.text searched.now.input) test (way Dir.FORWARD) min_iters max_iters p (state_of Input.Position.offset state.now) r.0 (map (λ s. state_of Input.Position.offset s) r.1.items)) }
 {
     let mut states = Vec::new(*state.groups.allocator());
     let mut at = state.pos;
@@ -357,7 +378,7 @@ fn reached<Input: InputIndexer, Dir: Direction>(
         if count == max_iters {
             return Ok((count, states));
         }
-        if !readers::accepts_next(body, program, input, dir, &mut at) {
+        if !reading::accepts_next(searched, body, dir, &mut at) {
             return Ok((count + 1, states));
         }
         count += 1;

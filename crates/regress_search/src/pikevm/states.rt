@@ -9,7 +9,7 @@ ghost use Rattle.regress_machine.specs.Finds.{initial};
 ghost use Rattle.regress_search.specs.States.{state_of, running_of};
 
 use regress_input::position::PositionType;
-use regress_program::insn::CompiledRegex;
+use regress_program::insn::Program;
 use std::alloc::{AllocError, Global};
 
 /// A loop's finished iterations, and where the current one began.
@@ -75,7 +75,7 @@ fn copies<T: Copy>(alloc: Global, value: T, count: usize) -> Result<Vec<T>, Allo
 
 /// The state before the first instruction.
 pub(crate) fn initial_state<P: PositionType>(
-    program: &CompiledRegex,
+    program: &Program,
     pos: P,
 ) -> Result<State<P>, AllocError>
     ensures { IfOk result (λ s. state_of P.offset s ≡ initial (compiled (tree_of program.now)) (P.offset pos)) }

@@ -6,6 +6,7 @@ use Rattle.regress_machine.specs.Machine.{running, waiting, in_turn, resumed}
 use Rattle.regress_search.specs.States.{state_of, next_of, running_of, waiting_of, preferred_last}
 use Rattle.regress_search.specs.Attempts.{turns_from, search_from, end_of_search}
 use Rattle.regress_search.proofs.Remains.{Remains, Left, steps_of, less-by, remains-begin, waiting-push, turn-can, turn-inside, turn-goes, turn-scans, turn-ends, turn-asks, turn-none}
+use Rattle.regress_search.proofs.Literals.{literal-reads}
 use Rattle.regress_search.proofs.pikevm.+run.Goals as goal
 
 pub search-init : goal.search-init
@@ -35,7 +36,7 @@ returns-in_default g n c =
     let d = way c.args.forward in
     let top = steps_of (search_from tree text (offset c.args.at) d (state_of offset c.args.start)) in
     let end = end_of_search (search_from tree text (offset c.args.at) d (state_of offset c.args.start)) in
-    turn-none offset program text turns d top end is searched.reads (running_of offset c.search.next ++ waiting_of offset c.search.stack.items) c.search.invariant c.in_default.ensures
+    turn-none offset program text turns d top end is (λ i insn q l. (searched.bytes (literal-reads tree i insn q l)).reads) (running_of offset c.search.next ++ waiting_of offset c.search.stack.items) c.search.invariant c.in_default.ensures
 
 pub turn_in-requires-clause-can : goal.turn_in-requires-clause-can
 turn_in-requires-clause-can g n c =
@@ -49,7 +50,7 @@ turn_in-requires-clause-can g n c =
     let d = way c.args.forward in
     let top = steps_of (search_from tree text (offset c.args.at) d (state_of offset c.args.start)) in
     let end = end_of_search (search_from tree text (offset c.args.at) d (state_of offset c.args.start)) in
-    turn-can offset program text turns d top end is searched.reads (running_of offset c.search.next ++ waiting_of offset c.search.stack.items) c.search.invariant c.in-Some.state c.take_up.new.stack.items c.in-Some.ensures
+    turn-can offset program text turns d top end is (λ i insn q l. (searched.bytes (literal-reads tree i insn q l)).reads) (running_of offset c.search.next ++ waiting_of offset c.search.stack.items) c.search.invariant c.in-Some.state c.take_up.new.stack.items c.in-Some.ensures
 
 pub turn_in-requires-clause-inside : goal.turn_in-requires-clause-inside
 turn_in-requires-clause-inside g n c =
@@ -63,7 +64,7 @@ turn_in-requires-clause-inside g n c =
     let d = way c.args.forward in
     let top = steps_of (search_from tree text (offset c.args.at) d (state_of offset c.args.start)) in
     let end = end_of_search (search_from tree text (offset c.args.at) d (state_of offset c.args.start)) in
-    turn-inside offset program text turns d top end is searched.reads (running_of offset c.search.next ++ waiting_of offset c.search.stack.items) c.search.invariant c.in-Some.state c.take_up.new.stack.items c.in-Some.ensures
+    turn-inside offset program text turns d top end is (λ i insn q l. (searched.bytes (literal-reads tree i insn q l)).reads) (running_of offset c.search.next ++ waiting_of offset c.search.stack.items) c.search.invariant c.in-Some.state c.take_up.new.stack.items c.in-Some.ensures
 
 pub search-preserved-in-Dead : goal.search-preserved-in-Dead
 search-preserved-in-Dead g n c =
@@ -77,7 +78,7 @@ search-preserved-in-Dead g n c =
     let d = way c.args.forward in
     let top = steps_of (search_from tree text (offset c.args.at) d (state_of offset c.args.start)) in
     let end = end_of_search (search_from tree text (offset c.args.at) d (state_of offset c.args.start)) in
-    (turn-goes offset program text turns d top end is searched.reads (running_of offset c.search.next ++ waiting_of offset c.search.stack.items) c.search.invariant c.in-Some.state c.take_up.new.stack.items c.in-Some.ensures _ [] (waiting_of offset c.take_up.new.stack.items) c.in_ok-turn_in.ensures (ap (next_of offset) (sym c.in-Dead.is)) refl).remains
+    (turn-goes offset program text turns d top end is (λ i insn q l. (searched.bytes (literal-reads tree i insn q l)).reads) (running_of offset c.search.next ++ waiting_of offset c.search.stack.items) c.search.invariant c.in-Some.state c.take_up.new.stack.items c.in-Some.ensures _ [] (waiting_of offset c.take_up.new.stack.items) c.in_ok-turn_in.ensures (ap (next_of offset) (sym c.in-Dead.is)) refl).remains
 
 pub search-smaller-in-Dead : goal.search-smaller-in-Dead
 search-smaller-in-Dead g n c =
@@ -91,7 +92,7 @@ search-smaller-in-Dead g n c =
     let d = way c.args.forward in
     let top = steps_of (search_from tree text (offset c.args.at) d (state_of offset c.args.start)) in
     let end = end_of_search (search_from tree text (offset c.args.at) d (state_of offset c.args.start)) in
-    (turn-goes offset program text turns d top end is searched.reads (running_of offset c.search.next ++ waiting_of offset c.search.stack.items) c.search.invariant c.in-Some.state c.take_up.new.stack.items c.in-Some.ensures _ [] (waiting_of offset c.take_up.new.stack.items) c.in_ok-turn_in.ensures (ap (next_of offset) (sym c.in-Dead.is)) refl).fewer
+    (turn-goes offset program text turns d top end is (λ i insn q l. (searched.bytes (literal-reads tree i insn q l)).reads) (running_of offset c.search.next ++ waiting_of offset c.search.stack.items) c.search.invariant c.in-Some.state c.take_up.new.stack.items c.in-Some.ensures _ [] (waiting_of offset c.take_up.new.stack.items) c.in_ok-turn_in.ensures (ap (next_of offset) (sym c.in-Dead.is)) refl).fewer
 
 pub search-preserved-in-Go : goal.search-preserved-in-Go
 search-preserved-in-Go g n c =
@@ -105,7 +106,7 @@ search-preserved-in-Go g n c =
     let d = way c.args.forward in
     let top = steps_of (search_from tree text (offset c.args.at) d (state_of offset c.args.start)) in
     let end = end_of_search (search_from tree text (offset c.args.at) d (state_of offset c.args.start)) in
-    (turn-goes offset program text turns d top end is searched.reads (running_of offset c.search.next ++ waiting_of offset c.search.stack.items) c.search.invariant c.in-Some.state c.take_up.new.stack.items c.in-Some.ensures _ (running (state_of offset c.in-Go.state) ∷ []) (running (state_of offset c.in-Go.state) ∷ waiting_of offset c.take_up.new.stack.items) c.in_ok-turn_in.ensures (ap (next_of offset) (sym c.in-Go.is)) refl).remains
+    (turn-goes offset program text turns d top end is (λ i insn q l. (searched.bytes (literal-reads tree i insn q l)).reads) (running_of offset c.search.next ++ waiting_of offset c.search.stack.items) c.search.invariant c.in-Some.state c.take_up.new.stack.items c.in-Some.ensures _ (running (state_of offset c.in-Go.state) ∷ []) (running (state_of offset c.in-Go.state) ∷ waiting_of offset c.take_up.new.stack.items) c.in_ok-turn_in.ensures (ap (next_of offset) (sym c.in-Go.is)) refl).remains
 
 pub search-smaller-in-Go : goal.search-smaller-in-Go
 search-smaller-in-Go g n c =
@@ -119,7 +120,7 @@ search-smaller-in-Go g n c =
     let d = way c.args.forward in
     let top = steps_of (search_from tree text (offset c.args.at) d (state_of offset c.args.start)) in
     let end = end_of_search (search_from tree text (offset c.args.at) d (state_of offset c.args.start)) in
-    (turn-goes offset program text turns d top end is searched.reads (running_of offset c.search.next ++ waiting_of offset c.search.stack.items) c.search.invariant c.in-Some.state c.take_up.new.stack.items c.in-Some.ensures _ (running (state_of offset c.in-Go.state) ∷ []) (running (state_of offset c.in-Go.state) ∷ waiting_of offset c.take_up.new.stack.items) c.in_ok-turn_in.ensures (ap (next_of offset) (sym c.in-Go.is)) refl).fewer
+    (turn-goes offset program text turns d top end is (λ i insn q l. (searched.bytes (literal-reads tree i insn q l)).reads) (running_of offset c.search.next ++ waiting_of offset c.search.stack.items) c.search.invariant c.in-Some.state c.take_up.new.stack.items c.in-Some.ensures _ (running (state_of offset c.in-Go.state) ∷ []) (running (state_of offset c.in-Go.state) ∷ waiting_of offset c.take_up.new.stack.items) c.in_ok-turn_in.ensures (ap (next_of offset) (sym c.in-Go.is)) refl).fewer
 
 pub search-preserved-in-Fork : goal.search-preserved-in-Fork
 search-preserved-in-Fork g n c =
@@ -133,7 +134,7 @@ search-preserved-in-Fork g n c =
     let d = way c.args.forward in
     let top = steps_of (search_from tree text (offset c.args.at) d (state_of offset c.args.start)) in
     let end = end_of_search (search_from tree text (offset c.args.at) d (state_of offset c.args.start)) in
-    (turn-goes offset program text turns d top end is searched.reads (running_of offset c.search.next ++ waiting_of offset c.search.stack.items) c.search.invariant c.in-Some.state c.take_up.new.stack.items c.in-Some.ensures _ (running (state_of offset c.in-Fork.preferred) ∷ waiting (state_of offset c.in-Fork.other) ∷ []) (running (state_of offset c.in-Fork.preferred) ∷ waiting_of offset c.push.new.self.items) c.in_ok-turn_in.ensures (ap (next_of offset) (sym c.in-Fork.is))
+    (turn-goes offset program text turns d top end is (λ i insn q l. (searched.bytes (literal-reads tree i insn q l)).reads) (running_of offset c.search.next ++ waiting_of offset c.search.stack.items) c.search.invariant c.in-Some.state c.take_up.new.stack.items c.in-Some.ensures _ (running (state_of offset c.in-Fork.preferred) ∷ waiting (state_of offset c.in-Fork.other) ∷ []) (running (state_of offset c.in-Fork.preferred) ∷ waiting_of offset c.push.new.self.items) c.in_ok-turn_in.ensures (ap (next_of offset) (sym c.in-Fork.is))
     (ap (λ l. running (state_of offset c.in-Fork.preferred) ∷ l) (ap (waiting_of offset) c.in_ok-push-in-Fork.ensures.items ∙ waiting-push offset c.take_up.new.stack.items c.in-Fork.other))).remains
 
 pub search-smaller-in-Fork : goal.search-smaller-in-Fork
@@ -148,7 +149,7 @@ search-smaller-in-Fork g n c =
     let d = way c.args.forward in
     let top = steps_of (search_from tree text (offset c.args.at) d (state_of offset c.args.start)) in
     let end = end_of_search (search_from tree text (offset c.args.at) d (state_of offset c.args.start)) in
-    (turn-goes offset program text turns d top end is searched.reads (running_of offset c.search.next ++ waiting_of offset c.search.stack.items) c.search.invariant c.in-Some.state c.take_up.new.stack.items c.in-Some.ensures _ (running (state_of offset c.in-Fork.preferred) ∷ waiting (state_of offset c.in-Fork.other) ∷ []) (running (state_of offset c.in-Fork.preferred) ∷ waiting_of offset c.push.new.self.items) c.in_ok-turn_in.ensures (ap (next_of offset) (sym c.in-Fork.is))
+    (turn-goes offset program text turns d top end is (λ i insn q l. (searched.bytes (literal-reads tree i insn q l)).reads) (running_of offset c.search.next ++ waiting_of offset c.search.stack.items) c.search.invariant c.in-Some.state c.take_up.new.stack.items c.in-Some.ensures _ (running (state_of offset c.in-Fork.preferred) ∷ waiting (state_of offset c.in-Fork.other) ∷ []) (running (state_of offset c.in-Fork.preferred) ∷ waiting_of offset c.push.new.self.items) c.in_ok-turn_in.ensures (ap (next_of offset) (sym c.in-Fork.is))
     (ap (λ l. running (state_of offset c.in-Fork.preferred) ∷ l) (ap (waiting_of offset) c.in_ok-push-in-Fork.ensures.items ∙ waiting-push offset c.take_up.new.stack.items c.in-Fork.other))).fewer
 
 pub search-preserved-in-Scan : goal.search-preserved-in-Scan
@@ -163,7 +164,7 @@ search-preserved-in-Scan g n c =
     let d = way c.args.forward in
     let top = steps_of (search_from tree text (offset c.args.at) d (state_of offset c.args.start)) in
     let end = end_of_search (search_from tree text (offset c.args.at) d (state_of offset c.args.start)) in
-    (turn-scans offset program text turns d top end is searched.reads (running_of offset c.search.next ++ waiting_of offset c.search.stack.items) c.search.invariant c.in-Some.state c.take_up.new.stack.items c.in-Some.ensures _ c.in-Scan.field-0 (in_turn (preferred_last offset c.in-Scan.states.items)) _ c.in_ok-turn_in.ensures (ap (next_of offset) (sym c.in-Scan.is)) c.in_ok-next-in-Scan.ensures).remains
+    (turn-scans offset program text turns d top end is (λ i insn q l. (searched.bytes (literal-reads tree i insn q l)).reads) (running_of offset c.search.next ++ waiting_of offset c.search.stack.items) c.search.invariant c.in-Some.state c.take_up.new.stack.items c.in-Some.ensures _ c.in-Scan.field-0 (in_turn (preferred_last offset c.in-Scan.states.items)) _ c.in_ok-turn_in.ensures (ap (next_of offset) (sym c.in-Scan.is)) c.in_ok-next-in-Scan.ensures).remains
 
 pub search-smaller-in-Scan : goal.search-smaller-in-Scan
 search-smaller-in-Scan g n c =
@@ -177,7 +178,7 @@ search-smaller-in-Scan g n c =
     let d = way c.args.forward in
     let top = steps_of (search_from tree text (offset c.args.at) d (state_of offset c.args.start)) in
     let end = end_of_search (search_from tree text (offset c.args.at) d (state_of offset c.args.start)) in
-    (turn-scans offset program text turns d top end is searched.reads (running_of offset c.search.next ++ waiting_of offset c.search.stack.items) c.search.invariant c.in-Some.state c.take_up.new.stack.items c.in-Some.ensures _ c.in-Scan.field-0 (in_turn (preferred_last offset c.in-Scan.states.items)) _ c.in_ok-turn_in.ensures (ap (next_of offset) (sym c.in-Scan.is)) c.in_ok-next-in-Scan.ensures).fewer
+    (turn-scans offset program text turns d top end is (λ i insn q l. (searched.bytes (literal-reads tree i insn q l)).reads) (running_of offset c.search.next ++ waiting_of offset c.search.stack.items) c.search.invariant c.in-Some.state c.take_up.new.stack.items c.in-Some.ensures _ c.in-Scan.field-0 (in_turn (preferred_last offset c.in-Scan.states.items)) _ c.in_ok-turn_in.ensures (ap (next_of offset) (sym c.in-Scan.is)) c.in_ok-next-in-Scan.ensures).fewer
 
 pub run-requires : goal.run-requires
 run-requires g n c =
@@ -191,7 +192,7 @@ run-requires g n c =
     let d = way c.args.forward in
     let top = steps_of (search_from tree text (offset c.args.at) d (state_of offset c.args.start)) in
     let end = end_of_search (search_from tree text (offset c.args.at) d (state_of offset c.args.start)) in
-    let asked = turn-asks offset program text turns d top end is searched.reads (running_of offset c.search.next ++ waiting_of offset c.search.stack.items) c.search.invariant c.in-Some.state c.take_up.new.stack.items c.in-Some.ensures _ (state_of offset c.in-Ask.inner) (state_of offset c.in-Ask.after) (way c.in-Ask.forward) c.in-Ask.negate c.in_ok-turn_in.ensures (ap (next_of offset) (sym c.in-Ask.is)) in
+    let asked = turn-asks offset program text turns d top end is (λ i insn q l. (searched.bytes (literal-reads tree i insn q l)).reads) (running_of offset c.search.next ++ waiting_of offset c.search.stack.items) c.search.invariant c.in-Some.state c.take_up.new.stack.items c.in-Some.ensures _ (state_of offset c.in-Ask.inner) (state_of offset c.in-Ask.after) (way c.in-Ask.forward) c.in-Ask.negate c.in_ok-turn_in.ensures (ap (next_of offset) (sym c.in-Ask.is)) in
     λ κs h. (less-by _ top n asked.fewer c.decreases, (h.0, (h.1.0, (h.1.1.0, (h.1.1.1.0, (h.1.1.1.1, (asked.inside, asked.answers)))))))
 
 pub search-preserved : goal.search-preserved
@@ -206,7 +207,7 @@ search-preserved g n c =
     let d = way c.args.forward in
     let top = steps_of (search_from tree text (offset c.args.at) d (state_of offset c.args.start)) in
     let end = end_of_search (search_from tree text (offset c.args.at) d (state_of offset c.args.start)) in
-    let asked = turn-asks offset program text turns d top end is searched.reads (running_of offset c.search.next ++ waiting_of offset c.search.stack.items) c.search.invariant c.in-Some.state c.take_up.new.stack.items c.in-Some.ensures _ (state_of offset c.in-Ask.inner) (state_of offset c.in-Ask.after) (way c.in-Ask.forward) c.in-Ask.negate c.in_ok-turn_in.ensures (ap (next_of offset) (sym c.in-Ask.is)) in
+    let asked = turn-asks offset program text turns d top end is (λ i insn q l. (searched.bytes (literal-reads tree i insn q l)).reads) (running_of offset c.search.next ++ waiting_of offset c.search.stack.items) c.search.invariant c.in-Some.state c.take_up.new.stack.items c.in-Some.ensures _ (state_of offset c.in-Ask.inner) (state_of offset c.in-Ask.after) (way c.in-Ask.forward) c.in-Ask.negate c.in_ok-turn_in.ensures (ap (next_of offset) (sym c.in-Ask.is)) in
     let next = c.resume-next.ensures ∙ ap (resumed c.in-Ask.negate (state_of offset c.in-Ask.after)) c.in_ok-found-in-Ask.ensures in
     (subst (λ l. Left program text turns d top end (running_of offset c.search.next ++ waiting_of offset c.search.stack.items) (l ++ waiting_of offset c.take_up.new.stack.items)) (sym next) asked.behind).remains
 
@@ -222,7 +223,7 @@ search-smaller g n c =
     let d = way c.args.forward in
     let top = steps_of (search_from tree text (offset c.args.at) d (state_of offset c.args.start)) in
     let end = end_of_search (search_from tree text (offset c.args.at) d (state_of offset c.args.start)) in
-    let asked = turn-asks offset program text turns d top end is searched.reads (running_of offset c.search.next ++ waiting_of offset c.search.stack.items) c.search.invariant c.in-Some.state c.take_up.new.stack.items c.in-Some.ensures _ (state_of offset c.in-Ask.inner) (state_of offset c.in-Ask.after) (way c.in-Ask.forward) c.in-Ask.negate c.in_ok-turn_in.ensures (ap (next_of offset) (sym c.in-Ask.is)) in
+    let asked = turn-asks offset program text turns d top end is (λ i insn q l. (searched.bytes (literal-reads tree i insn q l)).reads) (running_of offset c.search.next ++ waiting_of offset c.search.stack.items) c.search.invariant c.in-Some.state c.take_up.new.stack.items c.in-Some.ensures _ (state_of offset c.in-Ask.inner) (state_of offset c.in-Ask.after) (way c.in-Ask.forward) c.in-Ask.negate c.in_ok-turn_in.ensures (ap (next_of offset) (sym c.in-Ask.is)) in
     let next = c.resume-next.ensures ∙ ap (resumed c.in-Ask.negate (state_of offset c.in-Ask.after)) c.in_ok-found-in-Ask.ensures in
     (subst (λ l. Left program text turns d top end (running_of offset c.search.next ++ waiting_of offset c.search.stack.items) (l ++ waiting_of offset c.take_up.new.stack.items)) (sym next) asked.behind).fewer
 
@@ -238,4 +239,4 @@ returns-in-Done g n c =
     let d = way c.args.forward in
     let top = steps_of (search_from tree text (offset c.args.at) d (state_of offset c.args.start)) in
     let end = end_of_search (search_from tree text (offset c.args.at) d (state_of offset c.args.start)) in
-    turn-ends offset program text turns d top end is searched.reads (running_of offset c.search.next ++ waiting_of offset c.search.stack.items) c.search.invariant c.in-Some.state c.take_up.new.stack.items c.in-Some.ensures _ (state_of offset c.in-Done.end) c.in_ok-turn_in.ensures (ap (next_of offset) (sym c.in-Done.is))
+    turn-ends offset program text turns d top end is (λ i insn q l. (searched.bytes (literal-reads tree i insn q l)).reads) (running_of offset c.search.next ++ waiting_of offset c.search.stack.items) c.search.invariant c.in-Some.state c.take_up.new.stack.items c.in-Some.ensures _ (state_of offset c.in-Done.end) c.in_ok-turn_in.ensures (ap (next_of offset) (sym c.in-Done.is))

@@ -27,7 +27,7 @@ run-requires-clause-answers g c =
     let is = g.met.Input.InputIndexer.is_text searched.input in
     let at = g.Input.Position.PositionType.offset c.args.pos in
     subst (λ s. IsSome (search_from tree text at rightwards s)) (sym c.in_ok-start.ensures)
-    (begins tree text at (can-search tree text searched.well_formed is searched.unicode searched.reads) c.requires).answers
+    (begins tree text at (can-search tree text searched.well_formed is searched.unicode (λ reads. (searched.bytes reads).reads)) c.requires).answers
 
 pub returns : goal.returns
 returns g c =
@@ -39,4 +39,4 @@ returns g c =
     let at = offset c.args.pos in
     map-end offset c.in_ok-end.end
     ∙ ap (option_map end_of) (c.in_ok-end.ensures ∙ ap (λ s. end_of_search (search_from tree text at rightwards s)) c.in_ok-start.ensures)
-    ∙ (begins tree text at (can-search tree text searched.well_formed is searched.unicode searched.reads) c.requires).end
+    ∙ (begins tree text at (can-search tree text searched.well_formed is searched.unicode (λ reads. (searched.bytes reads).reads)) c.requires).end

@@ -1,10 +1,15 @@
-use Rattle.std.proofs.Common.{◌≡◌, ap, sym, refl, ◌∙◌, Some, None, option_map}
+use Rattle.std.proofs.Common.{◌≡◌, ap, sym, refl, ◌∙◌, Some, None, true, option_map}
+use Rattle.std.specs.Prelude.{IsTrue}
+use Rattle.std.specs.List.{list_all}
+use Rattle.regex_meaning.specs.Text.{is_scalar}
+use Rattle.regress_program.specs.Code.{compiled}
+use Rattle.regress_program.specs.Insns.{start_of}
 use Rattle.regex_pattern_front.specs.TreeOf.{tree_of}
 use Rattle.regress_machine.specs.Finds.{end_of}
-use Rattle.regress_search.specs.Attempts.{end_from}
+use Rattle.regress_search.specs.Attempts.{end_from, anchors}
 use Rattle.regress_search.specs.States.{groups_of, state_of}
 use Rattle.regress_search.proofs.FirstMatch.{goes-from_itself, goes-on, found-first}
-use Rattle.regress_search.proofs.Anchored.{tried-on, found-untried}
+use Rattle.regress_search.proofs.Anchored.{tried-on, found-untried, anchored-by}
 use Rattle.regress_search.proofs.pikevm.PikeVMExecutorMatchProducer.next_match.Goals as goal
 
 pub places-init : goal.places-init
@@ -104,5 +109,10 @@ returns-in-None-clause-found g c =
     let start = offset c.places.start in
     let from = rw (← same) at c.places.invariant.from in
     let none : end_from tree text start ≡ None = sym c.in_ok-end.ensures ∙ ap (option_map (λ s. end_of (state_of offset s))) c.in_default.is in
-    let anchored = rw (← same) at (sym c.is_anchored-anchored.ensures) in
-    rw (← same) (found-untried tree text searched.well_formed searched.reads.scalars _ anchored (offset c.args.pos) start is from none c.in-None.ensures)
+    let first = c.args.self.now.searched in
+    let by : c.is_anchored-anchored.result ≡ true → (anchors (compiled (tree_of first.program.now)).start_pred ≡ true) × IsTrue (list_all is_scalar (g.Input.InputIndexer.text first.input).characters) =
+    λ e.
+    let known = anchored-by first.start_pred (λ p. start_of p.now) (compiled (tree_of first.program.now)).start_pred c.is_anchored-anchored.result c.is_anchored-anchored.ensures first.predicted e in
+    (known.0, (first.scalars known.1).scalars) in
+    let anchored = rw (← same) at by in
+    rw (← same) (found-untried tree text searched.well_formed _ anchored (offset c.args.pos) start is from none c.in-None.ensures)

@@ -11,8 +11,8 @@ use Rattle.regress_search.proofs.pikevm.actions.reached.Goals as goal
 
 pub characters-init : goal.characters-init
 characters-init g c =
-    let text = g.Input.InputIndexer.text c.args.input.now in
-    let is = g.met.Input.InputIndexer.is_text c.args.input.now in
+    let text = g.Input.InputIndexer.text c.args.searched.now.input in
+    let is = g.met.Input.InputIndexer.is_text c.args.searched.now.input in
     let offset = g.Input.Position.PositionType.offset in
     let d = way g.Dir.Direction.FORWARD in
     let s = state_of offset c.args.state.now in
@@ -26,8 +26,8 @@ characters-init g c =
 
 pub returns-then-count-max_iters : goal.returns-then-count-max_iters
 returns-then-count-max_iters g c = λ test p e f.
-    let text = g.Input.InputIndexer.text c.args.input.now in
-    let is = g.met.Input.InputIndexer.is_text c.args.input.now in
+    let text = g.Input.InputIndexer.text c.args.searched.now.input in
+    let is = g.met.Input.InputIndexer.is_text c.args.searched.now.input in
     let offset = g.Input.Position.PositionType.offset in
     reach-most text is test (way g.Dir.Direction.FORWARD) c.args.min_iters c.args.max_iters p (state_of offset c.args.state.now)
     c.characters.count (offset c.characters.at) _ _ (c.characters.invariant.reaching test p e f) c.in_ok-keep.ensures c.if-count-max_iters.true
@@ -37,8 +37,8 @@ accepts_next-requires-clause-at g c = c.characters.invariant.boundary
 
 pub returns-then-not-accepts_next : goal.returns-then-not-accepts_next
 returns-then-not-accepts_next g c = λ test p e f.
-    let text = g.Input.InputIndexer.text c.args.input.now in
-    let is = g.met.Input.InputIndexer.is_text c.args.input.now in
+    let text = g.Input.InputIndexer.text c.args.searched.now.input in
+    let is = g.met.Input.InputIndexer.is_text c.args.searched.now.input in
     let offset = g.Input.Position.PositionType.offset in
     reach-end text is test (way g.Dir.Direction.FORWARD) c.args.min_iters c.args.max_iters p (state_of offset c.args.state.now)
     c.characters.count (offset c.characters.at) (offset c.accepts_next.new.pos) _ _ c.accepts_next.result (c.characters.invariant.reaching test p e f) c.in_ok-keep.ensures
@@ -46,12 +46,12 @@ returns-then-not-accepts_next g c = λ test p e f.
 
 pub characters-preserved : goal.characters-preserved
 characters-preserved g c =
-    let text = g.Input.InputIndexer.text c.args.input.now in
-    let is = g.met.Input.InputIndexer.is_text c.args.input.now in
+    let text = g.Input.InputIndexer.text c.args.searched.now.input in
+    let is = g.met.Input.InputIndexer.is_text c.args.searched.now.input in
     let offset = g.Input.Position.PositionType.offset in
     let d = way g.Dir.Direction.FORWARD in
     let s = state_of offset c.args.state.now in
-    let t = some-of (test_of (compiled (tree_of c.args.program.now)) (Some (insn_of c.args.body))) c.requires.test in
+    let t = some-of (test_of (compiled (tree_of c.args.searched.now.program.now)) (Some (insn_of c.args.body))) c.requires.test in
     let p = IsBoundary-place text (offset c.args.state.now.pos) is c.requires.boundary in
     record {
       boundary =

@@ -11,13 +11,13 @@ use Rattle.regress_search.proofs.pikevm.actions.reached.Given as goal
 
 abbrev pub invariant-characters : goal.invariant-characters
 invariant-characters g l =
-    let text = g.Input.InputIndexer.text l.input in
+    let text = g.Input.InputIndexer.text l.searched.input in
     let offset = g.Input.Position.PositionType.offset in
     record {
       boundary : IsBoundary text (offset l.at);
       fits : l.count ≤ l.max_iters;
       reaching :
-          (test : ℕ → Bool) (p : ℕ) → test_of (compiled (tree_of l.program)) (Some (insn_of l.body)) ≡ Some test → place_at text (offset l.state.pos) ≡ Some p
+          (test : ℕ → Bool) (p : ℕ) → test_of (compiled (tree_of l.searched.program.now)) (Some (insn_of l.body)) ≡ Some test → place_at text (offset l.state.pos) ≡ Some p
           → IsReaching text test (way g.Dir.Direction.FORWARD) l.min_iters l.max_iters p (state_of offset l.state) l.count (offset l.at) (map (λ s. state_of offset s) l.states.items);
     }
 

@@ -10,7 +10,7 @@ use Rattle.regress_search.proofs.pikevm.actions.scan.Goals as goal
 
 pub returns : goal.returns
 returns g c =
-    let text = g.Input.InputIndexer.text c.args.input.now in
+    let text = g.Input.InputIndexer.text c.args.searched.now.input in
     let offset = g.Input.Position.PositionType.offset in
-    scanned offset text (test_of (compiled (tree_of c.args.program.now)) (Some (insn_of c.args.body))) (way g.Dir.Direction.FORWARD) (state_of offset c.args.state)
+    scanned offset text (test_of (compiled (tree_of c.args.searched.now.program.now)) (Some (insn_of c.args.body))) (way g.Dir.Direction.FORWARD) (state_of offset c.args.state)
     c.args.min_iters c.args.max_iters c.args.greedy c.in_ok-tries.tries c.in_ok-tries.states.items _ c.requires.can c.in_ok-tries.ensures c.preferred_last.ensures

@@ -3,22 +3,22 @@ use Rattle.regress_input.specs.Reading.{led_to, way}
 use Rattle.regress_machine.specs.Machine.{read_group}
 use Rattle.regress_search.specs.States.{range_of, state_of, CanTake}
 use Rattle.regress_search.proofs.Readers.{nothing-read, group-read}
-use Rattle.regress_search.proofs.pikevm.readers.read_again.Goals as goal
+use Rattle.regress_search.proofs.pikevm.actions.read_again.Goals as goal
 
 pub returns-in_default : goal.returns-in_default
 returns-in_default g c =
-    let text = g.Input.InputIndexer.text c.args.input.now in
-    let is = g.met.Input.InputIndexer.is_text c.args.input.now in
+    let text = g.Input.InputIndexer.text c.args.searched.now.input in
+    let is = g.met.Input.InputIndexer.is_text c.args.searched.now.input in
     let offset = g.Input.Position.PositionType.offset in
     let d = way g.Dir.Direction.FORWARD in
     let s = state_of offset c.args.state in
     let can = subst (λ r. CanTake (read_group text c.args.icase d (range_of offset r) s)) c.in_default.is c.requires.can in
-    c.stay.ensures ∙ nothing-read text is c.args.icase d s can ∙ ap (λ r. read_group text c.args.icase d (range_of offset r) s) (sym c.in_default.is)
+    nothing-read text is c.args.icase d s can ∙ ap (λ r. read_group text c.args.icase d (range_of offset r) s) (sym c.in_default.is)
 
 pub returns-then-stands_again : goal.returns-then-stands_again
 returns-then-stands_again g c =
-    let text = g.Input.InputIndexer.text c.args.input.now in
-    let is = g.met.Input.InputIndexer.is_text c.args.input.now in
+    let text = g.Input.InputIndexer.text c.args.searched.now.input in
+    let is = g.met.Input.InputIndexer.is_text c.args.searched.now.input in
     let offset = g.Input.Position.PositionType.offset in
     let d = way g.Dir.Direction.FORWARD in
     let s = state_of offset c.args.state in
@@ -29,8 +29,8 @@ returns-then-stands_again g c =
 
 pub returns-else-stands_again : goal.returns-else-stands_again
 returns-else-stands_again g c =
-    let text = g.Input.InputIndexer.text c.args.input.now in
-    let is = g.met.Input.InputIndexer.is_text c.args.input.now in
+    let text = g.Input.InputIndexer.text c.args.searched.now.input in
+    let is = g.met.Input.InputIndexer.is_text c.args.searched.now.input in
     let offset = g.Input.Position.PositionType.offset in
     let d = way g.Dir.Direction.FORWARD in
     let s = state_of offset c.args.state in

@@ -4,16 +4,12 @@
 #[cfg(test)]
 mod listing;
 #[cfg(test)]
-mod malformed;
-#[cfg(test)]
-mod names;
+mod parts;
 #[cfg(test)]
 mod predicates;
 #[cfg(test)]
-mod programs;
-#[cfg(test)]
 mod rows;
 #[cfg(test)]
-mod trees;
+mod tables;
 #[cfg(test)]
-mod units;
+mod trees;

@@ -11,5 +11,3 @@ mod predicates;
 mod rows;
 #[cfg(test)]
 mod tables;
-#[cfg(test)]
-mod trees;

@@ -12,7 +12,7 @@ program cat:2 loop:0,0,0 a goal → EnterLoop 0 0 18446744073709551615 true 3, C
 program cat:2 loop:0,1,0 loop:0,1,0 group:0 a goal → EnterLoop 0 0 18446744073709551615 true 9, ResetCaptureGroup 0, EnterLoop 1 0 18446744073709551615 true 8, ResetCaptureGroup 0, BeginCaptureGroup 0, Char 97, EndCaptureGroup 0, LoopAgain 2, LoopAgain 0, Goal
 program cat:2 loop1:0 a goal → Loop1CharBody 0 18446744073709551615 true, Char 97, Goal
 program cat:2 behind:0,0 bytes:61,62,63,64,65,66,67,68,69,6A,6B,6C,6D,6E,6F,70,71 goal → Lookbehind false 0 0 4, ByteSeq1 q, ByteSeq16 abcdefghijklmnop, Goal, Goal
-program cat:3 behind:0,0 string:61,62 c goal → Lookbehind false 0 0 4, Char 98, Char 97, Goal, Char 99, Goal
+program cat:3 behind:0,0 strings:1 set:61,62 c goal → Lookbehind false 0 0 4, Char 98, Char 97, Goal, Char 99, Goal
 program cat:3 any cat:2 group:1 empty group:0 empty goal → MatchAny, BeginCaptureGroup 1, EndCaptureGroup 1, BeginCaptureGroup 0, EndCaptureGroup 0, Goal
 program cat:3 any cat:2 group:0 empty ref:1 goal → MatchAny, BeginCaptureGroup 0, EndCaptureGroup 0, other, Goal
 program a → NotWellFormed
@@ -43,13 +43,13 @@ program cat:3 any bytes:ED,A0,80 goal → NotWellFormed
 program cat:3 any byteset:61,62,63,64,65 goal → NotWellFormed
 program cat:3 any byteset:80 goal → NotWellFormed
 program cat:3 any set:1,2,3,4,5 goal → NotWellFormed
-program cat:3 any string:110000 goal → NotWellFormed
+program cat:3 any strings:1 set:110000 goal → NotWellFormed
 program cat:10001 groups goal → TooManyGroups
 units bytes:61 → NotWellFormed
 units cat:2 bytes:61 goal → BytesInUnits
 units cat:2 behind:0,0 alt x byteset:61,62 goal → BytesInUnits
 units cat:2 a goal → Char 97, Goal
-units cat:3 behind:0,0 string:61,62 c goal → Lookbehind false 0 0 4, Char 98, Char 97, Goal, Char 99, Goal
+units cat:3 behind:0,0 strings:1 set:61,62 c goal → Lookbehind false 0 0 4, Char 98, Char 97, Goal, Char 99, Goal
 predicate cat:2 bytes:61,62,63 goal → ByteSeq [97, 98, 99]
 predicate cat:2 alt bytes:61,62,63 bytes:61,62,64 goal → ByteSeq [97, 98]
 predicate cat:2 alt bytes:61,62,63 bytes:78,79,7A goal → ByteSet2 [97, 120]

@@ -1,7 +1,9 @@
-//! Trees made by hand, from words.
+//! Trees from words, for rows of trees made by hand.
 //!
 //! Each node stands before its children, as in `cat:2 alt a b goal`. Behind a colon are numbers in hexadecimal, with
-//! commas between them. A word of one letter is that character.
+//! commas between them; as a least number of iterations `FFFFFFFF` is the greatest number there is. A word of one
+//! letter is that character.
+#![tactic(auto)]
 
 use regex_pattern_front::codepointset::{CodePointSet, Interval};
 use regex_pattern_front::flags::Flags;
@@ -9,8 +11,8 @@ use regex_pattern_front::ir::{AnchorType, Node, Quantifier, Regex};
 use regex_pattern_front::types::BracketContents;
 use std::alloc::Global;
 
-// The tree of these words, none where they are not those of one tree or memory is out.
-pub(crate) fn tree_of(alloc: Global, words: &str) -> Option<Regex> {
+/// The tree of these words, none where they are not those of one tree or memory is out.
+pub fn tree_of(alloc: Global, words: &str) -> Option<Regex> {
     let mut nodes = Vec::new(alloc);
     put_nodes(alloc, words, &mut nodes)?;
     let node = nodes.pop()?;
@@ -47,6 +49,7 @@ fn numbers_of(alloc: Global, text: &str) -> Option<Vec<u32>> {
 fn node_of(alloc: Global, name: &str, numbers: &[u32], nodes: &mut Vec<Node>) -> Option<Node> {
     match (name, numbers) {
         ("cat", [count]) => cat_of(alloc, *count, nodes),
+        ("strings", [count]) => strings_of(alloc, *count, nodes),
         ("alt", []) => {
             let left = child_of(alloc, nodes)?;
             Some(Node::Alt(left, child_of(alloc, nodes)?))
@@ -68,6 +71,21 @@ fn cat_of(alloc: Global, count: u32, nodes: &mut Vec<Node>) -> Option<Node> {
         children.push(nodes.pop()?).ok()?;
     }
     Some(Node::Cat(children))
+}
+
+// The strings are those of sets that stand behind.
+fn strings_of(alloc: Global, count: u32, nodes: &mut Vec<Node>) -> Option<Node> {
+    let mut alternatives = Vec::new(alloc);
+    for _ in 0..count {
+        let Node::CharSet(string) = nodes.pop()? else {
+            return None;
+        };
+        alternatives.push(string).ok()?;
+    }
+    Some(Node::StringSet {
+        alternatives,
+        icase: false,
+    })
 }
 
 fn child_of(alloc: Global, nodes: &mut Vec<Node>) -> Option<Box<Node>> {
@@ -139,7 +157,11 @@ fn quantifier(bounds: &[u32]) -> Option<Quantifier> {
         _ => return None,
     };
     Some(Quantifier {
-        min: min as usize,
+        min: if min == u32::MAX {
+            usize::MAX
+        } else {
+            min as usize
+        },
         max,
         greedy: true,
     })
@@ -155,6 +177,7 @@ fn leaf(alloc: Global, name: &str, numbers: &[u32]) -> Option<Node> {
             anchor_type: AnchorType::StartOfLine,
             multiline: false,
         }),
+        ("char", [c]) => Some(Node::Char { c: *c }),
         ("ref", [group]) => Some(Node::BackRef {
             group: *group,
             icase: false,
@@ -162,7 +185,6 @@ fn leaf(alloc: Global, name: &str, numbers: &[u32]) -> Option<Node> {
         ("set", members) => Some(Node::CharSet(Vec::from_slice(alloc, members).ok()?)),
         ("byteset", members) => Some(Node::ByteSet(bytes_of(alloc, members)?)),
         ("bytes", bytes) => Some(Node::ByteSequence(bytes_of(alloc, bytes)?)),
-        ("string", string) => string_of(alloc, string),
         ("class", bounds) => class_of(alloc, false, bounds),
         ("not", bounds) => class_of(alloc, true, bounds),
         (letter, []) => char_of(letter),
@@ -185,18 +207,6 @@ fn bytes_of(alloc: Global, numbers: &[u32]) -> Option<Vec<u8>> {
         bytes.push((*number & 0xFF) as u8).ok()?;
     }
     Some(bytes)
-}
-
-// A set of one string.
-fn string_of(alloc: Global, string: &[u32]) -> Option<Node> {
-    let mut alternatives = Vec::new(alloc);
-    alternatives
-        .push(Vec::from_slice(alloc, string).ok()?)
-        .ok()?;
-    Some(Node::StringSet {
-        alternatives,
-        icase: false,
-    })
 }
 
 // The class of the code points from each second number to the next one, or of all others.

@@ -49,8 +49,11 @@ fn write_cat(text: &mut String, nodes: &[Node]) -> Result<(), AllocError> {
 fn write_head(text: &mut String, node: &Node) -> Result<(), AllocError> {
     match node {
         Node::CaptureGroup { id, name, .. } => {
-            let name = name.as_ref().map_or("", |n| n.as_str());
-            write!(text, "Group{id}{name}(")
+            write!(text, "Group{id}")?;
+            if let Some(name) = name {
+                text.push_str(name)?;
+            }
+            text.push_str("(")
         }
         Node::LookaroundAssertion {
             negate,

@@ -126,36 +126,22 @@ pub(crate) fn part<Input: InputIndexer>(
     )
 }
 
-// The offset past the characters of a range, beside another place.
+// The offset past the characters of a range, beside another place; with `icase` case does not count.
 pub(crate) fn past_range<Input: InputIndexer, Dir: Direction>(
     input: &Input,
     dir: Dir,
-    place: usize,
-    count: usize,
-    beside: usize,
+    [place, count, beside]: [usize; 3],
+    icase: bool,
 ) -> Option<usize> {
     let start = position(input, place);
     let end = further(input, start, count);
     let mut pos = position(input, beside);
-    if backref(input, dir, start..end, &mut pos) {
-        Some(input.pos_to_offset(pos))
+    let matches = if icase {
+        backref_icase(input, dir, start..end, &mut pos)
     } else {
-        None
-    }
-}
-
-// The same where case does not count.
-pub(crate) fn past_range_icase<Input: InputIndexer, Dir: Direction>(
-    input: &Input,
-    dir: Dir,
-    place: usize,
-    count: usize,
-    beside: usize,
-) -> Option<usize> {
-    let start = position(input, place);
-    let end = further(input, start, count);
-    let mut pos = position(input, beside);
-    if backref_icase(input, dir, start..end, &mut pos) {
+        backref(input, dir, start..end, &mut pos)
+    };
+    if matches {
         Some(input.pos_to_offset(pos))
     } else {
         None

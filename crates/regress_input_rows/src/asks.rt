@@ -2,9 +2,9 @@
 
 use crate::answers::{
     before_the_end, byte, character, classes, folded, folded_alone, found, number, part,
-    past_bytes, past_range, past_range_icase, seen_left, seen_right,
+    past_bytes, past_range, seen_left, seen_right,
 };
-use crate::matches::{matching, past_char, past_euro};
+use crate::matches::{matching, past_char};
 use regress_input::cursor::{Backward, Direction, Forward};
 use regress_input::front::BracketContents;
 use regress_input::indexing::{InputIndexer, reads_are_inverse};
@@ -45,10 +45,9 @@ fn beside<Input: InputIndexer, Dir: Direction>(input: &Input, dir: Dir, ask: &As
         "byte" => byte(input, dir, place),
         "literal" => at(past_bytes(input, dir, place, &[low_byte(b)])),
         "literal2" => at(past_bytes(input, dir, place, &[low_byte(b), low_byte(c)])),
-        "euro" => at(past_euro(input, dir, place)),
         "char" => at(past_char(input, dir, place, b)),
-        "range" => at(past_range(input, dir, place, b as usize, c as usize)),
-        "icase" => at(past_range_icase(input, dir, place, b as usize, c as usize)),
+        "range" => at(past_range(input, dir, [place, b as usize, c as usize], false)),
+        "icase" => at(past_range(input, dir, [place, b as usize, c as usize], true)),
         _ => NO_QUESTION,
     }
 }
@@ -91,7 +90,7 @@ fn answer<Input: InputIndexer>(input: &Input, ask: &Ask<'_>) -> Answer {
     }
 }
 
-fn matchers<Input: InputIndexer>(input: &Input, ask: &Ask<'_>) -> Option<[Option<usize>; 8]> {
+fn matchers<Input: InputIndexer>(input: &Input, ask: &Ask<'_>) -> Option<[Option<usize>; 9]> {
     let [place, _, _, _] = ask.numbers;
     match ask.way {
         "right" => matching(input, Forward::new(), place as usize, ask.class),
@@ -108,7 +107,7 @@ pub(crate) fn write_offset(line: &mut String, offset: Option<usize>) -> Result<(
 
 fn write_matchers(
     line: &mut String,
-    offsets: &Option<[Option<usize>; 8]>,
+    offsets: &Option<[Option<usize>; 9]>,
 ) -> Result<(), AllocError> {
     if let Some(offsets) = offsets {
         for offset in offsets {

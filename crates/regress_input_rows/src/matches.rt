@@ -35,13 +35,13 @@ pub(crate) fn class(alloc: Global) -> Result<BracketContents, AllocError> {
     })
 }
 
-// The offsets past the character beside a place that the eight matchers of `z` take.
+// The offsets past the character beside a place that the eight matchers of `z` take, and that of the bytes of `€`.
 pub(crate) fn matching<Input: InputIndexer, Dir: Direction>(
     input: &Input,
     dir: Dir,
     place: usize,
     bc: &BracketContents,
-) -> Option<[Option<usize>; 8]> {
+) -> Option<[Option<usize>; 9]> {
     let c = Input::Element::try_from(0x7a)?;
     let set = ascii_set(b'z');
     Some([
@@ -65,16 +65,8 @@ pub(crate) fn matching<Input: InputIndexer, Dir: Direction>(
             place,
         ),
         past_match(input, dir, &MatchByteSeq(b"z"), place),
+        past_match(input, dir, &MatchByteSeq(b"\xe2\x82\xac"), place),
     ])
-}
-
-// The offset past the bytes of `€`.
-pub(crate) fn past_euro<Input: InputIndexer, Dir: Direction>(
-    input: &Input,
-    dir: Dir,
-    place: usize,
-) -> Option<usize> {
-    past_match(input, dir, &MatchByteSeq(b"\xe2\x82\xac"), place)
 }
 
 // The offset past the character with this number.

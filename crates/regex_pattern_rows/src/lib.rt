@@ -7,3 +7,5 @@ mod patterns;
 mod printing;
 #[cfg(test)]
 mod sets;
+#[cfg(test)]
+mod table;

@@ -2,66 +2,31 @@
 
 use regex_pattern_front::codepointset::Interval;
 use regex_pattern_front::ir::{Node, Quantifier};
-use std::alloc::{AllocError, Global};
-
-pub(crate) fn tree_text(alloc: Global, node: &Node) -> Result<String, AllocError> {
-    let mut text = String::new(alloc);
-    write_node(&mut text, node)?;
-    Ok(text)
-}
+use std::alloc::AllocError;
 
 #[cycle(write)]
-fn write_node(text: &mut String, node: &Node) -> Result<(), AllocError> {
+pub(crate) fn write_tree(text: &mut String, node: &Node) -> Result<(), AllocError> {
     match node {
-        Node::Cat(nodes) => {
-            text.push_str("Cat[")?;
-            write_nodes(text, nodes)?;
-            text.push_str("]")
-        }
+        Node::Cat(nodes) => write_cat(text, nodes),
         Node::Alt(left, right) => {
             text.push_str("Alt(")?;
-            write_node(text, left)?;
+            write_tree(text, left)?;
             text.push_str(", ")?;
-            write_node(text, right)?;
+            write_tree(text, right)?;
             text.push_str(")")
         }
-        Node::CaptureGroup { id, contents, name } => {
-            let name = name.as_ref().map_or("", |n| n.as_str());
-            write!(text, "Group{id}{name}(")?;
-            write_node(text, contents)?;
-            text.push_str(")")
+        Node::CaptureGroup {
+            contents: child,
+            ..
         }
-        Node::LookaroundAssertion {
-            negate,
-            backwards,
-            start_group,
-            end_group,
-            contents,
-        } => {
-            let not = if *negate { "Not" } else { "" };
-            let way = if *backwards { "Behind" } else { "Ahead" };
-            write!(text, "{not}{way}{start_group}..{end_group}(")?;
-            write_node(text, contents)?;
-            text.push_str(")")
+        | Node::LookaroundAssertion {
+            contents: child,
+            ..
         }
-        Node::Loop {
-            loopee,
-            quant,
-            enclosed_groups,
-        } => {
-            text.push_str("Loop")?;
-            write_quantifier(text, quant)?;
-            let start = enclosed_groups.start;
-            let end = enclosed_groups.end;
-            write!(text, "{start}..{end}(")?;
-            write_node(text, loopee)?;
-            text.push_str(")")
-        }
-        Node::Loop1CharBody { loopee, quant } => {
-            text.push_str("Loop1CharBody")?;
-            write_quantifier(text, quant)?;
-            text.push_str("(")?;
-            write_node(text, loopee)?;
+        | Node::Loop { loopee: child, .. }
+        | Node::Loop1CharBody { loopee: child, .. } => {
+            write_head(text, node)?;
+            write_tree(text, child)?;
             text.push_str(")")
         }
         leaf => write_leaf(text, leaf),
@@ -69,14 +34,54 @@ fn write_node(text: &mut String, node: &Node) -> Result<(), AllocError> {
 }
 
 #[cycle(write)]
-fn write_nodes(text: &mut String, nodes: &[Node]) -> Result<(), AllocError> {
+fn write_cat(text: &mut String, nodes: &[Node]) -> Result<(), AllocError> {
+    text.push_str("Cat[")?;
     for (i, node) in nodes.iter().enumerate() {
         if i > 0 {
             text.push_str(", ")?;
         }
-        write_node(text, node)?;
+        write_tree(text, node)?;
     }
-    Ok(())
+    text.push_str("]")
+}
+
+// What stands before the child of a node that has one.
+fn write_head(text: &mut String, node: &Node) -> Result<(), AllocError> {
+    match node {
+        Node::CaptureGroup { id, name, .. } => {
+            write!(text, "Group{id}")?;
+            if let Some(name) = name {
+                text.push_str(name)?;
+            }
+            text.push_str("(")
+        }
+        Node::LookaroundAssertion {
+            negate,
+            backwards,
+            start_group,
+            end_group,
+            ..
+        } => {
+            let not = if *negate { "Not" } else { "" };
+            let way = if *backwards { "Behind" } else { "Ahead" };
+            write!(text, "{not}{way}{start_group}..{end_group}(")
+        }
+        Node::Loop {
+            quant,
+            enclosed_groups,
+            ..
+        } => {
+            write_quantifier(text, "Loop", quant)?;
+            let start = enclosed_groups.start;
+            let end = enclosed_groups.end;
+            write!(text, "{start}..{end}(")
+        }
+        Node::Loop1CharBody { quant, .. } => {
+            write_quantifier(text, "Loop1CharBody", quant)?;
+            text.push_str("(")
+        }
+        _ => text.push_str("?("),
+    }
 }
 
 fn write_leaf(text: &mut String, node: &Node) -> Result<(), AllocError> {
@@ -110,13 +115,13 @@ fn write_leaf(text: &mut String, node: &Node) -> Result<(), AllocError> {
     }
 }
 
-fn write_quantifier(text: &mut String, quant: &Quantifier) -> Result<(), AllocError> {
+fn write_quantifier(text: &mut String, name: &str, quant: &Quantifier) -> Result<(), AllocError> {
     let min = quant.min;
-    write!(text, "{{{min},")?;
-    if let Some(max) = quant.max {
-        write!(text, "{max}")?;
+    let end = if quant.greedy { "}" } else { "}?" };
+    match quant.max {
+        Some(max) => write!(text, "{name}{{{min},{max}{end}"),
+        None => write!(text, "{name}{{{min},{end}"),
     }
-    text.push_str(if quant.greedy { "}" } else { "}?" })
 }
 
 fn write_intervals(text: &mut String, intervals: &[Interval]) -> Result<(), AllocError> {

@@ -6,6 +6,7 @@ use regex_pattern_front::bytesearch::{
 use regex_pattern_front::codepointset::{CodePointSet, Interval};
 use regex_pattern_front::folding::{add_utf8_first_bytes_to_bitmap, utf8_first_byte};
 use regex_pattern_front::types::BracketContents;
+use std::process::Abort;
 use std::test::Fail;
 
 #[test]
@@ -23,11 +24,14 @@ fn sets_are_searched(rt: HostRuntime) {
         &mut bytes,
     );
     assert!(rt; bytes.contains(0x7F) && bytes.contains(0xC2) && !bytes.contains(0xC3));
-    assert_eq!(rt; utf8_first_byte(0x20AC), 0xE2);
-    assert_eq!(rt; bytes.find_in(&[0x41, 0xC2, 0xA0]), Some(1));
-    assert_eq!(rt; [b'c'].find_in(b"abc"), Some(2));
-    assert_eq!(rt; [b'x', b'b'].find_in(b"abc"), Some(1));
-    assert_eq!(rt; [b'x', b'y', b'z'].find_in(b"abc"), None);
+    assert!(rt; utf8_first_byte(0x20AC) == 0xE2);
+    let found = [
+        bytes.find_in(&[0x41, 0xC2, 0xA0]),
+        [b'c'].find_in(b"abc"),
+        [b'x', b'b'].find_in(b"abc"),
+        [b'x', b'y', b'z'].find_in(b"abc"),
+    ];
+    assert_eq!(rt; found, [Some(1), Some(2), Some(1), None]);
     assert!(rt; ByteArraySet([b'a', b'a', b'b', b'c']).contains(b'c'));
 }
 
@@ -45,7 +49,7 @@ fn sets_of_code_points(rt: HostRuntime) -> Result<(), Fail> {
     };
     let copy = class.clone()?;
     assert!(rt; copy.invert && copy.cps.contains(9) && !copy.cps.contains(10));
-    assert_eq!(rt; copy.cps.intervals().len(), 1);
+    assert!(rt; copy.cps.intervals().len() == 1);
     let rest = copy.cps.inverted()?;
     assert!(rt; rest.contains(0) && rest.contains(0x10_FFFF) && !rest.contains(4));
     assert!(rt; !rest.contains(0x11_0000));

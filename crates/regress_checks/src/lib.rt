@@ -12,6 +12,8 @@ mod rows;
 #[cfg(test)]
 mod starts;
 #[cfg(test)]
+mod table;
+#[cfg(test)]
 mod tool;
 #[cfg(test)]
 mod trees;

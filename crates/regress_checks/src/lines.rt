@@ -1,18 +1,18 @@
 //! Matches as they are written in rows: the range, and behind it those of the groups, `-` for a group that did not
 //! match; `; ` stands between matches.
 
-use regress_search::exec::{Match, MatchProducer, Matches};
-use std::alloc::Global;
+use regress_match::api;
+use regress_search::exec::{Match, MatchProducer, Matches, SearchError};
+use std::alloc::AllocError;
 use std::ops::Range;
-use std::test::Fail;
 
-fn write_range(line: &mut String, range: &Range<usize>) -> Result<(), Fail> {
+fn write_range(line: &mut String, range: &Range<usize>) -> Result<(), AllocError> {
     let start = range.start;
     let end = range.end;
-    Ok(write!(line, "{start}..{end}")?)
+    write!(line, "{start}..{end}")
 }
 
-fn write_match(line: &mut String, found: &Match) -> Result<(), Fail> {
+pub fn write_match(line: &mut String, found: &Match) -> Result<(), AllocError> {
     write_range(line, &found.range)?;
     for group in &found.captures {
         line.push(' ')?;
@@ -24,29 +24,48 @@ fn write_match(line: &mut String, found: &Match) -> Result<(), Fail> {
     Ok(())
 }
 
-// All matches that are to come. Behind their end there is none for good.
-pub fn all<P: MatchProducer + Drop>(
-    alloc: Global,
-    mut matches: Matches<P>,
-) -> Result<String, Fail> {
-    let mut line = String::new(alloc);
-    for item in &mut matches {
-        if !line.is_empty() {
-            line.push_str("; ")?;
-        }
-        write_match(&mut line, &item?)?;
+fn write_item(line: &mut String, item: Result<Match, SearchError>) -> Result<(), SearchError> {
+    let found = item?;
+    if !line.is_empty() {
+        line.push_str("; ")?;
     }
-    if matches.next().is_some() {
-        line.push_str("; and more behind the end")?;
-    }
-    Ok(line)
+    Ok(write_match(line, &found)?)
 }
 
-// One match, or nothing.
-pub fn one(alloc: Global, found: Option<Match>) -> Result<String, Fail> {
-    let mut line = String::new(alloc);
-    if let Some(found) = found {
-        write_match(&mut line, &found)?;
+// Writes all matches that are to come. Behind their end there is none for good.
+fn write_items<P: MatchProducer + Drop>(
+    line: &mut String,
+    matches: &mut Matches<P>,
+) -> Result<(), SearchError> {
+    for item in &mut *matches {
+        write_item(line, item)?;
     }
-    Ok(line)
+    match matches.next() {
+        Some(_) => Ok(line.push_str("; and more behind the end")?),
+        None => Ok(()),
+    }
+}
+
+// Each input is named once, since a call of a generic function at it is costly to prove.
+
+pub fn write_all<'r, 't>(
+    line: &mut String,
+    matches: &mut api::Matches<'r, 't>,
+) -> Result<(), SearchError> {
+    write_items(line, matches)
+}
+
+pub fn write_all_of_ascii<'r, 't>(
+    line: &mut String,
+    matches: &mut api::AsciiMatches<'r, 't>,
+) -> Result<(), SearchError> {
+    write_items(line, matches)
+}
+
+// Writes one match, or nothing.
+pub fn write_one(line: &mut String, found: &Option<Match>) -> Result<(), SearchError> {
+    match found {
+        Some(found) => Ok(write_match(line, found)?),
+        None => Ok(()),
+    }
 }

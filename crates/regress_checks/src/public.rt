@@ -1,7 +1,10 @@
 //! Flags of letters, the default flags, and matches that are made of parts.
 
-use regress_match::api::{Flags, Regex};
+use crate::lines::write_match;
+use regress_match::api::Flags;
 use regress_search::exec::Match;
+use std::alloc::{AllocError, Global};
+use std::process::Abort;
 use std::test::Fail;
 
 #[test]
@@ -12,26 +15,22 @@ fn letters_are_flags(rt: HostRuntime) {
         unicode: true,
         ..Flags::default()
     };
-    assert_eq!(rt; Flags::from("gimuy"), wanted);
-    assert_eq!(rt; Flags::from(""), Flags::default());
+    assert!(rt; Flags::from("gimuy") == wanted);
+    assert!(rt; Flags::from("") == Flags::default());
 }
 
-#[test]
-fn patterns_are_read_without_flags(rt: HostRuntime) -> Result<(), Fail> {
-    let re = Regex::new(rt.alloc(), "b")?;
-    let found = re.find("aBb")?.ok_or("no match")?;
-    assert_eq!(rt; found.range, 2..3);
-    assert!(rt; re.find("é")?.is_none());
-    Ok(())
+// A match of two groups, of which the first one matched, in words.
+fn match_in_words(alloc: Global) -> Result<String, AllocError> {
+    let captures = vec![in alloc; Some(1..2), None]?;
+    let names = vec![in alloc; String::from_str(alloc, "year")?, String::new(alloc)]?;
+    let mut line = String::new(alloc);
+    write_match(&mut line, &Match::from_parts(1..3, captures, names))?;
+    Ok(line)
 }
 
 #[test]
 fn a_match_has_the_parts_it_is_given(rt: HostRuntime) -> Result<(), Fail> {
-    let alloc = rt.alloc();
-    let captures = vec![in alloc; Some(1..2), None]?;
-    let names = vec![in alloc; String::from_str(alloc, "year")?, String::new(alloc)]?;
-    let found = Match::from_parts(1..3, captures, names);
-    assert_eq!(rt; found.range, 1..3);
-    assert_eq!(rt; found.captures.as_slice(), [Some(1..2), None].as_slice());
+    let line = match_in_words(rt.alloc())?;
+    assert!(rt; line.as_str() == "1..3 1..2 -", "{line}");
     Ok(())
 }

@@ -1,88 +1,67 @@
 //! What the program prints and answers.
 
 use regress_match::program::run;
-use std::alloc::Global;
+use std::alloc::{AllocError, Global};
 use std::io;
 use std::io::Write;
 use std::process::Abort;
 use std::test::Fail;
 
-// The words as the program is given them.
-fn words_of(alloc: Global, texts: &[Option<&str>]) -> Result<Vec<Option<String>>, Fail> {
-    let mut words = Vec::new(alloc);
-    for text in texts {
-        match *text {
-            Some(text) => words.push(Some(String::from_str(alloc, text)?))?,
-            None => words.push(None)?,
-        }
-    }
-    Ok(words)
-}
-
-// Asserts what the program answers, prints and tells where it is given a row's words.
-fn assert_ran(
-    rt: &impl Abort,
-    alloc: Global,
-    row: &str,
-    words: &[Option<&str>],
-    status: u8,
-    printed: &str,
-    told: &str,
-) -> Result<(), Fail> {
-    let given = words_of(alloc, words)?;
-    let mut out = Vec::new(alloc);
-    let mut err = Vec::new(alloc);
-    let got = run(alloc, &given, &mut out, &mut err);
-    assert_eq!(rt; got, status, "the status of {row}");
-    assert_eq!(rt; out.as_slice(), printed.as_bytes(), "the output of {row}");
-    assert_eq!(rt; err.as_slice(), told.as_bytes(), "the error of {row}");
-    Ok(())
-}
-
-#[test]
-fn searches_print_their_matches(rt: HostRuntime) -> Result<(), Fail> {
-    for (pattern, text, printed, told, status) in [
-        ("a|ab", "abc", "0..1\n", "", 0),
-        ("ab|a", "aab", "0..1\n1..3\n", "", 0),
-        ("", "ab", "0..0\n1..1\n2..2\n", "", 0),
-        ("", "", "0..0\n", "", 0),
-        ("é", "aé", "1..3\n", "", 0),
-        ("z", "abc", "", "", 1),
-        ("a*", "a", "0..1\n1..1\n", "", 0),
-        ("(a)|b", "ab", "0..1 0..1\n1..2 -\n", "", 0),
-        ("(", "", "", "pattern refused\n", 2),
-    ] {
-        let words = [Some(pattern), Some(""), Some(text)];
-        assert_ran(&rt, rt.alloc(), pattern, &words, status, printed, told)?;
-    }
-    Ok(())
-}
-
-#[test]
-fn other_words_are_refused(rt: HostRuntime) -> Result<(), Fail> {
-    for (row, words) in [
-        ("one word", [Some("a")].as_slice()),
-        (
-            "four words",
-            [Some("a"), Some(""), Some("a"), Some("a")].as_slice(),
-        ),
-        ("no text", [Some("a"), Some(""), None].as_slice()),
-    ] {
-        let usage = "usage: regress-tool PATTERN FLAGS TEXT\n";
-        assert_ran(&rt, rt.alloc(), row, words, 2, "", usage)?;
-    }
-    Ok(())
-}
+// How many writes of output and of errors are good, words with `~` between them, and what the program answers, prints
+// and tells where it is given the words. `-` stands for any number of writes, `␀` for a word that is not UTF-8.
+const ROWS: &str = r#"-- a|ab~~abc → 0 "0..1\n" ""
+-- ab|a~~aab → 0 "0..1\n1..3\n" ""
+-- ~~ab → 0 "0..0\n1..1\n2..2\n" ""
+-- ~~ → 0 "0..0\n" ""
+-- é~~aé → 0 "1..3\n" ""
+-- z~~abc → 1 "" ""
+-- a*~~a → 0 "0..1\n1..1\n" ""
+-- (a)|b~~ab → 0 "0..1 0..1\n1..2 -\n" ""
+-- (~~ → 2 "" "pattern refused\n"
+-- a → 2 "" "usage: regress-tool PATTERN FLAGS TEXT\n"
+-- a~~a~a → 2 "" "usage: regress-tool PATTERN FLAGS TEXT\n"
+-- a~~␀ → 2 "" "usage: regress-tool PATTERN FLAGS TEXT\n"
+0- a~~aaa → 2 "cut" ""
+1- a~~aaa → 2 "cut" ""
+2- a~~aaa → 2 "cut" ""
+5- a~~aaa → 2 "cut" ""
+-0 (~~ → 2 "" "cut"
+"#;
 
 // Takes so many writes, fails the next one, and counts all that are tried.
 #[derive(Drop)]
-struct Failing {
+struct Taker {
     taken: Vec<u8>,
     good: usize,
     tried: usize,
 }
 
-impl Write for Failing {
+impl Taker {
+    fn new(alloc: Global, good: u8) -> Taker {
+        Taker {
+            taken: Vec::new(alloc),
+            good: match good {
+                b'0'..=b'9' => usize::from(good - b'0'),
+                _ => usize::MAX,
+            },
+            tried: 0,
+        }
+    }
+
+    // The text, which a failed write cuts off.
+    fn text(&self) -> &str {
+        if self.tried <= self.good {
+            return str::from_utf8(&self.taken).unwrap_or("no UTF-8");
+        }
+        if self.tried - self.good == 1 && b"0..1\n1..2\n2..3\n".starts_with(&self.taken) {
+            "cut"
+        } else {
+            "more behind a failed write"
+        }
+    }
+}
+
+impl Write for Taker {
     fn write(&mut self, buf: &[u8]) -> io::Result<usize> {
         self.tried = self.tried.saturating_add(1);
         if self.good < self.tried {
@@ -97,40 +76,40 @@ impl Write for Failing {
     }
 }
 
-#[test]
-fn a_failed_write_ends_the_output(rt: HostRuntime) -> Result<(), Fail> {
-    let alloc = rt.alloc();
-    let words = words_of(alloc, &[Some("a"), Some(""), Some("aaa")])?;
-    for good in [0, 1, 2, 5] {
-        let mut out = Failing {
-            taken: Vec::new(alloc),
-            good,
-            tried: 0,
+// The words as the program is given them.
+fn words_of(alloc: Global, texts: &str) -> Result<Vec<Option<String>>, AllocError> {
+    let mut words = Vec::new(alloc);
+    for text in texts.split('~') {
+        let word = if text == "␀" {
+            None
+        } else {
+            Some(String::from_str(alloc, text)?)
         };
-        let mut err = Vec::new(alloc);
-        assert_eq!(rt; run(alloc, &words, &mut out, &mut err), 2, "after {good}");
-        assert_eq!(rt; out.tried, good.saturating_add(1), "tried after {good}");
-        assert!(rt;
-            b"0..1\n1..2\n2..3\n".starts_with(&out.taken),
-            "after {good}"
-        );
-        assert!(rt; err.is_empty(), "the error after {good}");
+        words.push(word)?;
     }
-    Ok(())
+    Ok(words)
+}
+
+// What the program answers, prints and tells.
+fn ran(alloc: Global, goods: &str, words: &str) -> Result<String, AllocError> {
+    let [good_out, good_err] = *goods.as_bytes() else {
+        return String::from_str(alloc, "not two numbers");
+    };
+    let mut out = Taker::new(alloc, good_out);
+    let mut err = Taker::new(alloc, good_err);
+    let status = run(alloc, &words_of(alloc, words)?, &mut out, &mut err);
+    let printed = out.text();
+    let told = err.text();
+    format!(in alloc; "{status} {printed:?} {told:?}")
 }
 
 #[test]
-fn a_failed_complaint_is_a_refusal(rt: HostRuntime) -> Result<(), Fail> {
-    let alloc = rt.alloc();
-    let words = words_of(alloc, &[Some("("), Some(""), Some("")])?;
-    let mut out = Vec::new(alloc);
-    let mut err = Failing {
-        taken: Vec::new(alloc),
-        good: 0,
-        tried: 0,
-    };
-    assert_eq!(rt; run(alloc, &words, &mut out, &mut err), 2);
-    assert!(rt; out.is_empty());
-    assert_eq!(rt; err.tried, 1);
+fn words_have_these_answers(rt: HostRuntime) -> Result<(), Fail> {
+    for line in ROWS.lines() {
+        let (asked, wanted) = line.split_once(" → ").unwrap_or((line, "no answer"));
+        let (goods, words) = asked.split_once(' ').unwrap_or((asked, ""));
+        let found = ran(rt.alloc(), goods, words)?;
+        assert!(rt; found.as_str() == wanted, "{found} at {line}");
+    }
     Ok(())
 }

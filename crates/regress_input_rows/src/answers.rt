@@ -5,7 +5,7 @@ ghost use Rattle.regex_meaning.specs.Offsets.{IsBoundary, units};
 
 use regress_input::cursor::{self, Direction, Forward};
 use regress_input::front::ByteSearcher;
-use regress_input::indexing::{ElementType, InputIndexer};
+use regress_input::indexing::{CharProperties, ElementType, InputIndexer};
 use regress_input::matchers::{backref, backref_icase};
 use regress_input::scm::SingleCharMatcher;
 
@@ -47,17 +47,17 @@ pub(crate) fn character<Input: InputIndexer, Dir: Direction>(
 }
 
 // The same by the calls that answer one of the two.
-pub(crate) fn seen<Input: InputIndexer, Dir: Direction>(
-    input: &Input,
-    _dir: Dir,
-    place: usize,
-) -> Option<(u32, usize)> {
+pub(crate) fn seen_right<Input: InputIndexer>(input: &Input, place: usize) -> Option<(u32, usize)> {
     let pos = position(input, place);
-    let (c, past) = if Dir::FORWARD {
-        (input.peek_right(pos)?, input.next_right_pos(pos)?)
-    } else {
-        (input.peek_left(pos)?, input.next_left_pos(pos)?)
-    };
+    let c = input.peek_right(pos)?;
+    let past = input.next_right_pos(pos)?;
+    Some((c.as_u32(), input.pos_to_offset(past)))
+}
+
+pub(crate) fn seen_left<Input: InputIndexer>(input: &Input, place: usize) -> Option<(u32, usize)> {
+    let pos = position(input, place);
+    let c = input.peek_left(pos)?;
+    let past = input.next_left_pos(pos)?;
     Some((c.as_u32(), input.pos_to_offset(past)))
 }
 
@@ -126,36 +126,22 @@ pub(crate) fn part<Input: InputIndexer>(
     )
 }
 
-// The offset past the characters of a range, beside another place.
+// The offset past the characters of a range, beside another place; with `icase` case does not count.
 pub(crate) fn past_range<Input: InputIndexer, Dir: Direction>(
     input: &Input,
     dir: Dir,
-    place: usize,
-    count: usize,
-    beside: usize,
+    [place, count, beside]: [usize; 3],
+    icase: bool,
 ) -> Option<usize> {
     let start = position(input, place);
     let end = further(input, start, count);
     let mut pos = position(input, beside);
-    if backref(input, dir, start..end, &mut pos) {
-        Some(input.pos_to_offset(pos))
+    let matches = if icase {
+        backref_icase(input, dir, start..end, &mut pos)
     } else {
-        None
-    }
-}
-
-// The same where case does not count.
-pub(crate) fn past_range_icase<Input: InputIndexer, Dir: Direction>(
-    input: &Input,
-    dir: Dir,
-    place: usize,
-    count: usize,
-    beside: usize,
-) -> Option<usize> {
-    let start = position(input, place);
-    let end = further(input, start, count);
-    let mut pos = position(input, beside);
-    if backref_icase(input, dir, start..end, &mut pos) {
+        backref(input, dir, start..end, &mut pos)
+    };
+    if matches {
         Some(input.pos_to_offset(pos))
     } else {
         None
@@ -177,4 +163,38 @@ pub(crate) fn past_match<Input: InputIndexer, Dir: Direction, M: SingleCharMatch
     } else {
         None
     }
+}
+
+// The fold of a character, and 1 where it is that of another.
+pub(crate) fn folded<Input: InputIndexer>(
+    input: &Input,
+    c: u32,
+    other: u32,
+) -> Option<(u32, usize)> {
+    let c = Input::Element::try_from(c)?;
+    let other = Input::Element::try_from(other)?;
+    Some((input.fold(c).as_u32(), input.fold_equals(c, other) as usize))
+}
+
+// The fold of a character that no input has.
+pub(crate) fn folded_alone<Props: CharProperties>(code: u32, unicode: bool) -> Option<u32> {
+    Some(Props::fold(Props::Element::try_from(code)?, unicode).as_u32())
+}
+
+// The number of the element that has this number.
+pub(crate) fn number<E: ElementType>(code: u32) -> Option<u32> {
+    Some(E::try_from(code)?.as_u32())
+}
+
+// 4 for a word character, 2 for one where case does not count, and 1 for what ends a line.
+pub(crate) fn classes<Props: CharProperties>(code: u32) -> Option<usize> {
+    let c = Props::Element::try_from(code)?;
+    let word = if Props::is_word_char(c) { 4 } else { 0 };
+    let icase = if Props::is_word_char_unicode_icase(c) {
+        2
+    } else {
+        0
+    };
+    let line = if Props::is_line_terminator(c) { 1 } else { 0 };
+    Some(word + icase + line)
 }

@@ -4,16 +4,12 @@
 #[cfg(test)]
 mod answers;
 #[cfg(test)]
-mod characters;
+mod asks;
 #[cfg(test)]
 mod matches;
 #[cfg(test)]
 mod positions;
 #[cfg(test)]
-mod ranges;
-#[cfg(test)]
-mod reads;
+mod rows;
 #[cfg(test)]
 mod tables;
-#[cfg(test)]
-mod wide;

@@ -65,20 +65,16 @@ fn positions_are_offsets(rt: HostRuntime) {
 
 #[test]
 fn positions_are_compared_by_offsets(rt: HostRuntime) {
-    assert_eq!(rt;
+    let answers = [
         compared_in_order(IndexPosition::new(3), IndexPosition::new(3)),
-        (false, true)
-    );
-    assert_eq!(rt;
         compared_in_order(IndexPosition::new(3), IndexPosition::new(4)),
-        (true, false)
-    );
+    ];
+    assert!(rt; answers == [(false, true), (true, false)]);
 }
 
 #[test]
 fn directions_know_their_way(rt: HostRuntime) {
     let _forward = Forward::new();
     let _backward = Backward::new();
-    assert!(rt; Forward::FORWARD);
-    assert!(rt; !Backward::FORWARD);
+    assert!(rt; Forward::FORWARD && !Backward::FORWARD);
 }

@@ -1,159 +1,247 @@
-//! Tables of what is asked of an input, with the answers that are wanted.
+//! The table of rows.
 
-use crate::answers::{
-    before_the_end, byte, character, found, part, past_bytes, past_range, past_range_icase,
-};
-use regress_input::cursor::{Backward, Direction, Forward};
-use regress_input::indexing::{AsciiInput, InputIndexer, Ucs2Input, Utf8Input, Utf16Input};
-
-pub(crate) const RIGHT: bool = true;
-
-pub(crate) const LEFT: bool = false;
-
-// A character or a byte, and the offset past it.
-pub(crate) type Seen = Option<(u32, usize)>;
-
-// What has a character or a byte for its answer.
-#[derive(Clone, Copy)]
-pub(crate) enum Read {
-    // Beside a place.
-    Character(bool, usize),
-    // Beside an offset.
-    Byte(bool, usize),
-    // The first of so many characters from a place on, as a text of their own.
-    Part(usize, usize),
-}
-
-// What has an offset for its answer.
-#[derive(Clone, Copy)]
-pub(crate) enum Find {
-    // So many units before the right end.
-    BeforeTheEnd(usize),
-    // The length of so many characters from a place on, as a text of their own.
-    PartEnd(usize, usize),
-    // Past bytes beside an offset.
-    PastByte(bool, usize, [u8; 1]),
-    PastBytes(bool, usize, [u8; 2]),
-    // The first of any of the bytes from an offset on.
-    Byte(usize, [u8; 1]),
-    OneOfTwo(usize, [u8; 2]),
-    OneOfThree(usize, [u8; 3]),
-    // Past as many characters as there are from a place on, beside another.
-    PastRange(bool, usize, usize, usize),
-    // The same where case does not count.
-    PastRangeIcase(bool, usize, usize, usize),
-}
-
-fn character_or_byte<Input: InputIndexer>(input: &Input, ask: &Read) -> Seen {
-    match *ask {
-        Read::Character(RIGHT, place) => character(input, Forward::new(), place),
-        Read::Character(LEFT, place) => character(input, Backward::new(), place),
-        Read::Byte(RIGHT, offset) => byte(input, Forward::new(), offset),
-        Read::Byte(LEFT, offset) => byte(input, Backward::new(), offset),
-        Read::Part(place, count) => part(input, place, count).0,
-    }
-}
-
-fn offset<Input: InputIndexer>(input: &Input, ask: &Find) -> Option<usize> {
-    let right = Forward::new();
-    let left = Backward::new();
-    match *ask {
-        Find::BeforeTheEnd(amt) => before_the_end(input, amt),
-        Find::PartEnd(place, count) => Some(part(input, place, count).1),
-        Find::PastByte(RIGHT, offset, ref bytes) => past_bytes(input, right, offset, bytes),
-        Find::PastByte(LEFT, offset, ref bytes) => past_bytes(input, left, offset, bytes),
-        Find::PastBytes(RIGHT, offset, ref bytes) => past_bytes(input, right, offset, bytes),
-        Find::PastBytes(LEFT, offset, ref bytes) => past_bytes(input, left, offset, bytes),
-        Find::Byte(offset, ref bytes) => found(input, offset, bytes),
-        Find::OneOfTwo(offset, ref bytes) => found(input, offset, bytes),
-        Find::OneOfThree(offset, ref bytes) => found(input, offset, bytes),
-        Find::PastRange(RIGHT, place, count, beside) => {
-            past_range(input, right, place, count, beside)
-        }
-        Find::PastRange(LEFT, place, count, beside) => {
-            past_range(input, left, place, count, beside)
-        }
-        Find::PastRangeIcase(RIGHT, place, count, beside) => {
-            past_range_icase(input, right, place, count, beside)
-        }
-        Find::PastRangeIcase(LEFT, place, count, beside) => {
-            past_range_icase(input, left, place, count, beside)
-        }
-    }
-}
-
-// The first row that is answered otherwise, counted from 0, and its answer.
-fn misread<Input: InputIndexer>(input: &Input, rows: &[(Read, Seen)]) -> Option<(usize, Seen)> {
-    for (row, (ask, wanted)) in rows.iter().enumerate() {
-        let answer = character_or_byte(input, ask);
-        if answer != *wanted {
-            return Some((row, answer));
-        }
-    }
-    None
-}
-
-fn misfound<Input: InputIndexer>(
-    input: &Input,
-    rows: &[(Find, Option<usize>)],
-) -> Option<(usize, Option<usize>)> {
-    for (row, (ask, wanted)) in rows.iter().enumerate() {
-        let answer = offset(input, ask);
-        if answer != *wanted {
-            return Some((row, answer));
-        }
-    }
-    None
-}
-
-// Each input is named once for each kind of table, since a call of a generic function at it is costly to prove.
-
-pub(crate) fn misread_utf8(text: &str, rows: &[(Read, Seen)]) -> Option<(usize, Seen)> {
-    misread(&Utf8Input::new(text, false), rows)
-}
-
-pub(crate) fn misread_ascii<'a>(
-    input: &AsciiInput<'a>,
-    rows: &[(Read, Seen)],
-) -> Option<(usize, Seen)> {
-    misread(input, rows)
-}
-
-pub(crate) fn misread_utf16(units: &[u16], rows: &[(Read, Seen)]) -> Option<(usize, Seen)> {
-    misread(&Utf16Input::new(units, false), rows)
-}
-
-pub(crate) fn misread_ucs2(units: &[u16], rows: &[(Read, Seen)]) -> Option<(usize, Seen)> {
-    misread(&Ucs2Input::new(units, false), rows)
-}
-
-pub(crate) fn misfound_utf8(
-    text: &str,
-    unicode: bool,
-    rows: &[(Find, Option<usize>)],
-) -> Option<(usize, Option<usize>)> {
-    misfound(&Utf8Input::new(text, unicode), rows)
-}
-
-pub(crate) fn misfound_ascii<'a>(
-    input: &AsciiInput<'a>,
-    rows: &[(Find, Option<usize>)],
-) -> Option<(usize, Option<usize>)> {
-    misfound(input, rows)
-}
-
-pub(crate) fn misfound_utf16(
-    units: &[u16],
-    unicode: bool,
-    rows: &[(Find, Option<usize>)],
-) -> Option<(usize, Option<usize>)> {
-    misfound(&Utf16Input::new(units, unicode), rows)
-}
-
-pub(crate) fn misfound_ucs2(
-    units: &[u16],
-    unicode: bool,
-    rows: &[(Find, Option<usize>)],
-) -> Option<(usize, Option<usize>)> {
-    misfound(&Ucs2Input::new(units, unicode), rows)
-}
+// Rows of five fields, with `~` between them, and the answer behind an arrow. The fields are an input, where `u` is the
+// flag; its text, or its units; the direction, if the question has one; the question; and the numbers that it has. Places
+// count characters from the left end, and offsets are in units. All numbers are hexadecimal.
+//
+// An answer is the number of a character, or 0, and behind it an offset, or 0. That of `fold` is the fold of the first
+// number, and whether both numbers have one fold; that of `classes` is the sum of 4 for a word character, 2 for one where
+// case does not count, and 1 for what ends a line; that of `matchers` is the offset for each of the nine.
+//
+// What the rows show: literals are read from left to right in both directions, and a range is not reversed. A low
+// surrogate before a high one is no pair, and half a pair is no character of UTF-16, at either end of a comparison. A unit
+// is not its low byte. The Kelvin sign, U+212A, has the fold of `k` with the flag `u` alone, and takes three bytes.
+pub(crate) const ROWS: &str = "\
+utf8~aé€😀~right~character~0 → 61 1;
+utf8~aé€😀~right~character~1 → E9 3;
+utf8~aé€😀~right~character~2 → 20AC 6;
+utf8~aé€😀~right~character~3 → 1F600 A;
+utf8~aé€😀~right~character~4 → -;
+utf8~aé€😀~left~character~0 → -;
+utf8~aé€😀~left~character~1 → 61 0;
+utf8~aé€😀~left~character~2 → E9 1;
+utf8~aé€😀~left~character~3 → 20AC 3;
+utf8~aé€😀~left~character~4 → 1F600 6;
+ascii~ab~right~character~0 → 61 1;
+ascii~ab~right~character~2 → -;
+ascii~ab~left~character~2 → 62 1;
+ascii~ab~left~character~0 → -;
+utf8~aé€😀~seen right~~0 → 61 1;
+utf8~aé€😀~seen left~~0 → -;
+utf8~aé€😀~seen right~~1 → E9 3;
+utf8~aé€😀~seen left~~1 → 61 0;
+utf8~aé€😀~seen right~~2 → 20AC 6;
+utf8~aé€😀~seen left~~2 → E9 1;
+utf8~aé€😀~seen right~~3 → 1F600 A;
+utf8~aé€😀~seen left~~3 → 20AC 3;
+utf8~aé€😀~seen right~~4 → -;
+utf8~aé€😀~seen left~~4 → 1F600 6;
+ascii~abc~right~character~0 → 61 1;
+ascii~abc~left~character~0 → -;
+ascii~abc~seen right~~0 → 61 1;
+ascii~abc~seen left~~0 → -;
+ascii~abc~right~character~1 → 62 2;
+ascii~abc~left~character~1 → 61 0;
+ascii~abc~seen right~~1 → 62 2;
+ascii~abc~seen left~~1 → 61 0;
+ascii~abc~right~character~2 → 63 3;
+ascii~abc~left~character~2 → 62 1;
+ascii~abc~seen right~~2 → 63 3;
+ascii~abc~seen left~~2 → 62 1;
+ascii~abc~right~character~3 → -;
+ascii~abc~left~character~3 → 63 2;
+ascii~abc~seen right~~3 → -;
+ascii~abc~seen left~~3 → 63 2;
+ascii~abc~right~character~4 → -;
+ascii~abc~left~character~4 → 63 2;
+ascii~abc~seen right~~4 → -;
+ascii~abc~seen left~~4 → 63 2;
+utf8~€~~before_end~0 → 0 3;
+utf8~€~~before_end~3 → 0 0;
+utf8~€~~before_end~4 → -;
+ascii~abc~~before_end~1 → 0 2;
+ascii~abc~~before_end~4 → -;
+utf8~€~right~byte~4 → -;
+utf8~€b~right~byte~1 → 82 2;
+utf8~€b~right~byte~4 → -;
+utf8~€b~left~byte~3 → AC 2;
+utf8~€b~left~byte~0 → -;
+ascii~ab~right~byte~1 → 62 2;
+ascii~ab~left~byte~1 → 61 0;
+utf8~€b~right~literal2~1,82,AC → 0 3;
+utf8~€b~right~literal2~1,AC,82 → -;
+utf8~€b~left~literal2~4,AC,62 → 0 2;
+utf8~€b~left~literal2~4,62,AC → -;
+ascii~abc~right~literal2~1,62,63 → 0 3;
+ascii~abc~right~literal2~2,63,64 → -;
+ascii~abc~left~literal2~2,61,62 → 0 0;
+ascii~abc~left~literal2~1,63,61 → -;
+utf8~€b€~~find~0,62 → 0 3;
+utf8~€b€~~find2~1,E2,AC → 0 2;
+utf8~€b€~~find~4,62 → -;
+ascii~abcab~~find~1,61 → 0 3;
+ascii~abcab~~find3~0,78,79,7A → -;
+ascii~abcab~~find~5,61 → -;
+utf8~a€b~~part~1,2 → 20AC 3;
+utf8~a€b~~part_end~1,2 → 0 4;
+utf8~a€b~~part~1,0 → -;
+utf8~a€b~~part_end~1,0 → 0 0;
+ascii~abc~~part~1,1 → 62 1;
+ascii~abc~~part_end~1,1 → 0 1;
+utf8~ébébx~right~range~0,2,2 → 0 6;
+utf8~ébébx~right~range~0,2,1 → -;
+utf8~ébébx~right~range~0,2,4 → -;
+utf8~ébébx~left~range~0,2,4 → 0 3;
+utf8~ébébx~left~range~0,2,3 → -;
+utf8~ébébx~left~range~0,0,5 → 0 7;
+ascii~abab~right~range~0,2,2 → 0 4;
+ascii~abab~left~range~0,2,4 → 0 2;
+ascii~abab~left~range~0,2,3 → -;
+utf8 u~akKA~right~icase~1,1,2 → 0 5;
+utf8 u~akKA~left~icase~2,1,2 → 0 1;
+utf8 u~akKA~left~icase~0,2,3 → -;
+utf8~kKK~right~icase~0,1,1 → -;
+utf8~kKK~right~icase~0,1,2 → 0 5;
+ascii~abAB~right~icase~0,2,2 → 0 4;
+ascii~abAB~left~icase~0,2,4 → 0 2;
+ascii~abAB~left~icase~0,2,3 → -;
+utf8~€z\n~right~matchers~1 → 4 4 4 4 4 4 4 4 -;
+utf8~€z\n~left~matchers~2 → 3 3 3 3 3 3 3 3 -;
+utf8~€z\n~right~matchers~3 → - - - - - - - - -;
+utf8~€z\n~left~matchers~0 → - - - - - - - - -;
+ascii~az~right~matchers~1 → 2 2 2 2 2 2 2 2 -;
+ascii~az~left~matchers~2 → 1 1 1 1 1 1 1 1 -;
+ascii~az~right~matchers~2 → - - - - - - - - -;
+utf8~€\na~right~matchers~0 → - 3 3 3 3 - - - 3;
+utf8~€\na~left~matchers~1 → - 0 0 0 0 - - - 0;
+utf8~€\na~right~matchers~1 → - - 4 4 - - - - -;
+utf8~€\na~right~matchers~2 → - - - 5 5 - - - -;
+ascii~a\n~right~matchers~0 → - - - 1 1 - - - -;
+ascii~a\n~left~matchers~2 → - - 1 1 - - - - -;
+utf8~€~right~matchers~0 → - 3 3 3 3 - - - 3;
+utf8~€~left~matchers~1 → - 0 0 0 0 - - - 0;
+utf8~€~right~matchers~1 → - - - - - - - - -;
+utf8~~~number~10FFFF → 10FFFF 0;
+utf8~~~number~D800 → -;
+utf8~~~number~DFFF → -;
+utf8~~~number~110000 → -;
+ascii~~~number~FF → FF 0;
+ascii~~~number~100 → -;
+utf8~~~unicode~ → 0 0;
+utf8~~~fold~6B,4B → 4B 1;
+utf8~~~fold~6B,212A → 4B 0;
+utf8 u~~~unicode~ → 0 1;
+utf8 u~~~fold~4B,212A → 6B 1;
+utf8 u~~~fold~6B,6C → 6B 0;
+ascii~~~unicode~ → 0 0;
+ascii~~~fold~7A,5A → 5A 1;
+ascii~~~fold~5A,7A → 5A 1;
+ascii u~~~unicode~ → 0 1;
+ascii u~~~fold~5A,7A → 7A 1;
+ascii u~~~fold~5B,7B → 5B 0;
+utf8~~~fold_alone~17F,0 → 17F 0;
+utf8~~~fold_alone~17F,1 → 73 0;
+ascii~~~fold_alone~71,0 → 51 0;
+utf8~~~classes~5F → 0 6;
+utf8~~~classes~212A → 0 2;
+utf8~~~classes~2028 → 0 1;
+utf8~~~classes~85 → 0 0;
+ascii~~~classes~39 → 0 6;
+ascii~~~classes~A → 0 1;
+ascii~~~classes~2D → 0 0;
+utf16~61,D83D,DE00,61~right~character~0 → 61 1;
+utf16~61,D83D,DE00,61~right~character~1 → 1F600 3;
+utf16~61,D83D,DE00,61~right~character~2 → 61 4;
+utf16~61,D83D,DE00,61~left~character~3 → 61 3;
+utf16~61,D83D,DE00,61~left~character~2 → 1F600 1;
+utf16~61,D83D,DE00,61~~part~1,1 → 1F600 2;
+utf16~61,D83D,DE00,61~~part_end~1,1 → 0 2;
+ucs2~61,D83D,DE00,61~right~character~1 → D83D 2;
+ucs2~61,D83D,DE00,61~right~character~2 → DE00 3;
+ucs2~61,D83D,DE00,61~right~character~3 → 61 4;
+ucs2~61,D83D,DE00,61~left~character~3 → DE00 2;
+ucs2~61,D83D,DE00,61~~part~1,1 → D83D 1;
+ucs2~61,D83D,DE00,61~~part_end~1,1 → 0 1;
+utf16~DE00,D83D~right~character~0 → DE00 1;
+utf16~DE00,D83D~right~character~1 → D83D 2;
+utf16~DE00,D83D~left~character~2 → D83D 1;
+ucs2~DE00,D83D~right~character~0 → DE00 1;
+ucs2~DE00,D83D~left~character~2 → D83D 1;
+utf16~61,D83D,DE00,61~left~character~0 → -;
+utf16~61,D83D,DE00,61~seen right~~0 → 61 1;
+utf16~61,D83D,DE00,61~seen left~~0 → -;
+utf16~61,D83D,DE00,61~left~character~1 → 61 0;
+utf16~61,D83D,DE00,61~seen right~~1 → 1F600 3;
+utf16~61,D83D,DE00,61~seen left~~1 → 61 0;
+utf16~61,D83D,DE00,61~seen right~~2 → 61 4;
+utf16~61,D83D,DE00,61~seen left~~2 → 1F600 1;
+utf16~61,D83D,DE00,61~right~character~3 → -;
+utf16~61,D83D,DE00,61~seen right~~3 → -;
+utf16~61,D83D,DE00,61~seen left~~3 → 61 3;
+utf16~61,D83D,DE00,61~right~character~4 → -;
+utf16~61,D83D,DE00,61~left~character~4 → 61 3;
+utf16~61,D83D,DE00,61~seen right~~4 → -;
+utf16~61,D83D,DE00,61~seen left~~4 → 61 3;
+ucs2~61,D83D,DE00,61~right~character~0 → 61 1;
+ucs2~61,D83D,DE00,61~left~character~0 → -;
+ucs2~61,D83D,DE00,61~seen right~~0 → 61 1;
+ucs2~61,D83D,DE00,61~seen left~~0 → -;
+ucs2~61,D83D,DE00,61~left~character~1 → 61 0;
+ucs2~61,D83D,DE00,61~seen right~~1 → D83D 2;
+ucs2~61,D83D,DE00,61~seen left~~1 → 61 0;
+ucs2~61,D83D,DE00,61~left~character~2 → D83D 1;
+ucs2~61,D83D,DE00,61~seen right~~2 → DE00 3;
+ucs2~61,D83D,DE00,61~seen left~~2 → D83D 1;
+ucs2~61,D83D,DE00,61~seen right~~3 → 61 4;
+ucs2~61,D83D,DE00,61~seen left~~3 → DE00 2;
+ucs2~61,D83D,DE00,61~right~character~4 → -;
+ucs2~61,D83D,DE00,61~left~character~4 → 61 3;
+ucs2~61,D83D,DE00,61~seen right~~4 → -;
+ucs2~61,D83D,DE00,61~seen left~~4 → 61 3;
+utf16~61,D83D,DE00,61~~before_end~2 → 0 2;
+utf16~61,D83D,DE00,61~~before_end~5 → -;
+ucs2~61,D83D,DE00,61~~before_end~4 → 0 0;
+ucs2~61,D83D,DE00,61~~before_end~5 → -;
+boundary~D83D,DE00~~~0 → yes;
+boundary~D83D,DE00~~~1 → no;
+boundary~D83D,DE00~~~2 → yes;
+boundary~D83D,DE00~~~3 → no;
+boundary~DE00~~~0 → yes;
+boundary~DE00~~~1 → yes;
+utf16~D83D,D83D,DE00~right~range~0,1,1 → -;
+ucs2~D83D,D83D,DE00~right~range~0,1,1 → 0 2;
+utf16~DE00,D83D,DE00~left~range~0,1,2 → -;
+ucs2~DE00,D83D,DE00~left~range~0,1,3 → 0 2;
+utf16~D83D,DE00,D83D,DE00~right~range~0,1,1 → 0 4;
+utf16~6B,D83D,DE00,4B,D83D,DE00,212A~right~icase~0,2,2 → 0 6;
+utf16~6B,D83D,DE00,4B,D83D,DE00,212A~left~icase~0,2,4 → 0 3;
+utf16~6B,D83D,DE00,4B,D83D,DE00,212A~right~icase~0,1,4 → -;
+utf16 u~6B,D83D,DE00,4B,D83D,DE00,212A~right~icase~0,1,4 → 0 7;
+ucs2~6B,D83D,DE00,4B,D83D,DE00,212A~right~icase~0,2,3 → 0 5;
+ucs2~6B,D83D,DE00,4B,D83D,DE00,212A~left~icase~0,2,5 → 0 3;
+ucs2~6B,D83D,DE00,4B,D83D,DE00,212A~right~icase~0,1,6 → -;
+ucs2 u~6B,D83D,DE00,4B,D83D,DE00,212A~left~icase~0,1,7 → 0 6;
+utf16~7A,17A~right~matchers~0 → 1 1 1 1 1 1 1 1 -;
+utf16~7A,17A~left~matchers~2 → - - 1 1 1 - - - -;
+ucs2~7A,17A~left~matchers~1 → 0 0 0 0 0 0 0 0 -;
+ucs2~7A,17A~right~matchers~1 → - - 2 2 2 - - - -;
+utf16~D800~right~char~0,D800 → 0 1;
+utf16~61,D83D,DE00,61~left~literal~1,61 → -;
+utf16~61,D83D,DE00,61~~find~0,61 → -;
+ucs2~61,D83D,DE00,61~right~literal~0,61 → -;
+ucs2~61,D83D,DE00,61~~find~0,61 → -;
+utf16~61,D83D,DE00,61~right~byte~0 → -;
+ucs2~61,D83D,DE00,61~left~byte~1 → -;
+utf16~~~number~FFFFFFFF → FFFFFFFF 0;
+utf16 u~~~unicode~ → 0 1;
+utf16 u~~~fold~4B,212A → 6B 1;
+utf16 u~~~fold~6B,212A → 6B 1;
+ucs2~~~unicode~ → 0 0;
+ucs2~~~fold~4B,212A → 4B 0;
+ucs2~~~fold~6B,212A → 4B 0;
+utf16~~~fold_alone~17F,1 → 73 0;
+utf16~~~fold_alone~17F,0 → 17F 0;
+utf16~~~classes~7A → 0 6;
+utf16~~~classes~17F → 0 2;
+utf16~~~classes~2029 → 0 1;
+utf16~~~classes~D800 → 0 0";

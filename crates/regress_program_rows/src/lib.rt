@@ -4,16 +4,10 @@
 #[cfg(test)]
 mod listing;
 #[cfg(test)]
-mod malformed;
-#[cfg(test)]
-mod names;
+mod parts;
 #[cfg(test)]
 mod predicates;
 #[cfg(test)]
-mod programs;
-#[cfg(test)]
 mod rows;
 #[cfg(test)]
-mod trees;
-#[cfg(test)]
-mod units;
+mod tables;

@@ -4,21 +4,28 @@ use regex_pattern_front::ir::Regex;
 use regress_program::emit::{EmitError, emit, emit_units};
 use regress_program::insn::{Insn, LoopFields};
 use std::alloc::{AllocError, Global};
-use std::test::Fail;
 
 // The program of a tree for texts in bytes, or why there is none.
-pub(crate) fn program(alloc: Global, tree: &Regex) -> Result<String, Fail> {
+pub(crate) fn write_program(
+    alloc: Global,
+    text: &mut String,
+    tree: &Regex,
+) -> Result<(), AllocError> {
     match emit(alloc, tree) {
-        Ok(compiled) => Ok(listing(alloc, compiled.program().insns())?),
-        Err(error) => Ok(String::from_str(alloc, named(error))?),
+        Ok(compiled) => write_insns(text, compiled.program().insns()),
+        Err(error) => text.push_str(named(error)),
     }
 }
 
 // The same for texts of 16-bit units.
-pub(crate) fn units(alloc: Global, tree: &Regex) -> Result<String, Fail> {
+pub(crate) fn write_units(
+    alloc: Global,
+    text: &mut String,
+    tree: &Regex,
+) -> Result<(), AllocError> {
     match emit_units(alloc, tree) {
-        Ok(compiled) => Ok(listing(alloc, compiled.program().insns())?),
-        Err(error) => Ok(String::from_str(alloc, named(error))?),
+        Ok(compiled) => write_insns(text, compiled.program().insns()),
+        Err(error) => text.push_str(named(error)),
     }
 }
 
@@ -34,37 +41,36 @@ fn named(error: EmitError) -> &'static str {
 }
 
 // The instructions one after another.
-fn listing(alloc: Global, insns: &[Insn]) -> Result<String, AllocError> {
-    let mut text = String::new(alloc);
+fn write_insns(text: &mut String, insns: &[Insn]) -> Result<(), AllocError> {
     for insn in insns {
         if !text.is_empty() {
             text.push_str(", ")?;
         }
-        write_insn(&mut text, insn)?;
+        write_insn(text, insn)?;
     }
-    Ok(text)
+    Ok(())
 }
 
 fn write_insn(text: &mut String, insn: &Insn) -> Result<(), AllocError> {
     match insn {
-        Insn::Goal => write_word(text, "Goal", &[]),
-        Insn::Char(c) => write_word(text, "Char", &[*c]),
-        Insn::MatchAny => write_word(text, "MatchAny", &[]),
-        Insn::Alt { secondary } => write_word(text, "Alt", &[*secondary]),
-        Insn::Jump { target } => write_word(text, "Jump", &[*target]),
+        Insn::Goal => text.push_str("Goal"),
+        Insn::Char(c) => write_word(text, "Char", &[*c as usize]),
+        Insn::MatchAny => text.push_str("MatchAny"),
+        Insn::Alt { secondary } => write_word(text, "Alt", &[*secondary as usize]),
+        Insn::Jump { target } => write_word(text, "Jump", &[*target as usize]),
         Insn::EnterLoop(fields) => write_head(text, fields),
-        Insn::LoopAgain { begin } => write_word(text, "LoopAgain", &[*begin]),
+        Insn::LoopAgain { begin } => write_word(text, "LoopAgain", &[*begin as usize]),
         Insn::Loop1CharBody {
             min_iters,
             max_iters,
             greedy,
         } => {
-            text.push_str("Loop1CharBody")?;
-            write_bounds(text, *min_iters, *max_iters, *greedy)
+            write_word(text, "Loop1CharBody", &[*min_iters, *max_iters])?;
+            text.push_str(truth(*greedy))
         }
-        Insn::BeginCaptureGroup(id) => write_word(text, "BeginCaptureGroup", &[u32::from(*id)]),
-        Insn::EndCaptureGroup(id) => write_word(text, "EndCaptureGroup", &[u32::from(*id)]),
-        Insn::ResetCaptureGroup(id) => write_word(text, "ResetCaptureGroup", &[u32::from(*id)]),
+        Insn::BeginCaptureGroup(id) => write_word(text, "BeginCaptureGroup", &[*id as usize]),
+        Insn::EndCaptureGroup(id) => write_word(text, "EndCaptureGroup", &[*id as usize]),
+        Insn::ResetCaptureGroup(id) => write_word(text, "ResetCaptureGroup", &[*id as usize]),
         Insn::Lookbehind {
             negate,
             start_group,
@@ -72,13 +78,13 @@ fn write_insn(text: &mut String, insn: &Insn) -> Result<(), AllocError> {
             continuation,
         } => {
             text.push_str("Lookbehind")?;
-            let groups = [u32::from(*start_group), u32::from(*end_group)];
+            let groups = [*start_group as usize, *end_group as usize];
             write_word(text, truth(*negate), &groups)?;
-            write_word(text, "", &[*continuation])
+            write_word(text, "", &[*continuation as usize])
         }
         Insn::ByteSeq1(bytes) => write_bytes(text, "ByteSeq1 ", bytes),
         Insn::ByteSeq16(bytes) => write_bytes(text, "ByteSeq16 ", bytes),
-        _ => write_word(text, "other", &[]),
+        _ => text.push_str("other"),
     }
 }
 
@@ -86,7 +92,11 @@ fn truth(value: bool) -> &'static str {
     if value { " true" } else { " false" }
 }
 
-fn write_word(text: &mut String, word: &str, numbers: &[u32]) -> Result<(), AllocError> {
+pub(crate) fn write_word(
+    text: &mut String,
+    word: &str,
+    numbers: &[usize],
+) -> Result<(), AllocError> {
     text.push_str(word)?;
     for number in numbers {
         write!(text, " {number}")?;
@@ -94,22 +104,10 @@ fn write_word(text: &mut String, word: &str, numbers: &[u32]) -> Result<(), Allo
     Ok(())
 }
 
-fn write_bounds(
-    text: &mut String,
-    min_iters: usize,
-    max_iters: usize,
-    greedy: bool,
-) -> Result<(), AllocError> {
-    for number in [min_iters, max_iters] {
-        write!(text, " {number}")?;
-    }
-    text.push_str(truth(greedy))
-}
-
 fn write_head(text: &mut String, fields: &LoopFields) -> Result<(), AllocError> {
-    write_word(text, "EnterLoop", &[u32::from(fields.loop_id)])?;
-    write_bounds(text, fields.min_iters, fields.max_iters, fields.greedy)?;
-    write_word(text, "", &[fields.exit])
+    let numbers = [fields.loop_id as usize, fields.min_iters, fields.max_iters];
+    write_word(text, "EnterLoop", &numbers)?;
+    write_word(text, truth(fields.greedy), &[fields.exit as usize])
 }
 
 // The word, and the bytes as characters.

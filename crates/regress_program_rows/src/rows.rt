@@ -1,54 +1,48 @@
-//! Tables of trees, each with what is answered for it in words.
+//! What is answered for trees, row by row.
 
-use crate::listing::{program, units};
-use crate::predicates::predicate;
-use crate::trees::tree_of;
-use regex_pattern_front::ir::{Node, Regex};
-use std::alloc::Global;
+use crate::listing::{write_program, write_units};
+use crate::parts::{write_parts, write_unit_parts};
+use crate::predicates::write_predicate;
+use crate::tables::ROWS;
+use regex_pattern_front::ir::Regex;
+use regress_trees::tree_of;
+use std::alloc::{AllocError, Global};
+use std::process::Abort;
 use std::test::Fail;
 
-/// What is asked for a tree.
-#[derive(Clone, Copy)]
-pub(crate) enum Question {
-    Program,
-    Units,
-    Predicate,
-}
-
-#[derive(Drop)]
-pub(crate) struct Rows {
-    rows: Vec<(Regex, &'static str)>,
-}
-
-impl Rows {
-    pub(crate) fn new(alloc: Global) -> Rows {
-        Rows {
-            rows: Vec::new(alloc),
-        }
-    }
-
-    pub(crate) fn put(&mut self, root: Node, wanted: &'static str) -> Result<(), Fail> {
-        self.rows.push((tree_of(root), wanted))?;
-        Ok(())
-    }
-
-    // What is answered otherwise than wanted, one answer a line.
-    pub(crate) fn differences(&self, alloc: Global, question: Question) -> Result<String, Fail> {
-        let mut text = String::new(alloc);
-        for (tree, wanted) in &self.rows {
-            let found = answer(alloc, question, tree)?;
-            if found.as_str() != *wanted {
-                write!(text, "{found} for {wanted}\n")?;
-            }
-        }
-        Ok(text)
-    }
-}
-
-fn answer(alloc: Global, question: Question, tree: &Regex) -> Result<String, Fail> {
+// Writes what is answered to a question about a tree.
+fn write_answer(
+    alloc: Global,
+    text: &mut String,
+    question: &str,
+    tree: &Regex,
+) -> Result<(), AllocError> {
     match question {
-        Question::Program => program(alloc, tree),
-        Question::Units => units(alloc, tree),
-        Question::Predicate => predicate(alloc, tree),
+        "program" => write_program(alloc, text, tree),
+        "units" => write_units(alloc, text, tree),
+        "predicate" => write_predicate(alloc, text, tree),
+        "parts" => write_parts(alloc, text, tree),
+        "unit_parts" => write_unit_parts(alloc, text, tree),
+        _ => text.push_str("no question"),
     }
+}
+
+// The same for a question, a blank and a tree in words.
+fn write_answer_to(alloc: Global, text: &mut String, asked: &str) -> Result<(), AllocError> {
+    let (question, words) = asked.split_once(' ').unwrap_or((asked, ""));
+    match tree_of(alloc, words) {
+        Some(tree) => write_answer(alloc, text, question, &tree),
+        None => text.push_str("no tree"),
+    }
+}
+
+#[test]
+fn trees_have_these_answers(rt: HostRuntime) -> Result<(), Fail> {
+    for line in ROWS.lines() {
+        let (asked, wanted) = line.split_once(" → ").unwrap_or((line, "no answer"));
+        let mut found = String::new(rt.alloc());
+        write_answer_to(rt.alloc(), &mut found, asked)?;
+        assert!(rt; found.as_str() == wanted, "{found} at {line}");
+    }
+    Ok(())
 }

@@ -1,0 +1,130 @@
+//! The table of rows.
+
+// Rows of five fields, with `~` between them: a pattern, the letters of its flags, a text in which `␤` stands for a
+// line feed, a call, and what the call finds. The calls are `all`, `first`, an offset for all matches from there, and
+// `anchored` for whether the pattern's program is tried at the left end alone.
+// For `new` in place of flags the pattern is read without them, and for `tree` the first field is a tree in words, which
+// may be no pattern's. The first of these read characters that no text has, and sequences of bytes in pieces.
+pub const ROWS: &str = r#"a|ab~~abc~all~0..1
+((a)|(ab))((c)|(bc))~~abc~all~0..3 0..1 0..1 - 1..3 - 1..3
+(?<=x)y~~yxy~all~2..3
+(?<=x)y~~xyxy~1~1..2; 3..4
+a*~~aab~all~0..2; 2..2; 3..3
+a*~~aab~3~3..3
+a*~~aab~4~
+a*~~aab~18446744073709551615~
+(a|\1b)c~~abc~all~1..3 1..2
+^(?:(?:a|ab){2})+$~~aab~all~0..3
+(z)((a+)?(b+)?(c))*~~zaacbbbcac~all~0..10 0..1 8..10 8..9 - 9..10
+(?=(a+))a*b\1~~baaabac~all~3..6 3..4
+(.*?)a(?!(a+)b\2c)\2(.*)~~baaabaac~all~0..8 0..2 - 3..8
+(a*)*~~b~first~0..0 -
+(a*)b\1+~~baaaac~first~0..1 0..0
+(?<=(\d+)(\d+))$~~1053~all~4..4 0..1 1..4
+(k)\1~iu~kK~all~0..4 0..1
+(?<=(?<a>x)(?<b>y))z~~xyz~all~2..3 0..1 1..2
+^(\w+)=(\d+)~~key=123 other=456~all~0..7 0..3 4..7
+^(\w+)=(\d+)~~ key=123~all~
+.*b~~bé~all~0..1
+(?:a?){3}~~~all~0..0
+(aa|aabaac|ba|b|c)*~~aabaac~first~0..4 2..4
+(?:a|a)*~~aaaaaaaaaaaaaaaaaaaaaaaaaaaaaaaaaaaaaaaa~first~0..40
+a+?~~aa~all~0..1; 1..2
+(a{2,3}?)(a*)~~aaaa~first~0..4 0..2 2..4
+(?:(a)|b)*?c~~abc~first~0..3 -
+(a*){2}~~b~all~0..0 0..0; 1..1 1..1
+(ab)(?<=\1)c~~abc~all~0..3 0..2
+(?:(?=(a))ac|ab)\1~~ab~first~0..2 -
+(?:(?!(b))a|c)+~~aca~first~0..3 -
+(?<=a{2,3})b~~aaab~all~3..4
+^a~~aa~0~0..1
+^a~~aa~1~
+^a~m~b␤a~all~2..3
+[^a]~~aé~all~1..3
+(?:(?:a*)*)*~~b~all~0..0; 1..1
+(a)|b~~ab~all~0..1 0..1; 1..2 -
+z~~abc~all~
+~~~all~0..0
+~~ab~all~0..0; 1..1; 2..2
+ab|a~~aab~all~0..1; 1..3
+a{2,3}~~aaaaa~all~0..3; 3..5
+a{2,3}?~~aaaaa~all~0..2; 2..4
+.*~~ab~all~0..2; 2..2
+.*?~~ab~all~0..0; 1..1; 2..2
+a.{1,2}~~aéé€~all~0..5
+a[bc]+~~abcb~all~0..4
+a[bc]+?~~abcb~all~0..2
+(a*)*~~b~all~0..0 -; 1..1 -
+(a*){2}~~ab~all~0..1 1..1; 1..1 1..1; 2..2 2..2
+(?:a|ab)(?:c|bcd)(d*)~~abcd~all~0..4 4..4
+(a)\1~~aab~all~0..2 0..1
+(?<=(a+)(b+))$~~aabb~all~4..4 0..2 2..4
+(?<!a)b~~abb~all~2..3
+a$~~aa~all~1..2
+a\b~~aa a~all~1..2; 3..4
+a\B.~~aa~all~0..2
+^a~~ba~0~
+^a~~ba~1~
+^a~~ab~0~0..1
+^a~~␤a~0~
+^a~m~ba~0~
+^a~m~ba~1~
+^a~m~b␤a~1~2..3
+^a|a~~ba~0~1..2
+b~~abéb~first~1..2
+b~~é~first~
+b~~abéb~all~1..2; 4..5
+b~~abéb~2~4..5
+b~~abéb~4~4..5
+b~~abéb~5~
+b~~abéb~6~
+x?s~iu~aXsS~first~1..3
+x?s~iu~aXsS~all~1..3; 3..4
+x?s~iu~aXsS~1~1..3; 3..4
+x?s~iu~aXsS~2~2..3; 3..4
+x?s~iu~aXsS~4~
+x?s~iu~aXsS~5~
+a|b~~abc~all~0..1; 1..2
+(?:a|a)*~~aaaaaaaaaaaaaaaaaaaaaaaaaaaaaaaaaaaaaaaa~all~0..40; 40..40
+a{0,18446744073709551615}~~aab~all~0..2; 2..2; 3..3
+(?:a|b){2,18446744073709551615}~~abab~all~0..4
+a{18446744073709551615,}~~aa~all~
+(a){18446744073709551615}~~aa~all~
+a*~~baac~all~0..0; 1..3; 3..3; 4..4
+a*a~~aa~all~0..2
+(a)?~~a~all~0..1 0..1; 1..1 -
+(a)(b)?~~a~first~0..1 0..1 -
+(?=\d)~~a1b2c~all~1..1; 3..3
+\b(\w)(\w+)~~hello world~all~0..5 0..1 1..5; 6..11 6..7 7..11
+b~new~aBb~first~2..3
+b~new~é~first~
+^a~~~anchored~true
+^a~m~~anchored~false
+cat:2 char:110000 goal~tree~a~0~
+cat:2 set goal~tree~a~0~
+cat:3 loop1:0 char:D800 a goal~tree~a~0~0..1
+cat:3 loop1:0 byteset a goal~tree~a~0~0..1
+cat:2 bytes:E2,82,AC,E2,82,AC,E2,82,AC,E2,82,AC,E2,82,AC,E2,82,AC goal~tree~€€€€€€~0~0..18
+cat:2 bytes:C3,A9 goal~tree~aé~0~1..3
+cat:3 any bytes:E2,82,AC,E2,82,AC,E2,82,AC,E2,82,AC,E2,82,AC,E2,82,AC goal~tree~x€€€€€€€~0~0..19
+cat:3 any bytes:E2,82,AC,E2,82,AC,E2,82,AC,E2,82,AC,E2,82,AC,E2,82,AC goal~tree~x€€€€€~0~
+cat:2 behind:0,0 bytes:61,62,63,64,65,66,67,68,69,6A,6B,6C,6D,6E,6F,70,71 goal~tree~abcdefghijklmnopq~0~17..17
+cat:3 behind:0,0 bytes:E2,82,AC,E2,82,AC,E2,82,AC,E2,82,AC,E2,82,AC,E2,82,AC any goal~tree~€€€€€€x~0~18..19
+cat:2 behind:0,0 strings:1 set:61,62 goal~tree~ab~0~2..2
+cat:3 strings:2 set:61 set:61,62 c goal~tree~abc~0~0..3
+cat:2 loop:0,0,3E8,3E8 empty goal~tree~~0~0..0
+cat:2 loop:0,0,FFFFFFFF a goal~tree~a~0~
+cat:2 ahead:5,5 a goal~tree~a~0~0..0
+cat:2 any goal~tree~é€~0~0..2; 2..5
+cat:2 empty goal~tree~é€~0~0..0; 2..2; 5..5
+cat:2 any goal~tree~a~0~0..1
+cat:2 empty goal~tree~a~0~0..0; 1..1
+cat:2 any goal~tree~~0~
+cat:2 empty goal~tree~~0~0..0
+cat:2 any goal~tree~é€~5~
+cat:2 empty goal~tree~é€~5~5..5
+cat:2 any goal~tree~é€~6~
+cat:2 empty goal~tree~é€~6~
+cat:2 any goal~tree~~1~
+cat:2 empty goal~tree~~1~
+"#;

@@ -1,0 +1,138 @@
+//! What is asked of an input, and its answers.
+
+use crate::answers::{
+    before_the_end, byte, character, classes, folded, folded_alone, found, number, part,
+    past_bytes, past_range, seen_left, seen_right,
+};
+use crate::matches::{matching, past_char};
+use regress_input::cursor::{Backward, Direction, Forward};
+use regress_input::front::BracketContents;
+use regress_input::indexing::{InputIndexer, reads_are_inverse};
+use std::alloc::AllocError;
+
+#[derive(Clone, Copy)]
+pub(crate) struct Ask<'a> {
+    // The direction, empty where the question has none.
+    pub(crate) way: &'a str,
+    pub(crate) name: &'a str,
+    pub(crate) numbers: [u32; 4],
+    // The class that the matchers of one character are tried with.
+    pub(crate) class: &'a BracketContents,
+}
+
+// A number of a character, if there is one, and an offset or a number.
+pub(crate) type Answer = Option<(u32, usize)>;
+
+const NO_QUESTION: Answer = Some((0xFFFF_FFFF, 0));
+
+fn at(offset: Option<usize>) -> Answer {
+    Some((0, offset?))
+}
+
+fn numbered(number: Option<u32>) -> Answer {
+    Some((number?, 0))
+}
+
+fn low_byte(number: u32) -> u8 {
+    (number & 0xFF) as u8
+}
+
+fn beside<Input: InputIndexer, Dir: Direction>(input: &Input, dir: Dir, ask: &Ask<'_>) -> Answer {
+    let [a, b, c, _] = ask.numbers;
+    let place = a as usize;
+    match ask.name {
+        "character" => character(input, dir, place),
+        "byte" => byte(input, dir, place),
+        "literal" => at(past_bytes(input, dir, place, &[low_byte(b)])),
+        "literal2" => at(past_bytes(input, dir, place, &[low_byte(b), low_byte(c)])),
+        "char" => at(past_char(input, dir, place, b)),
+        "range" => at(past_range(input, dir, [place, b as usize, c as usize], false)),
+        "icase" => at(past_range(input, dir, [place, b as usize, c as usize], true)),
+        _ => NO_QUESTION,
+    }
+}
+
+fn of_text<Input: InputIndexer>(input: &Input, ask: &Ask<'_>) -> Answer {
+    let [a, b, c, d] = ask.numbers;
+    let place = a as usize;
+    match ask.name {
+        "part" => part(input, place, b as usize).0,
+        "part_end" => Some((0, part(input, place, b as usize).1)),
+        "before_end" => at(before_the_end(input, place)),
+        "find" => at(found(input, place, &[low_byte(b)])),
+        "find2" => at(found(input, place, &[low_byte(b), low_byte(c)])),
+        "find3" => at(found(input, place, &[low_byte(b), low_byte(c), low_byte(d)])),
+        _ => of_encoding(input, ask),
+    }
+}
+
+// What is asked of no text.
+fn of_encoding<Input: InputIndexer>(input: &Input, ask: &Ask<'_>) -> Answer {
+    let [code, other, _, _] = ask.numbers;
+    match ask.name {
+        "unicode" => Some((0, input.unicode() as usize)),
+        "fold" => folded(input, code, other),
+        "fold_alone" => numbered(folded_alone::<Input::CharProps>(code, other == 1)),
+        "number" => numbered(number::<Input::Element>(code)),
+        "classes" => at(classes::<Input::CharProps>(code)),
+        _ => NO_QUESTION,
+    }
+}
+
+fn answer<Input: InputIndexer>(input: &Input, ask: &Ask<'_>) -> Answer {
+    let [place, _, _, _] = ask.numbers;
+    match ask.way {
+        "right" => beside(input, Forward::new(), ask),
+        "left" => beside(input, Backward::new(), ask),
+        "seen right" => seen_right(input, place as usize),
+        "seen left" => seen_left(input, place as usize),
+        _ => of_text(input, ask),
+    }
+}
+
+fn matchers<Input: InputIndexer>(input: &Input, ask: &Ask<'_>) -> Option<[Option<usize>; 9]> {
+    let [place, _, _, _] = ask.numbers;
+    match ask.way {
+        "right" => matching(input, Forward::new(), place as usize, ask.class),
+        _ => matching(input, Backward::new(), place as usize, ask.class),
+    }
+}
+
+pub(crate) fn write_offset(line: &mut String, offset: Option<usize>) -> Result<(), AllocError> {
+    match offset {
+        Some(offset) => write!(line, " {offset:X}"),
+        None => line.push_str(" -"),
+    }
+}
+
+fn write_matchers(
+    line: &mut String,
+    offsets: &Option<[Option<usize>; 9]>,
+) -> Result<(), AllocError> {
+    if let Some(offsets) = offsets {
+        for offset in offsets {
+            write_offset(line, *offset)?;
+        }
+    }
+    Ok(())
+}
+
+fn write_numbers(line: &mut String, answer: Answer) -> Result<(), AllocError> {
+    match answer {
+        Some((c, number)) => write!(line, " {c:X} {number:X}"),
+        None => line.push_str(" -"),
+    }
+}
+
+// Writes the answer of an input, each number behind a blank.
+pub(crate) fn write_answer<Input: InputIndexer>(
+    line: &mut String,
+    input: &Input,
+    ask: &Ask<'_>,
+) -> Result<(), AllocError> {
+    reads_are_inverse(input);
+    if ask.name == "matchers" {
+        return write_matchers(line, &matchers(input, ask));
+    }
+    write_numbers(line, answer(input, ask))
+}

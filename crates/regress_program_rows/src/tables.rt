@@ -1,0 +1,69 @@
+//! What is asked for trees in words, and what is answered: a question, the tree, an arrow and the answer.
+
+// The refused trees have goals that are not last, groups with wrong ids, groups that are not inside, references to no
+// group, minima above the maximum, bodies that are not one character, bytes that are no text, sets that fit no
+// instruction, and more groups than there may be. For 16-bit units a tree that is not well formed is refused as such,
+// whatever stands in it. In the parts, the groups inside a lookbehind have the later one first.
+pub(crate) const ROWS: &str = "\
+program goal → Goal
+program cat:3 empty any goal → MatchAny, Goal
+program cat:2 alt a cat:2 a b goal → Alt 3, Char 97, Jump 5, Char 97, Char 98, Goal
+program cat:2 loop:0,0,0 a goal → EnterLoop 0 0 18446744073709551615 true 3, Char 97, LoopAgain 0, Goal
+program cat:2 loop:0,1,0 loop:0,1,0 group:0 a goal → EnterLoop 0 0 18446744073709551615 true 9, ResetCaptureGroup 0, EnterLoop 1 0 18446744073709551615 true 8, ResetCaptureGroup 0, BeginCaptureGroup 0, Char 97, EndCaptureGroup 0, LoopAgain 2, LoopAgain 0, Goal
+program cat:2 loop1:0 a goal → Loop1CharBody 0 18446744073709551615 true, Char 97, Goal
+program cat:2 behind:0,0 bytes:61,62,63,64,65,66,67,68,69,6A,6B,6C,6D,6E,6F,70,71 goal → Lookbehind false 0 0 4, ByteSeq1 q, ByteSeq16 abcdefghijklmnop, Goal, Goal
+program cat:3 behind:0,0 strings:1 set:61,62 c goal → Lookbehind false 0 0 4, Char 98, Char 97, Goal, Char 99, Goal
+program cat:3 any cat:2 group:1 empty group:0 empty goal → MatchAny, BeginCaptureGroup 1, EndCaptureGroup 1, BeginCaptureGroup 0, EndCaptureGroup 0, Goal
+program cat:3 any cat:2 group:0 empty ref:1 goal → MatchAny, BeginCaptureGroup 0, EndCaptureGroup 0, other, Goal
+program a → NotWellFormed
+program cat:2 goal a → NotWellFormed
+program alt goal goal → NotWellFormed
+program cat:2 goal goal → NotWellFormed
+program cat:0 → NotWellFormed
+program cat:3 any cat:2 group:0 empty group:0 empty goal → NotWellFormed
+program cat:3 any cat:2 group:0 empty group:2 empty goal → NotWellFormed
+program cat:3 any loop:0,0,0 group:0 a goal → NotWellFormed
+program cat:3 any loop:0,1,0 a goal → NotWellFormed
+program cat:3 any loop:1,0,0 a goal → NotWellFormed
+program cat:3 any ahead:0,1 a goal → NotWellFormed
+program cat:3 any ref:1 goal → NotWellFormed
+program cat:3 any cat:2 group:0 empty ref:0 goal → NotWellFormed
+program cat:3 any cat:2 group:0 empty ref:2 goal → NotWellFormed
+program cat:3 any loop:0,0,2,1 a goal → NotWellFormed
+program cat:3 any loop1:2,1 a goal → NotWellFormed
+program cat:3 any loop:0,0,3,2 a goal → NotWellFormed
+program cat:3 any loop1:3,2 a goal → NotWellFormed
+program cat:3 any loop1:0 cat:1 a goal → NotWellFormed
+program cat:3 any loop1:0 empty goal → NotWellFormed
+program cat:3 any loop1:0 bytes:61,62 goal → NotWellFormed
+program cat:3 any bytes goal → NotWellFormed
+program cat:3 any bytes:C3 goal → NotWellFormed
+program cat:3 any bytes:C0,80 goal → NotWellFormed
+program cat:3 any bytes:ED,A0,80 goal → NotWellFormed
+program cat:3 any byteset:61,62,63,64,65 goal → NotWellFormed
+program cat:3 any byteset:80 goal → NotWellFormed
+program cat:3 any set:1,2,3,4,5 goal → NotWellFormed
+program cat:3 any strings:1 set:110000 goal → NotWellFormed
+program cat:10001 groups goal → TooManyGroups
+units bytes:61 → NotWellFormed
+units cat:2 bytes:61 goal → BytesInUnits
+units cat:2 behind:0,0 alt x byteset:61,62 goal → BytesInUnits
+units cat:2 a goal → Char 97, Goal
+units cat:3 behind:0,0 strings:1 set:61,62 c goal → Lookbehind false 0 0 4, Char 98, Char 97, Goal, Char 99, Goal
+predicate cat:2 bytes:61,62,63 goal → ByteSeq [97, 98, 99]
+predicate cat:2 alt bytes:61,62,63 bytes:61,62,64 goal → ByteSeq [97, 98]
+predicate cat:2 alt bytes:61,62,63 bytes:78,79,7A goal → ByteSet2 [97, 120]
+predicate cat:2 loop:0,0,0 bytes:61,62,63 goal → Arbitrary []
+predicate cat:2 loop:0,0,1 bytes:61,62,63 goal → ByteSeq [97, 98, 99]
+predicate cat:2 cat:2 ahead:0,0 bytes:62 bytes:61 goal → ByteSet1 [97]
+predicate cat:2 cat:2 start bytes:61 goal → StartAnchored []
+predicate cat:2 byteset goal → Arbitrary []
+predicate cat:2 set:20AC,61,110000 goal → ByteSet2 [97, 226]
+predicate cat:2 class:7E,80 goal → ByteSet3 [126, 127, 194]
+predicate cat:2 not:0,60,63,FFFFF goal → ByteSet3 [97, 98, 244]
+predicate cat:2 not:0,60,64,FFFFF goal → ByteBracket 97 98 99 244
+parts cat:2 loop:0,1,0 group:0 class:E9,E9 goal → parts 7 1 1 1 0 1 1 / / / /parts 7 1 1 1 0 1 1 / / / /
+parts cat:3 behind:0,2 cat:2 named:1,62 y named:0,61 x z goal → parts 10 0 0 2 2 0 1 a/ b/ / /parts 10 0 0 2 2 0 1 a/ b/ / /
+parts cat:2 cat:2 group:0 x named:1,62 y goal → parts 7 0 0 2 2 0 1 / b/ / /parts 7 0 0 2 2 0 1 / b/ / /
+unit_parts cat:4 a group:0 not loop:1,2,0 named:1,62 b goal → parts 11 1 1 2 2 0 / b/ / /parts 11 1 1 2 2 0 / b/ / /
+";

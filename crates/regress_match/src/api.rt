@@ -1,7 +1,8 @@
 //! Flags, patterns that are compiled, and their searches.
 
-ghost use Rattle.std.specs.Prelude.{◌≡◌, ◌<◌, ◌⊎◌, IfOk, IsAscii, IsCharBoundary, false, length, nat_le, not, option_map, slice_get, []};
-ghost use Rattle.regex_meaning.specs.Flags.{flags_of_text};
+ghost use Rattle.std.specs.Prelude.{◌≡◌, ◌<◌, ◌⊎◌, IfOk, IsAscii, IsCharBoundary, false, length, nat_le, not, option_map, slice_get, string_bytes, []};
+ghost use Rattle.regex_meaning.specs.Flags.{escape as escaped_text, flags_of_text, special};
+ghost use Rattle.regex_meaning.specs.Lists.{contains};
 ghost use Rattle.regex_pattern_front.specs.TreeOf.{tree_of};
 ghost use Rattle.regress_search.specs.Answers.{answer_of};
 ghost use Rattle.regress_match.specs.Trees.{tree_to_run};
@@ -268,4 +269,34 @@ fn first<P: MatchProducer + Drop>(
     ensures { IfOk result (λ m. option_map answer_of m ≡ slice_get matches.answers 0) }
 {
     matches.next().transpose()
+}
+
+/// The text with a backslash before each of its syntax characters, `\ ^ $ . | ? * + ( ) [ ] { }`, so that it can
+/// stand in a pattern for itself. All other characters stay.
+///
+/// # Errors
+///
+/// `AllocError` where there is no memory for the text.
+pub fn escape(alloc: Global, text: &str) -> Result<String, AllocError>
+    // Syntax characters are ASCII, so bytes are escaped as characters are.
+    ensures { IfOk result (λ s. string_bytes s ≡ escaped_text text.now) }
+{
+    let mut escaped = String::new(alloc);
+    for c in text.chars() {
+        if is_special(c) {
+            escaped.push('\\')?;
+        }
+        escaped.push(c)?;
+    }
+    Ok(escaped)
+}
+
+// Whether it is a syntax character (SyntaxCharacter of ECMA-262).
+fn is_special(c: char) -> bool
+    ensures { result ≡ contains special c }
+{
+    matches!(
+        c,
+        '\\' | '^' | '$' | '.' | '|' | '?' | '*' | '+' | '(' | ')' | '[' | ']' | '{' | '}'
+    )
 }

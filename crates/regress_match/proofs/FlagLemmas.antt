@@ -1,9 +1,9 @@
 -- Flags of letters, and results that are told more of.
-use Rattle.std.proofs.Common.{◌≡◌, ℕ, List, [], ◌∷◌, Bool, true, false, refl, ap₂, sym, nat_eq, eq-eqb, ne_eqb, eqb-true}
+use Rattle.std.proofs.Common.{◌≡◌, ℕ, List, [], ◌∷◌, ◌++◌, Bool, true, false, refl, ap₂, sym, nat_eq, eq-eqb, ne_eqb, eqb-true, append_assoc}
 use Rattle.std.proofs.lemmas.Bool.{eqb-false}
 use Rattle.std.specs.Prelude.{◌||◌, Result, Ok, Err, IfOk}
 use Rattle.regex_meaning.specs.Tree.{Flags}
-use Rattle.regex_meaning.specs.Flags.{flags_of_text}
+use Rattle.regex_meaning.specs.Flags.{letter_if, flags_of_text, flags_text}
 use Rattle.std.specs.List.{list_any}
 use Rattle.regex_meaning.specs.Lists.{contains}
 
@@ -33,3 +33,8 @@ flags-by_letters letters bytes i m d u v same ei em ed eu ev = rw (ei, em, ed, e
 pub flags-none : (i m d n u v : Bool) → i ≡ false → m ≡ false → d ≡ false → n ≡ false → u ≡ false → v ≡ false → flags_by i m d n u v ≡ flags_of_text []
 unfolding flags_of_text
 flags-none i m d n u v ei em ed en eu ev = rw (ei, em, ed, en, eu, ev) refl
+
+pub flags_text-parts : (f : Flags) (m i d u v : List ℕ) → m ≡ letter_if f.multiline 109 → i ≡ letter_if f.icase 105 → d ≡ letter_if f.dot_all 115
+    → u ≡ letter_if f.unicode 117 → v ≡ letter_if f.unicode_sets 118 → m ++ (i ++ (d ++ (u ++ v))) ≡ flags_text f
+unfolding flags_text
+flags_text-parts f m i d u v em ei ed eu ev = rw (em, ei, ed, eu, ev) (simp append_assoc)

@@ -1,7 +1,7 @@
 //! Flags, patterns that are compiled, and their searches.
 
-ghost use Rattle.std.specs.Prelude.{◌≡◌, ◌<◌, ◌⊎◌, IfOk, IsAscii, IsCharBoundary, false, length, nat_le, not, option_map, slice_get, string_bytes, []};
-ghost use Rattle.regex_meaning.specs.Flags.{escape as escaped_text, flags_of_text, special};
+ghost use Rattle.std.specs.Prelude.{◌≡◌, ◌<◌, ◌⊎◌, if◌then◌else◌, IfOk, IsAscii, IsCharBoundary, Some, false, length, nat_le, not, option_map, slice_get, string_bytes, []};
+ghost use Rattle.regex_meaning.specs.Flags.{escape as escaped_text, flags_of_text, flags_text, special};
 ghost use Rattle.regex_meaning.specs.Lists.{contains};
 ghost use Rattle.regex_pattern_front.specs.TreeOf.{tree_of};
 ghost use Rattle.regress_search.specs.Answers.{answer_of};
@@ -17,6 +17,7 @@ use regress_search::exec;
 use regress_search::exec::{Match, MatchProducer, SearchError, Searcher};
 use regress_search::pikevm::PikeVMExecutor;
 use std::alloc::{AllocError, Global};
+use std::fmt;
 use std::snapshot::Snapshot;
 
 /// How a pattern is read and matched. The default is case-sensitive, without lines, and optimizing.
@@ -73,6 +74,29 @@ impl From<&str> for Flags {
             unicode_sets: letters.contains(&b'v'),
         }
     }
+}
+
+impl fmt::Display for Flags {
+    ghost use Rattle.regress_match.specs.Flags.{flags_of};
+
+    ghost output = { λ f. Some (flags_text (flags_of f)) };
+
+    /// Writes the letters of the flags that are set, in the order `m i s u v`; `no_opt` has none.
+    fn fmt<W: fmt::Write>(&self, f: &mut fmt::Formatter<W>) -> fmt::Result {
+        let multiline = letter_if(self.multiline, "m");
+        let icase = letter_if(self.icase, "i");
+        let dot_all = letter_if(self.dot_all, "s");
+        let unicode = letter_if(self.unicode, "u");
+        let unicode_sets = letter_if(self.unicode_sets, "v");
+        write!(f, "{multiline}{icase}{dot_all}{unicode}{unicode_sets}")
+    }
+}
+
+// The letter of a flag that is set, and else no text.
+fn letter_if(set: bool, letter: &str) -> &str
+    ensures { result.now ≡ (if set then letter.now else []) }
+{
+    if set { letter } else { "" }
 }
 
 /// Why a pattern is not compiled.

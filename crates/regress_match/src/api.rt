@@ -1,6 +1,8 @@
 //! Flags, patterns that are compiled, and their searches.
 
 ghost use Rattle.std.specs.Prelude.{◌≡◌, ◌<◌, ◌⊎◌, if◌then◌else◌, IfOk, IsAscii, IsCharBoundary, Some, false, length, nat_le, not, option_map, slice_get, string_bytes, []};
+ghost use Rattle.std.specs.Iterator.{IsFinite};
+ghost use Rattle.std.specs.Iterator.Runs.{WholeRun};
 ghost use Rattle.regex_meaning.specs.Flags.{escape as escaped_text, flags_of_text, flags_text, special};
 ghost use Rattle.regex_meaning.specs.Lists.{contains};
 ghost use Rattle.regex_pattern_front.specs.TreeOf.{tree_of};
@@ -40,6 +42,24 @@ pub struct Flags {
 impl Flags {
     ghost use Rattle.regex_pattern_front.specs.TreeOf.{flags_of as front_flags_of};
     ghost use Rattle.regress_match.specs.Flags.{flags_of};
+
+    /// The flags whose letters, of `m`, `i`, `s`, `u` and `v`, are among the code points of an iterator, which ends;
+    /// others are ignored, and `no_opt` is never set.
+    pub fn new<I: Iterator<Item = u32>>(letters: I) -> Self
+        requires can { I.can_next letters }
+        requires finite { IsFinite (I.remaining letters) }
+        ensures { WholeRun I.next_gives letters (λ run. flags_of result ≡ flags_of_text run.items) }
+    {
+        let mut flags = Flags::default();
+        for letter in letters {
+            flags.icase |= letter == 'i' as u32;
+            flags.multiline |= letter == 'm' as u32;
+            flags.dot_all |= letter == 's' as u32;
+            flags.unicode |= letter == 'u' as u32;
+            flags.unicode_sets |= letter == 'v' as u32;
+        }
+        flags
+    }
 
     // The same flags for the front.
     fn for_front(self) -> front::Flags

@@ -1,9 +1,9 @@
 -- Flags of letters, and results that are told more of.
-use Rattle.std.proofs.Common.{◌≡◌, ℕ, List, [], ◌∷◌, Bool, true, false, refl, ap₂, sym, nat_eq, eq-eqb, ne_eqb, eqb-true}
+use Rattle.std.proofs.Common.{◌≡◌, ℕ, List, [], ◌∷◌, ◌++◌, Bool, true, false, refl, ap, ap₂, sym, ◌∙◌, nat_eq, eq-eqb, ne_eqb, eqb-true, append_assoc}
 use Rattle.std.proofs.lemmas.Bool.{eqb-false}
 use Rattle.std.specs.Prelude.{◌||◌, Result, Ok, Err, IfOk}
 use Rattle.regex_meaning.specs.Tree.{Flags}
-use Rattle.regex_meaning.specs.Flags.{flags_of_text}
+use Rattle.regex_meaning.specs.Flags.{letter_if, flags_of_text, flags_text}
 use Rattle.std.specs.List.{list_any}
 use Rattle.regex_meaning.specs.Lists.{contains}
 
@@ -33,3 +33,38 @@ flags-by_letters letters bytes i m d u v same ei em ed eu ev = rw (ei, em, ed, e
 pub flags-none : (i m d n u v : Bool) → i ≡ false → m ≡ false → d ≡ false → n ≡ false → u ≡ false → v ≡ false → flags_by i m d n u v ≡ flags_of_text []
 unfolding flags_of_text
 flags-none i m d n u v ei em ed en eu ev = rw (ei, em, ed, en, eu, ev) refl
+
+-- the letters of the flags that are set, piece by piece
+pub flags_text-parts : (f : Flags) (m i d u v : List ℕ) → m ≡ letter_if f.multiline 109 → i ≡ letter_if f.icase 105 → d ≡ letter_if f.dot_all 115
+    → u ≡ letter_if f.unicode 117 → v ≡ letter_if f.unicode_sets 118 → m ++ (i ++ (d ++ (u ++ v))) ≡ flags_text f
+unfolding flags_text
+flags_text-parts f m i d u v em ei ed eu ev = rw (em, ei, ed, eu, ev) (simp append_assoc)
+
+-- a list with one number more
+contains-push : (n x : ℕ) (xs : List ℕ) → (contains xs n || nat_eq x n) ≡ contains (xs ++ x ∷ []) n
+contains-push n x [] = either_way x n ∙ last (nat_eq n x)
+  where
+    last : (b : Bool) → b ≡ (b || false)
+    last true = refl
+    last false = refl
+contains-push n x (y ∷ ys) = or-assoc (nat_eq n y) (contains ys n) (nat_eq x n) ∙ ap (λ b. nat_eq n y || b) (contains-push n x ys)
+  where
+    or-assoc : (a b c : Bool) → ((a || b) || c) ≡ (a || (b || c))
+    or-assoc true b c = refl
+    or-assoc false b c = refl
+
+-- the flag of a letter, where one letter more has come
+flag-more : (set : Bool) (n x : ℕ) (letters : List ℕ) → set ≡ contains letters n → (set || nat_eq x n) ≡ contains (letters ++ x ∷ []) n
+flag-more set n x letters e = ap (λ b. b || nat_eq x n) e ∙ contains-push n x letters
+
+-- the flags of letters, where one letter more has come
+pub flags-more : (i m d n u v : Bool) (letters : List ℕ) (x : ℕ) → flags_by i m d n u v ≡ flags_of_text letters
+    → flags_by (i || nat_eq x 105) (m || nat_eq x 109) (d || nat_eq x 115) n (u || nat_eq x 117) (v || nat_eq x 118) ≡ flags_of_text (letters ++ x ∷ [])
+unfolding flags_of_text
+flags-more i m d n u v letters x e =
+    let never : n ≡ false = ap (λ (f : Flags). f.no_opt) e in
+    rw never
+    (flags-by_letters (letters ++ x ∷ []) (letters ++ x ∷ []) _ _ _ _ _ refl
+    (flag-more i 105 x letters (ap (λ (f : Flags). f.icase) e)) (flag-more m 109 x letters (ap (λ (f : Flags). f.multiline) e))
+    (flag-more d 115 x letters (ap (λ (f : Flags). f.dot_all) e)) (flag-more u 117 x letters (ap (λ (f : Flags). f.unicode) e))
+    (flag-more v 118 x letters (ap (λ (f : Flags). f.unicode_sets) e)))

@@ -1,2 +1,3 @@
+pub mod EscapeLemmas
 pub mod FlagLemmas
 pub mod Starts

@@ -1,7 +1,10 @@
 //! Flags, patterns that are compiled, and their searches.
 
-ghost use Rattle.std.specs.Prelude.{◌≡◌, ◌<◌, ◌⊎◌, IfOk, IsAscii, IsCharBoundary, false, length, nat_le, not, option_map, slice_get, []};
-ghost use Rattle.regex_meaning.specs.Flags.{flags_of_text};
+ghost use Rattle.std.specs.Prelude.{◌≡◌, ◌<◌, ◌⊎◌, if◌then◌else◌, IfOk, IsAscii, IsCharBoundary, Some, false, length, nat_le, not, option_map, slice_get, string_bytes, []};
+ghost use Rattle.std.specs.Iterator.{IsFinite};
+ghost use Rattle.std.specs.Iterator.Runs.{WholeRun};
+ghost use Rattle.regex_meaning.specs.Flags.{escape as escaped_text, flags_of_text, flags_text, special};
+ghost use Rattle.regex_meaning.specs.Lists.{contains};
 ghost use Rattle.regex_pattern_front.specs.TreeOf.{tree_of};
 ghost use Rattle.regress_search.specs.Answers.{answer_of};
 ghost use Rattle.regress_match.specs.Trees.{tree_to_run};
@@ -16,6 +19,7 @@ use regress_search::exec;
 use regress_search::exec::{Match, MatchProducer, SearchError, Searcher};
 use regress_search::pikevm::PikeVMExecutor;
 use std::alloc::{AllocError, Global};
+use std::fmt;
 use std::snapshot::Snapshot;
 
 /// How a pattern is read and matched. The default is case-sensitive, without lines, and optimizing.
@@ -38,6 +42,24 @@ pub struct Flags {
 impl Flags {
     ghost use Rattle.regex_pattern_front.specs.TreeOf.{flags_of as front_flags_of};
     ghost use Rattle.regress_match.specs.Flags.{flags_of};
+
+    /// The flags whose letters, of `m`, `i`, `s`, `u` and `v`, are among the code points of an iterator, which ends;
+    /// others are ignored, and `no_opt` is never set.
+    pub fn new<I: Iterator<Item = u32>>(letters: I) -> Self
+        requires can { I.can_next letters }
+        requires finite { IsFinite (I.remaining letters) }
+        ensures { WholeRun I.next_gives letters (λ run. flags_of result ≡ flags_of_text run.items) }
+    {
+        let mut flags = Flags::default();
+        for letter in letters {
+            flags.icase |= letter == 'i' as u32;
+            flags.multiline |= letter == 'm' as u32;
+            flags.dot_all |= letter == 's' as u32;
+            flags.unicode |= letter == 'u' as u32;
+            flags.unicode_sets |= letter == 'v' as u32;
+        }
+        flags
+    }
 
     // The same flags for the front.
     fn for_front(self) -> front::Flags
@@ -72,6 +94,29 @@ impl From<&str> for Flags {
             unicode_sets: letters.contains(&b'v'),
         }
     }
+}
+
+impl fmt::Display for Flags {
+    ghost use Rattle.regress_match.specs.Flags.{flags_of};
+
+    ghost output = { λ f. Some (flags_text (flags_of f)) };
+
+    /// Writes the letters of the flags that are set, in the order `m i s u v`; `no_opt` has none.
+    fn fmt<W: fmt::Write>(&self, f: &mut fmt::Formatter<W>) -> fmt::Result {
+        let multiline = letter_if(self.multiline, "m");
+        let icase = letter_if(self.icase, "i");
+        let dot_all = letter_if(self.dot_all, "s");
+        let unicode = letter_if(self.unicode, "u");
+        let unicode_sets = letter_if(self.unicode_sets, "v");
+        write!(f, "{multiline}{icase}{dot_all}{unicode}{unicode_sets}")
+    }
+}
+
+// The letter of a flag that is set, and else no text.
+fn letter_if(set: bool, letter: &str) -> &str
+    ensures { result.now ≡ (if set then letter.now else []) }
+{
+    if set { letter } else { "" }
 }
 
 /// Why a pattern is not compiled.
@@ -268,4 +313,34 @@ fn first<P: MatchProducer + Drop>(
     ensures { IfOk result (λ m. option_map answer_of m ≡ slice_get matches.answers 0) }
 {
     matches.next().transpose()
+}
+
+/// The text with a backslash before each of its syntax characters, `\ ^ $ . | ? * + ( ) [ ] { }`, so that it can
+/// stand in a pattern for itself. All other characters stay.
+///
+/// # Errors
+///
+/// `AllocError` where there is no memory for the text.
+pub fn escape(alloc: Global, text: &str) -> Result<String, AllocError>
+    // Syntax characters are ASCII, so bytes are escaped as characters are.
+    ensures { IfOk result (λ s. string_bytes s ≡ escaped_text text.now) }
+{
+    let mut escaped = String::new(alloc);
+    for c in text.chars() {
+        if is_special(c) {
+            escaped.push('\\')?;
+        }
+        escaped.push(c)?;
+    }
+    Ok(escaped)
+}
+
+// Whether it is a syntax character (SyntaxCharacter of ECMA-262).
+fn is_special(c: char) -> bool
+    ensures { result ≡ contains special c }
+{
+    matches!(
+        c,
+        '\\' | '^' | '$' | '.' | '|' | '?' | '*' | '+' | '(' | ')' | '[' | ']' | '{' | '}'
+    )
 }

@@ -1,0 +1,4 @@
+pub mod Undoing
+pub mod Slots
+pub mod Did
+pub mod Advancing

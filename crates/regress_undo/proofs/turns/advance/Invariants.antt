@@ -1,0 +1,24 @@
+use Rattle.std.proofs.Common.{◌≡◌, ℕ, ◌-◌, ◌≤◌, Bool, Some}
+use Rattle.regex_meaning.specs.Offsets.{IsBoundary, place_at}
+use Rattle.regex_pattern_front.specs.TreeOf.{tree_of}
+use Rattle.regress_input.specs.Reading.{way}
+use Rattle.regress_program.specs.Code.{compiled}
+use Rattle.regress_program.specs.Insns.{insn_of}
+use Rattle.regress_machine.specs.Machine.{test_of}
+use Rattle.regress_undo.proofs.Advancing.{Advancing}
+use Rattle.regress_undo.proofs.turns.advance.Given as goal
+
+abbrev pub invariant-characters : goal.invariant-characters
+invariant-characters g l =
+    let text = g.Input.InputIndexer.text l.searched.input in
+    let offset = g.Input.Position.PositionType.offset in
+    record {
+      boundary : IsBoundary text (offset l.at);
+      fits : l.count ≤ l.most;
+      advancing :
+          (test : ℕ → Bool) (p : ℕ) → test_of (compiled (tree_of l.searched.program.now)) (Some (insn_of l.body)) ≡ Some test → place_at text (offset l.fn.pos) ≡ Some p
+          → Advancing text test (way g.Dir.Direction.FORWARD) p l.count (offset l.at);
+    }
+
+abbrev pub decreases-characters : goal.decreases-characters
+decreases-characters g l = l.most - l.count

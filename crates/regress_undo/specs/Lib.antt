@@ -1,0 +1,4 @@
+pub mod Memory
+pub mod Ways
+pub mod Turns
+pub mod Runs

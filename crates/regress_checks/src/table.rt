@@ -4,7 +4,7 @@
 // line feed, a call, and what the call finds. The calls are `all`, `first`, an offset for all matches from there, and
 // `anchored` for whether the pattern's program is tried at the left end alone.
 // For `new` in place of flags the pattern is read without them, and for `tree` the first field is a tree in words, which
-// may be no pattern's. The first of these read characters that no text has, and sequences of bytes in pieces.
+// may be no pattern's.
 pub const ROWS: &str = r#"a|ab~~abc~all~0..1
 ((a)|(ab))((c)|(bc))~~abc~all~0..3 0..1 0..1 - 1..3 - 1..3
 (?<=x)y~~yxy~all~2..3

@@ -23,7 +23,8 @@ pub(crate) struct Ask<'a> {
 // A number of a character, if there is one, and an offset or a number.
 pub(crate) type Answer = Option<(u32, usize)>;
 
-const NO_QUESTION: Answer = Some((0xFFFF_FFFF, 0));
+// What no row wants.
+const NO_QUESTION: Answer = Some((u32::MAX, usize::MAX));
 
 fn at(offset: Option<usize>) -> Answer {
     Some((0, offset?))

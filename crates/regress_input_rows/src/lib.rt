@@ -12,4 +12,4 @@ mod positions;
 #[cfg(test)]
 mod rows;
 #[cfg(test)]
-mod tables;
+mod table;

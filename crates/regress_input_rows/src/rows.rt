@@ -2,7 +2,7 @@
 
 use crate::asks::{Ask, write_answer};
 use crate::matches::class;
-use crate::tables::ROWS;
+use crate::table::ROWS;
 use regress_input::front::BracketContents;
 use regress_input::indexing::{AsciiInput, Ucs2Input, Utf8Input, Utf16Input, is_unit_boundary};
 use std::alloc::{AllocError, Global};

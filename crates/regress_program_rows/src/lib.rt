@@ -10,4 +10,4 @@ mod predicates;
 #[cfg(test)]
 mod rows;
 #[cfg(test)]
-mod tables;
+mod table;

@@ -3,7 +3,7 @@
 use crate::listing::{write_program, write_units};
 use crate::parts::{write_parts, write_unit_parts};
 use crate::predicates::write_predicate;
-use crate::tables::ROWS;
+use crate::table::ROWS;
 use regex_pattern_front::ir::Regex;
 use regress_trees::tree_of;
 use std::alloc::{AllocError, Global};

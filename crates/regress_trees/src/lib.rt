@@ -1,8 +1,14 @@
 //! Trees from words, for rows of trees made by hand.
 //!
 //! Each node stands before its children, as in `cat:2 alt a b goal`. Behind a colon are numbers in hexadecimal, with
-//! commas between them; as a least number of iterations `FFFFFFFF` is the greatest number there is. A word of one
-//! letter is that character.
+//! commas between them. A word of one letter is that character. The other words are:
+//!
+//! - with no child `goal`, `empty`, `any`, `start`, `char:C`, `ref:GROUP`, `set:C,..`, `byteset:B,..`, `bytes:B,..`, and
+//!   `class:FIRST,LAST,..` and `not:FIRST,LAST,..`;
+//! - with one child `group:ID`, `named:ID,LETTER`, `ahead:FIRST,END`, `behind:FIRST,END`, `loop:FIRST,END,MIN`,
+//!   `loop:FIRST,END,MIN,MAX`, `loop1:MIN` and `loop1:MIN,MAX`, where `FFFFFFFF` is the greatest minimum there is;
+//! - with two children `alt`, with so many `cat:COUNT`, and `strings:COUNT` with so many sets for its strings;
+//! - `groups` for the empty groups of all ids.
 #![tactic(auto)]
 
 use regex_pattern_front::codepointset::{CodePointSet, Interval};

@@ -17,6 +17,8 @@ use std::alloc::AllocError;
 use std::marker::Model;
 use std::ops::Range;
 
+pub mod groups;
+
 /// Why a search was refused.
 #[derive(Clone, Copy, Debug, PartialEq, Eq)]
 pub enum SearchError {

@@ -9,3 +9,4 @@ pub mod Reach
 pub mod Passing
 pub mod Fetched
 pub mod Literals
+pub mod Groups

@@ -1,11 +1,12 @@
-//! What a match answers of its groups: by number, by name, and in turn.
+//! What a match answers: its range, and the groups by number, by name and in turn.
 
-ghost use Rattle.std.specs.Prelude.{◌≡◌, map, option_map};
+ghost use Rattle.std.specs.Prelude.{◌≡◌, ◌≤◌, IsCharBoundary, map, option_map, slice_range};
 ghost use Rattle.regex_meaning.specs.Outcomes.{group_range};
-ghost use Rattle.regex_meaning.specs.Names.{group as group_of};
+ghost use Rattle.regex_meaning.specs.Names.{first_range, group as group_of, ids_named, named_group as group_of_name};
 ghost use Rattle.regress_search.specs.Answers.{answer_of, range_of};
 
 use crate::exec::Match;
+use std::alloc::AllocError;
 use std::ops::Range;
 
 impl Match {
@@ -30,6 +31,17 @@ impl Match {
         self.range.end
     }
 
+    /// The matched part of the text that was searched. In another text the range may not stand, so it is asked for:
+    /// that it does not run backwards, and that both ends are boundaries (`is_char_boundary`).
+    pub fn as_str<'t>(&self, text: &'t str) -> &'t str
+        requires rising { self.now.range.start ≤ self.now.range.end }
+        requires from { IsCharBoundary text.now self.now.range.start }
+        requires to { IsCharBoundary text.now self.now.range.end }
+        ensures { result.now ≡ slice_range text.now self.now.range.start self.now.range.end }
+    {
+        &text[self.range.start..self.range.end]
+    }
+
     /// The range of a group: 0 is the whole match, and the groups of the pattern follow from 1 on. None where there is
     /// no such group, or it did not match, or `captures` was cut off before it.
     pub fn group(&self, idx: usize) -> Option<Range<usize>>
@@ -40,6 +52,50 @@ impl Match {
         } else {
             range_at(&self.captures, idx - 1)
         }
+    }
+
+    /// The range of a group by name: of several groups with the name the first that matched, in order of their numbers.
+    /// None where none of them did, and for the empty name, which stands where a group has none.
+    pub fn named_group(&self, name: &str) -> Option<Range<usize>>
+        ensures { option_map range_of result ≡ group_of_name (answer_of self.now) name.now }
+    {
+        if name.is_empty() {
+            None
+        } else {
+            self.first_named(name)
+        }
+    }
+
+    // The first range that is there among the groups whose name is this one, be it the empty one.
+    fn first_named(&self, name: &str) -> Option<Range<usize>>
+        ensures { option_map range_of result ≡ first_range (answer_of self.now) (ids_named (answer_of self.now) name.now) }
+    {
+        for (id, other) in self.names.iter().enumerate() {
+            if name == other.as_str() {
+                let range = range_at(&self.captures, id);
+                if range.is_some() {
+                    return range;
+                }
+            }
+        }
+        None
+    }
+}
+
+impl Clone for Match {
+    ghost is_clone = { λ m r. answer_of r ≡ answer_of m };
+
+    /// An equal match.
+    ///
+    /// # Errors
+    ///
+    /// Where there is no memory for its lists.
+    fn clone(&self) -> Result<Match, AllocError> {
+        Ok(Match {
+            range: self.range(),
+            captures: self.captures.clone()?,
+            names: self.names.clone()?,
+        })
     }
 }
 

@@ -10,3 +10,4 @@ pub mod Passing
 pub mod Fetched
 pub mod Literals
 pub mod Groups
+pub mod InTurn

@@ -18,6 +18,7 @@ use std::marker::Model;
 use std::ops::Range;
 
 pub mod groups;
+pub mod in_turn;
 
 /// Why a search was refused.
 #[derive(Clone, Copy, Debug, PartialEq, Eq)]

@@ -67,7 +67,7 @@ impl Match {
     }
 
     // The first range that is there among the groups whose name is this one, be it the empty one.
-    fn first_named(&self, name: &str) -> Option<Range<usize>>
+    pub(super) fn first_named(&self, name: &str) -> Option<Range<usize>>
         ensures { option_map range_of result ≡ first_range (answer_of self.now) (ids_named (answer_of self.now) name.now) }
     {
         for (id, other) in self.names.iter().enumerate() {

@@ -4,6 +4,8 @@
 #[cfg(test)]
 mod anchored;
 #[cfg(test)]
+mod groups;
+#[cfg(test)]
 mod lines;
 #[cfg(test)]
 mod public;

@@ -39,7 +39,7 @@ impl Match {
         requires to { IsCharBoundary text.now self.now.range.end }
         ensures { result.now ≡ slice_range text.now self.now.range.start self.now.range.end }
     {
-        &text[self.range.start..self.range.end]
+        &text[self.start()..self.end()]
     }
 
     /// The range of a group: 0 is the whole match, and the groups of the pattern follow from 1 on. None where there is

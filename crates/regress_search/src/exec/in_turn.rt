@@ -20,7 +20,7 @@ impl Match {
     {
         Groups {
             matched: self,
-            next: 0,
+            number: 0,
         }
     }
 
@@ -31,7 +31,7 @@ impl Match {
     {
         NamedGroups {
             matched: self,
-            next: 0,
+            id: 0,
         }
     }
 
@@ -80,7 +80,7 @@ fn is_among(name: &str, names: &[String]) -> bool
 pub struct Groups<'m> {
     matched: &'m Match,
     // The number of the next group.
-    next: usize,
+    number: usize,
 }
 
 impl<'m> Model for Groups<'m> {
@@ -90,7 +90,7 @@ impl<'m> Model for Groups<'m> {
 
     ghost Value = { List (Option (ℕ × ℕ)) };
 
-    ghost view = { λ it. drop it.next (all_groups (answer_of it.matched.now)) };
+    ghost view = { λ it. drop it.number (all_groups (answer_of it.matched.now)) };
 }
 
 impl<'m> Groups<'m> {
@@ -100,7 +100,7 @@ impl<'m> Groups<'m> {
     {
         Groups {
             matched: self.matched,
-            next: self.next,
+            number: self.number,
         }
     }
 }
@@ -114,11 +114,11 @@ impl<'m> Iterator for Groups<'m> {
 
     /// The next group's range, which is none where the group did not match.
     fn next(&mut self) -> Option<Option<Range<usize>>> {
-        if self.matched.captures.len() < self.next {
+        if self.matched.captures.len() < self.number {
             return None;
         }
-        let group = self.matched.group(self.next);
-        self.next += 1;
+        let group = self.matched.group(self.number);
+        self.number += 1;
         Some(group)
     }
 
@@ -127,15 +127,15 @@ impl<'m> Iterator for Groups<'m> {
         ensures upper { IfSome result.1 (UpTo (at_most (length self.now))) }
         ensures exact { result ≡ (length self.now, Some (length self.now)) }
     {
-        let left = self.len();
-        (left, Some(left))
+        let groups = self.len();
+        (groups, Some(groups))
     }
 }
 
 impl<'m> ExactSizeIterator for Groups<'m> {
     /// How many groups are left.
     fn len(&self) -> usize {
-        (self.matched.captures.len() + 1).saturating_sub(self.next)
+        (self.matched.captures.len() + 1).saturating_sub(self.number)
     }
 }
 
@@ -147,7 +147,7 @@ impl<'m> FusedIterator for Groups<'m> {}
 pub struct NamedGroups<'m> {
     matched: &'m Match,
     // The id from which on the names are looked at.
-    next: usize,
+    id: usize,
 }
 
 impl<'m> Model for NamedGroups<'m> {
@@ -157,7 +157,7 @@ impl<'m> Model for NamedGroups<'m> {
 
     ghost Value = { List (List ℕ × Option (ℕ × ℕ)) };
 
-    ghost view = { λ it. named_from (answer_of it.matched.now) it.next };
+    ghost view = { λ it. named_from (answer_of it.matched.now) it.id };
 }
 
 impl<'m> NamedGroups<'m> {
@@ -167,7 +167,7 @@ impl<'m> NamedGroups<'m> {
     {
         NamedGroups {
             matched: self.matched,
-            next: self.next,
+            id: self.id,
         }
     }
 }
@@ -182,8 +182,8 @@ impl<'m> Iterator for NamedGroups<'m> {
     /// The next name, and its range, which is none where none of its groups matched.
     fn next(&mut self) -> Option<(&'m str, Option<Range<usize>>)> {
         let matched = self.matched;
-        let (behind, name) = matched.new_name_from(self.next)?;
-        self.next = behind;
+        let (behind, name) = matched.new_name_from(self.id)?;
+        self.id = behind;
         Some((name, matched.first_named(name)))
     }
 
@@ -192,15 +192,15 @@ impl<'m> Iterator for NamedGroups<'m> {
         ensures upper { IfSome result.1 (UpTo (at_most (length self.now))) }
         ensures exact { result ≡ (length self.now, Some (length self.now)) }
     {
-        let left = self.len();
-        (left, Some(left))
+        let names = self.len();
+        (names, Some(names))
     }
 }
 
 impl<'m> ExactSizeIterator for NamedGroups<'m> {
     /// How many names are left. It looks for each of them.
     fn len(&self) -> usize {
-        self.matched.new_names_from(self.next)
+        self.matched.new_names_from(self.id)
     }
 }
 

@@ -7,4 +7,4 @@ pub returns : goal.returns
 returns c =
     let names = map-clones string_bytes _ (λ x y h. h) _ _ c.in_ok-clone-2.ensures.cases.0 in
     let captures = same_from_all_zip _ _ _ c.in_ok-clone.ensures.cases.0 (λ x y h. search rules) in
-    record { cases = cc (captures, names, c.range.ensures) }
+    record { cases = cc (captures, names) }

@@ -9,5 +9,5 @@ pub returns-clause-steps : goal.returns-clause-steps
 returns-clause-steps c =
     let m = answer_of c.self.inside.matched.now in
     let captures = c.self.inside.matched.now.captures in
-    let inside : c.self.inside.next ≤ length m.captures = omega (arith, length-map captures.items (option_map range_of), captures.ok, c.len.ensures) in
-    sym c.self.view_is ∙ groups-here m c.self.inside.next inside ∙ ap (λ g. g ∷ drop (c.self.inside.next + 1) (all_groups m)) (sym c.group-group.ensures)
+    let inside : c.self.inside.number ≤ length m.captures = omega (arith, length-map captures.items (option_map range_of), captures.ok, c.len.ensures) in
+    sym c.self.view_is ∙ groups-here m c.self.inside.number inside ∙ ap (λ g. g ∷ drop (c.self.inside.number + 1) (all_groups m)) (sym c.group-group.ensures)

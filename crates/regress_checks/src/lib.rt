@@ -6,6 +6,8 @@ mod anchored;
 #[cfg(test)]
 mod flags;
 #[cfg(test)]
+mod groups;
+#[cfg(test)]
 mod lines;
 #[cfg(test)]
 mod public;

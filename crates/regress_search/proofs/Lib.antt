@@ -9,3 +9,5 @@ pub mod Reach
 pub mod Passing
 pub mod Fetched
 pub mod Literals
+pub mod Groups
+pub mod InTurn

@@ -3,3 +3,4 @@ pub mod ToCome
 pub mod Passing
 pub mod States
 pub mod Attempts
+pub mod InTurn

@@ -17,6 +17,9 @@ use std::alloc::AllocError;
 use std::marker::Model;
 use std::ops::Range;
 
+pub mod groups;
+pub mod in_turn;
+
 /// Why a search was refused.
 #[derive(Clone, Copy, Debug, PartialEq, Eq)]
 pub enum SearchError {

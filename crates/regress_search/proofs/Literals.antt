@@ -60,9 +60,11 @@ module _ (unicode : Bool) where
   plain-strings icase behind [] at = (refl, tt)
   plain-strings icase behind (s ∷ []) at = plain-string icase behind s
   plain-strings icase behind (s ∷ t ∷ more) at =
-      let second = at + length s + 2 in
-      (refl, plain-append (string_code unicode icase behind s) (Jump (second + strings_size (t ∷ more)) ∷ strings_code unicode icase behind (t ∷ more) second)
-      (plain-string icase behind s) (refl, plain-strings icase behind (t ∷ more) second))
+      let second = at + length s + 2 in (
+        refl,
+        plain-append (string_code unicode icase behind s) (Jump (second + strings_size (t ∷ more)) ∷ strings_code unicode icase behind (t ∷ more) second)
+            (plain-string icase behind s) (refl, plain-strings icase behind (t ∷ more) second),
+      )
 
   code-plain : (behind : Bool) (node : Node) (at loops brackets : ℕ) → reads_bytes node ≡ false → plain (code_of unicode behind node at loops brackets)
   unfolding code_of
@@ -79,11 +81,13 @@ module _ (unicode : Bool) where
       (code-plain behind first at loops brackets (none-left (reads_bytes first) (reads_bytes rest) h))
       (code-plain behind rest (at + size first) (loops + loop_count first) (brackets + length (brackets_of first)) (none-right (reads_bytes first) (reads_bytes rest) h))
   code-plain behind (alt left right) at loops brackets h =
-      let second = at + size left + 2 in
-      (refl, plain-append (code_of unicode behind left (at + 1) loops brackets)
-      (Jump (second + size right) ∷ code_of unicode behind right second (loops + loop_count left) (brackets + length (brackets_of left)))
-      (code-plain behind left (at + 1) loops brackets (none-left (reads_bytes left) (reads_bytes right) h))
-      (refl, code-plain behind right second (loops + loop_count left) (brackets + length (brackets_of left)) (none-right (reads_bytes left) (reads_bytes right) h)))
+      let second = at + size left + 2 in (
+        refl,
+        plain-append (code_of unicode behind left (at + 1) loops brackets)
+            (Jump (second + size right) ∷ code_of unicode behind right second (loops + loop_count left) (brackets + length (brackets_of left)))
+            (code-plain behind left (at + 1) loops brackets (none-left (reads_bytes left) (reads_bytes right) h))
+            (refl, code-plain behind right second (loops + loop_count left) (brackets + length (brackets_of left)) (none-right (reads_bytes left) (reads_bytes right) h)),
+      )
   code-plain behind (bracket contents) at loops brackets h =
       (plain-if (is_ascii_set contents) (AsciiBracket (bytes_where (in_intervals contents.intervals))) (Bracket brackets) refl refl, tt)
   code-plain behind (string_set strings icase) at loops brackets h = plain-strings icase behind strings at
@@ -95,14 +99,17 @@ module _ (unicode : Bool) where
       (refl, plain-append (code_of unicode behind contents (at + 1) loops brackets) (EndCaptureGroup id ∷ []) (code-plain behind contents (at + 1) loops brackets h) (refl, tt))
   code-plain behind (back_ref group icase) at loops brackets h = (refl, tt)
   code-plain behind (lookaround l contents) at loops brackets h =
-      let continuation = at + size contents + 2 in
-      (plain-if l.backwards (Lookbehind l.negate l.start_group l.end_group continuation) (Lookahead l.negate l.start_group l.end_group continuation) refl refl,
-      plain-append (code_of unicode l.backwards contents (at + 1) loops brackets) (Goal ∷ []) (code-plain l.backwards contents (at + 1) loops brackets h) (refl, tt))
+      let continuation = at + size contents + 2 in (
+        plain-if l.backwards (Lookbehind l.negate l.start_group l.end_group continuation) (Lookahead l.negate l.start_group l.end_group continuation) refl refl,
+        plain-append (code_of unicode l.backwards contents (at + 1) loops brackets) (Goal ∷ []) (code-plain l.backwards contents (at + 1) loops brackets h) (refl, tt),
+      )
   code-plain behind (loop q start_group end_group loopee) at loops brackets h =
-      let body = at + 1 + (end_group - start_group) in
-      (refl, plain-append (map ResetCaptureGroup (numbers_from start_group (end_group - start_group))) (code_of unicode behind loopee body (loops + 1) brackets ++ LoopAgain at ∷ [])
-      (plain-map ResetCaptureGroup (λ id. refl) (numbers_from start_group (end_group - start_group)))
-      (plain-append (code_of unicode behind loopee body (loops + 1) brackets) (LoopAgain at ∷ []) (code-plain behind loopee body (loops + 1) brackets h) (refl, tt)))
+      let body = at + 1 + (end_group - start_group) in (
+        refl,
+        plain-append (map ResetCaptureGroup (numbers_from start_group (end_group - start_group))) (code_of unicode behind loopee body (loops + 1) brackets ++ LoopAgain at ∷ [])
+            (plain-map ResetCaptureGroup (λ id. refl) (numbers_from start_group (end_group - start_group)))
+            (plain-append (code_of unicode behind loopee body (loops + 1) brackets) (LoopAgain at ∷ []) (code-plain behind loopee body (loops + 1) brackets h) (refl, tt)),
+      )
   code-plain behind (loop_1_char_body q loopee) at loops brackets h = (refl, code-plain behind loopee (at + 1) loops brackets h)
 
 plain-at : (xs : List Insn) (i : ℕ) (x : Insn) → plain xs → slice_get xs i ≡ Some x → is_literal x ≡ false

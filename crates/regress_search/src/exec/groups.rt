@@ -1,6 +1,6 @@
 //! What a match answers: its range, and the groups by number, by name and in turn.
 
-ghost use Rattle.std.specs.Prelude.{◌≡◌, ◌≤◌, IsCharBoundary, map, option_map, slice_range};
+ghost use Rattle.std.specs.Prelude.{◌≡◌, ◌≤◌, IfOk, IsCharBoundary, map, option_map, slice_range};
 ghost use Rattle.regex_meaning.specs.Outcomes.{group_range};
 ghost use Rattle.regex_meaning.specs.Names.{first_range, group as group_of, ids_named, named_group as group_of_name};
 ghost use Rattle.regress_search.specs.Answers.{answer_of, range_of};
@@ -80,17 +80,15 @@ impl Match {
         }
         None
     }
-}
-
-impl Clone for Match {
-    ghost is_clone = { λ m r. answer_of r ≡ answer_of m };
 
     /// An equal match.
     ///
     /// # Errors
     ///
     /// Where there is no memory for its lists.
-    fn clone(&self) -> Result<Match, AllocError> {
+    pub fn clone(&self) -> Result<Self, AllocError>
+        ensures { IfOk result (λ m. answer_of m ≡ answer_of self.now) }
+    {
         Ok(Match {
             range: self.range(),
             captures: self.captures.clone()?,

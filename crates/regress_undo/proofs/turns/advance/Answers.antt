@@ -39,7 +39,7 @@ characters-preserved g c =
     let t = some-of (test_of (compiled (tree_of c.args.searched.now.program.now)) (Some (insn_of c.args.body))) c.requires.test in
     let p = IsBoundary-place text (offset c.args.pos) is c.requires.boundary in
     let more : (test : ℕ → Bool) (q : ℕ) → test_of (compiled (tree_of c.args.searched.now.program.now)) (Some (insn_of c.args.body)) ≡ Some test → place_at text (offset c.args.pos) ≡ Some q
-        → Advancing text test d q (c.characters.count + 1) to =
+    → Advancing text test d q (c.characters.count + 1) to =
     λ test q e f.
     advance-more text is test d q c.characters.count (offset c.characters.at) to (c.characters.invariant.advancing test q e f)
     (ap (λ b. led_to b to) (sym c.if-not-accepts_next.false) ∙ c.accepts_next.ensures test e) in

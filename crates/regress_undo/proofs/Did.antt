@@ -1,5 +1,5 @@
 -- Turns that leave no mark.
-use Rattle.std.proofs.Common.{◌≡◌, ℕ, ◌≤◌, List, [], ◌∷◌, ◌++◌, length, map, take, drop, reverse, refl, ap, sym, ◌∙◌, subst}
+use Rattle.std.proofs.Common.{◌≡◌, ℕ, ◌≤◌, List, [], ◌∷◌, ◌++◌, length, map, take, drop, reverse, refl, ap, sym, ◌∙◌, subst, arith}
 use Rattle.std.proofs.Math.Seq.{take-append_seam, drop-append_seam}
 use Rattle.std.specs.Prelude.{if◌then◌else◌}
 use Rattle.regex_meaning.specs.Text.{Text}
@@ -22,6 +22,10 @@ take-all (x ∷ xs) = ap (λ l. x ∷ l) (take-all xs)
 drop-all : {X : Type 0} (xs : List X) → drop (length xs) xs ≡ []
 drop-all [] = refl
 drop-all (x ∷ xs) = drop-all xs
+
+append-none : {X : Type 0} (xs : List X) → xs ++ [] ≡ xs
+append-none [] = refl
+append-none (x ∷ xs) = ap (λ l. x ∷ l) (append-none xs)
 
 module _ {P : Type 0} (position : P → ℕ) (text : Text) (m : Memory) (marks : List (Mark P)) (ip : ℕ) (pos : P) where
   -- no mark was made
@@ -64,5 +68,27 @@ module _ {P : Type 0} (position : P → ℕ) (text : Text) (m : Memory) (marks :
         does =
             ap (λ l. next_of position (state_of position m ip pos) m' (waits position text m'.groups m'.slots.items m'.log.items (reverse l)) turn) rest
             ∙ ap (λ ts. next_of position (state_of position m ip pos) m' ts turn) (waits-one m'.groups m'.slots.items m'.log.items mark same)
+            ∙ does;
+      }
+
+  -- a mark was made with what the slots hold now, for these offsets
+  pub marked-run : (mark : Mark P) (marks' : List (Mark P)) (turn : Turn P) (next : Next) (ats : List ℕ) → marks' ≡ marks ++ mark ∷ [] → mark.log_len ≡ length m.log.items
+      → offsets_of text (position mark.next) (position mark.last) ≡ ats
+      → next_of position (state_of position m ip pos) m (map (λ at. waiting (state_in m.groups m.slots.items mark.ip at)) ats) turn ≡ next
+      → Did position text m marks ip pos m marks' turn next
+  marked-run mark marks' turn next ats e len at does =
+      let rest : drop (length marks) marks' ≡ mark ∷ [] = ap (drop (length marks)) e ∙ drop-append_seam marks (mark ∷ []) in
+      let held : undone m.slots.items (drop mark.log_len m.log.items) ≡ m.slots.items =
+      ap (λ n. undone m.slots.items (drop n m.log.items)) len ∙ ap (undone m.slots.items) (drop-all m.log.items) in
+      record {
+        groups = refl;
+        behind = behind-itself m.slots.items m.log.items;
+        kept = ap (take (length marks)) e ∙ take-append_seam marks (mark ∷ []);
+        made = subst (made_between (length m.log.items) (length m.log.items)) (sym rest) (omega (arith, len), omega (arith, len), tt);
+        does =
+            ap (λ l. next_of position (state_of position m ip pos) m (waits position text m.groups m.slots.items m.log.items (reverse l)) turn) rest
+            ∙ ap (λ slots. next_of position (state_of position m ip pos) m (map (λ at. waiting (state_in m.groups slots mark.ip at)) (offsets_of text (position mark.next) (position mark.last)) ++ []) turn) held
+            ∙ ap (λ ts. next_of position (state_of position m ip pos) m ts turn)
+            (append-none (map (λ at. waiting (state_in m.groups m.slots.items mark.ip at)) (offsets_of text (position mark.next) (position mark.last))) ∙ ap (map (λ at. waiting (state_in m.groups m.slots.items mark.ip at))) at)
             ∙ does;
       }

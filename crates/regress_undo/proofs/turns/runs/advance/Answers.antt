@@ -8,7 +8,7 @@ use Rattle.regress_program.specs.Insns.{insn_of}
 use Rattle.regress_machine.specs.Machine.{test_of}
 use Rattle.regress_search.proofs.Reach.{some-of}
 use Rattle.regress_undo.proofs.Advancing.{advance-none, advance-more, advance-end, advance-most, advance-boundary, Advancing}
-use Rattle.regress_undo.proofs.turns.advance.Goals as goal
+use Rattle.regress_undo.proofs.turns.runs.advance.Goals as goal
 
 pub characters-init : goal.characters-init
 characters-init g c =
@@ -20,8 +20,8 @@ characters-init g c =
       advancing = λ test p e f. advance-none text is test (way g.Dir.Direction.FORWARD) p (g.Input.Position.PositionType.offset c.args.pos) f;
     }
 
-pub returns-then-not-accepts_next : goal.returns-then-not-accepts_next
-returns-then-not-accepts_next g c = λ test p e f.
+pub returns-then-not-accepts_next-clause-advanced : goal.returns-then-not-accepts_next-clause-advanced
+returns-then-not-accepts_next-clause-advanced g c = λ test p e f.
     let text = g.Input.InputIndexer.text c.args.searched.now.input in
     let is = g.met.Input.InputIndexer.is_text c.args.searched.now.input in
     let offset = g.Input.Position.PositionType.offset in
@@ -49,8 +49,8 @@ characters-preserved g c =
       advancing = λ test q e f. more test q e f;
     }
 
-pub returns : goal.returns
-returns g c = λ test p e f.
+pub returns-clause-advanced : goal.returns-clause-advanced
+returns-clause-advanced g c = λ test p e f.
     let text = g.Input.InputIndexer.text c.args.searched.now.input in
     let is = g.met.Input.InputIndexer.is_text c.args.searched.now.input in
     let offset = g.Input.Position.PositionType.offset in

@@ -3,7 +3,7 @@ use Rattle.regress_machine.specs.Machine.{running, goes}
 use Rattle.regress_search.proofs.Readers.{by-only}
 use Rattle.regress_undo.proofs.Slots.{group-below}
 use Rattle.regress_undo.proofs.Did.{unmarked}
-use Rattle.regress_undo.proofs.turns.reset_group.Goals as goal
+use Rattle.regress_undo.proofs.turns.groups.reset_group.Goals as goal
 
 pub reset_group-requires : goal.reset_group-requires
 reset_group-requires g c = group-below c.args.memory.now.groups c.args.memory.now.slots.items c.args.ip (g.Input.Position.PositionType.offset c.args.pos) c.args.id _ c.requires.can

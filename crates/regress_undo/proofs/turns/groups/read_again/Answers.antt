@@ -6,7 +6,7 @@ use Rattle.regress_search.specs.States.{CanTake}
 use Rattle.regress_search.proofs.Readers.{nothing-read, group-read}
 use Rattle.regress_undo.specs.Ways.{state_in}
 use Rattle.regress_undo.proofs.Did.{unchanged}
-use Rattle.regress_undo.proofs.turns.read_again.Goals as goal
+use Rattle.regress_undo.proofs.turns.groups.read_again.Goals as goal
 
 pub returns-in_default : goal.returns-in_default
 returns-in_default g c =

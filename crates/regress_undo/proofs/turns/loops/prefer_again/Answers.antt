@@ -5,7 +5,7 @@ use Rattle.regress_undo.specs.Memory.{undone}
 use Rattle.regress_undo.specs.Ways.{state_in}
 use Rattle.regress_undo.proofs.Undoing.{behind-longer}
 use Rattle.regress_undo.proofs.Did.{marked}
-use Rattle.regress_undo.proofs.turns.prefer_again.Goals as goal
+use Rattle.regress_undo.proofs.turns.loops.prefer_again.Goals as goal
 
 pub returns : goal.returns
 returns g c =

@@ -3,7 +3,7 @@ use Rattle.regress_machine.specs.Machine.{running, goes}
 use Rattle.regress_search.proofs.Readers.{by-only}
 use Rattle.regress_undo.specs.Ways.{state_in}
 use Rattle.regress_undo.proofs.Did.{unmarked}
-use Rattle.regress_undo.proofs.turns.open_group.Goals as goal
+use Rattle.regress_undo.proofs.turns.groups.open_group.Goals as goal
 
 pub returns : goal.returns
 returns g c =

@@ -6,7 +6,7 @@ use Rattle.regress_program.specs.Code.{compiled}
 use Rattle.regress_program.specs.Insns.{insn_of}
 use Rattle.regress_machine.specs.Machine.{test_of}
 use Rattle.regress_undo.proofs.Advancing.{Advancing}
-use Rattle.regress_undo.proofs.turns.advance.Given as goal
+use Rattle.regress_undo.proofs.turns.runs.advance.Given as goal
 
 abbrev pub invariant-characters : goal.invariant-characters
 invariant-characters g l =

@@ -6,7 +6,7 @@ use Rattle.regress_search.specs.States.{CanTake}
 use Rattle.regress_search.proofs.Readers.{can-then}
 use Rattle.regress_undo.specs.Ways.{state_in, loop_in}
 use Rattle.regress_undo.specs.Turns.{Did}
-use Rattle.regress_undo.proofs.turns.end_body.Goals as goal
+use Rattle.regress_undo.proofs.turns.loops.end_body.Goals as goal
 
 pub end_iteration-requires-clause-can : goal.end_iteration-requires-clause-can
 end_iteration-requires-clause-can g c =

@@ -5,7 +5,7 @@ use Rattle.regress_search.proofs.Readers.{can-then}
 use Rattle.regress_undo.specs.Ways.{state_in}
 use Rattle.regress_undo.specs.Turns.{Did}
 use Rattle.regress_undo.proofs.Slots.{range-below}
-use Rattle.regress_undo.proofs.turns.read_back.Goals as goal
+use Rattle.regress_undo.proofs.turns.groups.read_back.Goals as goal
 
 pub range_of-range-requires : goal.range_of-range-requires
 range_of-range-requires g c = range-below c.args.memory.now.groups c.args.memory.now.slots.items c.args.ip (g.Input.Position.PositionType.offset c.args.pos) c.args.group _ c.requires.can

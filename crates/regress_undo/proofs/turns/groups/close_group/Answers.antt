@@ -4,7 +4,7 @@ use Rattle.regress_machine.specs.Machine.{running, goes, go, span, with_some, Ne
 use Rattle.regress_search.proofs.Readers.{by-only}
 use Rattle.regress_undo.specs.Ways.{state_in}
 use Rattle.regress_undo.proofs.Did.{unmarked}
-use Rattle.regress_undo.proofs.turns.close_group.Goals as goal
+use Rattle.regress_undo.proofs.turns.groups.close_group.Goals as goal
 
 pub returns : goal.returns
 returns g c =

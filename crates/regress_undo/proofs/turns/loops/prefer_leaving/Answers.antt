@@ -6,7 +6,7 @@ use Rattle.regress_undo.specs.Ways.{state_in, loop_in}
 use Rattle.regress_undo.proofs.Undoing.{behind-longer, behind-then}
 use Rattle.regress_undo.proofs.Slots.{loop-below, set-back}
 use Rattle.regress_undo.proofs.Did.{marked}
-use Rattle.regress_undo.proofs.turns.prefer_leaving.Goals as goal
+use Rattle.regress_undo.proofs.turns.loops.prefer_leaving.Goals as goal
 
 pub enter_loop-requires-2 : goal.enter_loop-requires-2
 enter_loop-requires-2 g c =

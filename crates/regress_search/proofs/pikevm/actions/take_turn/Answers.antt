@@ -1,6 +1,5 @@
 use Rattle.std.proofs.Common.{◌≡◌, ◌<◌, ◌^◌, sym, subst, arith, rules, length, slice_get}
 use Rattle.std.specs.Prelude.{IfOk}
-use Rattle.regex_meaning.specs.Layout.{Insn}
 use Rattle.regex_pattern_front.specs.TreeOf.{tree_of}
 use Rattle.regress_input.specs.Reading.{way}
 use Rattle.regress_program.specs.Code.{compiled}

@@ -1,5 +1,5 @@
 -- Turns that leave no mark.
-use Rattle.std.proofs.Common.{◌≡◌, ℕ, ◌≤◌, List, [], ◌∷◌, ◌++◌, length, map, take, drop, reverse, refl, ap, sym, ◌∙◌, subst, arith}
+use Rattle.std.proofs.Common.{inl, ◌≡◌, ℕ, ◌≤◌, List, [], ◌∷◌, ◌++◌, length, map, take, drop, reverse, refl, ap, sym, ◌∙◌, subst, arith}
 use Rattle.std.proofs.Math.Seq.{take-append_seam, drop-append_seam}
 use Rattle.std.specs.Prelude.{if◌then◌else◌}
 use Rattle.regex_meaning.specs.Text.{Text}
@@ -11,8 +11,8 @@ use Rattle.regress_undo.specs.declared.turns.Turn.{Turn}
 use Rattle.regress_undo.specs.declared.memory.Slot.{Slot}
 use Rattle.regress_undo.specs.declared.memory.Change.{Change}
 use Rattle.regress_undo.specs.Memory.{undone}
-use Rattle.regress_undo.specs.Ways.{IsBehind, waits, state_in, offsets_of, from_to}
-use Rattle.regress_undo.specs.Turns.{Did, state_of, next_of, made_between}
+use Rattle.regress_undo.specs.Ways.{IsBehind, waits, state_in, offsets_of, from_to, IsRange, AreMade}
+use Rattle.regress_undo.specs.Turns.{Did, state_of, next_of}
 use Rattle.regress_undo.proofs.Undoing.{behind-itself}
 
 take-all : {X : Type 0} (xs : List X) → take (length xs) xs ≡ xs
@@ -35,7 +35,7 @@ module _ {P : Type 0} (position : P → ℕ) (text : Text) (m : Memory) (marks :
     groups = groups;
     behind = behind;
     kept = take-all marks;
-    made = subst (made_between (length m.log.items) (length m'.log.items)) (sym (drop-all marks)) tt;
+    made = subst (λ l. AreMade position text (length m.log.items) (length m'.log.items) (reverse l)) (sym (drop-all marks)) tt;
     does =
         ap (λ l. next_of position (state_of position m ip pos) m' (waits position text m'.groups m'.slots.items m'.log.items (reverse l)) turn) (drop-all marks)
         ∙ does;
@@ -64,7 +64,7 @@ module _ {P : Type 0} (position : P → ℕ) (text : Text) (m : Memory) (marks :
         groups = groups;
         behind = behind;
         kept = ap (take (length marks)) e ∙ take-append_seam marks (mark ∷ []);
-        made = subst (made_between (length m.log.items) (length m'.log.items)) (sym rest) (least, most, tt);
+        made = subst (λ l. AreMade position text (length m.log.items) (length m'.log.items) (reverse l)) (sym rest) (least, most, inl (ap position same), tt);
         does =
             ap (λ l. next_of position (state_of position m ip pos) m' (waits position text m'.groups m'.slots.items m'.log.items (reverse l)) turn) rest
             ∙ ap (λ ts. next_of position (state_of position m ip pos) m' ts turn) (waits-one m'.groups m'.slots.items m'.log.items mark same)
@@ -73,10 +73,10 @@ module _ {P : Type 0} (position : P → ℕ) (text : Text) (m : Memory) (marks :
 
   -- a mark was made with what the slots hold now, for these offsets
   pub marked-run : (mark : Mark P) (marks' : List (Mark P)) (turn : Turn P) (next : Next) (ats : List ℕ) → marks' ≡ marks ++ mark ∷ [] → mark.log_len ≡ length m.log.items
-      → offsets_of text (position mark.next) (position mark.last) ≡ ats
+      → IsRange position text (position mark.next) (position mark.last) → offsets_of text (position mark.next) (position mark.last) ≡ ats
       → next_of position (state_of position m ip pos) m (map (λ at. waiting (state_in m.groups m.slots.items mark.ip at)) ats) turn ≡ next
       → Did position text m marks ip pos m marks' turn next
-  marked-run mark marks' turn next ats e len at does =
+  marked-run mark marks' turn next ats e len ranged at does =
       let rest : drop (length marks) marks' ≡ mark ∷ [] = ap (drop (length marks)) e ∙ drop-append_seam marks (mark ∷ []) in
       let held : undone m.slots.items (drop mark.log_len m.log.items) ≡ m.slots.items =
       ap (λ n. undone m.slots.items (drop n m.log.items)) len ∙ ap (undone m.slots.items) (drop-all m.log.items) in
@@ -84,7 +84,7 @@ module _ {P : Type 0} (position : P → ℕ) (text : Text) (m : Memory) (marks :
         groups = refl;
         behind = behind-itself m.slots.items m.log.items;
         kept = ap (take (length marks)) e ∙ take-append_seam marks (mark ∷ []);
-        made = subst (made_between (length m.log.items) (length m.log.items)) (sym rest) (omega (arith, len), omega (arith, len), tt);
+        made = subst (λ l. AreMade position text (length m.log.items) (length m.log.items) (reverse l)) (sym rest) (omega (arith, len), omega (arith, len), ranged, tt);
         does =
             ap (λ l. next_of position (state_of position m ip pos) m (waits position text m.groups m.slots.items m.log.items (reverse l)) turn) rest
             ∙ ap (λ slots. next_of position (state_of position m ip pos) m (map (λ at. waiting (state_in m.groups slots mark.ip at)) (offsets_of text (position mark.next) (position mark.last)) ++ []) turn) held

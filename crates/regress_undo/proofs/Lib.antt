@@ -6,3 +6,4 @@ pub mod Ranges
 pub mod Runs
 pub mod Taken
 pub mod Scanning
+pub mod Back

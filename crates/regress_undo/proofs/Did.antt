@@ -1,6 +1,7 @@
 -- Turns that leave no mark.
 use Rattle.std.proofs.Common.{inl, ◌≡◌, ℕ, ◌≤◌, List, [], ◌∷◌, ◌++◌, length, map, take, drop, reverse, refl, ap, sym, ◌∙◌, subst, arith}
-use Rattle.std.proofs.Math.Seq.{take-append_seam, drop-append_seam}
+use Rattle.std.proofs.Math.Seq.{take-append_seam, drop-append_seam, take-length, drop-length}
+use Rattle.std.proofs.lemmas.List.{append-nil}
 use Rattle.std.specs.Prelude.{if◌then◌else◌}
 use Rattle.regex_meaning.specs.Text.{Text}
 use Rattle.regex_meaning.proofs.FirstBytes.{eq-true}
@@ -15,18 +16,6 @@ use Rattle.regress_undo.specs.Ways.{IsBehind, waits, state_in, offsets_of, from_
 use Rattle.regress_undo.specs.Turns.{Did, state_of, next_of}
 use Rattle.regress_undo.proofs.Undoing.{behind-itself}
 
-take-all : {X : Type 0} (xs : List X) → take (length xs) xs ≡ xs
-take-all [] = refl
-take-all (x ∷ xs) = ap (λ l. x ∷ l) (take-all xs)
-
-drop-all : {X : Type 0} (xs : List X) → drop (length xs) xs ≡ []
-drop-all [] = refl
-drop-all (x ∷ xs) = drop-all xs
-
-append-none : {X : Type 0} (xs : List X) → xs ++ [] ≡ xs
-append-none [] = refl
-append-none (x ∷ xs) = ap (λ l. x ∷ l) (append-none xs)
-
 module _ {P : Type 0} (position : P → ℕ) (text : Text) (m : Memory) (marks : List (Mark P)) (ip : ℕ) (pos : P) where
   -- no mark was made
   pub unmarked : (m' : Memory) (turn : Turn P) (next : Next) → m'.groups ≡ m.groups → IsBehind m.slots.items m.log.items m'.slots.items m'.log.items
@@ -34,10 +23,10 @@ module _ {P : Type 0} (position : P → ℕ) (text : Text) (m : Memory) (marks :
   unmarked m' turn next groups behind does = record {
     groups = groups;
     behind = behind;
-    kept = take-all marks;
-    made = subst (λ l. AreMade position text (length m.log.items) (length m'.log.items) (reverse l)) (sym (drop-all marks)) tt;
+    kept = take-length marks;
+    made = subst (λ l. AreMade position text (length m.log.items) (length m'.log.items) (reverse l)) (sym (drop-length marks)) tt;
     does =
-        ap (λ l. next_of position (state_of position m ip pos) m' (waits position text m'.groups m'.slots.items m'.log.items (reverse l)) turn) (drop-all marks)
+        ap (λ l. next_of position (state_of position m ip pos) m' (waits position text m'.groups m'.slots.items m'.log.items (reverse l)) turn) (drop-length marks)
         ∙ does;
   }
 
@@ -79,7 +68,7 @@ module _ {P : Type 0} (position : P → ℕ) (text : Text) (m : Memory) (marks :
   marked-run mark marks' turn next ats e len ranged at does =
       let rest : drop (length marks) marks' ≡ mark ∷ [] = ap (drop (length marks)) e ∙ drop-append_seam marks (mark ∷ []) in
       let held : undone m.slots.items (drop mark.log_len m.log.items) ≡ m.slots.items =
-      ap (λ n. undone m.slots.items (drop n m.log.items)) len ∙ ap (undone m.slots.items) (drop-all m.log.items) in
+      ap (λ n. undone m.slots.items (drop n m.log.items)) len ∙ ap (undone m.slots.items) (drop-length m.log.items) in
       record {
         groups = refl;
         behind = behind-itself m.slots.items m.log.items;
@@ -89,6 +78,6 @@ module _ {P : Type 0} (position : P → ℕ) (text : Text) (m : Memory) (marks :
             ap (λ l. next_of position (state_of position m ip pos) m (waits position text m.groups m.slots.items m.log.items (reverse l)) turn) rest
             ∙ ap (λ slots. next_of position (state_of position m ip pos) m (map (λ at. waiting (state_in m.groups slots mark.ip at)) (offsets_of text (position mark.next) (position mark.last)) ++ []) turn) held
             ∙ ap (λ ts. next_of position (state_of position m ip pos) m ts turn)
-            (append-none (map (λ at. waiting (state_in m.groups m.slots.items mark.ip at)) (offsets_of text (position mark.next) (position mark.last))) ∙ ap (map (λ at. waiting (state_in m.groups m.slots.items mark.ip at))) at)
+            (append-nil (map (λ at. waiting (state_in m.groups m.slots.items mark.ip at)) (offsets_of text (position mark.next) (position mark.last))) ∙ ap (map (λ at. waiting (state_in m.groups m.slots.items mark.ip at))) at)
             ∙ does;
       }

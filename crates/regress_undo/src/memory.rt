@@ -34,7 +34,11 @@ pub struct Memory {
 
 impl Memory {
     /// No slots.
-    pub fn new(alloc: Global) -> Self {
+    pub fn new(alloc: Global) -> Self
+        ensures groups { result.groups ≡ 0 }
+        ensures slots { result.slots.items ≡ [] }
+        ensures log { result.log.items ≡ [] }
+    {
         Memory {
             groups: 0,
             slots: Vec::new(alloc),

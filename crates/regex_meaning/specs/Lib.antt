@@ -1,6 +1,7 @@
 pub mod Lists
 pub mod Tree
 pub mod Text
+pub mod Units
 pub mod Offsets
 pub mod Outcomes
 pub mod Find

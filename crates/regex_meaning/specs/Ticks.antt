@@ -8,6 +8,7 @@ use Rattle.regex_meaning.specs.Text.{Text, Direction, rightwards, leftwards, las
 use Rattle.regex_meaning.specs.Outcomes.{Groups, Outcome, accepts, cleared, captured, most_of, spells, spelled, looked, direction_of, outcomes}
 use Rattle.regex_meaning.specs.StartPredicate.{StartPredicate, start_anchored, start_predicate, may_start}
 use Rattle.regex_meaning.specs.Find.{no_groups, first_match, place_behind}
+use Rattle.regex_meaning.specs.Layout.{chunks}
 
 pub data Item : Type 0 where
   tick : Item
@@ -91,15 +92,6 @@ abbrev pub chunk_tries : List (List ℕ) → List ℕ → ℕ
 chunk_tries [] bytes = 0
 chunk_tries (chunk ∷ chunks) bytes =
     if starts_with nat_eq bytes chunk then chunk_tries chunks (drop (length chunk) bytes) + 1 else 1
-
--- at most `count` pieces of 16 bytes, the last one shorter where needed
-abbrev pub chunks_of : (count : ℕ) → List ℕ → List (List ℕ)
-chunks_of zero bytes = []
-chunks_of (suc count) [] = []
-chunks_of (suc count) (b ∷ bytes) = take 16 (b ∷ bytes) ∷ chunks_of count (drop 16 (b ∷ bytes))
-
-abbrev pub chunks : List ℕ → List (List ℕ)
-chunks bytes = chunks_of (length bytes) bytes
 
 module _ (text : Text) where
   -- the characters on the direction's side, the nearest first

@@ -54,22 +54,22 @@ is_some_and (Some c) test = test c
 
 -- ---- Loops
 
--- a loop of which `body` is one iteration; `most` is never absent
-pub record Repetition : Type 0 where
+-- a loop of which `body` gives one iteration's list; `most` is never absent
+pub record Repetition (A : Type 0) : Type 0 where
   pub least : ℕ
   pub most : ℕ
   pub greedy : Bool
-  pub body : ℕ → Groups → List Outcome
+  pub body : ℕ → Groups → List A
 
 -- an absent maximum is `usize::MAX`
 abbrev pub most_of : Quantifier → ℕ
 most_of q = unwrap_or q.max (2 ^ 64 - 1)
 
-abbrev pub repetition : Quantifier → (body : ℕ → Groups → List Outcome) → Repetition
+abbrev pub repetition : {A : Type 0} → Quantifier → (body : ℕ → Groups → List A) → Repetition A
 repetition q body = record { least = q.min; most = most_of q; greedy = q.greedy; body = body }
 
 -- an outcome of an iteration after k others counts unless it is empty past the minimum
-abbrev pub counts : Repetition → (k place : ℕ) → Outcome → Bool
+abbrev pub counts : {A : Type 0} → Repetition A → (k place : ℕ) → Outcome → Bool
 counts r k place o = not (o.end == place && nat_lt r.least (k + 1))
 
 -- a greedy loop prefers `again`
@@ -78,7 +78,7 @@ preferred true again leave = again ++ leave
 preferred false again leave = leave ++ again
 
 -- The outcomes after k iterations, of which `turns` bounds those that still count. `repeat` gives enough of them.
-unfoldable pub rounds : Repetition → (turns k place : ℕ) → Groups → List Outcome
+unfoldable pub rounds : Repetition Outcome → (turns k place : ℕ) → Groups → List Outcome
 rounds r zero k place groups = []
 rounds r (suc turns) k place groups =
     let again = flat_map (λ o. rounds r turns (k + 1) o.end o.groups) (filter (counts r k place) (r.body place groups)) in
@@ -141,7 +141,7 @@ module _ (text : Text) where
       (is_some_and (character_after text place) (is_word_char unicode_icase))
 
   -- The outcomes after k iterations. Those up to the minimum count, and then each one that moves.
-  abbrev pub repeat : Repetition → Direction → (k place : ℕ) → Groups → List Outcome
+  abbrev pub repeat : Repetition Outcome → Direction → (k place : ℕ) → Groups → List Outcome
   repeat r direction k place groups =
       rounds r (r.least - k + characters_left text direction place + 1) k place groups
 

@@ -145,33 +145,44 @@ module _ (text : Text) where
   repeat r direction k place groups =
       rounds r (r.least - k + characters_left text direction place + 1) k place groups
 
+  -- Beside each case is the clause of ECMA-262, 9th edition, whose matcher it restates.
   unfoldable pub outcomes : Node → Direction → ℕ → Groups → List Outcome
+  -- 21.2.2.4, the empty alternative
   outcomes empty direction place groups = record { end = place; groups = groups } ∷ []
+  -- 21.2.2.2, the continuation at the end of the pattern
   outcomes goal direction place groups = record { end = place; groups = groups } ∷ []
+  -- 21.2.2.8 and 21.2.2.8.1, one character of a set; that of a bracket by 21.2.2.13
   outcomes (char c) direction place groups = one_character (accepts (char c)) direction place groups
   outcomes (char_set members) direction place groups = one_character (accepts (char_set members)) direction place groups
-  outcomes (byte_set members) direction place groups = one_character (accepts (byte_set members)) direction place groups
   outcomes (bracket contents) direction place groups = one_character (accepts (bracket contents)) direction place groups
   outcomes match_any direction place groups = one_character (accepts match_any) direction place groups
   outcomes match_any_except_line_terminator direction place groups =
       one_character (accepts match_any_except_line_terminator) direction place groups
+  -- rule of this crate: what the bytes or the strings spell, string after string
+  outcomes (byte_set members) direction place groups = one_character (accepts (byte_set members)) direction place groups
   outcomes (byte_sequence bytes) direction place groups = spelled nat_eq (chars bytes) direction place groups
   outcomes (string_set strings icase) direction place groups =
       flat_map (λ s. spelled (spells icase) s direction place groups) strings
+  -- 21.2.2.4, each end of the first child in turn
   outcomes end_of_cat direction place groups = record { end = place; groups = groups } ∷ []
   outcomes (cat first rest) direction place groups =
       flat_map (λ o. outcomes rest direction o.end o.groups) (outcomes first direction place groups)
+  -- 21.2.2.3, the left arm first
   outcomes (alt left right) direction place groups =
       outcomes left direction place groups ++ outcomes right direction place groups
+  -- 21.2.2.8, with the range in order in both directions
   outcomes (capture_group id name contents) direction place groups =
       map (captured id place) (outcomes contents direction place (cleared id 1 groups))
+  -- 21.2.2.9 and 21.2.2.9.1
   outcomes (back_ref group icase) direction place groups =
       same_as_group icase (group_range groups (group - 1)) direction place groups
+  -- 21.2.2.6
   outcomes (anchor type multiline) direction place groups = here_if (anchor_holds type multiline place) place groups
   outcomes (word_boundary invert unicode_icase) direction place groups =
       here_if (differ invert (is_at_word_boundary unicode_icase place)) place groups
   outcomes (lookaround l contents) direction place groups =
       looked l.negate (outcomes contents (direction_of l) place groups) place groups
+  -- 21.2.2.5, 21.2.2.5.1 and 21.2.2.7; an iteration first clears the groups inside
   outcomes (loop q start_group end_group loopee) direction place groups =
       repeat (repetition q (λ p g. outcomes loopee direction p (cleared start_group (end_group - start_group) g)))
       direction 0 place groups

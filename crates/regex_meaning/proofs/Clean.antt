@@ -12,6 +12,7 @@ use Rattle.regex_meaning.specs.Lists.{contains, numbers_from}
 use Rattle.regex_meaning.specs.Tree.{Intervals, Node, char_set, byte_set, byte_sequence, cat, alt, bracket, capture_group, loop, loop_1_char_body, every, Tree}
 use Rattle.regex_meaning.specs.Text.{is_scalar}
 use Rattle.regex_meaning.specs.WellFormed.{has_text_in_sequence, fits_instructions, IsWellFormed}
+use Rattle.regex_meaning.proofs.WellFormedLemmas.{clauses}
 use Rattle.regex_meaning.specs.StartPredicate.{Beginning, open_ended, arbitrary, sequence, one_of, sequence_of, sequence_or, shared_front, first_byte, union, then_of, join, beginning, bytes_where, begun_by, meet, first_bytes, code_points, begins_characters, is_anchored, start_of, start_anchored, start_predicate}
 use Rattle.regex_meaning.proofs.FirstBytes.{and-left, and-right, and-both, or-left, or-right, lt-false, eq-false, in_range-below, in_range-true, true-in_range, true-lt, first_of_char}
 use Rattle.regex_meaning.proofs.Sound.{all-contains}
@@ -157,4 +158,4 @@ predicate-on_characters tree w = go (not tree.flags.multiline && is_anchored tre
   where
     go : (b : Bool) → IsTrue (begins_characters (if b then start_anchored else start_of (beginning tree.root)))
     go true = refl
-    go false = clean-start (beginning tree.root) (clean tree.root w.sequences w.sets)
+    go false = clean-start (beginning tree.root) (clean tree.root (clauses tree.root w).sequences (clauses tree.root w).sets)

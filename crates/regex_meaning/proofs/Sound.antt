@@ -12,6 +12,7 @@ use Rattle.regex_meaning.specs.Tree.{Quantifier, Node, empty, goal, char, char_s
 use Rattle.regex_meaning.specs.Text.{Text, rightwards, is_scalar, character_before, last_place}
 use Rattle.regex_meaning.specs.Outcomes.{Outcome, Groups, Repetition, repetition, rounds, counts, preferred, captured, cleared, accepts, one_character, spelled, looked, is_edge, outcomes}
 use Rattle.regex_meaning.specs.WellFormed.{has_text_in_sequence, fits_instructions, IsWellFormed}
+use Rattle.regex_meaning.proofs.WellFormedLemmas.{clauses}
 use Rattle.regex_meaning.specs.StartPredicate.{Beginning, open_ended, arbitrary, sequence, one_of, sequence_of, then_of, join, beginning, bytes_from, bytes_where, first_bytes, code_points, is_anchored, start_of, start_anchored, start_predicate, may_start}
 use Rattle.regex_meaning.specs.Find.{no_groups}
 use Rattle.regex_meaning.proofs.Each.{Each-append, Each-if, Each-when, Each-filter, Each-map, Each-flat_map, Each-image}
@@ -232,4 +233,4 @@ predicate-holds tree w text p c l ne = go (not tree.flags.multiline && is_anchor
         some-of (λ o. p ≡ 0) ((p == 0) ≡ true) _ ne (anchored text tree.root (and-right _ _ e) p (no_groups tree.root) l) (λ o z. eq-true p 0 z)
     go false e =
         some-of (λ o. Says (beginning tree.root) (bytes_from text p) p o.end) (IsTrue (may_start (start_of (beginning tree.root)) text p)) _ ne
-        (begins text c tree.root w.sequences w.sets p (no_groups tree.root)) (λ o s. start-holds (beginning tree.root) text p o.end s)
+        (begins text c tree.root (clauses tree.root w).sequences (clauses tree.root w).sets p (no_groups tree.root)) (λ o s. start-holds (beginning tree.root) text p o.end s)

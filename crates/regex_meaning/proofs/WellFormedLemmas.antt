@@ -1,8 +1,18 @@
--- The test of well-formed trees says what the clauses say.
-use Rattle.std.proofs.Common.{Bool, true, false, ◌&&◌, ◌↔◌, refl, arith}
+-- The clauses of well-formed trees one by one.
+use Rattle.std.proofs.Common.{Bool, true, false, ◌&&◌, length, refl, arith}
 use Rattle.std.specs.Prelude.{IsTrue}
-use Rattle.regex_meaning.specs.Tree.{Node}
-use Rattle.regex_meaning.specs.WellFormed.{IsWellFormed, is_well_formed}
+use Rattle.regex_meaning.specs.Tree.{Node, group_ids, every}
+use Rattle.regex_meaning.specs.WellFormed.{IsWellFormed, is_well_formed, goal_is_last, each_id_stands_once, names_the_groups_inside, refers_to_a_group, has_order_in_quantifier, has_one_character_body, has_text_in_sequence, fits_instructions}
+
+pub record Clauses (root : Node) : Type 0 where
+  pub goal_last : IsTrue (goal_is_last root)
+  pub ids : IsTrue (each_id_stands_once root)
+  pub enclosed : IsTrue (every names_the_groups_inside root)
+  pub references : IsTrue (every (refers_to_a_group (length (group_ids root))) root)
+  pub quantifiers : IsTrue (every has_order_in_quantifier root)
+  pub bodies : IsTrue (every has_one_character_body root)
+  pub sequences : IsTrue (every has_text_in_sequence root)
+  pub sets : IsTrue (every fits_instructions root)
 
 both : (a b : Bool) → IsTrue a → IsTrue b → IsTrue (a && b)
 both true b h k = k
@@ -35,18 +45,22 @@ eight a b c d e f g h all =
       right (a && b && c && d && e && f && g) h all,
     )
 
-pub well_formed-iff : (root : Node) → IsTrue (is_well_formed root) ↔ IsWellFormed root
+pub clauses : (root : Node) → IsWellFormed root → Clauses root
 unfolding is_well_formed
-well_formed-iff root = (
-  (λ h. let p = eight _ _ _ _ _ _ _ _ h in record {
-    goal_last = p.0;
-    ids = p.1;
-    enclosed = p.2;
-    references = p.3;
-    quantifiers = p.4;
-    bodies = p.5;
-    sequences = p.6;
-    sets = p.7;
-  }),
-  (λ w. both _ _ (both _ _ (both _ _ (both _ _ (both _ _ (both _ _ (both _ _ w.goal_last w.ids) w.enclosed) w.references) w.quantifiers) w.bodies) w.sequences) w.sets),
-)
+clauses root h =
+    let p = eight _ _ _ _ _ _ _ _ h in
+    record {
+      goal_last = p.0;
+      ids = p.1;
+      enclosed = p.2;
+      references = p.3;
+      quantifiers = p.4;
+      bodies = p.5;
+      sequences = p.6;
+      sets = p.7;
+    }
+
+pub by_clauses : (root : Node) → Clauses root → IsWellFormed root
+unfolding is_well_formed
+by_clauses root c =
+    both _ _ (both _ _ (both _ _ (both _ _ (both _ _ (both _ _ (both _ _ c.goal_last c.ids) c.enclosed) c.references) c.quantifiers) c.bodies) c.sequences) c.sets

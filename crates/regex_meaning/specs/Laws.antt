@@ -1,5 +1,5 @@
 -- Laws of these definitions.
-use Rattle.std.specs.Prelude.{◌≡◌, ◌↔◌, IsTrue, ℕ, zero, suc, ◌+◌, ◌-◌, ◌<◌, ◌≤◌, Bool, false, not, ◌&&◌, is_some, slice_index, List, [], ◌∷◌, ◌++◌, length, map, codes, chars, IsAscii, IfSome, if◌then◌else◌, nat_lt, nat_le, max, Option, Some, None, filter, flat_map}
+use Rattle.std.specs.Prelude.{◌≡◌, ℕ, zero, suc, ◌+◌, ◌-◌, ◌<◌, ◌≤◌, Bool, false, not, ◌&&◌, is_some, slice_index, List, [], ◌∷◌, ◌++◌, length, map, codes, chars, IsAscii, IfSome, if◌then◌else◌, nat_lt, nat_le, max, Option, Some, None, filter, flat_map}
 use Rattle.std.specs.Option.{option_or}
 use Rattle.regex_meaning.specs.Tree.{Quantifier, Node, Tree, Flags, group_ids}
 use Rattle.regex_meaning.specs.Text.{Text, Direction, rightwards, leftwards, last_place, is_high_surrogate, is_low_surrogate, is_unit_boundary, utf8_text, ascii_text, utf16_text, ucs2_text, utf16_characters}
@@ -11,7 +11,7 @@ use Rattle.regex_meaning.specs.Answers.{first_answer, next_start, answer_then_li
 use Rattle.regex_meaning.specs.Replace.{expansion, replaced}
 use Rattle.regex_meaning.specs.Flags.{flags_text, flags_of_text, escape}
 use Rattle.regex_meaning.specs.StartPredicate.{start_predicate, IsSound}
-use Rattle.regex_meaning.specs.WellFormed.{IsWellFormed, is_well_formed}
+use Rattle.regex_meaning.specs.WellFormed.{IsWellFormed}
 use Rattle.regex_meaning.specs.Ticks.{pairs, ticked, need, needs_from}
 
 -- ---- Outcomes
@@ -220,7 +220,3 @@ NamesAgree = (m : Answer) → Each (λ named. named_group m named.0 ≡ named.1)
 -- the start predicate of a well-formed tree rules out no place with an outcome
 abbrev pub PredicateIsSound : Type 0
 PredicateIsSound = (tree : Tree) → IsWellFormed tree.root → IsSound (start_predicate tree) tree.root
-
--- the test of well-formed trees says what the clauses say
-abbrev pub TestIsClauses : Type 0
-TestIsClauses = (root : Node) → IsTrue (is_well_formed root) ↔ IsWellFormed root

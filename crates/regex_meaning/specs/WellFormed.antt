@@ -90,17 +90,6 @@ fits_instructions (char_set members) = nat_le (length members) 4
 fits_instructions (string_set strings icase) = list_all (list_all (λ c. nat_le c 0x10_FFFF)) strings
 fits_instructions _ = true
 
-pub record IsWellFormed (root : Node) : Type 0 where
-  pub goal_last : IsTrue (goal_is_last root)
-  pub ids : IsTrue (each_id_stands_once root)
-  pub enclosed : IsTrue (every names_the_groups_inside root)
-  pub references : IsTrue (every (refers_to_a_group (length (group_ids root))) root)
-  pub quantifiers : IsTrue (every has_order_in_quantifier root)
-  pub bodies : IsTrue (every has_one_character_body root)
-  pub sequences : IsTrue (every has_text_in_sequence root)
-  pub sets : IsTrue (every fits_instructions root)
-
--- the same as a test
 unfoldable pub is_well_formed : Node → Bool
 is_well_formed root =
     goal_is_last root
@@ -111,3 +100,6 @@ is_well_formed root =
     && every has_one_character_body root
     && every has_text_in_sequence root
     && every fits_instructions root
+
+abbrev pub IsWellFormed : Node → Type 0
+IsWellFormed root = IsTrue (is_well_formed root)

@@ -7,8 +7,8 @@ use Rattle.regex_meaning.specs.Lists.{contains, numbers_from}
 use Rattle.regex_meaning.specs.Tree.{Quantifier, Node, empty, goal, char, char_set, byte_set, byte_sequence, cat, end_of_cat, alt, bracket, string_set, match_any, match_any_except_line_terminator, anchor, word_boundary, capture_group, back_ref, lookaround, loop, loop_1_char_body, group_ids, every}
 use Rattle.regex_meaning.specs.Text.{Text, Direction}
 use Rattle.regex_meaning.specs.Outcomes.{Groups, Outcome, outcomes}
-use Rattle.regex_meaning.specs.WellFormed.{goal_count, is_end_of_cat, ends_in_goal, encloses, names_the_groups_inside, refers_to_a_group, has_order_in_quantifier, is_one_character, has_one_character_body, has_text_in_sequence, fits_instructions, IsWellFormed}
-use Rattle.regex_meaning.proofs.WellFormedLemmas.{well_formed-iff}
+use Rattle.regex_meaning.specs.WellFormed.{goal_count, is_end_of_cat, ends_in_goal, encloses, names_the_groups_inside, refers_to_a_group, has_order_in_quantifier, is_one_character, has_one_character_body, has_text_in_sequence, fits_instructions}
+use Rattle.regex_meaning.proofs.WellFormedLemmas.{clauses, by_clauses}
 use Rattle.regex_pattern_front.specs.Optimized.{reads_one_character, optimized, OptimizedIsWellFormed, OptimizedHasSameOutcomes}
 
 -- ---- What is read off a tree
@@ -188,8 +188,8 @@ sets-optimized _ h = refl
 
 pub well_formed-optimized : OptimizedIsWellFormed
 well_formed-optimized root h =
-    let w : IsWellFormed root = (well_formed-iff root).0 h in
-    (well_formed-iff (optimized root)).1 (record {
+    let w = clauses root h in
+    by_clauses (optimized root) (record {
       goal_last = rw (goal_count-optimized root, ends_in_goal-optimized root) w.goal_last;
       ids = rw (group_ids-optimized root) w.ids;
       enclosed = every-optimized names_the_groups_inside names-optimized root w.enclosed;
@@ -255,4 +255,4 @@ module _ (text : Text) where
   same (back_ref group icase) h = refl
 
 pub outcomes-optimized : OptimizedHasSameOutcomes
-outcomes-optimized root h text d p g = ap (λ F. F d p g) (same text root ((well_formed-iff root).0 h).enclosed)
+outcomes-optimized root h text d p g = ap (λ F. F d p g) (same text root (clauses root h).enclosed)

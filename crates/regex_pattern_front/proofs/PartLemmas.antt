@@ -12,7 +12,7 @@ use Rattle.regex_meaning.specs.Lists.{contains, numbers_from}
 use Rattle.regex_meaning.specs.Tree as tree
 use Rattle.regex_meaning.specs.Tree.{group_ids, every, empty, goal, char, char_set, byte_set, byte_sequence, cat, end_of_cat, alt, bracket, string_set, match_any, match_any_except_line_terminator, anchor, word_boundary, capture_group, back_ref, lookaround, loop, loop_1_char_body, Lookaround, Quantifier}
 use Rattle.regex_meaning.specs.WellFormed.{goal_count, encloses, is_in_order, names_the_groups_inside, refers_to_a_group, has_order_in_quantifier, has_one_character_body, has_text_in_sequence, fits_instructions, is_well_formed}
-use Rattle.regex_meaning.proofs.WellFormedLemmas.{well_formed-iff}
+use Rattle.regex_meaning.proofs.WellFormedLemmas.{by_clauses}
 use Rattle.regex_pattern_front.specs.declared.ir.Node.{Node}
 use Rattle.regex_pattern_front.specs.TreeOf.{node_of, cat_of}
 use Rattle.regex_pattern_front.specs.Parts.{is_sound, times, once_within, IsPart, AreParts, IsLeaf}
@@ -378,7 +378,7 @@ whole groups greatest n within p =
     let ids_are : group_ids (cat n (cat goal end_of_cat)) ≡ group_ids n = append-none (group_ids n) in
     let count_is : length (group_ids n) ≡ groups = omega (arith, p.count) in
     let root_count : length (group_ids (cat n (cat goal end_of_cat))) ≡ groups = ap length ids_are ∙ count_is in
-    (well_formed-iff (cat n (cat goal end_of_cat))).1 (record {
+    by_clauses (cat n (cat goal end_of_cat)) (record {
       goal_last = both _ _ (whole-goals n p.goals) refl;
       ids = rw ids_are (list_all-members _ (numbers_from 0 (length (group_ids n))) (λ id k.
           let r = numbers-within id 0 (length (group_ids n)) k in

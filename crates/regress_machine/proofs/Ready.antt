@@ -9,6 +9,7 @@ use Rattle.regex_meaning.specs.Lists.{contains, numbers_from}
 use Rattle.regex_meaning.specs.Tree.{Node, empty, goal, char, char_set, byte_set, byte_sequence, cat, end_of_cat, alt, bracket, string_set, match_any, match_any_except_line_terminator, anchor, word_boundary, capture_group, back_ref, lookaround, loop, loop_1_char_body, group_ids, every}
 use Rattle.regex_meaning.specs.Text.{Text}
 use Rattle.regex_meaning.specs.WellFormed.{IsWellFormed, encloses, names_the_groups_inside, refers_to_a_group, is_one_character, has_one_character_body, has_text_in_sequence, fits_instructions}
+use Rattle.regex_meaning.proofs.WellFormedLemmas.{clauses}
 use Rattle.regex_meaning.proofs.FirstBytes.{and-left, and-right, or-left, or-right, true-le}
 use Rattle.regress_machine.specs.Bytes.{ReadsBytes, reads_bytes}
 use Rattle.regress_machine.proofs.Frames.{left_false, right_false}
@@ -303,7 +304,8 @@ module _ (text : Text) (n : ℕ) where
       )
 
 pub root_ready : (text : Text) (root : Node) → IsWellFormed root → (IsTrue (reads_bytes root) → ReadsBytes text) → Ready text (length (group_ids root)) root
-root_ready text root w bytes =
+root_ready text root well_formed bytes =
+    let w = clauses root well_formed in
     let ids = group_ids root in
     let once = w.ids in
     ready text (length ids) root (record {

@@ -25,6 +25,7 @@ use Rattle.regress_machine.proofs.OneCharacter.{loop_1_char_body_finds, loop_1_c
 use Rattle.regress_machine.proofs.Strings.{string_set_finds, string_set_rising}
 use Rattle.regress_machine.proofs.Bytes.{byte_set_finds, byte_sequence_finds, byte_sequence_rising}
 use Rattle.regress_machine.proofs.Ready.{Ready, root_ready}
+use Rattle.regex_meaning.proofs.WellFormedLemmas.{clauses}
 
 and_then-itself : (items : List Item) → and_then items (λ o. pair o ∷ []) ≡ items
 and_then-itself [] = refl
@@ -182,8 +183,8 @@ searches-find program tree text can place inside =
     let last : Mark = record { insn = length program.insns; loop = program.loops; bracket = length program.brackets } in
     let items = items_at tree text place in
     let unicode : text.unicode ≡ program.flags.unicode = can.unicode ∙ ap (λ (f : Flags). f.unicode) (sym can.code.flags) in
-    let y = root_finds program text can.is_text unicode root ready (and-right (goal_count root == 1) (ends_in_goal root) can.well_formed.goal_last)
-    (eqb-true (goal_count root) 1 (and-left (goal_count root == 1) (ends_in_goal root) can.well_formed.goal_last)) start last place g starts loops can.code.code
+    let y = root_finds program text can.is_text unicode root ready (and-right (goal_count root == 1) (ends_in_goal root) (clauses root can.well_formed).goal_last)
+    (eqb-true (goal_count root) 1 (and-left (goal_count root == 1) (ends_in_goal root) (clauses root can.well_formed).goal_last)) start last place g starts loops can.code.code
     (record { inside = inside; fit = Each-replicate (RangeFits program text can.is_text) n none tt; groups = len_g; starts = len_s ∙ sym len_g; loops = omega (arith, len_l) }) in
     let s0 = state_at program text can.is_text 0 place g starts loops in
     let begins : s0 ≡ initial program (offset text place) =

@@ -8,6 +8,7 @@ use Rattle.std.proofs.lemmas.Nat.Bits.{bit_at_set_same, bit_at_set_other, bit_at
 use Rattle.regex_meaning.specs.Lists.{contains, numbers_from}
 use Rattle.regex_meaning.specs.Tree.{Node, cat, alt, capture_group, lookaround, loop, loop_1_char_body, group_ids, every}
 use Rattle.regex_meaning.specs.WellFormed.{encloses, each_id_stands_once, IsWellFormed, goal_is_last, names_the_groups_inside, refers_to_a_group, has_order_in_quantifier, has_one_character_body, has_text_in_sequence, fits_instructions}
+use Rattle.regex_meaning.proofs.WellFormedLemmas.{clauses, by_clauses}
 use Rattle.regex_meaning.proofs.Sound.{all-contains}
 use Rattle.regex_pattern_front.proofs.ByteLemmas.{contains-numbers_from}
 use Rattle.regress_program.specs.Ids.{is_seen, are_fresh, least, past, Span, span_of, joined, is_sound_by_itself}
@@ -540,7 +541,7 @@ sound_is_well_formed root f count last found many high sound =
     let all4 = both_first (r && o && b && t) s all in
     let all3 = both_first (r && o && b) t all4 in
     let all2 = both_first (r && o) b all3 in
-    record {
+    by_clauses root (record {
       goal_last = last;
       ids = each_once root f fresh (omega arith);
       enclosed = named;
@@ -549,10 +550,11 @@ sound_is_well_formed root f count last found many high sound =
       bodies = both_second (r && o) b all3;
       sequences = both_second (r && o && b) t all4;
       sets = both_second (r && o && b && t) s all;
-    }
+    })
 
 pub well_formed_is_sound : (root : Node) (count : ℕ) → count ≡ length (group_ids root) → IsWellFormed root → every (is_sound_by_itself count) root ≡ true
-well_formed_is_sound root count many w =
+well_formed_is_sound root count many well_formed =
+    let w = clauses root well_formed in
     let r = every (refers_to_a_group count) root in
     let o = every has_order_in_quantifier root in
     let b = every has_one_character_body root in
@@ -562,11 +564,12 @@ well_formed_is_sound root count many w =
     every-sound count root ∙ both (r && o && b && t) s (both (r && o && b) t (both (r && o) b (both r o refers w.quantifiers) w.bodies) w.sequences) w.sets
 
 pub well_formed_is_found : (root : Node) (f : ℕ → Bool) → ((k : ℕ) → f k ≡ false) → IsWellFormed root → (are_fresh f (group_ids root) && every names_the_groups_inside root) ≡ true
-well_formed_is_found root f none w =
+well_formed_is_found root f none well_formed =
+    let w = clauses root well_formed in
     both (are_fresh f (group_ids root)) (every names_the_groups_inside root) (fresh-same f (λ k. false) (group_ids root) none ∙ (once_each root w.ids).0) w.enclosed
 
 pub well_formed_has_room : (root : Node) → IsWellFormed root → past (group_ids root) ≤ length (group_ids root)
-well_formed_has_room root w = (once_each root w.ids).1
+well_formed_has_room root w = (once_each root (clauses root w).ids).1
 
 -- so many ids can be counted
 pub few_ids : (root : Node) (f : ℕ → Bool) (p : Bool) → true ≡ (are_fresh f (group_ids root) && p) → past (group_ids root) ≤ 65536 → length (group_ids root) ≤ 65536

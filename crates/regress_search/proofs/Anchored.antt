@@ -12,7 +12,6 @@ use Rattle.regex_meaning.specs.Answers.{first_found, first_answer}
 use Rattle.regex_meaning.specs.Names.{answer}
 use Rattle.regex_meaning.specs.StartPredicate.{StartPredicate, start_arbitrary, start_byte_set, start_byte_sequence, start_anchored, start_predicate, may_start}
 use Rattle.regex_meaning.specs.WellFormed.{is_well_formed}
-use Rattle.regex_meaning.proofs.WellFormedLemmas.{well_formed-iff}
 use Rattle.regex_meaning.proofs.FirstBytes.{true-eq}
 use Rattle.regex_meaning.proofs.Sound.{predicate-holds}
 use Rattle.regress_program.specs.Code.{compiled}
@@ -44,7 +43,7 @@ module _ (tree : Tree) (text : Text) (w : IsTrue (is_well_formed tree.root)) (sc
       by : (os : List Outcome) → outcomes text tree.root rightwards place (no_groups tree.root) ≡ os → first_of place os ≡ None
       by [] e = refl
       by (o ∷ os) e =
-          let may = predicate-holds tree ((well_formed-iff tree.root).0 w) text place scalars inside (λ none. cc) in
+          let may = predicate-holds tree w text place scalars inside (λ none. cc) in
           let at = left-end text place (subst (λ p. IsTrue (may_start p text place)) is_anchored may) in
           absurd (omega (arith, at, behind))
 

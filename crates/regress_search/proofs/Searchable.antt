@@ -7,7 +7,6 @@ use Rattle.regex_meaning.specs.Tree.{Tree}
 use Rattle.regex_meaning.specs.Text.{Text}
 use Rattle.regex_meaning.specs.Offsets.{IsText}
 use Rattle.regex_meaning.specs.WellFormed.{is_well_formed}
-use Rattle.regex_meaning.proofs.WellFormedLemmas.{well_formed-iff}
 use Rattle.regress_program.specs.Code.{compiled}
 use Rattle.regress_program.proofs.CodeLemmas.{compiled-is_code}
 use Rattle.regress_machine.specs.Bytes.{ReadsBytes, reads_bytes}
@@ -16,8 +15,8 @@ use Rattle.regress_machine.specs.Finds.{CanSearch}
 pub can-search : (tree : Tree) (text : Text) → IsTrue (is_well_formed tree.root) → IsText text → text.unicode ≡ tree.flags.unicode
     → (IsTrue (reads_bytes tree.root) → ReadsBytes text) → CanSearch (compiled tree) tree text
 can-search tree text w is u b = record {
-  code = (compiled-is_code tree ((well_formed-iff tree.root).0 w)).code;
-  well_formed = (well_formed-iff tree.root).0 w;
+  code = (compiled-is_code tree w).code;
+  well_formed = w;
   is_text = is;
   unicode = u;
   bytes = b;

@@ -16,6 +16,7 @@ use Rattle.regex_meaning.proofs.WellFormedLemmas.{clauses}
 use Rattle.regex_meaning.specs.StartPredicate.{Beginning, open_ended, arbitrary, sequence, one_of, sequence_of, sequence_or, shared_front, first_byte, union, then_of, join, beginning, bytes_where, begun_by, meet, first_bytes, code_points, begins_characters, is_anchored, start_of, start_anchored, start_predicate}
 use Rattle.regex_meaning.proofs.FirstBytes.{and-left, and-right, and-both, or-left, or-right, lt-false, eq-false, in_range-below, in_range-true, true-in_range, true-lt, first_of_char}
 use Rattle.regex_meaning.proofs.Sound.{all-contains}
+use Rattle.std.proofs.lemmas.Bool.{or_cases}
 
 abbrev begins_one : ℕ → Bool
 begins_one b = not (is_in_range 0x80 0xBF b)
@@ -34,13 +35,9 @@ all-filter ok test (x ∷ xs) h = go (test x) refl (all-filter ok test xs h)
     go true e k = and-both _ _ (h x e) k
     go false e k = k
 
-either : (a b : Bool) → (a || b) ≡ true → (a ≡ true) ⊎ (b ≡ true)
-either true b h = inl refl
-either false b h = inr h
-
 all-union : (ok : ℕ → Bool) (xs ys : List ℕ) → list_all ok xs ≡ true → list_all ok ys ≡ true → list_all ok (union xs ys) ≡ true
 unfolding bytes_where
-all-union ok xs ys h k = all-filter ok (λ b. contains xs b || contains ys b) (numbers_from 0 256) (λ b t. go b (either (contains xs b) (contains ys b) t))
+all-union ok xs ys h k = all-filter ok (λ b. contains xs b || contains ys b) (numbers_from 0 256) (λ b t. go b (or_cases (contains xs b) (contains ys b) t))
   where
     go : (b : ℕ) → (contains xs b ≡ true) ⊎ (contains ys b ≡ true) → ok b ≡ true
     go b (inl t) = all-contains ok xs b h t
@@ -100,7 +97,7 @@ clean-first_bytes ivs = all-filter begins_one (λ b. meet (begun_by b) ivs) (num
         let no : false ≡ true = rw none at t in no
     go b false e t = refl
 
-is_scalar-of : (c : ℕ) → IsScalar c → is_scalar c ≡ true
+pub is_scalar-of : (c : ℕ) → IsScalar c → is_scalar c ≡ true
 is_scalar-of c h = go (scalar_cases c h)
   where
     go : (c < 55296) ⊎ ((57344 ≤ c) × (c < 1114112)) → is_scalar c ≡ true

@@ -10,16 +10,10 @@ use Rattle.regex_meaning.specs.Tree.{Intervals}
 use Rattle.regex_meaning.specs.Text.{is_scalar}
 use Rattle.regex_meaning.specs.Outcomes.{in_intervals}
 use Rattle.regex_meaning.specs.StartPredicate.{bytes_where, begun_by, meet}
+pub use Rattle.regex_meaning.proofs.Booleans.{and-left, and-right}
+use Rattle.std.proofs.lemmas.Bool.{false_from_ne_true, cases_lt}
 
 -- ---- Tests
-
-pub and-left : (a b : Bool) → (a && b) ≡ true → a ≡ true
-and-left true b h = refl
-and-left false b h = h
-
-pub and-right : (a b : Bool) → (a && b) ≡ true → b ≡ true
-and-right true b h = h
-and-right false b h = grind arith
 
 pub and-both : (a b : Bool) → a ≡ true → b ≡ true → (a && b) ≡ true
 and-both a b h k = rw (h, k)
@@ -50,18 +44,14 @@ true-lt x y h = ltb→lt x y (true-T _ h)
 pub true-le : (x y : ℕ) → nat_le x y ≡ true → x ≤ y
 true-le x y h = leb→le x y (true-T _ h)
 
-not_true : (b : Bool) → (b ≡ true → ⊥) → b ≡ false
-not_true true h = absurd (h refl)
-not_true false h = refl
-
 pub lt-false : (x y : ℕ) → y ≤ x → nat_lt x y ≡ false
-lt-false x y h = not_true _ (λ e. let less = true-lt x y e in absurd (omega arith))
+lt-false x y h = false_from_ne_true _ (λ e. let less = true-lt x y e in absurd (omega arith))
 
 pub le-false : (x y : ℕ) → y < x → nat_le x y ≡ false
-le-false x y h = not_true _ (λ e. let less = true-le x y e in absurd (omega arith))
+le-false x y h = false_from_ne_true _ (λ e. let less = true-le x y e in absurd (omega arith))
 
 pub eq-false : (x y : ℕ) → x ≢ y → (x == y) ≡ false
-eq-false x y h = not_true _ (λ e. h (eqb→eq x y (true-T _ e)))
+eq-false x y h = false_from_ne_true _ (λ e. h (eqb→eq x y (true-T _ e)))
 
 pub eq-true : (x y : ℕ) → x ≡ y → (x == y) ≡ true
 eq-true x y h = eq-eqb x y h
@@ -245,16 +235,13 @@ scalar-below c h = go (is_in_range 0 0xD7FF c) refl
     go true e = let r = true-in_range 0 0xD7FF c e in omega arith
     go false e = let r = true-in_range 0xE000 0x10_FFFF c (rw e at h) in omega arith
 
-below-or : (x y : ℕ) → (x < y) ⊎ (y ≤ x)
-below-or x y = grind arith
-
 first_past-2 : (c : ℕ) → 2048 ≤ c → c < 0x11_0000 → (c < 65536) ⊎ (65536 ≤ c) → FirstOf c
-first_past-2 c h k (inl l) = go (below-or c 4096)
+first_past-2 c h k (inl l) = go (cases_lt c 4096)
   where
     go : (c < 4096) ⊎ (4096 ≤ c) → FirstOf c
     go (inl m) = record { byte = 224 + c / 4096; rest = rest-of (encode c); is = encode-3 c h l; lead = lead-3-low c h m }
     go (inr m) = record { byte = 224 + c / 4096; rest = rest-of (encode c); is = encode-3 c h l; lead = lead-3 c m l }
-first_past-2 c h k (inr l) = go (below-or c 0x4_0000) (below-or c 0x10_0000)
+first_past-2 c h k (inr l) = go (cases_lt c 0x4_0000) (cases_lt c 0x10_0000)
   where
     go : (c < 0x4_0000) ⊎ (0x4_0000 ≤ c) → (c < 0x10_0000) ⊎ (0x10_0000 ≤ c) → FirstOf c
     go (inl m) n = record { byte = 240 + c / 262144; rest = rest-of (encode c); is = encode-4 c l; lead = lead-4-low c l m }
@@ -262,9 +249,9 @@ first_past-2 c h k (inr l) = go (below-or c 0x4_0000) (below-or c 0x10_0000)
     go (inr m) (inr n) = record { byte = 240 + c / 262144; rest = rest-of (encode c); is = encode-4 c l; lead = lead-4-high c n k }
 
 pub first_of_char : (c : ℕ) → is_scalar c ≡ true → FirstOf c
-first_of_char c scalar = go (below-or c 128) (below-or c 2048)
+first_of_char c scalar = go (cases_lt c 128) (cases_lt c 2048)
   where
     go : (c < 128) ⊎ (128 ≤ c) → (c < 2048) ⊎ (2048 ≤ c) → FirstOf c
     go (inl l) m = record { byte = c; rest = []; is = encode-1 c l; lead = lead-1 c l }
     go (inr l) (inl m) = record { byte = 192 + c / 64; rest = rest-of (encode c); is = encode-2 c l m; lead = lead-2 c l m }
-    go (inr l) (inr m) = first_past-2 c m (scalar-below c scalar) (below-or c 65536)
+    go (inr l) (inr m) = first_past-2 c m (scalar-below c scalar) (cases_lt c 65536)

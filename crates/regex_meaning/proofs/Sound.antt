@@ -15,13 +15,12 @@ use Rattle.regex_meaning.specs.WellFormed.{has_text_in_sequence, fits_instructio
 use Rattle.regex_meaning.proofs.WellFormedLemmas.{clauses}
 use Rattle.regex_meaning.specs.StartPredicate.{Beginning, open_ended, arbitrary, sequence, one_of, sequence_of, then_of, join, beginning, bytes_from, bytes_where, first_bytes, code_points, is_anchored, start_of, start_anchored, start_predicate, may_start}
 use Rattle.regex_meaning.specs.Find.{no_groups}
-use Rattle.regex_meaning.proofs.Each.{Each-append, Each-if, Each-when, Each-filter, Each-map, Each-flat_map, Each-image}
+use Rattle.regex_meaning.proofs.Each.{Each-append, Each-if, Each-when, Each-filter, Each-map, Each-flat_map, Each-image, Each-all}
 use Rattle.regex_meaning.proofs.FirstBytes.{and-left, and-right, true-lt, true-eq, eq-true, le-false, encode-1, FirstOf, contains-bytes_where}
 use Rattle.regex_meaning.proofs.Start.{Says, OfChars, starts-first, from-byte, join-left, join-right, next-says, spelled-bytes, first-byte-in, in-singles, in-bracket}
 
 Each-any : {A : Type 0} (X : Type 0) → X → (xs : List A) → Each (λ (x : A). X) xs
-Each-any X x [] = tt
-Each-any X x (y ∷ ys) = (x, Each-any X x ys)
+Each-any X x xs = Each-all (λ y. X) (λ y. x) xs
 
 preferred-each : (P : Outcome → Type 0) (greedy : Bool) (again leave : List Outcome) → Each P again → Each P leave → Each P (preferred greedy again leave)
 preferred-each P true again leave h k = Each-append P again leave h k

@@ -13,18 +13,8 @@ use Rattle.regex_meaning.specs.Outcomes.{is_some_and, in_intervals, accepts}
 use Rattle.regex_meaning.specs.StartPredicate.{Beginning, open_ended, arbitrary, sequence, one_of, join, sequence_or, shared_front, union, first_byte, begins_with_one_of, bytes_from, outside, without, code_points, first_bytes, begun_by, meet}
 use Rattle.regex_meaning.specs.Lists.{contains}
 use Rattle.regex_meaning.proofs.FirstBytes.{in_range-true, true-in_range, lt-true, scalar-below, and-left, and-right, and-both, or-left, or-right, true-eq, eq-true, contains-bytes_where, first_of_char, FirstOf}
-
-or-false-left : (a b : Bool) → (a || b) ≡ false → a ≡ false
-or-false-left true b h = h
-or-false-left false b h = refl
-
-or-false-right : (a b : Bool) → (a || b) ≡ false → b ≡ false
-or-false-right true b h = grind arith
-or-false-right false b h = h
-
-not-true-false : (b : Bool) → not b ≡ true → b ≡ false
-not-true-false true h = grind arith
-not-true-false false h = refl
+use Rattle.std.proofs.lemmas.Bool.{cases_lt, not-true}
+use Rattle.regex_meaning.proofs.Booleans.{or-false-left, or-false-right}
 
 -- what a beginning says of the bytes from a place and of the end of an outcome there
 abbrev pub Says : Beginning → List ℕ → (place end : ℕ) → Type 0
@@ -159,9 +149,6 @@ any-append-right : (test : (ℕ × ℕ) → Bool) (xs ys : Intervals) → list_a
 any-append-right test [] ys h = h
 any-append-right test (x ∷ xs) ys h = or-right (test x) _ (any-append-right test xs ys h)
 
-below-or : (x y : ℕ) → (x < y) ⊎ (y ≤ x)
-below-or x y = grind arith
-
 in-outside : (other this : ℕ × ℕ) (c : ℕ) → is_in_range this.0 this.1 c ≡ true → is_in_range other.0 other.1 c ≡ false → in_intervals (outside other this) c ≡ true
 in-outside other this c h k = go (nat_lt other.1 other.0) refl
   where
@@ -185,7 +172,7 @@ in-outside other this c h k = go (nat_lt other.1 other.0) refl
 
     go : (b : Bool) → nat_lt other.1 other.0 ≡ b → in_intervals (if b then this ∷ [] else before ++ behind) c ≡ true
     go true e = or-left _ _ h
-    go false e = within (below-or c other.0) (below-or other.1 c)
+    go false e = within (cases_lt c other.0) (cases_lt other.1 c)
 
 in-each-outside : (other : ℕ × ℕ) (these : Intervals) (c : ℕ) → in_intervals these c ≡ true → is_in_range other.0 other.1 c ≡ false
     → in_intervals (flat_map (outside other) these) c ≡ true
@@ -222,5 +209,5 @@ in-bracket contents c s h = go contents.invert refl
     go : (b : Bool) → contents.invert ≡ b → in_intervals (if b then without ((0, 0x10_FFFF) ∷ []) contents.intervals else contents.intervals) c ≡ true
     go true e =
         in-without ((0, 0x10_FFFF) ∷ []) contents.intervals c (or-left _ _ (in_range-true 0 0x10_FFFF c (omega arith) (let l = scalar-below c s in omega arith)))
-        (not-true-false (in_intervals contents.intervals c) (rw e at h))
+        (not-true (in_intervals contents.intervals c) (rw e at h))
     go false e = rw e at h

@@ -5,24 +5,11 @@ use Rattle.regex_meaning.specs.Tree.{Quantifier, Node, empty, goal, char, char_s
 use Rattle.regex_meaning.specs.Text.{Text, Direction}
 use Rattle.regex_meaning.specs.Outcomes.{Groups, Outcome, repetition, rounds, counts, preferred, captured, cleared, looked, direction_of, spelled, spells, outcomes, most_of}
 use Rattle.regex_meaning.specs.Ticks.{Item, tick, pair, pairs, ticks, and_then, ticked_pairs, with_ticks_between, ticked_alt, ways, ticked_rounds, ticked_string, ticked_strings, ticked}
+use Rattle.std.proofs.lemmas.List.{append-nil, map-id}
+use Rattle.std.proofs.lemmas.List.Concat.{flat_map_single}
+use Rattle.regex_meaning.proofs.Lists.{flat_map-same}
 
 -- ---- Lists
-
-append-nil : (xs : List Outcome) → xs ++ [] ≡ xs
-append-nil [] = refl
-append-nil (x ∷ xs) = ap (λ (ys : List Outcome). x ∷ ys) (append-nil xs)
-
-flat_map-same : (f g : Outcome → List Outcome) (xs : List Outcome) → ((o : Outcome) → f o ≡ g o) → flat_map f xs ≡ flat_map g xs
-flat_map-same f g [] h = refl
-flat_map-same f g (x ∷ xs) h = rw (h x, flat_map-same f g xs h)
-
-flat_map-one : (f : Outcome → Outcome) (xs : List Outcome) → flat_map (λ o. f o ∷ []) xs ≡ map f xs
-flat_map-one f [] = refl
-flat_map-one f (x ∷ xs) = ap (λ (ys : List Outcome). f x ∷ ys) (flat_map-one f xs)
-
-map-same : (xs : List Outcome) → map (λ o. o) xs ≡ xs
-map-same [] = refl
-map-same (x ∷ xs) = ap (λ (ys : List Outcome). x ∷ ys) (map-same xs)
 
 -- a list for each kept element is a list for each, with nothing where it is dropped
 flat_map-filter : (kept : Outcome → Bool) (f : Outcome → List Outcome) (xs : List Outcome)
@@ -63,7 +50,7 @@ pairs-and_then (pair o ∷ items) next = rw (pairs-append (next o) (and_then ite
 
 pairs-ticked_pairs : (items : List Item) → pairs (ticked_pairs items) ≡ pairs items
 pairs-ticked_pairs items =
-    rw (pairs-and_then items (λ o. tick ∷ pair o ∷ []), flat_map-one (λ o. o) (pairs items), map-same (pairs items))
+    rw (pairs-and_then items (λ o. tick ∷ pair o ∷ []), flat_map_single (λ o. o) (pairs items), map-id (pairs items))
 
 pairs-ticked_alt : (left right : List Item) → pairs (ticked_alt left right) ≡ pairs left ++ pairs right
 pairs-ticked_alt left right = rw (pairs-append (ticked_pairs left) (tick ∷ right), pairs-ticked_pairs left)
@@ -92,8 +79,8 @@ pairs-again : (kept : Outcome → Bool) (further : Outcome → List Item) (later
     → pairs (and_then items (λ o. tick ∷ (if kept o then further o else []))) ≡ flat_map later (filter kept os)
 pairs-again kept further later h items os e =
     rw (pairs-and_then items (λ o. tick ∷ (if kept o then further o else [])), e)
-    (flat_map-same (λ o. pairs (if kept o then further o else [])) (λ o. if kept o then later o else []) os
-    (λ o. if-pairs (kept o) (further o) (later o) (h o))
+    (flat_map-same (λ o. pairs (if kept o then further o else [])) (λ o. if kept o then later o else [])
+    (λ o. if-pairs (kept o) (further o) (later o) (h o)) os
     ∙ flat_map-filter kept later os)
 
 pairs-ticked_rounds : (q : Quantifier) (ticked_body : ℕ → Groups → List Item) (body : ℕ → Groups → List Outcome)
@@ -149,7 +136,7 @@ module _ (text : Text) where
   pairs-ticked (string_set strings icase) d place groups = pairs-ticked_strings icase strings d place groups
   pairs-ticked (cat first rest) d place groups =
       rw (pairs-and_then (ticked text first d place groups) (λ o. ticked text rest d o.end o.groups), pairs-ticked first d place groups)
-      (flat_map-same _ _ (outcomes text first d place groups) (λ o. pairs-ticked rest d o.end o.groups))
+      (flat_map-same _ _ (λ o. pairs-ticked rest d o.end o.groups) (outcomes text first d place groups))
   pairs-ticked (alt left right) d place groups =
       rw (
         pairs-ticked_alt (ticked text left d place groups) (ticked text right d place groups),
@@ -160,7 +147,7 @@ module _ (text : Text) where
       rw (
         pairs-and_then (ticked text contents d place (cleared id 1 groups)) (λ o. tick ∷ pair (captured id place o) ∷ []),
         pairs-ticked contents d place (cleared id 1 groups),
-      ) (flat_map-one (captured id place) _)
+      ) (flat_map_single (captured id place) _)
   pairs-ticked (lookaround l contents) d place groups =
       rw (pairs-ticks, pairs-pair)
       (ap (λ (os : List Outcome). looked l.negate os place groups)

@@ -7,6 +7,7 @@ use Rattle.regex_meaning.specs.Lists.{contains}
 use Rattle.regex_meaning.specs.Text.{is_high_surrogate, is_low_surrogate, character_of_pair, utf16_width, utf16_characters, offsets_from, is_unit_boundary, utf16_text, one_unit, ascii_text, ucs2_text}
 use Rattle.regex_meaning.specs.Offsets.{place_at, units}
 use Rattle.regex_meaning.specs.Laws.{is_within_pair}
+use Rattle.std.proofs.Math.Bool.{and-false}
 
 -- two tests of order are the same where the orders are
 le-same : (a b c d : ℕ) → (a ≤ b → c ≤ d) → (c ≤ d → a ≤ b) → nat_le a b ≡ nat_le c d
@@ -40,10 +41,6 @@ unit_boundary-place_at units unicode i =
     ∙ sym (some-cond _ _)
 
 -- ---- Between units
-
-and-false : (b : Bool) → (b && false) ≡ false
-and-false true = refl
-and-false false = refl
 
 -- no offset stands before the first
 none-before : (ws : List ℕ) (at i : ℕ) → i < at → contains (offsets_from at ws) i ≡ false
@@ -164,13 +161,6 @@ last-utf16 (u ∷ v ∷ us) at small = elim (cases_Bool (is_high_surrogate u && 
       rw (apart, single-width u (small 0 (omega arith)))
       (last-utf16 (v ∷ us) (at + 1) (behind-first u (v ∷ us) small) ∙ one-on at (length (v ∷ us)))
 ]
-
--- the length of each text is that of its units
-pub units-ascii : (bytes : List ℕ) (unicode : Bool) → units (ascii_text bytes unicode) ≡ length bytes
-units-ascii bytes unicode = last-single bytes 0 ∙ zero-add (length bytes)
-
-pub units-ucs2 : (us : List ℕ) (unicode : Bool) → units (ucs2_text us unicode) ≡ length us
-units-ucs2 us unicode = last-single us 0 ∙ zero-add (length us)
 
 pub units-utf16 : (us : List ℕ) (unicode : Bool) → AreUnits us → units (utf16_text us unicode) ≡ length us
 units-utf16 us unicode small = last-utf16 us 0 small ∙ zero-add (length us)

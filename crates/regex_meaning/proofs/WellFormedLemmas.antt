@@ -3,6 +3,8 @@ use Rattle.std.proofs.Common.{Bool, true, false, ◌&&◌, length, refl, arith}
 use Rattle.std.specs.Prelude.{IsTrue}
 use Rattle.regex_meaning.specs.Tree.{Node, group_ids, every}
 use Rattle.regex_meaning.specs.WellFormed.{IsWellFormed, is_well_formed, goal_is_last, each_id_stands_once, names_the_groups_inside, refers_to_a_group, has_order_in_quantifier, has_one_character_body, has_text_in_sequence, fits_instructions}
+use Rattle.std.proofs.lemmas.Bool.{and_from}
+use Rattle.regex_meaning.proofs.Booleans.{and-left, and-right}
 
 pub record Clauses (root : Node) : Type 0 where
   pub goal_last : IsTrue (goal_is_last root)
@@ -14,35 +16,23 @@ pub record Clauses (root : Node) : Type 0 where
   pub sequences : IsTrue (every has_text_in_sequence root)
   pub sets : IsTrue (every fits_instructions root)
 
-both : (a b : Bool) → IsTrue a → IsTrue b → IsTrue (a && b)
-both true b h k = k
-both false b h k = h
-
-left : (a b : Bool) → IsTrue (a && b) → IsTrue a
-left true b h = refl
-left false b h = h
-
-right : (a b : Bool) → IsTrue (a && b) → IsTrue b
-right true b h = h
-right false b h = grind arith
-
 eight : (a b c d e f g h : Bool) → IsTrue (a && b && c && d && e && f && g && h)
     → IsTrue a × IsTrue b × IsTrue c × IsTrue d × IsTrue e × IsTrue f × IsTrue g × IsTrue h
 eight a b c d e f g h all =
-    let to_g = left (a && b && c && d && e && f && g) h all in
-    let to_f = left (a && b && c && d && e && f) g to_g in
-    let to_e = left (a && b && c && d && e) f to_f in
-    let to_d = left (a && b && c && d) e to_e in
-    let to_c = left (a && b && c) d to_d in
-    let to_b = left (a && b) c to_c in (
-      left a b to_b,
-      right a b to_b,
-      right (a && b) c to_c,
-      right (a && b && c) d to_d,
-      right (a && b && c && d) e to_e,
-      right (a && b && c && d && e) f to_f,
-      right (a && b && c && d && e && f) g to_g,
-      right (a && b && c && d && e && f && g) h all,
+    let to_g = and-left (a && b && c && d && e && f && g) h all in
+    let to_f = and-left (a && b && c && d && e && f) g to_g in
+    let to_e = and-left (a && b && c && d && e) f to_f in
+    let to_d = and-left (a && b && c && d) e to_e in
+    let to_c = and-left (a && b && c) d to_d in
+    let to_b = and-left (a && b) c to_c in (
+      and-left a b to_b,
+      and-right a b to_b,
+      and-right (a && b) c to_c,
+      and-right (a && b && c) d to_d,
+      and-right (a && b && c && d) e to_e,
+      and-right (a && b && c && d && e) f to_f,
+      and-right (a && b && c && d && e && f) g to_g,
+      and-right (a && b && c && d && e && f && g) h all,
     )
 
 pub clauses : (root : Node) → IsWellFormed root → Clauses root
@@ -63,4 +53,4 @@ clauses root h =
 pub by_clauses : (root : Node) → Clauses root → IsWellFormed root
 unfolding is_well_formed
 by_clauses root c =
-    both _ _ (both _ _ (both _ _ (both _ _ (both _ _ (both _ _ (both _ _ c.goal_last c.ids) c.enclosed) c.references) c.quantifiers) c.bodies) c.sequences) c.sets
+    and_from _ _ (and_from _ _ (and_from _ _ (and_from _ _ (and_from _ _ (and_from _ _ (and_from _ _ c.goal_last c.ids) c.enclosed) c.references) c.quantifiers) c.bodies) c.sequences) c.sets

@@ -13,13 +13,7 @@ use Rattle.regex_meaning.proofs.FirstBytes.{and-left, and-right, and-both, or-le
 use Rattle.regress_machine.specs.Bytes.{ReadsBytes}
 use Rattle.regress_machine.proofs.OneTests.{low_scalar}
 use Rattle.regress_machine.proofs.Bytes.{utf8_scalars}
-
-is_scalar-of : (c : ℕ) → scalar c ≡ true → is_scalar c ≡ true
-is_scalar-of c h = go (scalar_cases c h)
-  where
-    go : (c < 55296) ⊎ ((57344 ≤ c) × (c < 1114112)) → is_scalar c ≡ true
-    go (inl l) = or-left _ _ (in_range-true 0 0xD7FF c (omega arith) (omega arith))
-    go (inr l) = or-right (is_in_range 0 0xD7FF c) _ (in_range-true 0xE000 0x10_FFFF c l.0 (let u = l.1 in omega arith))
+use Rattle.regex_meaning.proofs.Clean.{is_scalar-of}
 
 all_scalar : (cs : List ℕ) → scalars cs ≡ true → list_all is_scalar cs ≡ true
 all_scalar [] h = refl

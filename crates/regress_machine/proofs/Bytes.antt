@@ -25,10 +25,11 @@ use Rattle.regress_machine.proofs.Sets.{one_items, none_finds, byte_pair_finds, 
 use Rattle.regress_machine.proofs.Beside.{Beside, nothing_left, one_more, beside, length-nearest}
 use Rattle.regress_machine.proofs.OneTests.{low_scalar, scalar_of, utf8_text_of}
 use Rattle.regress_machine.proofs.OneCharacter.{reached_behind}
-use Rattle.regress_machine.proofs.Stands.{and_true, stands, stands-length, in_reading_order, length-reading, beside-stands}
+use Rattle.regress_machine.proofs.Stands.{stands, stands-length, in_reading_order, length-reading, beside-stands}
 use Rattle.regress_machine.proofs.Strings.{items_if, items_if-pair, tried_more, same_number}
 use Rattle.regress_machine.proofs.Chunks.{chunks_stand, chunks_stand-concat, total, in_code_order, chunks_read, chunks_read-cons, concat-chunks, total-chunks}
 use Rattle.regress_machine.proofs.Utf8.{starts-stands, scalars_of, bytes-stand, side, nearest-side, scalars-side, bytes, bytes_near, bytes_near-side, offset-inside, offset-moved}
+use Rattle.std.proofs.Math.Bool.{and-true}
 
 -- ---- Lists
 
@@ -110,7 +111,7 @@ module _ (text : Text) where
       go : Beside text d p → stands nat_eq (b ∷ []) (nearest_first text d p) ≡ is_some_and (next_character text d p) (contains (b ∷ []))
       go (nothing_left none nothing left) = ap (stands nat_eq (b ∷ [])) nothing ∙ sym (ap (λ o. is_some_and o (contains (b ∷ []))) none)
       go (one_more c is rest left within) =
-          ap (stands nat_eq (b ∷ [])) rest ∙ and_true (nat_eq b c) ∙ same_number b c ∙ sym (ap (λ o. is_some_and o (contains (b ∷ []))) is)
+          ap (stands nat_eq (b ∷ [])) rest ∙ and-true (nat_eq b c) ∙ same_number b c ∙ sym (ap (λ o. is_some_and o (contains (b ∷ []))) is)
 
 module _ (program : Program) (text : Text) (is_text : IsText text) where
   module _ (d : Direction) (E : Ending) (g : Groups) (s : List ℕ) (ls : List LoopData) where

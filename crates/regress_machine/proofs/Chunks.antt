@@ -51,10 +51,6 @@ concat-reversed (c ∷ cs) =
     map-append [] ys = refl
     map-append (x ∷ xs) ys = ap (λ (l : List (List ℕ)). reverse x ∷ l) (map-append xs ys)
 
-map-itself : (cs : List (List ℕ)) → map (λ c. c) cs ≡ cs
-map-itself [] = refl
-map-itself (c ∷ cs) = ap (λ (l : List (List ℕ)). c ∷ l) (map-itself cs)
-
 -- the last chunk first, where bytes are read backwards
 abbrev pub in_code_order : Direction → List (List ℕ) → List (List ℕ)
 in_code_order rightwards cs = cs

@@ -16,7 +16,8 @@ use Rattle.regress_machine.specs.Machine.{LoopData, State, Thread, running, wait
 use Rattle.regress_machine.proofs.Yields.{Ending, Yields, yields_none, yields_append, yields_same, yields_turn, yields_wait}
 use Rattle.regress_machine.proofs.Frames.{Kept, kept_itself, kept_more, kept_both, inside_itself, slice_get-set_same, slice_get-set_other}
 use Rattle.regress_machine.proofs.Nodes.{over, state_at, RangeFits, Fit, Reached, GoesOn, Enters, here, reached_both, act_at, Finds, at_mark, Rising, and_then-append, and_then-and_then, and_then-ticks}
-use Rattle.regress_machine.proofs.Groups.{map-set, Each-set}
+use Rattle.regress_machine.proofs.Groups.{map-set}
+use Rattle.regex_meaning.proofs.Each.{Each-set}
 
 -- ---- Items
 

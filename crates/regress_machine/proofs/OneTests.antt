@@ -22,21 +22,14 @@ use Rattle.regex_meaning.proofs.FirstBytes.{and-left, and-right, and-both, or-le
 use Rattle.regress_machine.specs.Machine.{test_of}
 use Rattle.regress_machine.specs.Bytes.{ReadsBytes, reads_bytes}
 use Rattle.regress_machine.proofs.Sets.{contains-padded, ascii_accepts}
+use Rattle.regex_meaning.proofs.Booleans.{same-truth}
+use Rattle.regex_meaning.proofs.Each.{Each-all}
 
 -- ---- Tests
 
 pub or_false : (x : Bool) → (x || false) ≡ true → x ≡ true
 or_false true h = refl
 or_false false h = h
-
-pub same_tests : (a b : Bool) → (a ≡ true → b ≡ true) → (b ≡ true → a ≡ true) → a ≡ b
-same_tests true b h k = sym (h refl)
-same_tests false true h k = k refl
-same_tests false false h k = refl
-
-pub each_all : (P : ℕ → Type 0) → ((c : ℕ) → P c) → (cs : List ℕ) → Each P cs
-each_all P h [] = tt
-each_all P h (c ∷ cs) = (h c, each_all P h cs)
 
 pub each_scalar : (P : ℕ → Type 0) → ((c : ℕ) → is_scalar c ≡ true → P c) → (cs : List ℕ) → list_all is_scalar cs ≡ true → Each P cs
 each_scalar P h [] s = tt
@@ -63,7 +56,7 @@ utf8_text_of bytes u = (bytes_eq-Decides (encode_utf8_all (chars bytes)) bytes).
 pub sequence_test : (bytes : List ℕ) → is_utf8 bytes ≡ true → (d : ℕ) → is_scalar d ≡ true
     → pointwise nat_eq (encode_utf8_all (d ∷ [])) bytes ≡ pointwise nat_eq (chars bytes) (d ∷ [])
 sequence_test bytes u d s =
-    same_tests (pointwise nat_eq (encode_utf8_all (d ∷ [])) bytes) (pointwise nat_eq (chars bytes) (d ∷ []))
+    same-truth (pointwise nat_eq (encode_utf8_all (d ∷ [])) bytes) (pointwise nat_eq (chars bytes) (d ∷ []))
     (λ h. let e = (bytes_eq-Decides (encode_utf8_all (d ∷ [])) bytes).0 h in
     (bytes_eq-Decides (chars bytes) (d ∷ [])).1 (ap chars (sym e) ∙ chars_of_one d s))
     (λ h. let e = (bytes_eq-Decides (chars bytes) (d ∷ [])).0 h in
@@ -75,7 +68,7 @@ low_scalar b h = or-left _ _ (and-both _ _ (le-true 0 b (omega arith)) (le-true 
 pub byte_test : (b : ℕ) → b < 128 → (d : ℕ) → is_scalar d ≡ true → pointwise nat_eq (encode_utf8_all (d ∷ [])) (b ∷ []) ≡ contains (b ∷ []) d
 byte_test b low d s =
     let is : encode_utf8_all (b ∷ []) ≡ b ∷ [] = ap (λ (l : List ℕ). l ++ []) (encode-1 b low) in
-    same_tests (pointwise nat_eq (encode_utf8_all (d ∷ [])) (b ∷ [])) (contains (b ∷ []) d)
+    same-truth (pointwise nat_eq (encode_utf8_all (d ∷ [])) (b ∷ [])) (contains (b ∷ []) d)
     (λ h. let e = (bytes_eq-Decides (encode_utf8_all (d ∷ [])) (b ∷ [])).0 h in
     let f : d ∷ [] ≡ b ∷ [] = sym (chars_of_one d s) ∙ ap chars (e ∙ sym is) ∙ chars_of_one b (low_scalar b low) in
     or-left _ _ (eq-true d b (cc)))
@@ -137,7 +130,7 @@ module _ (program : Program) (text : Text) where
   }
 
   exactly : (node : Node) → Each (λ c. accepts node c ≡ accepts node c) text.characters
-  exactly node = each_all (λ c. accepts node c ≡ accepts node c) (λ c. refl) text.characters
+  exactly node = Each-all (λ c. accepts node c ≡ accepts node c) (λ c. refl) text.characters
 
   sequence_reads : (behind : Bool) (bytes : List ℕ) (m n : Mark) → is_utf8 bytes ≡ true → (length (chars bytes) == 1) ≡ true → ReadsBytes text
       → HasAll program (map ByteSeq (ordered behind (chunks bytes))) m n → ReadsOne (byte_sequence bytes) m n
@@ -159,7 +152,7 @@ module _ (program : Program) (text : Text) where
   bracket_reads contents m n true e has =
       let members = bytes_where (in_intervals contents.intervals) in
       reads_by (bracket contents) (AsciiBracket members) (contains members) m n has refl
-      (each_all (λ c. contains members c ≡ accepts (bracket contents) c) (ascii_accepts contents e) text.characters)
+      (Each-all (λ c. contains members c ≡ accepts (bracket contents) c) (ascii_accepts contents e) text.characters)
   bracket_reads contents m n false e has = record {
     test = accepts (bracket contents);
     test_is = ap (test_of program) has.0.0
@@ -175,7 +168,7 @@ module _ (program : Program) (text : Text) where
   reads_one behind (char_set []) one spelt fits reads m n code = reads_by (char_set []) JustFail (λ d. false) m n code refl (exactly (char_set []))
   reads_one behind (char_set (c ∷ cs)) one spelt fits reads m n code =
       reads_by (char_set (c ∷ cs)) (CharSet (padded c cs)) (contains (padded c cs)) m n code refl
-      (each_all (λ d. contains (padded c cs) d ≡ contains (c ∷ cs) d) (contains-padded c cs) text.characters)
+      (Each-all (λ d. contains (padded c cs) d ≡ contains (c ∷ cs) d) (contains-padded c cs) text.characters)
   reads_one behind (byte_set []) one spelt fits reads m n code = reads_by (byte_set []) JustFail (λ d. false) m n code refl (exactly (byte_set []))
   reads_one behind (byte_set (b ∷ [])) one spelt fits reads m n code =
       byte_reads b m n (true-lt b 128 (and-left (nat_lt b 128) true (and-right (nat_le (length (b ∷ [])) 4) (nat_lt b 128 && true) fits))) (reads refl) code

@@ -12,8 +12,8 @@ use Rattle.regex_meaning.specs.WellFormed.{IsWellFormed, encloses, names_the_gro
 use Rattle.regex_meaning.proofs.WellFormedLemmas.{clauses}
 use Rattle.regex_meaning.proofs.FirstBytes.{and-left, and-right, or-left, or-right, true-le}
 use Rattle.regress_machine.specs.Bytes.{ReadsBytes, reads_bytes}
-use Rattle.regress_machine.proofs.Frames.{left_false, right_false}
 use Rattle.regress_machine.proofs.Loops.{AreBelow}
+use Rattle.regex_meaning.proofs.Booleans.{or-false-left, or-false-right}
 
 -- what the proofs of a node rest on, where there are n groups
 abbrev pub Ready : Text → (n : ℕ) → Node → Type 0
@@ -48,7 +48,7 @@ contains-right xs ys i h = list_any-append (nat_eq i) xs ys ∙ or-right (contai
 distinct-left : (xs ys : List ℕ) → Distinct (xs ++ ys) → Distinct xs
 distinct-left [] ys d = tt
 distinct-left (x ∷ xs) ys d =
-    (left_false (contains xs x) (contains ys x) (sym (list_any-append (nat_eq x) xs ys) ∙ d.0), distinct-left xs ys d.1)
+    (or-false-left (contains xs x) (contains ys x) (sym (list_any-append (nat_eq x) xs ys) ∙ d.0), distinct-left xs ys d.1)
 
 distinct-right : (xs ys : List ℕ) → Distinct (xs ++ ys) → Distinct ys
 distinct-right [] ys d = d
@@ -156,9 +156,9 @@ ids-distinct ids h = distinct-by ids few
         outside : (ys : List ℕ) → contains ys id ≡ false → count id ys ≡ 0
         outside [] e = refl
         outside (y ∷ ys) e =
-            let apart = left_false (nat_eq id y) (contains ys id) e in
+            let apart = or-false-left (nat_eq id y) (contains ys id) e in
             let c = count-one (nat_eq id) y ys in
-            omega (arith, c, ap one_if apart, outside ys (right_false (nat_eq id y) (contains ys id) e))
+            omega (arith, c, ap one_if apart, outside ys (or-false-right (nat_eq id y) (contains ys id) e))
 
         by_inside : (c : Bool) → contains ids id ≡ c → nat_lt id (length ids) ≡ false → count id ids ≤ 1
         by_inside true q r = let less = ids-below ids h id q in let le : length ids ≤ id = nltb→le id (length ids) (rw r tt) in absurd (omega arith)

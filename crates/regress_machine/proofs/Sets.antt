@@ -16,6 +16,7 @@ use Rattle.regex_meaning.proofs.FirstBytes.{and-left, and-right, true-eq, true-l
 use Rattle.regress_machine.specs.Machine.{LoopData, State, running, with_some, read_one, act_on}
 use Rattle.regress_machine.proofs.Yields.{Ending, Yields, yields_none, yields_same, yields_turn}
 use Rattle.regress_machine.proofs.Nodes.{state_at, Enters, GoesOn, Finds, Rising, act_at, one_character_finds}
+use Rattle.std.proofs.lemmas.Bool.{false_from_ne_true, not-true}
 
 -- ---- Tests
 
@@ -26,10 +27,6 @@ is_some_and-same (Some c) f g h = h c
 pub is_some_and-none : (o : Option ℕ) → is_some_and o (λ c. false) ≡ false
 is_some_and-none None = refl
 is_some_and-none (Some c) = refl
-
-true_or_false : (b : Bool) → (b ≡ true → ⊥) → b ≡ false
-true_or_false true h = absurd (h refl)
-true_or_false false h = refl
 
 -- members once more change nothing
 or_again : (a b z : Bool) → (z ≡ true → a ≡ true) → ((a || b) || z) ≡ (a || b)
@@ -73,7 +70,7 @@ contains-bytes_same test low c = go (test c) refl
   where
     go : (b : Bool) → test c ≡ b → contains (bytes_where test) c ≡ b
     go true e = contains-bytes_where test c (low c e) e
-    go false e = true_or_false (contains (bytes_where test) c) (λ h. cc (contains-filter_none test c (numbers_from 0 256) h, e))
+    go false e = false_from_ne_true (contains (bytes_where test) c) (λ h. cc (contains-filter_none test c (numbers_from 0 256) h, e))
 
 low_intervals : (ivs : Intervals) (c : ℕ) → list_all (λ i. nat_lt i.1 128 || nat_lt i.1 i.0) ivs ≡ true → in_intervals ivs c ≡ true → c < 256
 low_intervals [] c h t = cc
@@ -88,14 +85,10 @@ low_intervals (i ∷ ivs) c h t =
     go true e t later = low (nat_lt i.1 128) refl (and-left (nat_lt i.1 128 || nat_lt i.1 i.0) _ h) (true-in_range i.0 i.1 c e)
     go false e t later = later t
 
-not_true_false : (b : Bool) → not b ≡ true → b ≡ false
-not_true_false true h = cc
-not_true_false false h = refl
-
 pub ascii_accepts : (contents : BracketContents) → is_ascii_set contents ≡ true → (c : ℕ)
     → contains (bytes_where (in_intervals contents.intervals)) c ≡ accepts (bracket contents) c
 ascii_accepts contents h c =
-    let plain = not_true_false contents.invert (and-left (not contents.invert) _ h) in
+    let plain = not-true contents.invert (and-left (not contents.invert) _ h) in
     let low = and-right (not contents.invert) (list_all (λ i. nat_lt i.1 128 || nat_lt i.1 i.0) contents.intervals) h in
     contains-bytes_same (in_intervals contents.intervals) (λ c t. low_intervals contents.intervals c low t) c
     ∙ ap (λ b. differ b (in_intervals contents.intervals c)) (sym plain)

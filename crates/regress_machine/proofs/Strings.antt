@@ -17,9 +17,10 @@ use Rattle.regress_machine.proofs.Frames.{kept_itself}
 use Rattle.regress_machine.proofs.Nodes.{and_then-append, and_then-pairs, and_then-ticks, direction_at, state_at, Finds, Rising, act_at, inside_by}
 use Rattle.regress_machine.proofs.Sets.{contains-padded, is_some_and-same, is_some_and-none, fail_finds, insns_rising}
 use Rattle.regress_machine.proofs.Beside.{Beside, nothing_left, one_more, beside, length-nearest, moved-suc, moved-zero}
-use Rattle.regress_machine.proofs.OneTests.{or_false, same_tests}
+use Rattle.regress_machine.proofs.OneTests.{or_false}
 use Rattle.regress_machine.proofs.OneCharacter.{reached_behind}
 use Rattle.regress_machine.proofs.Stands.{stands, stands-length, in_reading_order, length-reading, beside-stands}
+use Rattle.regex_meaning.proofs.Booleans.{same-truth}
 
 -- ---- Items
 
@@ -38,7 +39,7 @@ items_if-pair false o k = refl
 
 pub same_number : (c d : ℕ) → (c == d) ≡ contains (c ∷ []) d
 same_number c d =
-    same_tests (c == d) (contains (c ∷ []) d) (λ h. or-left (nat_eq d c) false (eq-true d c (sym (true-eq c d h))))
+    same-truth (c == d) (contains (c ∷ []) d) (λ h. or-left (nat_eq d c) false (eq-true d c (sym (true-eq c d h))))
     (λ h. eq-true c d (sym (true-eq d c (or_false (nat_eq d c) h))))
 
 module _ (program : Program) (text : Text) (is_text : IsText text) where

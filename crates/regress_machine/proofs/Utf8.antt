@@ -14,8 +14,9 @@ use Rattle.regex_meaning.specs.Ticks.{nearest_first}
 use Rattle.regex_meaning.proofs.FirstBytes.{and-left, and-right, and-both, true-eq, eq-true}
 use Rattle.regress_machine.specs.Machine.{moved_by}
 use Rattle.regress_machine.specs.Bytes.{ReadsBytes}
-use Rattle.regress_machine.proofs.OneTests.{same_tests, scalar_of}
+use Rattle.regress_machine.proofs.OneTests.{scalar_of}
 use Rattle.regress_machine.proofs.Stands.{stands, in_reading_order}
+use Rattle.regex_meaning.proofs.Booleans.{same-truth}
 
 -- ---- Fronts of lists
 
@@ -84,7 +85,7 @@ module _ (text : Text) where
       → stands nat_eq (in_reading_order text d (encode_utf8_all xs)) (in_reading_order text d (encode_utf8_all ds))
       ≡ stands nat_eq (in_reading_order text d xs) (in_reading_order text d ds)
   bytes-stand rightwards xs ds s t =
-      same_tests (stands nat_eq (encode_utf8_all xs) (encode_utf8_all ds)) (stands nat_eq xs ds)
+      same-truth (stands nat_eq (encode_utf8_all xs) (encode_utf8_all ds)) (stands nat_eq xs ds)
       (λ h. let front = first_characters xs ds (drop (length (encode_utf8_all xs)) (encode_utf8_all ds)) (stands-front (encode_utf8_all xs) (encode_utf8_all ds) h) in
       front-is xs ds front.0 front.1)
       (λ h.
@@ -93,7 +94,7 @@ module _ (text : Text) where
   bytes-stand leftwards xs ds s t =
       let bs = encode_utf8_all xs in
       let es = encode_utf8_all ds in
-      same_tests (stands nat_eq (reverse bs) (reverse es)) (stands nat_eq (reverse xs) (reverse ds))
+      same-truth (stands nat_eq (reverse bs) (reverse es)) (stands nat_eq (reverse xs) (reverse ds))
       (λ h.
       let r = drop (length (reverse bs)) (reverse es) in
       let end = last_characters xs ds (reverse r) s t (last-of bs es r (stands-front (reverse bs) (reverse es) h)) in

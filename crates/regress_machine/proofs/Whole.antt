@@ -26,6 +26,8 @@ use Rattle.regress_machine.proofs.Strings.{string_set_finds, string_set_rising}
 use Rattle.regress_machine.proofs.Bytes.{byte_set_finds, byte_sequence_finds, byte_sequence_rising}
 use Rattle.regress_machine.proofs.Ready.{Ready, root_ready}
 use Rattle.regex_meaning.proofs.WellFormedLemmas.{clauses}
+use Rattle.regex_meaning.proofs.Lists.{map-replicate}
+use Rattle.regex_meaning.proofs.Each.{Each-replicate}
 
 and_then-itself : (items : List Item) → and_then items (λ o. pair o ∷ []) ≡ items
 and_then-itself [] = refl
@@ -149,14 +151,6 @@ module _ (program : Program) (text : Text) (is_text : IsText text) where
               });
         })
     root_finds _ r h one m n p g s ls code enters = cc
-
-Each-replicate : {X : Type 0} (P : X → Type 0) (n : ℕ) (x : X) → P x → Each P (replicate n x)
-Each-replicate P zero x h = tt
-Each-replicate P (suc n) x h = (h, Each-replicate P n x h)
-
-map-replicate : {X Y : Type 0} (f : X → Y) (n : ℕ) (x : X) → map f (replicate n x) ≡ replicate n (f x)
-map-replicate f zero x = refl
-map-replicate f (suc n) x = ap (λ l. f x ∷ l) (map-replicate f n x)
 
 same_end : (text : Text) (first : Option Outcome) (e : Option State) → EndIs (λ o t. end_of t ≡ end_in_offsets text o) first e
     → option_map end_of e ≡ option_map (end_in_offsets text) first

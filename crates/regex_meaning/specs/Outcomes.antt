@@ -1,6 +1,7 @@
 -- The outcomes of a node at a place, most preferred first.
 use Rattle.std.specs.Prelude.{ℕ, zero, suc, ◌+◌, ◌-◌, ◌^◌, min, max, Bool, true, false, not, ◌&&◌, ◌||◌, List, [], ◌∷◌, length, Option, Some, None, if◌then◌else◌, nat_lt, nat_le, nat_eq, ◌==◌, slice_get, slice_set, slice_range, chars, unwrap_or, ◌++◌, filter, flat_map, map}
 use Rattle.std.specs.List.{list_any}
+use Rattle.std.specs.Option.{option_map_or}
 use lib.Pointwise.{pointwise}
 use Rattle.regex_meaning.specs.Lists.{contains}
 use Rattle.regex_meaning.specs.Tree.{Intervals, AnchorType, start_of_line, end_of_line, Quantifier, Lookaround, Node, empty, goal, char, char_set, byte_set, byte_sequence, cat, end_of_cat, alt, bracket, string_set, match_any, match_any_except_line_terminator, anchor, word_boundary, capture_group, back_ref, lookaround, loop, loop_1_char_body}
@@ -49,8 +50,7 @@ accepts match_any_except_line_terminator d = not (is_line_terminator d)
 accepts _ d = false
 
 abbrev pub is_some_and : Option ℕ → (ℕ → Bool) → Bool
-is_some_and None test = false
-is_some_and (Some c) test = test c
+is_some_and o test = option_map_or test o false
 
 -- ---- Loops
 

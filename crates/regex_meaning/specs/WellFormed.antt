@@ -1,6 +1,7 @@
 -- The trees that are compiled.
 use Rattle.std.specs.Prelude.{ℕ, ◌+◌, ◌-◌, Bool, true, false, ◌&&◌, length, chars, count_by, Option, Some, None, if◌then◌else◌, nat_lt, nat_le, nat_eq, ◌==◌, IsTrue}
 use Rattle.std.specs.List.{list_all}
+use Rattle.std.specs.Option.{option_map_or}
 use Rattle.std.specs.Str.{is_utf8}
 use Rattle.regex_meaning.specs.Lists.{contains, numbers_from}
 use Rattle.regex_meaning.specs.Tree.{Quantifier, Node, goal, char, char_set, byte_set, byte_sequence, cat, end_of_cat, alt, bracket, string_set, match_any, match_any_except_line_terminator, capture_group, back_ref, lookaround, loop, loop_1_char_body, gathered, group_ids, every}
@@ -51,11 +52,7 @@ refers_to_a_group n (back_ref group icase) = nat_le 1 group && nat_le group n
 refers_to_a_group n _ = true
 
 abbrev pub is_in_order : Quantifier → Bool
-is_in_order q = if_given q.max
-  where
-    if_given : Option ℕ → Bool
-    if_given None = true
-    if_given (Some max) = nat_le q.min max
+is_in_order q = option_map_or (nat_le q.min) q.max true
 
 -- no minimum is above its maximum
 abbrev pub has_order_in_quantifier : Node → Bool

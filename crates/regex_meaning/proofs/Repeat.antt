@@ -33,7 +33,7 @@ module _ (text : Text) (d : Direction) where
       go rightwards h = omega arith
       go leftwards h = omega arith
 
-  module _ (r : Repetition) (body_on : BodyOnward text d r) where
+  module _ (r : Repetition Outcome) (body_on : BodyOnward text d r) where
     -- the iterations that may still count
     abbrev missing : (k place : ℕ) → ℕ
     missing k place = r.least - k + characters_left text d place

@@ -68,7 +68,7 @@ module _ (characters : List ℕ) (unicode : Bool) (s_offsets t_offsets : List �
       (λ c d p q. ap (λ (b : Bool). c == d || (icase && b)) (alike c d p q))
       (slice_range characters range.0 range.1) (Each-range range.0 range.1) d place groups
 
-  repeat-same : (r : Repetition) (d : Direction) (k place : ℕ) (groups : Groups) → repeat s r d k place groups ≡ repeat t r d k place groups
+  repeat-same : (r : Repetition Outcome) (d : Direction) (k place : ℕ) (groups : Groups) → repeat s r d k place groups ≡ repeat t r d k place groups
   repeat-same r rightwards k place groups = refl
   repeat-same r leftwards k place groups = refl
 

@@ -47,7 +47,7 @@ looked-stay true [] p g = (refl, tt)
 looked-stay true (o ∷ os) p g = tt
 
 -- a loop whose iterations stay where they are stays there
-rounds-stay : (r : Repetition) → ((p : ℕ) (g : Groups) → Each (λ o. o.end ≡ p) (r.body p g)) → (turns k p : ℕ) (g : Groups)
+rounds-stay : (r : Repetition Outcome) → ((p : ℕ) (g : Groups) → Each (λ o. o.end ≡ p) (r.body p g)) → (turns k p : ℕ) (g : Groups)
     → Each (λ o. o.end ≡ p) (rounds r turns k p g)
 unfolding rounds
 rounds-stay r h zero k p g = tt
@@ -75,7 +75,7 @@ module _ (text : Text) (of_chars : OfChars text) where
   carried (sequence bs) p o later h k = Each-any _ h later
   carried (one_of members) p o later h k = Each-any _ h later
 
-  rounds-begin : (b : Beginning) (r : Repetition) → 0 < r.least → ((p : ℕ) (g : Groups) → Begins b p (r.body p g))
+  rounds-begin : (b : Beginning) (r : Repetition Outcome) → 0 < r.least → ((p : ℕ) (g : Groups) → Begins b p (r.body p g))
       → (turns p : ℕ) (g : Groups) → Begins b p (rounds r turns 0 p g)
   unfolding rounds
   rounds-begin b r l h zero p g = tt

@@ -1,10 +1,10 @@
 -- Without its ticks, the list with ticks is the list of outcomes.
-use Rattle.std.proofs.Common.{◌≡◌, ℕ, zero, suc, ◌+◌, ◌-◌, Bool, true, false, not, ◌&&◌, List, [], ◌∷◌, refl, ap, sym, ◌∙◌, ◌++◌, filter, flat_map, map}
-use Rattle.std.specs.Prelude.{if◌then◌else◌, nat_le, nat_lt, ◌==◌}
+use Rattle.std.proofs.Common.{◌≡◌, ℕ, zero, suc, ◌+◌, ◌-◌, Bool, true, false, List, [], ◌∷◌, refl, ap, sym, ◌∙◌, ◌++◌, filter, flat_map, map}
+use Rattle.std.specs.Prelude.{if◌then◌else◌, nat_le, nat_lt}
 use Rattle.regex_meaning.specs.Tree.{Quantifier, Node, empty, goal, char, char_set, byte_set, byte_sequence, cat, end_of_cat, alt, bracket, string_set, match_any, match_any_except_line_terminator, anchor, word_boundary, capture_group, back_ref, lookaround, loop, loop_1_char_body}
 use Rattle.regex_meaning.specs.Text.{Text, Direction}
-use Rattle.regex_meaning.specs.Outcomes.{Groups, Outcome, repetition, rounds, preferred, captured, cleared, looked, direction_of, spelled, spells, outcomes, most_of}
-use Rattle.regex_meaning.specs.Ticks.{Item, tick, pair, pairs, ticks, and_then, ticked_pairs, with_ticks_between, ticked_alt, ways, ticked_repetition, ticked_rounds, ticked_string, ticked_strings, ticked}
+use Rattle.regex_meaning.specs.Outcomes.{Groups, Outcome, repetition, rounds, counts, preferred, captured, cleared, looked, direction_of, spelled, spells, outcomes, most_of}
+use Rattle.regex_meaning.specs.Ticks.{Item, tick, pair, pairs, ticks, and_then, ticked_pairs, with_ticks_between, ticked_alt, ways, ticked_rounds, ticked_string, ticked_strings, ticked}
 
 -- ---- Lists
 
@@ -25,16 +25,16 @@ map-same [] = refl
 map-same (x ∷ xs) = ap (λ (ys : List Outcome). x ∷ ys) (map-same xs)
 
 -- a list for each kept element is a list for each, with nothing where it is dropped
-flat_map-filter : (dropped : Outcome → Bool) (f : Outcome → List Outcome) (xs : List Outcome)
-    → flat_map (λ o. if dropped o then [] else f o) xs ≡ flat_map f (filter (λ o. not (dropped o)) xs)
-flat_map-filter dropped f [] = refl
-flat_map-filter dropped f (x ∷ xs) = go (dropped x) (flat_map-filter dropped f xs)
+flat_map-filter : (kept : Outcome → Bool) (f : Outcome → List Outcome) (xs : List Outcome)
+    → flat_map (λ o. if kept o then f o else []) xs ≡ flat_map f (filter kept xs)
+flat_map-filter kept f [] = refl
+flat_map-filter kept f (x ∷ xs) = go (kept x) (flat_map-filter kept f xs)
   where
-    go : (b : Bool) → flat_map (λ o. if dropped o then [] else f o) xs ≡ flat_map f (filter (λ o. not (dropped o)) xs)
-        → (if b then [] else f x) ++ flat_map (λ o. if dropped o then [] else f o) xs
-        ≡ flat_map f (if not b then x ∷ filter (λ o. not (dropped o)) xs else filter (λ o. not (dropped o)) xs)
-    go true h = h
-    go false h = rw h
+    go : (b : Bool) → flat_map (λ o. if kept o then f o else []) xs ≡ flat_map f (filter kept xs)
+        → (if b then f x else []) ++ flat_map (λ o. if kept o then f o else []) xs
+        ≡ flat_map f (if b then x ∷ filter kept xs else filter kept xs)
+    go true h = rw h
+    go false h = h
 
 -- ---- Pairs
 
@@ -83,30 +83,30 @@ pairs-ways true true false again leave = pairs-append leave (tick ∷ again)
 -- ---- Loops
 
 if-pairs : (b : Bool) (items : List Item) (os : List Outcome) → pairs items ≡ os
-    → pairs (if b then [] else items) ≡ (if b then [] else os)
-if-pairs true items os e = refl
-if-pairs false items os e = e
+    → pairs (if b then items else []) ≡ (if b then os else [])
+if-pairs true items os e = e
+if-pairs false items os e = refl
 
-pairs-again : (dropped : Outcome → Bool) (further : Outcome → List Item) (later : Outcome → List Outcome)
+pairs-again : (kept : Outcome → Bool) (further : Outcome → List Item) (later : Outcome → List Outcome)
     → ((o : Outcome) → pairs (further o) ≡ later o) → (items : List Item) (os : List Outcome) → pairs items ≡ os
-    → pairs (and_then items (λ o. tick ∷ (if dropped o then [] else further o))) ≡ flat_map later (filter (λ o. not (dropped o)) os)
-pairs-again dropped further later h items os e =
-    rw (pairs-and_then items (λ o. tick ∷ (if dropped o then [] else further o)), e)
-    (flat_map-same (λ o. pairs (if dropped o then [] else further o)) (λ o. if dropped o then [] else later o) os
-    (λ o. if-pairs (dropped o) (further o) (later o) (h o))
-    ∙ flat_map-filter dropped later os)
+    → pairs (and_then items (λ o. tick ∷ (if kept o then further o else []))) ≡ flat_map later (filter kept os)
+pairs-again kept further later h items os e =
+    rw (pairs-and_then items (λ o. tick ∷ (if kept o then further o else [])), e)
+    (flat_map-same (λ o. pairs (if kept o then further o else [])) (λ o. if kept o then later o else []) os
+    (λ o. if-pairs (kept o) (further o) (later o) (h o))
+    ∙ flat_map-filter kept later os)
 
 pairs-ticked_rounds : (q : Quantifier) (ticked_body : ℕ → Groups → List Item) (body : ℕ → Groups → List Outcome)
     → ((place : ℕ) (groups : Groups) → pairs (ticked_body place groups) ≡ body place groups)
     → (turns k place : ℕ) (groups : Groups)
-    → pairs (ticked_rounds (ticked_repetition q ticked_body) turns k place groups) ≡ rounds (repetition q body) turns k place groups
+    → pairs (ticked_rounds (repetition q ticked_body) turns k place groups) ≡ rounds (repetition q body) turns k place groups
 unfolding ticked_rounds rounds
 pairs-ticked_rounds q ticked_body body h zero k place groups = refl
 pairs-ticked_rounds q ticked_body body h (suc turns) k place groups =
     pairs-ways (nat_lt k (most_of q)) (nat_le q.min k) q.greedy _ (pair (record { end = place; groups = groups }) ∷ [])
     ∙ ap (λ (os : List Outcome). preferred q.greedy (if nat_lt k (most_of q) then os else []) (if nat_le q.min k then record { end = place; groups = groups } ∷ [] else []))
-    (pairs-again (λ o. o.end == place && nat_lt q.min (k + 1))
-    (λ o. ticked_rounds (ticked_repetition q ticked_body) turns (k + 1) o.end o.groups)
+    (pairs-again (counts (repetition q body) k place)
+    (λ o. ticked_rounds (repetition q ticked_body) turns (k + 1) o.end o.groups)
     (λ o. rounds (repetition q body) turns (k + 1) o.end o.groups)
     (λ o. pairs-ticked_rounds q ticked_body body h turns (k + 1) o.end o.groups)
     (ticked_body place groups) (body place groups) (h place groups))

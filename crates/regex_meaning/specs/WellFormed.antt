@@ -3,17 +3,14 @@ use Rattle.std.specs.Prelude.{ℕ, ◌+◌, ◌-◌, Bool, true, false, ◌&&◌
 use Rattle.std.specs.List.{list_all}
 use Rattle.std.specs.Str.{is_utf8}
 use Rattle.regex_meaning.specs.Lists.{contains, numbers_from}
-use Rattle.regex_meaning.specs.Tree.{Quantifier, Node, goal, char, char_set, byte_set, byte_sequence, cat, end_of_cat, alt, bracket, string_set, match_any, match_any_except_line_terminator, capture_group, back_ref, lookaround, loop, loop_1_char_body, group_ids, every}
+use Rattle.regex_meaning.specs.Tree.{Quantifier, Node, goal, char, char_set, byte_set, byte_sequence, cat, end_of_cat, alt, bracket, string_set, match_any, match_any_except_line_terminator, capture_group, back_ref, lookaround, loop, loop_1_char_body, gathered, group_ids, every}
+
+abbrev pub own_goals : Node → ℕ
+own_goals goal = 1
+own_goals _ = 0
 
 abbrev pub goal_count : Node → ℕ
-goal_count goal = 1
-goal_count (cat first rest) = goal_count first + goal_count rest
-goal_count (alt left right) = goal_count left + goal_count right
-goal_count (capture_group id name contents) = goal_count contents
-goal_count (lookaround l contents) = goal_count contents
-goal_count (loop q start_group end_group loopee) = goal_count loopee
-goal_count (loop_1_char_body q loopee) = goal_count loopee
-goal_count _ = 0
+goal_count root = gathered ◌+◌ own_goals root
 
 abbrev pub is_end_of_cat : Node → Bool
 is_end_of_cat end_of_cat = true

@@ -17,15 +17,15 @@ goal_count-optimized : (n : Node) → goal_count (optimized n) ≡ goal_count n
 unfolding optimized
 goal_count-optimized (cat first rest) = rw (goal_count-optimized first, goal_count-optimized rest)
 goal_count-optimized (alt left right) = rw (goal_count-optimized left, goal_count-optimized right)
-goal_count-optimized (capture_group id name contents) = goal_count-optimized contents
-goal_count-optimized (lookaround l contents) = goal_count-optimized contents
+goal_count-optimized (capture_group id name contents) = rw (goal_count-optimized contents)
+goal_count-optimized (lookaround l contents) = rw (goal_count-optimized contents)
 goal_count-optimized (loop q s e loopee) = go (reads_one_character loopee) (goal_count-optimized loopee)
   where
     go : (r : Bool) → goal_count (optimized loopee) ≡ goal_count loopee
-        → goal_count (if r then loop_1_char_body q loopee else loop q s e (optimized loopee)) ≡ goal_count loopee
+        → goal_count (if r then loop_1_char_body q loopee else loop q s e (optimized loopee)) ≡ goal_count (loop q s e loopee)
     go true h = refl
-    go false h = h
-goal_count-optimized (loop_1_char_body q loopee) = goal_count-optimized loopee
+    go false h = rw h
+goal_count-optimized (loop_1_char_body q loopee) = rw (goal_count-optimized loopee)
 goal_count-optimized _ = refl
 
 group_ids-optimized : (n : Node) → group_ids (optimized n) ≡ group_ids n

@@ -213,7 +213,7 @@ parts-one first end greatest n a = record {
 pub parts-alt : (first end greatest : ℕ) (xs : List Node) (l r n : Node) → node_of n ≡ alt (node_of l) (node_of r)
     → AreParts first end greatest ((xs ++ l ∷ []) ++ r ∷ []) → AreParts first end greatest (xs ++ n ∷ [])
 parts-alt first end greatest xs l r n is a = record {
-  goals = joined (λ m. goal_count m) (λ x y. refl) ∙ a.goals;
+  goals = joined (λ m. goal_count m) (λ x y. omega arith) ∙ a.goals;
   count = rw (joined (λ m. length (group_ids m)) (λ x y. length-append (group_ids x) (group_ids y))) a.count;
   ids = λ id. joined (λ m. times id m) (λ x y. count_by-append (nat_eq id) (group_ids x) (group_ids y)) ∙ a.ids id;
   sound = All-append (λ m. IsTrue (every (is_sound greatest) (node_of m))) xs (n ∷ []) front
@@ -245,7 +245,7 @@ parts-alt first end greatest xs l r n is a = record {
 
 cat-goals : (xs : List Node) → goal_count (cat_of xs) ≡ sum_by (λ n. goal_count (node_of n)) xs
 cat-goals [] = refl
-cat-goals (x ∷ xs) = ap (λ m. goal_count (node_of x) + m) (cat-goals xs) ∙ sym (sum_by-cons (λ n. goal_count (node_of n)) x xs)
+cat-goals (x ∷ xs) = omega (arith, cat-goals xs, sum_by-cons (λ n. goal_count (node_of n)) x xs)
 
 cat-count : (xs : List Node) → length (group_ids (cat_of xs)) ≡ sum_by (λ n. length (group_ids (node_of n))) xs
 cat-count [] = refl
@@ -272,7 +272,7 @@ part-cat first end greatest xs a = record {
 
 pub part-group : (first end greatest : ℕ) (name : List ℕ) (n : tree.Node) → IsPart (first + 1) end greatest n → IsPart first end greatest (capture_group first name n)
 part-group first end greatest name n p = record {
-  goals = p.goals;
+  goals = omega (arith, p.goals);
   count = let g = p.count in omega arith;
   ids = λ id. count_by-cons (nat_eq id) first (group_ids n) ∙ ap (λ m. (if nat_eq id first then 1 else 0) + m) (p.ids id) ∙ within-first first end id (omega (arith, p.count));
   sound = both _ _ refl p.sound;
@@ -344,7 +344,7 @@ part-encloses first end greatest n p =
 pub part-lookaround : (first end greatest : ℕ) (negate backwards : Bool) (n : tree.Node) → IsPart first end greatest n
     → IsPart first end greatest (lookaround (record { negate = negate; backwards = backwards; start_group = first; end_group = end }) n)
 part-lookaround first end greatest negate backwards n p = record {
-  goals = p.goals;
+  goals = omega (arith, p.goals);
   count = p.count;
   ids = p.ids;
   sound = both _ _ (sound-from greatest (lookaround (record { negate = negate; backwards = backwards; start_group = first; end_group = end }) n) (record { names = part-encloses first end greatest n p; refers = refl; order = refl; body = refl; text = refl; fits = refl })) p.sound;
@@ -353,7 +353,7 @@ part-lookaround first end greatest negate backwards n p = record {
 pub part-loop : (first end greatest : ℕ) (q : Quantifier) (n : tree.Node) → is_in_order q ≡ true → IsPart first end greatest n
     → IsPart first end greatest (loop q first end n)
 part-loop first end greatest q n order p = record {
-  goals = p.goals;
+  goals = omega (arith, p.goals);
   count = p.count;
   ids = p.ids;
   sound = both _ _ (sound-from greatest (loop q first end n) (record { names = part-encloses first end greatest n p; refers = refl; order = order; body = refl; text = refl; fits = refl })) p.sound;

@@ -13,8 +13,8 @@ use Rattle.regex_meaning.specs.Text.{Text, Direction, rightwards, leftwards, las
 use Rattle.regex_meaning.specs.Offsets.{IsText, offset}
 use Rattle.regex_meaning.specs.Outcomes.{Groups, Outcome, is_some_and, spelled, outcomes}
 use Rattle.regex_meaning.specs.WellFormed.{has_text_in_sequence, fits_instructions}
-use Rattle.regex_meaning.specs.Ticks.{Item, tick, pair, ticks, and_then, nearest_first, chunks, chunk_tries, byte_tries, ticked}
-use Rattle.regex_meaning.specs.Layout.{Program, Mark, next, HasAll, IsCode, ByteSeq, ordered}
+use Rattle.regex_meaning.specs.Ticks.{Item, tick, pair, ticks, and_then, nearest_first, chunk_tries, byte_tries, ticked}
+use Rattle.regex_meaning.specs.Layout.{Program, Mark, next, HasAll, IsCode, ByteSeq, ordered, chunks}
 use Rattle.regex_meaning.proofs.FirstBytes.{and-left, and-right, and-both, true-lt, encode-1}
 use Rattle.regress_machine.specs.Machine.{LoopData, State, running, go_if, has_bytes, moved_by, act}
 use Rattle.regress_machine.specs.Bytes.{ReadsBytes}

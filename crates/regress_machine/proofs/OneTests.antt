@@ -17,8 +17,7 @@ use Rattle.regex_meaning.specs.Text.{Text, is_scalar}
 use Rattle.regex_meaning.specs.Outcomes.{accepts, differ, in_intervals}
 use Rattle.regex_meaning.specs.StartPredicate.{bytes_where}
 use Rattle.regex_meaning.specs.WellFormed.{is_one_character, has_text_in_sequence, fits_instructions}
-use Rattle.regex_meaning.specs.Ticks.{chunks, chunks_of}
-use Rattle.regex_meaning.specs.Layout.{Program, Insn, Mark, HasAll, IsCode, JustFail, Char, CharSet, ByteSet, ByteSeq, AsciiBracket, Bracket, MatchAny, MatchAnyExceptLineTerminator, padded, ordered, is_ascii_set}
+use Rattle.regex_meaning.specs.Layout.{Program, Insn, Mark, HasAll, IsCode, JustFail, Char, CharSet, ByteSet, ByteSeq, AsciiBracket, Bracket, MatchAny, MatchAnyExceptLineTerminator, padded, ordered, is_ascii_set, chunks, chunks_of}
 use Rattle.regex_meaning.proofs.FirstBytes.{and-left, and-right, and-both, or-left, true-eq, eq-true, true-lt, lt-true, lt-false, le-true, true-in_range, encode-1}
 use Rattle.regress_machine.specs.Machine.{test_of}
 use Rattle.regress_machine.specs.Bytes.{ReadsBytes, reads_bytes}

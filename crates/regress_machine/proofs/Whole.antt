@@ -37,7 +37,7 @@ goal_inside goal h = omega arith
 goal_inside (cat first rest) h = by (is_end_of_cat rest) h (goal_inside first) (goal_inside rest)
   where
     by : (b : Bool) → (if b then ends_in_goal first else ends_in_goal rest) ≡ true → (ends_in_goal first ≡ true → 1 ≤ goal_count first)
-        → (ends_in_goal rest ≡ true → 1 ≤ goal_count rest) → 1 ≤ goal_count first + goal_count rest
+        → (ends_in_goal rest ≡ true → 1 ≤ goal_count rest) → 1 ≤ goal_count (cat first rest)
     by true h f r = let a = f h in omega arith
     by false h f r = let a = r h in omega arith
 goal_inside _ h = cc
@@ -106,14 +106,14 @@ module _ (program : Program) (text : Text) (is_text : IsText text) where
     tree_finds d behind ahead (word_boundary invert unicode_icase) r h E m n p g s ls k code enters on =
         word_boundary_finds program text is_text d behind invert unicode_icase E m n p g s ls k code enters on
     tree_finds d behind ahead (capture_group id name contents) r h E m n p g s ls k code enters on =
-        capture_group_finds program text is_text d behind id name contents (tree_finds d behind ahead contents r.2 h) E m n p g s ls k
+        capture_group_finds program text is_text d behind id name contents (tree_finds d behind ahead contents r.2 (omega arith)) E m n p g s ls k
         (subst (λ x. id < x) (sym enters.groups) r.0) r.1 code enters on
     tree_finds d behind ahead (back_ref group icase) r h E m n p g s ls k code enters on =
         back_ref_finds program text is_text d behind group icase E m n p g s ls k (subst (λ x. group - 1 < x) (sym enters.groups) r) code enters on
     tree_finds d behind ahead (lookaround l contents) r h E m n p g s ls k code enters on =
-        lookaround_finds program text is_text d behind l contents (tree_finds (direction_of l) l.backwards refl contents r h) E m n p g s ls k code enters on
+        lookaround_finds program text is_text d behind l contents (tree_finds (direction_of l) l.backwards refl contents r (omega arith)) E m n p g s ls k code enters on
     tree_finds d behind ahead (loop q first end loopee) r h E m n p g s ls k code enters on =
-        loop_finds program text is_text d behind q first end loopee (tree_finds d behind ahead loopee r.1 h) (tree_rising behind loopee r.1) E m n p g s ls k
+        loop_finds program text is_text d behind q first end loopee (tree_finds d behind ahead loopee r.1 (omega arith)) (tree_rising behind loopee r.1) E m n p g s ls k
         (λ i le less. subst (λ x. i < x) (sym enters.groups) (r.0 i le less)) code enters on
     tree_finds d behind ahead (loop_1_char_body q loopee) r h E m n p g s ls k code enters on =
         loop_1_char_body_finds program text is_text d behind q loopee r.0 r.1 r.2 r.3 E m n p g s ls k code enters on

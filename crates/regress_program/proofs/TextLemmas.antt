@@ -13,9 +13,8 @@ use Rattle.regex_pattern_front.proofs.ByteLemmas.{bytes_where-same, bytes_where-
 use Rattle.regex_pattern_front.proofs.AddedBytes.{with_bytes_below}
 use Rattle.std.proofs.lemmas.List.{length-map, length-reverse, get_or-reverse, drop-map, drop_all}
 use Rattle.std.proofs.lemmas.Option.{get_or_from_slice_get}
-use Rattle.regex_meaning.specs.Ticks.{chunks, chunks_of}
 use Rattle.regex_meaning.specs.Text.{expand_code_point, all_with_fold, nonascii_with_fold, fold_code_point, to_lowercase, to_uppercase}
-use Rattle.regex_meaning.specs.Layout.{Insn, Alt, Jump, ByteSeq, ResetCaptureGroup, ordered}
+use Rattle.regex_meaning.specs.Layout.{Insn, Alt, Jump, ByteSeq, ResetCaptureGroup, ordered, chunks, chunks_of}
 use Rattle.regex_meaning.specs.Tree.{byte_sequence, string_set}
 use Rattle.regress_program.specs.Code.{resets, string_code, strings_code, strings_size, code_of, loop_count, brackets_of}
 use Rattle.regress_program.specs.Emitting.{State, with_code, with_insn, with_insns, code_points_of}

@@ -5,9 +5,8 @@ use Rattle.regex_meaning.specs.Tree.{BracketContents, Node, empty, goal, char, c
 use Rattle.regex_meaning.specs.Text.{expand_code_point}
 use Rattle.regex_meaning.specs.Outcomes.{most_of, in_intervals}
 use Rattle.regex_meaning.specs.StartPredicate.{start_predicate, bytes_where}
-use Rattle.regex_meaning.specs.Ticks.{chunks}
 use Rattle.regex_meaning.specs.Names.{names_by_id}
-use Rattle.regex_meaning.specs.Layout.{Insn, Goal, JustFail, Char, ByteSeq, AsciiBracket, Bracket, MatchAny, MatchAnyExceptLineTerminator, Alt, Jump, EnterLoop, LoopAgain, ResetCaptureGroup, Loop1CharBody, BeginCaptureGroup, EndCaptureGroup, BackRef, Program, char_set_insn, byte_set_insn, spelling_insn, anchor_insn, word_boundary_insn, lookaround_insn, ordered, is_ascii_set}
+use Rattle.regex_meaning.specs.Layout.{Insn, Goal, JustFail, Char, ByteSeq, AsciiBracket, Bracket, MatchAny, MatchAnyExceptLineTerminator, Alt, Jump, EnterLoop, LoopAgain, ResetCaptureGroup, Loop1CharBody, BeginCaptureGroup, EndCaptureGroup, BackRef, Program, char_set_insn, byte_set_insn, spelling_insn, anchor_insn, word_boundary_insn, lookaround_insn, ordered, is_ascii_set, chunks}
 
 -- ---- Counts
 

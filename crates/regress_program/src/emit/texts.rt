@@ -3,7 +3,7 @@
 ghost use Rattle.std.specs.Prelude.{◌≡◌, ◌+◌, ◌-◌, ◌*◌, ◌<◌, ◌^◌, length, min, take, drop, OnOk};
 ghost use Rattle.regex_meaning.specs.Tree.{byte_sequence, string_set};
 ghost use Rattle.regex_meaning.specs.Text.{expand_code_point as expansion};
-ghost use Rattle.regex_meaning.specs.Ticks.{chunks};
+ghost use Rattle.regex_meaning.specs.Layout.{chunks};
 ghost use Rattle.regex_meaning.specs.Layout as layout;
 ghost use Rattle.regress_program.specs.Code.{string_code, strings_size as size_of_strings};
 ghost use Rattle.regress_program.specs.Emitting.{state_of, with_code, with_insn, with_insns, code_points_of};

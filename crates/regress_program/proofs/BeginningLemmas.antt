@@ -6,8 +6,7 @@ use Rattle.std.proofs.lemmas.Bool.{ne_eqb}
 use Rattle.regex_meaning.specs.Tree.{Tree}
 use Rattle.regex_meaning.specs.WellFormed.{IsWellFormed}
 use Rattle.regex_meaning.specs.StartPredicate.{Beginning, beginning, one_of, sequence_or, shared_front, union, first_byte, is_anchored, StartPredicate, start_of, start_predicate, start_arbitrary, start_byte_set, start_anchored, IsSound}
-use Rattle.regex_meaning.proofs.Sound.{predicate-holds}
-use Rattle.regex_meaning.proofs.Clean.{predicate-on_characters}
+use Rattle.regex_meaning.proofs.Clean.{predicate-sound}
 use Rattle.regress_program.specs.declared.insn.StartPredicate as declared
 use Rattle.regress_program.specs.Insns.{start_of as predicate_of}
 use Rattle.regress_program.specs.Beginnings.{bytes_from}
@@ -71,8 +70,8 @@ pub predicate-elsewhere : (tree : Tree) → (not tree.flags.multiline && is_anch
 unfolding start_predicate
 predicate-elsewhere tree h = rw h
 
-pub predicate-sound : (tree : Tree) (p : StartPredicate) → p ≡ start_predicate tree → IsWellFormed tree.root → IsSound p tree.root
-predicate-sound tree p e w = rw e (record { holds = predicate-holds tree w; on_characters = predicate-on_characters tree w })
+pub sound-as : (tree : Tree) (p : StartPredicate) → p ≡ start_predicate tree → IsWellFormed tree.root → IsSound p tree.root
+sound-as tree p e w = rw e (predicate-sound tree w)
 
 -- the predicate of what the root begins with
 pub predicate-begun : {E : Type 0} (r : Result declared.StartPredicate E) (b : Beginning) (tree : Tree) → (not tree.flags.multiline && is_anchored tree.root) ≡ false
@@ -83,4 +82,4 @@ predicate-begun r b tree h e =
 pub all-sound : {E : Type 0} (r : Result declared.StartPredicate E) (tree : Tree) → IfOk r (λ p. predicate_of p ≡ start_predicate tree)
     → IsWellFormed tree.root → IfOk r (λ p. IsSound (predicate_of p) tree.root)
 all-sound r tree h w =
-    IfOk-weaker r (λ p. predicate_of p ≡ start_predicate tree) (λ p. IsSound (predicate_of p) tree.root) (λ p e. predicate-sound tree (predicate_of p) e w) h
+    IfOk-weaker r (λ p. predicate_of p ≡ start_predicate tree) (λ p. IsSound (predicate_of p) tree.root) (λ p e. sound-as tree (predicate_of p) e w) h

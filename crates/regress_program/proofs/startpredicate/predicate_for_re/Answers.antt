@@ -1,7 +1,7 @@
 use Rattle.std.proofs.Common.{sym}
 use Rattle.regex_pattern_front.specs.TreeOf.{tree_of}
 use Rattle.regress_program.specs.Beginnings.{beginning_of}
-use Rattle.regress_program.proofs.BeginningLemmas.{predicate-anchored, predicate-begun, predicate-sound, all-sound}
+use Rattle.regress_program.proofs.BeginningLemmas.{predicate-anchored, predicate-begun, sound-as, all-sound}
 use Rattle.regress_program.proofs.startpredicate.predicate_for_re.Goals as goal
 
 pub returns-then-matches_at_left_end-clause-predicate : goal.returns-then-matches_at_left_end-clause-predicate
@@ -9,7 +9,7 @@ returns-then-matches_at_left_end-clause-predicate c = predicate-anchored (tree_o
 
 pub returns-then-matches_at_left_end-clause-sound : goal.returns-then-matches_at_left_end-clause-sound
 returns-then-matches_at_left_end-clause-sound c =
-    predicate-sound (tree_of c.args.re.now) _ (predicate-anchored (tree_of c.args.re.now) (sym c.if-matches_at_left_end.ensures))
+    sound-as (tree_of c.args.re.now) _ (predicate-anchored (tree_of c.args.re.now) (sym c.if-matches_at_left_end.ensures))
 
 pub returns-clause-predicate : goal.returns-clause-predicate
 returns-clause-predicate c =

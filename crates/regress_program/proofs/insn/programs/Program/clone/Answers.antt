@@ -2,7 +2,7 @@ use Rattle.std.proofs.Common.{◌∙◌, ap, map, string_bytes}
 use Rattle.regex_pattern_front.specs.TreeOf.{contents_of}
 use Rattle.regress_program.specs.Insns.{insn_of}
 use Rattle.regress_program.proofs.FilingLemmas.{same_texts}
-use Rattle.regress_program.proofs.insn.Program.clone.Goals as goal
+use Rattle.regress_program.proofs.insn.programs.Program.clone.Goals as goal
 
 pub invariant_of-result : goal.invariant_of-result
 invariant_of-result c =

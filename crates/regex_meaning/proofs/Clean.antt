@@ -13,9 +13,9 @@ use Rattle.regex_meaning.specs.Tree.{Intervals, Node, char_set, byte_set, byte_s
 use Rattle.regex_meaning.specs.Text.{is_scalar}
 use Rattle.regex_meaning.specs.WellFormed.{has_text_in_sequence, fits_instructions, IsWellFormed}
 use Rattle.regex_meaning.proofs.WellFormedLemmas.{clauses}
-use Rattle.regex_meaning.specs.StartPredicate.{Beginning, open_ended, arbitrary, sequence, one_of, sequence_of, sequence_or, shared_front, first_byte, union, then_of, join, beginning, bytes_where, begun_by, meet, first_bytes, code_points, begins_characters, is_anchored, start_of, start_anchored, start_predicate}
+use Rattle.regex_meaning.specs.StartPredicate.{Beginning, open_ended, arbitrary, sequence, one_of, sequence_of, sequence_or, shared_front, first_byte, union, then_of, join, beginning, bytes_where, begun_by, meet, first_bytes, code_points, IsSound, begins_characters, is_filled, is_anchored, start_of, start_anchored, start_predicate}
 use Rattle.regex_meaning.proofs.FirstBytes.{and-left, and-right, and-both, or-left, or-right, lt-false, eq-false, in_range-below, in_range-true, true-in_range, true-lt, first_of_char}
-use Rattle.regex_meaning.proofs.Sound.{all-contains}
+use Rattle.regex_meaning.proofs.Sound.{all-contains, predicate-holds}
 use Rattle.std.proofs.lemmas.Bool.{or_cases}
 
 abbrev begins_one : ℕ → Bool
@@ -149,10 +149,30 @@ clean-start (sequence (b ∷ c ∷ bs)) h = h
 clean-start (one_of []) h = refl
 clean-start (one_of (b ∷ bs)) h = h
 
-pub predicate-on_characters : (tree : Tree) → IsWellFormed tree.root → IsTrue (begins_characters (start_predicate tree))
+predicate-on_characters : (tree : Tree) → IsWellFormed tree.root → IsTrue (begins_characters (start_predicate tree))
 unfolding start_predicate
 predicate-on_characters tree w = go (not tree.flags.multiline && is_anchored tree.root)
   where
     go : (b : Bool) → IsTrue (begins_characters (if b then start_anchored else start_of (beginning tree.root)))
     go true = refl
     go false = clean-start (beginning tree.root) (clean tree.root (clauses tree.root w).sequences (clauses tree.root w).sets)
+
+filled-start : (b : Beginning) → IsTrue (is_filled (start_of b))
+filled-start open_ended = refl
+filled-start arbitrary = refl
+filled-start (sequence []) = refl
+filled-start (sequence (b ∷ [])) = refl
+filled-start (sequence (b ∷ c ∷ bs)) = refl
+filled-start (one_of []) = refl
+filled-start (one_of (b ∷ bs)) = refl
+
+predicate-filled : (tree : Tree) → IsTrue (is_filled (start_predicate tree))
+unfolding start_predicate
+predicate-filled tree = go (not tree.flags.multiline && is_anchored tree.root)
+  where
+    go : (b : Bool) → IsTrue (is_filled (if b then start_anchored else start_of (beginning tree.root)))
+    go true = refl
+    go false = filled-start (beginning tree.root)
+
+pub predicate-sound : (tree : Tree) → IsWellFormed tree.root → IsSound (start_predicate tree) tree.root
+predicate-sound tree w = record { holds = predicate-holds tree w; on_characters = predicate-on_characters tree w; filled = predicate-filled tree }

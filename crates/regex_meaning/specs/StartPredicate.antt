@@ -154,8 +154,15 @@ begins_characters (start_byte_set members) = list_all (λ b. not (is_in_range 0x
 begins_characters (start_byte_sequence bytes) = list_all (λ b. not (is_in_range 0x80 0xBF b)) (take 1 bytes)
 begins_characters _ = true
 
+-- its set or its sequence has a byte
+abbrev pub is_filled : StartPredicate → Bool
+is_filled (start_byte_set []) = false
+is_filled (start_byte_sequence []) = false
+is_filled _ = true
+
 -- wherever the tree has an outcome, the predicate holds
 pub record IsSound (p : StartPredicate) (root : Node) : Type 0 where
   pub holds : (text : Text) (place : ℕ) → IsTrue (list_all is_scalar text.characters) → place ≤ last_place text
       → outcomes text root rightwards place (no_groups root) ≢ [] → IsTrue (may_start p text place)
   pub on_characters : IsTrue (begins_characters p)
+  pub filled : IsTrue (is_filled p)

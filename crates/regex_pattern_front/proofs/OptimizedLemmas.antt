@@ -1,15 +1,17 @@
 -- Optimizing keeps trees well formed, and their outcomes.
 use Rattle.std.proofs.Common.{◌≡◌, ℕ, zero, suc, ◌-◌, Bool, true, false, ◌&&◌, List, [], ◌∷◌, length, refl, ap, arith}
 use mathlib.Core.Path.{fun_ext}
-use Rattle.std.specs.Prelude.{if◌then◌else◌, nat_le}
+use Rattle.std.specs.Prelude.{if◌then◌else◌, nat_le, map, ◌==◌}
 use Rattle.std.specs.List.{list_all}
 use Rattle.regex_meaning.specs.Lists.{contains, numbers_from}
 use Rattle.regex_meaning.specs.Tree.{Quantifier, Node, empty, goal, char, char_set, byte_set, byte_sequence, cat, end_of_cat, alt, bracket, string_set, match_any, match_any_except_line_terminator, anchor, word_boundary, capture_group, back_ref, lookaround, loop, loop_1_char_body, group_ids, every}
+use Rattle.regex_meaning.specs.Names.{name_of, named_ids, names_by_id}
 use Rattle.regex_meaning.specs.Text.{Text, Direction}
 use Rattle.regex_meaning.specs.Outcomes.{Groups, Outcome, outcomes}
 use Rattle.regex_meaning.specs.WellFormed.{goal_count, is_end_of_cat, ends_in_goal, encloses, names_the_groups_inside, refers_to_a_group, has_order_in_quantifier, is_one_character, has_one_character_body, has_text_in_sequence, fits_instructions}
 use Rattle.regex_meaning.proofs.WellFormedLemmas.{clauses, by_clauses}
-use Rattle.regex_pattern_front.specs.Optimized.{reads_one_character, optimized, OptimizedIsWellFormed, OptimizedHasSameOutcomes}
+use Rattle.regex_pattern_front.specs.Optimized.{reads_one_character, optimized, OptimizedIsWellFormed, OptimizedHasSameOutcomes, OptimizedHasSameAnswers}
+use Rattle.regex_pattern_front.proofs.MatchLemmas.{answers-same}
 
 -- ---- What is read off a tree
 
@@ -28,7 +30,7 @@ goal_count-optimized (loop q s e loopee) = go (reads_one_character loopee) (goal
 goal_count-optimized (loop_1_char_body q loopee) = rw (goal_count-optimized loopee)
 goal_count-optimized _ = refl
 
-group_ids-optimized : (n : Node) → group_ids (optimized n) ≡ group_ids n
+pub group_ids-optimized : (n : Node) → group_ids (optimized n) ≡ group_ids n
 unfolding optimized
 group_ids-optimized (cat first rest) = rw (group_ids-optimized first, group_ids-optimized rest)
 group_ids-optimized (alt left right) = rw (group_ids-optimized left, group_ids-optimized right)
@@ -42,6 +44,27 @@ group_ids-optimized (loop q s e loopee) = go (reads_one_character loopee) (group
     go false h = h
 group_ids-optimized (loop_1_char_body q loopee) = group_ids-optimized loopee
 group_ids-optimized _ = refl
+
+pub named_ids-optimized : (n : Node) → named_ids (optimized n) ≡ named_ids n
+unfolding optimized
+named_ids-optimized (cat first rest) = rw (named_ids-optimized first, named_ids-optimized rest)
+named_ids-optimized (alt left right) = rw (named_ids-optimized left, named_ids-optimized right)
+named_ids-optimized (capture_group id name contents) = ap (λ ids. (id, name) ∷ ids) (named_ids-optimized contents)
+named_ids-optimized (lookaround l contents) = named_ids-optimized contents
+named_ids-optimized (loop q s e loopee) = go (reads_one_character loopee) (named_ids-optimized loopee)
+  where
+    go : (r : Bool) → named_ids (optimized loopee) ≡ named_ids loopee
+        → named_ids (if r then loop_1_char_body q loopee else loop q s e (optimized loopee)) ≡ named_ids loopee
+    go true h = refl
+    go false h = h
+named_ids-optimized (loop_1_char_body q loopee) = named_ids-optimized loopee
+named_ids-optimized _ = refl
+
+names_by_id-optimized : (n : Node) → names_by_id (optimized n) ≡ names_by_id n
+names_by_id-optimized n = ap by_id (named_ids-optimized n)
+  where
+    by_id : List (ℕ × List ℕ) → List (List ℕ)
+    by_id named = if list_all (λ p. length p.1 == 0) named then [] else map (name_of named) (numbers_from 0 (length named))
 
 is_end_of_cat-optimized : (n : Node) → is_end_of_cat (optimized n) ≡ is_end_of_cat n
 unfolding optimized
@@ -256,3 +279,7 @@ module _ (text : Text) where
 
 pub outcomes-optimized : OptimizedHasSameOutcomes
 outcomes-optimized root h text d p g = ap (λ F. F d p g) (same text root (clauses root h).enclosed)
+
+pub answers-optimized : OptimizedHasSameAnswers
+answers-optimized root h text start =
+    answers-same (optimized root) root text (same text root (clauses root h).enclosed) (group_ids-optimized root) (names_by_id-optimized root) start

@@ -1,9 +1,10 @@
 -- The tree with loops over one character.
 use Rattle.std.specs.Prelude.{◌≡◌, ℕ, Bool, true, false, IsTrue, if◌then◌else◌}
-use Rattle.regex_meaning.specs.Tree.{Node, char, char_set, byte_set, cat, alt, bracket, match_any, match_any_except_line_terminator, capture_group, lookaround, loop, loop_1_char_body}
+use Rattle.regex_meaning.specs.Tree.{Node, group_ids, char, char_set, byte_set, cat, alt, bracket, match_any, match_any_except_line_terminator, capture_group, lookaround, loop, loop_1_char_body}
 use Rattle.regex_meaning.specs.Text.{Text, Direction}
 use Rattle.regex_meaning.specs.Outcomes.{Groups, outcomes}
 use Rattle.regex_meaning.specs.WellFormed.{is_well_formed}
+use Rattle.regex_meaning.specs.Names.{answers_from, named_ids}
 
 -- the nodes that read one character and accept it or not
 abbrev pub reads_one_character : Node → Bool
@@ -34,3 +35,16 @@ OptimizedIsWellFormed = (root : Node) → IsTrue (is_well_formed root) → IsTru
 abbrev pub OptimizedHasSameOutcomes : Type 0
 OptimizedHasSameOutcomes = (root : Node) → IsTrue (is_well_formed root)
     → (text : Text) (direction : Direction) (place : ℕ) (groups : Groups) → outcomes text (optimized root) direction place groups ≡ outcomes text root direction place groups
+
+-- and the list of matches that it had, from each start
+abbrev pub OptimizedHasSameAnswers : Type 0
+OptimizedHasSameAnswers = (root : Node) → IsTrue (is_well_formed root)
+    → (text : Text) (start : ℕ) → answers_from (optimized root) text start ≡ answers_from root text start
+
+-- optimizing leaves the groups, in the order of the tree, so it leaves how many there are
+abbrev pub OptimizedHasSameGroups : Type 0
+OptimizedHasSameGroups = (root : Node) → group_ids (optimized root) ≡ group_ids root
+
+-- and the name of each
+abbrev pub OptimizedHasSameNames : Type 0
+OptimizedHasSameNames = (root : Node) → named_ids (optimized root) ≡ named_ids root

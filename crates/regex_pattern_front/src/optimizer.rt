@@ -2,7 +2,7 @@
 
 ghost use Rattle.std.specs.Prelude.{◌≡◌};
 ghost use Rattle.regex_pattern_front.specs.TreeOf.{node_of};
-ghost use Rattle.regex_pattern_front.specs.Optimized.{reads_one_character, optimized, OptimizedIsWellFormed, OptimizedHasSameOutcomes};
+ghost use Rattle.regex_pattern_front.specs.Optimized.{reads_one_character, optimized, OptimizedIsWellFormed, OptimizedHasSameOutcomes, OptimizedHasSameAnswers, OptimizedHasSameGroups, OptimizedHasSameNames};
 
 use crate::ir::{Node, Regex};
 use std::mem;
@@ -101,12 +101,20 @@ fn reads_one_character(node: &Node) -> bool
     }
 }
 
-// The optimized tree is well formed if the tree is.
+/// A law: the optimized tree is well formed if the tree is.
 pub fn optimized_is_well_formed()
     ensures { OptimizedIsWellFormed }
 {}
 
-// The optimized tree has the tree's outcomes.
+/// A law: the optimized tree of a well-formed tree has the tree's outcomes.
 pub fn optimized_has_same_outcomes()
     ensures { OptimizedHasSameOutcomes }
+{}
+
+/// A law: the optimized tree of a well-formed tree has the tree's matches in each text, and always its groups and their
+/// names.
+pub fn optimized_has_same_matches()
+    ensures answers { OptimizedHasSameAnswers }
+    ensures groups { OptimizedHasSameGroups }
+    ensures names { OptimizedHasSameNames }
 {}

@@ -18,7 +18,7 @@ sized c = refl
 positive : (c : ℕ) → 0 < one_unit c
 positive c = omega arith
 
-all_single : (us : List ℕ) → flat_map single us ≡ us
+pub all_single : (us : List ℕ) → flat_map single us ≡ us
 all_single [] = refl
 all_single (u ∷ us) = ap (λ l. u ∷ l) (all_single us)
 

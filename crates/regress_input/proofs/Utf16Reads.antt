@@ -1,8 +1,9 @@
 -- Characters in UTF-16, read from their units.
-use Rattle.std.proofs.Common.{◌≡◌, ◌≢◌, ℕ, zero, suc, ◌+◌, ◌-◌, ◌/◌, ◌%◌, ◌<◌, ◌≤◌, ◌⊎◌, inl, inr, Bool, true, false, cond, if◌then◌else◌, not, ◌&&◌, List, [], ◌∷◌, ◌++◌, length, get_or, take, drop, flat_map, slice_get, slice_index, nat_le, nat_eq, Some, None, option_map, refl, sym, ◌∙◌, ap, ap₂, subst, arith, add-one, eq-eqb, ne_eqb, le-leb, leb-true, get_or-drop}
+use Rattle.std.proofs.Common.{◌≡◌, ◌≢◌, ℕ, zero, suc, ◌+◌, ◌-◌, ◌/◌, ◌%◌, ◌<◌, ◌≤◌, ◌⊎◌, inl, inr, Bool, true, false, cond, if◌then◌else◌, not, ◌&&◌, List, [], ◌∷◌, ◌++◌, length, get_or, take, drop, flat_map, slice_get, slice_index, nat_le, nat_eq, Some, None, option_map, refl, sym, ◌∙◌, ap, ap₂, subst, arith, add-one, eq-eqb, ne_eqb, le-leb, leb-true, lt-ltb, le-ltb, get_or-drop}
 use Rattle.std.proofs.lemmas.Bool.{and_parts, lt-leb}
 use Rattle.regex_meaning.specs.Text.{Text, rightwards, leftwards, is_high_surrogate, is_low_surrogate, character_of_pair, utf16_width, utf16_characters, utf16_text, is_unit_boundary, fold_code_point}
 use Rattle.regex_meaning.specs.Offsets.{IsBoundary, units, read}
+use Rattle.regex_meaning.specs.Units.{utf16, spelled_in}
 use Rattle.regex_meaning.specs.Laws.{is_within_pair}
 use Rattle.regex_meaning.proofs.TextLemmas.{utf16_text-IsText}
 use Rattle.regex_meaning.proofs.UnitLemmas.{unit_boundary-place_at, unit_boundary-between, units-utf16}
@@ -20,15 +21,15 @@ abbrev low_of : ℕ → ℕ
 low_of c = 0xDC00 + (c - 0x1_0000) % 0x400
 
 unfoldable pub spell : ℕ → List ℕ
-spell c = if nat_le 0x1_0000 c then high_of c ∷ low_of c ∷ [] else c ∷ []
+spell c = spelled_in utf16 c
 
 pub spell-one : (c : ℕ) → c < 0x1_0000 → spell c ≡ c ∷ []
 unfolding spell
-spell-one c l = ap (λ (b : Bool). cond b (high_of c ∷ low_of c ∷ []) (c ∷ [])) (lt-leb 0x1_0000 c l)
+spell-one c l = ap (λ (b : Bool). cond b (c ∷ []) (high_of c ∷ low_of c ∷ [])) (lt-ltb c 0x1_0000 l)
 
 pub spell-two : (c : ℕ) → 0x1_0000 ≤ c → spell c ≡ high_of c ∷ low_of c ∷ []
 unfolding spell
-spell-two c l = ap (λ (b : Bool). cond b (high_of c ∷ low_of c ∷ []) (c ∷ [])) (le-leb 0x1_0000 c l)
+spell-two c l = ap (λ (b : Bool). cond b (c ∷ []) (high_of c ∷ low_of c ∷ [])) (le-ltb c 0x1_0000 l)
 
 width-one : (c : ℕ) → c < 0x1_0000 → utf16_width c ≡ 1
 width-one c l = ap (λ (b : Bool). cond b 2 1) (lt-leb 0x1_0000 c l)

@@ -10,4 +10,3 @@ pub mod scm;
 mod units;
 mod utf16;
 mod utf8;
-mod wide_units;

@@ -6,8 +6,7 @@ use Rattle.regex_meaning.specs.Outcomes.{most_of, in_intervals}
 use Rattle.regex_meaning.specs.StartPredicate.{bytes_where}
 use Rattle.regex_meaning.specs.WellFormed.{IsWellFormed}
 use Rattle.regex_meaning.specs.Layout.{Insn, JustFail, Char, MatchAny, MatchAnyExceptLineTerminator, BackRef, Alt, Jump, EnterLoop, LoopAgain, Goal, BeginCaptureGroup, EndCaptureGroup, Loop1CharBody, AsciiBracket, Bracket, ByteSeq, Mark, Program, HasAll, IsStringCode, AreStringsCode, IsCode, IsByteCodeOf, lookaround_insn, ordered, is_ascii_set, char_set_insn, byte_set_insn, anchor_insn, word_boundary_insn, chunks}
-use Rattle.regex_meaning.proofs.Sound.{predicate-holds}
-use Rattle.regex_meaning.proofs.Clean.{predicate-on_characters}
+use Rattle.regex_meaning.proofs.Clean.{predicate-sound}
 use Rattle.regress_program.specs.Code.{size, strings_size, loop_count, brackets_of, string_code, strings_code, resets, code_of, compiled}
 use Rattle.regress_program.proofs.EmitLemmas.{length-code_of, length-string_code, length-resets}
 
@@ -255,5 +254,5 @@ compiled-is_code t w =
         names = refl;
       };
       start_pred = refl;
-      start_is_sound = record { holds = predicate-holds t w; on_characters = predicate-on_characters t w };
+      start_is_sound = predicate-sound t w;
     }

@@ -11,10 +11,10 @@ ghost use Rattle.regex_pattern_front.specs.ByteSets.{ascii_bitmap_bytes};
 ghost use Rattle.regress_program.specs.Emitting.{state_of, with_code, with_bracket};
 
 use crate::emit::emitter::{Emitter, Mode};
-use crate::insn::Insn;
 use regex_pattern_front::bytesearch::AsciiBitmap;
 use regex_pattern_front::codepointset::Interval;
 use regex_pattern_front::types::BracketContents;
+use regress_insn::insn::Insn;
 use std::alloc::AllocError;
 
 impl Emitter {

@@ -12,9 +12,9 @@ ghost use Rattle.regress_program.specs.Nodes.{cat_of};
 ghost use Rattle.regress_program.specs.Emitting.{HasRoom, state_of, with_code, with_insn, with_insns, with_insn_at, with_loop, nothing, lookaround_of};
 
 use crate::emit::leaves::{anchor_insn, byte_set_insn, char_set_insn, word_boundary_insn};
-use crate::insn::{Insn, LoopFields};
 use regex_pattern_front::ir::{Node, Quantifier};
 use regex_pattern_front::types::{BracketContents, CaptureGroupID, LoopID};
+use regress_insn::insn::{Insn, LoopFields};
 use std::alloc::{AllocError, Global};
 use std::ops::Range;
 

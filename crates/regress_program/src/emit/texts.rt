@@ -10,8 +10,8 @@ ghost use Rattle.regress_program.specs.Emitting.{state_of, with_code, with_insn,
 
 use crate::emit::emitter::{Emitter, Mode};
 use crate::emit::leaves::{byte_seq_insn, spelling_insn};
-use crate::insn::{Insn, MAX_BYTE_SEQ_LENGTH};
 use regex_pattern_front::folding::expand_code_point;
+use regress_insn::insn::{Insn, MAX_BYTE_SEQ_LENGTH};
 use std::alloc::AllocError;
 
 // How many chunks a byte sequence has.

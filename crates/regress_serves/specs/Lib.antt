@@ -1,0 +1,5 @@
+pub mod Serves
+pub mod Left
+pub mod Barred
+pub mod Tables
+pub mod Starts

@@ -14,9 +14,10 @@ use Rattle.regex_meaning.specs.Text.{is_scalar}
 use Rattle.regex_meaning.specs.WellFormed.{has_text_in_sequence, fits_instructions, IsWellFormed}
 use Rattle.regex_meaning.proofs.WellFormedLemmas.{clauses}
 use Rattle.regex_meaning.specs.StartPredicate.{Beginning, open_ended, arbitrary, sequence, one_of, sequence_of, sequence_or, shared_front, first_byte, union, then_of, join, beginning, bytes_where, begun_by, meet, first_bytes, code_points, IsSound, begins_characters, is_filled, is_anchored, start_of, start_anchored, start_predicate}
-use Rattle.regex_meaning.proofs.FirstBytes.{and-left, and-right, and-both, or-left, or-right, lt-false, eq-false, in_range-below, in_range-true, true-in_range, true-lt, first_of_char}
+use Rattle.regex_meaning.proofs.FirstBytes.{in_range-below, in_range-true, true-in_range, first_of_char}
 use Rattle.regex_meaning.proofs.Sound.{all-contains, predicate-holds}
-use Rattle.std.proofs.lemmas.Bool.{or_cases}
+use Rattle.std.proofs.lemmas.Bool.{or_cases, and_from, or_left, or_right, ltb-true, le-ltb, ne_eqb}
+use Rattle.regex_meaning.proofs.Booleans.{and-left, and-right}
 
 abbrev begins_one : ℕ → Bool
 begins_one b = not (is_in_range 0x80 0xBF b)
@@ -32,7 +33,7 @@ all-filter ok test [] h = refl
 all-filter ok test (x ∷ xs) h = go (test x) refl (all-filter ok test xs h)
   where
     go : (b : Bool) → test x ≡ b → list_all ok (filter test xs) ≡ true → list_all ok (if b then x ∷ filter test xs else filter test xs) ≡ true
-    go true e k = and-both _ _ (h x e) k
+    go true e k = and_from _ _ (h x e) k
     go false e k = k
 
 all-union : (ok : ℕ → Bool) (xs ys : List ℕ) → list_all ok xs ≡ true → list_all ok ys ≡ true → list_all ok (union xs ys) ≡ true
@@ -77,13 +78,13 @@ clean-if false x h = tt
 begun_by-none : (b : ℕ) → 0x80 ≤ b → b ≤ 0xBF → begun_by b ≡ []
 begun_by-none b h k =
     rw (
-      lt-false b 0x80 h,
+      le-ltb b 0x80 h,
       in_range-below 0xC2 0xDF b (omega arith),
-      eq-false b 0xE0 (omega arith),
+      ne_eqb b 0xE0 (omega arith),
       in_range-below 0xE1 0xEF b (omega arith),
-      eq-false b 0xF0 (omega arith),
+      ne_eqb b 0xF0 (omega arith),
       in_range-below 0xF1 0xF3 b (omega arith),
-      eq-false b 0xF4 (omega arith),
+      ne_eqb b 0xF4 (omega arith),
     )
 
 clean-first_bytes : (ivs : Intervals) → list_all begins_one (first_bytes ivs) ≡ true
@@ -101,14 +102,14 @@ pub is_scalar-of : (c : ℕ) → IsScalar c → is_scalar c ≡ true
 is_scalar-of c h = go (scalar_cases c h)
   where
     go : (c < 55296) ⊎ ((57344 ≤ c) × (c < 1114112)) → is_scalar c ≡ true
-    go (inl l) = or-left _ _ (in_range-true 0 0xD7FF c (omega arith) (omega arith))
-    go (inr l) = or-right (is_in_range 0 0xD7FF c) _ (in_range-true 0xE000 0x10_FFFF c l.0 (let u = l.1 in omega arith))
+    go (inl l) = or_left _ _ (in_range-true 0 0xD7FF c (omega arith) (omega arith))
+    go (inr l) = or_right (is_in_range 0 0xD7FF c) _ (in_range-true 0xE000 0x10_FFFF c l.0 (let u = l.1 in omega arith))
 
 clean-bytes : (cs bytes : List ℕ) → all_scalars cs ≡ true → encode_utf8_all cs ≡ bytes → list_all begins_one (take 1 bytes) ≡ true
 clean-bytes [] bytes s e = rw (← e) refl
 clean-bytes (c ∷ cs) bytes s e =
     let f = first_of_char c (is_scalar-of c (and-left _ _ s)) in
-    rw (← e, f.is) (and-both (begins_one f.byte) true (rw f.lead.begins) refl)
+    rw (← e, f.is) (and_from (begins_one f.byte) true (rw f.lead.begins) refl)
 
 clean-sequence_of : (bytes : List ℕ) → list_all begins_one (take 1 bytes) ≡ true → Clean (sequence_of bytes)
 clean-sequence_of [] h = tt
@@ -123,7 +124,7 @@ clean-byte_set : (members : List ℕ) → list_all (λ b. nat_lt b 128) members 
 unfolding bytes_where
 clean-byte_set members h =
     all-filter begins_one (contains members) (numbers_from 0 256)
-    (λ b t. let low = true-lt b 128 (all-contains (λ c. nat_lt c 128) members b h t) in rw (in_range-below 0x80 0xBF b low))
+    (λ b t. let low = ltb-true b 128 (all-contains (λ c. nat_lt c 128) members b h t) in rw (in_range-below 0x80 0xBF b low))
 
 clean : (node : Node) → IsTrue (every has_text_in_sequence node) → IsTrue (every fits_instructions node) → Clean (beginning node)
 unfolding beginning

@@ -8,19 +8,7 @@ use Rattle.regex_meaning.specs.Text.{is_high_surrogate, is_low_surrogate, charac
 use Rattle.regex_meaning.specs.Offsets.{place_at, units}
 use Rattle.regex_meaning.specs.Laws.{is_within_pair}
 use Rattle.std.proofs.Math.Bool.{and-false}
-
--- two tests of order are the same where the orders are
-le-same : (a b c d : ℕ) → (a ≤ b → c ≤ d) → (c ≤ d → a ≤ b) → nat_le a b ≡ nat_le c d
-le-same a b c d to back = elim (cases_lt b a) [
-  | inl less ↦ lt-leb a b less ∙ sym (not-le (λ le. let l = back le in omega arith))
-  | inr le ↦ le-leb a b le ∙ sym (le-leb c d (to le))
-]
-  where
-    not-le : (c ≤ d → ⊥) → nat_le c d ≡ false
-    not-le none = elim (cases_lt d c) [
-      | inl less ↦ lt-leb c d less
-      | inr le ↦ absurd (none le)
-    ]
+use Rattle.regex_meaning.proofs.Booleans.{le-same}
 
 any-position : (test : ℕ → Bool) (xs : List ℕ) → list_any test xs ≡ nat_lt (position_or_len test xs) (length xs)
 any-position test [] = refl
@@ -53,7 +41,7 @@ AreUnits units = (k : ℕ) → k < length units → slice_index units k < 0x1_00
 abbrev pub is_between : List ℕ → ℕ → Bool
 is_between units i = nat_le i (length units) && not (is_within_pair units i)
 
-single-width : (u : ℕ) → u < 0x1_0000 → utf16_width u ≡ 1
+pub single-width : (u : ℕ) → u < 0x1_0000 → utf16_width u ≡ 1
 single-width u less = rw (lt-leb 0x1_0000 u less) refl
 
 pair-width : (u v : ℕ) → utf16_width (character_of_pair u v) ≡ 2
@@ -106,7 +94,7 @@ step-pair u v us at (suc (suc (suc i))) ws more high low =
     ∙ ap (λ (b : Bool). b && not (is_within_pair us (suc i)))
     (le-same (suc i) (length us) (suc (suc (suc i))) (suc (suc (length us))) (λ h. omega arith) (λ h. omega arith))
 
-behind-first : (u : ℕ) (us : List ℕ) → AreUnits (u ∷ us) → AreUnits us
+pub behind-first : (u : ℕ) (us : List ℕ) → AreUnits (u ∷ us) → AreUnits us
 behind-first u us small k inside = small (suc k) (omega arith)
 
 -- offsets of the characters of these units

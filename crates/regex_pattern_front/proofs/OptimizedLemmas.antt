@@ -12,6 +12,8 @@ use Rattle.regex_meaning.specs.WellFormed.{goal_count, is_end_of_cat, ends_in_go
 use Rattle.regex_meaning.proofs.WellFormedLemmas.{clauses, by_clauses}
 use Rattle.regex_pattern_front.specs.Optimized.{reads_one_character, optimized, OptimizedIsWellFormed, OptimizedHasSameOutcomes, OptimizedHasSameAnswers}
 use Rattle.regex_pattern_front.proofs.MatchLemmas.{answers-same}
+use Rattle.std.proofs.lemmas.Bool.{and_from}
+use Rattle.regex_meaning.proofs.Booleans.{and-left, and-right}
 
 -- ---- What is read off a tree
 
@@ -106,44 +108,32 @@ is_one-reads _ h = grind arith
 
 -- ---- Tests of each node
 
-left : (a b : Bool) → (a && b) ≡ true → a ≡ true
-left true b h = refl
-left false b h = h
-
-right : (a b : Bool) → (a && b) ≡ true → b ≡ true
-right true b h = h
-right false b h = grind arith
-
-both : (a b : Bool) → a ≡ true → b ≡ true → (a && b) ≡ true
-both true b h k = k
-both false b h k = grind arith
-
 -- a test that holds of the optimized node where it holds of the node holds of each one
 module _ (test : Node → Bool) (keeps : (n : Node) → test n ≡ true → test (optimized n) ≡ true) where
   every-optimized : (n : Node) → every test n ≡ true → every test (optimized n) ≡ true
   unfolding optimized
   every-optimized (cat first rest) h =
-      both _ _
-      (both _ _ (keeps (cat first rest) (left (test (cat first rest)) _ (left _ (every test rest) h))) (every-optimized first (right (test (cat first rest)) _ (left _ (every test rest) h))))
-      (every-optimized rest (right _ (every test rest) h))
+      and_from _ _
+      (and_from _ _ (keeps (cat first rest) (and-left (test (cat first rest)) _ (and-left _ (every test rest) h))) (every-optimized first (and-right (test (cat first rest)) _ (and-left _ (every test rest) h))))
+      (every-optimized rest (and-right _ (every test rest) h))
   every-optimized (alt first rest) h =
-      both _ _
-      (both _ _ (keeps (alt first rest) (left (test (alt first rest)) _ (left _ (every test rest) h))) (every-optimized first (right (test (alt first rest)) _ (left _ (every test rest) h))))
-      (every-optimized rest (right _ (every test rest) h))
+      and_from _ _
+      (and_from _ _ (keeps (alt first rest) (and-left (test (alt first rest)) _ (and-left _ (every test rest) h))) (every-optimized first (and-right (test (alt first rest)) _ (and-left _ (every test rest) h))))
+      (every-optimized rest (and-right _ (every test rest) h))
   every-optimized (capture_group id name contents) h =
-      both _ _ (keeps (capture_group id name contents) (left _ (every test contents) h)) (every-optimized contents (right _ (every test contents) h))
+      and_from _ _ (keeps (capture_group id name contents) (and-left _ (every test contents) h)) (every-optimized contents (and-right _ (every test contents) h))
   every-optimized (lookaround l contents) h =
-      both _ _ (keeps (lookaround l contents) (left _ (every test contents) h)) (every-optimized contents (right _ (every test contents) h))
+      and_from _ _ (keeps (lookaround l contents) (and-left _ (every test contents) h)) (every-optimized contents (and-right _ (every test contents) h))
   every-optimized (loop q s e loopee) h =
-      go (reads_one_character loopee) (keeps (loop q s e loopee) (left _ (every test loopee) h)) (right _ (every test loopee) h)
-      (every-optimized loopee (right _ (every test loopee) h))
+      go (reads_one_character loopee) (keeps (loop q s e loopee) (and-left _ (every test loopee) h)) (and-right _ (every test loopee) h)
+      (every-optimized loopee (and-right _ (every test loopee) h))
     where
       go : (r : Bool) → test (if r then loop_1_char_body q loopee else loop q s e (optimized loopee)) ≡ true → every test loopee ≡ true → every test (optimized loopee) ≡ true
           → every test (if r then loop_1_char_body q loopee else loop q s e (optimized loopee)) ≡ true
-      go true here below inside = both _ _ here below
-      go false here below inside = both _ _ here inside
+      go true here below inside = and_from _ _ here below
+      go false here below inside = and_from _ _ here inside
   every-optimized (loop_1_char_body q loopee) h =
-      both _ _ (keeps (loop_1_char_body q loopee) (left _ (every test loopee) h)) (every-optimized loopee (right _ (every test loopee) h))
+      and_from _ _ (keeps (loop_1_char_body q loopee) (and-left _ (every test loopee) h)) (every-optimized loopee (and-right _ (every test loopee) h))
   every-optimized empty h = h
   every-optimized goal h = h
   every-optimized (char c) h = h
@@ -239,7 +229,7 @@ nothing_named first zero h = refl
 nothing_named first (suc count) h = grind arith
 
 encloses_none : (s e : ℕ) (n : Node) → group_ids n ≡ [] → encloses s e n ≡ true → e - s ≡ 0
-encloses_none s e n none h = nothing_named s (e - s) (right (nat_le s e && list_all (contains (numbers_from s (e - s))) []) _ (rw none at h))
+encloses_none s e n none h = nothing_named s (e - s) (and-right (nat_le s e && list_all (contains (numbers_from s (e - s))) []) _ (rw none at h))
 
 module _ (text : Text) where
   fun_ext3 : (F G : Direction → ℕ → Groups → List Outcome) → ((d : Direction) (p : ℕ) (g : Groups) → F d p g ≡ G d p g) → F ≡ G
@@ -248,18 +238,18 @@ module _ (text : Text) where
   same : (n : Node) → every names_the_groups_inside n ≡ true → outcomes text (optimized n) ≡ outcomes text n
   unfolding optimized outcomes
   same (cat first rest) h =
-      fun_ext3 _ _ (λ d p g. rw (same first (right (names_the_groups_inside (cat first rest)) _ (left _ (every names_the_groups_inside rest) h)), same rest (right _ (every names_the_groups_inside rest) h)))
+      fun_ext3 _ _ (λ d p g. rw (same first (and-right (names_the_groups_inside (cat first rest)) _ (and-left _ (every names_the_groups_inside rest) h)), same rest (and-right _ (every names_the_groups_inside rest) h)))
   same (alt first rest) h =
-      fun_ext3 _ _ (λ d p g. rw (same first (right (names_the_groups_inside (alt first rest)) _ (left _ (every names_the_groups_inside rest) h)), same rest (right _ (every names_the_groups_inside rest) h)))
+      fun_ext3 _ _ (λ d p g. rw (same first (and-right (names_the_groups_inside (alt first rest)) _ (and-left _ (every names_the_groups_inside rest) h)), same rest (and-right _ (every names_the_groups_inside rest) h)))
   same (capture_group id name contents) h = fun_ext3 _ _ (λ d p g. rw (same contents h))
-  same (lookaround l contents) h = fun_ext3 _ _ (λ d p g. rw (same contents (right _ (every names_the_groups_inside contents) h)))
+  same (lookaround l contents) h = fun_ext3 _ _ (λ d p g. rw (same contents (and-right _ (every names_the_groups_inside contents) h)))
   same (loop q s e loopee) h =
-      go (reads_one_character loopee) refl (same loopee (right _ (every names_the_groups_inside loopee) h))
+      go (reads_one_character loopee) refl (same loopee (and-right _ (every names_the_groups_inside loopee) h))
     where
       go : (r : Bool) → reads_one_character loopee ≡ r → outcomes text (optimized loopee) ≡ outcomes text loopee
           → outcomes text (if r then loop_1_char_body q loopee else loop q s e (optimized loopee)) ≡ outcomes text (loop q s e loopee)
       go true k inside =
-          fun_ext3 _ _ (λ d p g. rw (encloses_none s e loopee (no_ids loopee k) (left (encloses s e loopee) (every names_the_groups_inside loopee) h)))
+          fun_ext3 _ _ (λ d p g. rw (encloses_none s e loopee (no_ids loopee k) (and-left (encloses s e loopee) (every names_the_groups_inside loopee) h)))
       go false k inside = fun_ext3 _ _ (λ d p g. rw inside)
   same (loop_1_char_body q loopee) h = fun_ext3 _ _ (λ d p g. rw (same loopee h))
   same empty h = refl

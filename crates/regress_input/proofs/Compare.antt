@@ -8,6 +8,9 @@ use Rattle.regex_meaning.proofs.TextLemmas.{offset-injective, offset-less, offse
 use Rattle.regress_input.specs.Reading.{way, place, characters_between, past_spelled}
 use Rattle.regress_input.proofs.Places.{HasPlace, place_of_boundary, pair, step_right, step_left, read-place}
 use Rattle.regress_input.proofs.Slices.{place_is}
+use Rattle.regex_meaning.proofs.Booleans.{le-same}
+use Rattle.std.proofs.Math.Bool.{and-false}
+use Rattle.std.proofs.lemmas.Bool.{lt-leb}
 
 -- ---- Ranges, one character more
 
@@ -40,10 +43,6 @@ slice-last xs s a c l e =
     let j : s + (a - s) ≡ a = omega arith in
     ap (λ m. take m (drop s xs)) i ∙ take-snoc (drop s xs) (a - s) c (get-drop xs s (a - s) ∙ ap (slice_get xs) j ∙ e)
 
-and_false : (b : Bool) → (b && false) ≡ false
-and_false true = refl
-and_false false = refl
-
 and_swap : (a b c : Bool) → (a && (b && c)) ≡ (b && (a && c))
 and_swap true true c = refl
 and_swap true false c = refl
@@ -55,27 +54,6 @@ pointwise-snoc f [] [] c d e = refl
 pointwise-snoc f [] (y ∷ ys) c d e = absurd (omega arith)
 pointwise-snoc f (x ∷ xs) [] c d e = absurd (omega arith)
 pointwise-snoc f (x ∷ xs) (y ∷ ys) c d e = ap (λ b. f x y && b) (pointwise-snoc f xs ys c d (omega arith)) ∙ and_swap (f x y) (f c d) (pointwise f xs ys)
-
-le_fails : (m n : ℕ) → n < m → nat_le m n ≡ false
-le_fails m n l = by (nat_le m n) refl
-  where
-    by : (b : Bool) → nat_le m n ≡ b → nat_le m n ≡ false
-    by false e = e
-    by true e = absurd (omega (arith, leb-true m n e))
-
-le_same : (a b c d : ℕ) → (a ≤ b → c ≤ d) → (c ≤ d → a ≤ b) → nat_le a b ≡ nat_le c d
-le_same a b c d f g = by (nat_le a b) refl
-  where
-    by : (t : Bool) → nat_le a b ≡ t → nat_le a b ≡ nat_le c d
-    by true e = e ∙ sym (le-leb c d (f (leb-true a b e)))
-    by false e = e ∙ sym (other (nat_le c d) refl)
-      where
-        other : (s : Bool) → nat_le c d ≡ s → nat_le c d ≡ false
-        other false q = q
-        other true q = absurd (no (sym e ∙ le-leb a b (g (leb-true c d q))))
-          where
-            no : false ≡ true → ⊥
-            no z = cc
 
 -- ---- One by one
 
@@ -118,7 +96,7 @@ module _ (text : Text) (same : ℕ → ℕ → Bool) where
           let k_in : k < length cs = slice_get_within cs k d f in
           let lists : pointwise same (slice_range cs a (a + suc n)) (slice_range cs k (k + suc n)) ≡ (same c d && pointwise same (slice_range cs (suc a) (suc a + n)) (slice_range cs (suc k) (suc k + n))) =
           ap₂ (pointwise same) (slice-first cs a n c e) (slice-first cs k n d f) in
-          let left : nat_le (suc n) (length cs - k) ≡ nat_le n (length cs - suc k) = le_same (suc n) (length cs - k) n (length cs - suc k) (λ x. omega arith) (λ x. omega arith) in
+          let left : nat_le (suc n) (length cs - k) ≡ nat_le n (length cs - suc k) = le-same (suc n) (length cs - k) n (length cs - suc k) (λ x. omega arith) (λ x. omega arith) in
           let end : k + suc n ≡ suc k + n = omega arith in
           go t s (ap₂ (λ x y. x && y) left lists) end
         where
@@ -132,7 +110,7 @@ module _ (text : Text) (same : ℕ → ℕ → Bool) where
               (tests ∙ ap (λ (b : Bool). nat_le n (length cs - suc k) && (b && pointwise same (slice_range cs (suc a) (suc a + n)) (slice_range cs (suc k) (suc k + n)))) s) end)
           go false s tests end =
               sym (fails (nat_le (suc n) (length cs - k) && pointwise same (slice_range cs a (a + suc n)) (slice_range cs k (k + suc n))) (k + suc n)
-              (tests ∙ ap (λ (b : Bool). nat_le n (length cs - suc k) && (b && pointwise same (slice_range cs (suc a) (suc a + n)) (slice_range cs (suc k) (suc k + n)))) s ∙ and_false (nat_le n (length cs - suc k))))
+              (tests ∙ ap (λ (b : Bool). nat_le n (length cs - suc k) && (b && pointwise same (slice_range cs (suc a) (suc a + n)) (slice_range cs (suc k) (suc k + n)))) s ∙ and-false (nat_le n (length cs - suc k))))
 
       absent : (xs : List ℕ) (i : ℕ) → slice_get xs i ≡ None → length xs ≤ i
       absent [] i e = omega arith
@@ -145,7 +123,7 @@ module _ (text : Text) (same : ℕ → ℕ → Bool) where
       by (Some c) e None f =
           let past : length cs ≤ k = absent cs k f in
           sym (fails (nat_le (suc n) (length cs - k) && pointwise same (slice_range cs a (a + suc n)) (slice_range cs k (k + suc n))) (k + suc n)
-          (ap (λ (b : Bool). b && pointwise same (slice_range cs a (a + suc n)) (slice_range cs k (k + suc n))) (le_fails (suc n) (length cs - k) (omega arith))))
+          (ap (λ (b : Bool). b && pointwise same (slice_range cs a (a + suc n)) (slice_range cs k (k + suc n))) (lt-leb (suc n) (length cs - k) (omega arith))))
       by (Some c) e (Some d) f = here c d e f (same c d) refl
 
   run-right : (n a k : ℕ) → a + n ≤ length cs → run rightwards n a k ≡ at_once rightwards n a k
@@ -178,7 +156,7 @@ module _ (text : Text) (same : ℕ → ℕ → Bool) where
       tests c d e f = split (nat_le n k) refl
         where
           less : nat_le (suc n) (suc k) ≡ nat_le n k
-          less = le_same (suc n) (suc k) n k (λ x. omega arith) (λ x. omega arith)
+          less = le-same (suc n) (suc k) n k (λ x. omega arith) (λ x. omega arith)
 
           lists : n ≤ k → pointwise same (slice_range cs (suc a - suc n) (suc a)) (slice_range cs (suc k - suc n) (suc k)) ≡ (same c d && pointwise same (slice_range cs (a - n) a) (slice_range cs (k - n) k))
           lists x =
@@ -204,7 +182,7 @@ module _ (text : Text) (same : ℕ → ℕ → Bool) where
           (tests c d e f ∙ ap (λ (b : Bool). nat_le n k && (b && pointwise same (slice_range cs (a - n) a) (slice_range cs (k - n) k))) s) end)
       go c d e f false s =
           sym (fails (nat_le (suc n) (suc k) && pointwise same (slice_range cs (suc a - suc n) (suc a)) (slice_range cs (suc k - suc n) (suc k))) (suc k - suc n)
-          (tests c d e f ∙ ap (λ (b : Bool). nat_le n k && (b && pointwise same (slice_range cs (a - n) a) (slice_range cs (k - n) k))) s ∙ and_false (nat_le n k)))
+          (tests c d e f ∙ ap (λ (b : Bool). nat_le n k && (b && pointwise same (slice_range cs (a - n) a) (slice_range cs (k - n) k))) s ∙ and-false (nat_le n k)))
 
       by : (o : Option ℕ) → slice_get cs a ≡ o → (p : Option ℕ) → slice_get cs k ≡ p
           → both o p (run leftwards n (suc a - 1) (suc k - 1)) ≡ at_once leftwards (suc n) (suc a) (suc k)
@@ -223,7 +201,7 @@ module _ (text : Text) (same : ℕ → ℕ → Bool) where
   run-left (suc n) (suc a) zero l m o = by (slice_get cs a)
     where
       test : (nat_le (suc n) 0 && pointwise same (slice_range cs (suc a - suc n) (suc a)) (slice_range cs (0 - suc n) 0)) ≡ false
-      test = ap (λ (b : Bool). b && pointwise same (slice_range cs (suc a - suc n) (suc a)) (slice_range cs (0 - suc n) 0)) (le_fails (suc n) 0 (omega arith))
+      test = ap (λ (b : Bool). b && pointwise same (slice_range cs (suc a - suc n) (suc a)) (slice_range cs (0 - suc n) 0)) (lt-leb (suc n) 0 (omega arith))
 
       by : (o : Option ℕ) → both o None (run leftwards n (suc a - 1) (0 - 1)) ≡ at_once leftwards (suc n) (suc a) zero
       by None = sym (fails _ (0 - suc n) test)

@@ -1,12 +1,12 @@
 -- Characters in UTF-16, read from their units.
 use Rattle.std.proofs.Common.{◌≡◌, ◌≢◌, ℕ, zero, suc, ◌+◌, ◌-◌, ◌/◌, ◌%◌, ◌<◌, ◌≤◌, ◌⊎◌, inl, inr, Bool, true, false, cond, if◌then◌else◌, not, ◌&&◌, List, [], ◌∷◌, ◌++◌, length, get_or, take, drop, flat_map, slice_get, slice_index, nat_le, nat_eq, Some, None, option_map, refl, sym, ◌∙◌, ap, ap₂, subst, arith, add-one, eq-eqb, ne_eqb, le-leb, leb-true, lt-ltb, le-ltb, get_or-drop}
-use Rattle.std.proofs.lemmas.Bool.{and_parts, lt-leb}
+use Rattle.std.proofs.lemmas.Bool.{and_parts, lt-leb, and_from, false_from_ne_true}
 use Rattle.regex_meaning.specs.Text.{Text, rightwards, leftwards, is_high_surrogate, is_low_surrogate, character_of_pair, utf16_width, utf16_characters, utf16_text, is_unit_boundary, fold_code_point}
 use Rattle.regex_meaning.specs.Offsets.{IsBoundary, units, read}
 use Rattle.regex_meaning.specs.Units.{utf16, spelled_in}
 use Rattle.regex_meaning.specs.Laws.{is_within_pair}
-use Rattle.regex_meaning.proofs.TextLemmas.{utf16_text-IsText}
-use Rattle.regex_meaning.proofs.UnitLemmas.{unit_boundary-place_at, unit_boundary-between, units-utf16}
+use Rattle.regex_meaning.proofs.TextLemmas.{utf16_text-IsText, utf16_width-positive}
+use Rattle.regex_meaning.proofs.UnitLemmas.{unit_boundary-place_at, unit_boundary-between, units-utf16, single-width, behind-first}
 use Rattle.regress_input.specs.Utf16.{AreUnits, is_pair_at, pair_at, character_behind, character_before}
 use Rattle.regress_input.proofs.Places.{pair, right_boundary, left_boundary, boundary_inside}
 use Rattle.regress_input.proofs.Spelled.{ReadsRight, ReadsLeft, reads_right, reads_left, at_end, before_character, at_start, behind_character}
@@ -31,9 +31,6 @@ pub spell-two : (c : ℕ) → 0x1_0000 ≤ c → spell c ≡ high_of c ∷ low_o
 unfolding spell
 spell-two c l = ap (λ (b : Bool). cond b (c ∷ []) (high_of c ∷ low_of c ∷ [])) (le-ltb c 0x1_0000 l)
 
-width-one : (c : ℕ) → c < 0x1_0000 → utf16_width c ≡ 1
-width-one c l = ap (λ (b : Bool). cond b 2 1) (lt-leb 0x1_0000 c l)
-
 width-two : (c : ℕ) → 0x1_0000 ≤ c → utf16_width c ≡ 2
 width-two c l = ap (λ (b : Bool). cond b 2 1) (le-leb 0x1_0000 c l)
 
@@ -41,15 +38,8 @@ pub sized : (c : ℕ) → length (spell c) ≡ utf16_width c
 sized c = by (order c 0x1_0000)
   where
     by : (c < 0x1_0000) ⊎ (0x1_0000 ≤ c) → length (spell c) ≡ utf16_width c
-    by (inl l) = ap length (spell-one c l) ∙ sym (width-one c l)
+    by (inl l) = ap length (spell-one c l) ∙ sym (single-width c l)
     by (inr l) = ap length (spell-two c l) ∙ sym (width-two c l)
-
-pub positive : (c : ℕ) → 0 < utf16_width c
-positive c = by (order c 0x1_0000)
-  where
-    by : (c < 0x1_0000) ⊎ (0x1_0000 ≤ c) → 0 < utf16_width c
-    by (inl l) = omega (arith, width-one c l)
-    by (inr l) = omega (arith, width-two c l)
 
 -- ---- Surrogates
 
@@ -62,15 +52,8 @@ high_range u e = let both = and_parts (nat_le 0xD800 u) (nat_le u 0xDBFF) e in (
 low_range : (u : ℕ) → is_low_surrogate u ≡ true → (0xDC00 ≤ u) × (u ≤ 0xDFFF)
 low_range u e = let both = and_parts (nat_le 0xDC00 u) (nat_le u 0xDFFF) e in (leb-true 0xDC00 u both.0, leb-true u 0xDFFF both.1)
 
-false_of : (b : Bool) → (b ≡ true → ⊥) → b ≡ false
-false_of false h = refl
-false_of true h = absurd (h refl)
-
 true_not_false : (b : Bool) → b ≡ true → b ≡ false → ⊥
 true_not_false b e f = cc
-
-and_true : (a b : Bool) → a ≡ true → b ≡ true → (a && b) ≡ true
-and_true a b e f = ap (λ (t : Bool). t && b) e ∙ f
 
 pub pair_parts : (u v : ℕ) → is_pair u v ≡ true → (0xD800 ≤ u) × (u ≤ 0xDBFF) × (0xDC00 ≤ v) × (v ≤ 0xDFFF)
 pair_parts u v e =
@@ -80,18 +63,18 @@ pair_parts u v e =
 
 pair_of : (u v : ℕ) → 0xD800 ≤ u → u ≤ 0xDBFF → 0xDC00 ≤ v → v ≤ 0xDFFF → is_pair u v ≡ true
 pair_of u v a b c d =
-    and_true _ _ (and_true _ _ (le-leb 0xD800 u a) (le-leb u 0xDBFF b)) (and_true _ _ (le-leb 0xDC00 v c) (le-leb v 0xDFFF d))
+    and_from _ _ (and_from _ _ (le-leb 0xD800 u a) (le-leb u 0xDBFF b)) (and_from _ _ (le-leb 0xDC00 v c) (le-leb v 0xDFFF d))
 
 -- what is no high surrogate begins no pair, and what is no low one ends none
 pub high_apart : (u v : ℕ) → (u < 0xD800) ⊎ (0xDC00 ≤ u) → is_pair u v ≡ false
-high_apart u v h = false_of (is_pair u v) (λ e. let r = pair_parts u v e in by r.0 r.1 h)
+high_apart u v h = false_from_ne_true (is_pair u v) (λ e. let r = pair_parts u v e in by r.0 r.1 h)
   where
     by : 0xD800 ≤ u → u ≤ 0xDBFF → (u < 0xD800) ⊎ (0xDC00 ≤ u) → ⊥
     by a b (inl l) = absurd (omega arith)
     by a b (inr l) = absurd (omega arith)
 
 pub low_apart : (u v : ℕ) → (v < 0xDC00) ⊎ (0xE000 ≤ v) → is_pair u v ≡ false
-low_apart u v h = false_of (is_pair u v) (λ e. let r = pair_parts u v e in by r.2 r.3 h)
+low_apart u v h = false_from_ne_true (is_pair u v) (λ e. let r = pair_parts u v e in by r.2 r.3 h)
   where
     by : 0xDC00 ≤ v → v ≤ 0xDFFF → (v < 0xDC00) ⊎ (0xE000 ≤ v) → ⊥
     by a b (inl l) = absurd (omega arith)
@@ -122,15 +105,12 @@ decode-pair u v us e = ap (λ (b : Bool). cond b (character_of_pair u v ∷ utf1
 pub decode-apart : (u v : ℕ) (us : List ℕ) → is_pair u v ≡ false → utf16_characters (u ∷ v ∷ us) ≡ u ∷ utf16_characters (v ∷ us)
 decode-apart u v us e = ap (λ (b : Bool). cond b (character_of_pair u v ∷ utf16_characters us) (u ∷ utf16_characters (v ∷ us))) e
 
-behind : (u : ℕ) (us : List ℕ) → AreUnits (u ∷ us) → AreUnits us
-behind u us small k inside = small (suc k) (omega arith)
-
 -- the units of the characters of units are these
 pub spelled : (us : List ℕ) → AreUnits us → flat_map spell (utf16_characters us) ≡ us
 spelled [] small = refl
 spelled (u ∷ []) small = ap (λ (l : List ℕ). l ++ []) (spell-one u (small 0 (omega arith)))
 spelled (u ∷ v ∷ us) small =
-    by (is_pair u v) refl (spelled us (behind v us (behind u (v ∷ us) small))) (spelled (v ∷ us) (behind u (v ∷ us) small))
+    by (is_pair u v) refl (spelled us (behind-first v us (behind-first u (v ∷ us) small))) (spelled (v ∷ us) (behind-first u (v ∷ us) small))
   where
     by : (b : Bool) → is_pair u v ≡ b → flat_map spell (utf16_characters us) ≡ us → flat_map spell (utf16_characters (v ∷ us)) ≡ v ∷ us
         → flat_map spell (utf16_characters (u ∷ v ∷ us)) ≡ u ∷ v ∷ us
@@ -165,7 +145,7 @@ pub decoded : (us : List ℕ) → AreUnits us → Decoded (utf16_characters us)
 decoded [] small = tt
 decoded (u ∷ []) small = (omega (arith, small 0 (omega arith)), tt, tt)
 decoded (u ∷ v ∷ us) small =
-    by (is_pair u v) refl (decoded us (behind v us (behind u (v ∷ us) small))) (decoded (v ∷ us) (behind u (v ∷ us) small))
+    by (is_pair u v) refl (decoded us (behind-first v us (behind-first u (v ∷ us) small))) (decoded (v ∷ us) (behind-first u (v ∷ us) small))
   where
     by : (b : Bool) → is_pair u v ≡ b → Decoded (utf16_characters us) → Decoded (utf16_characters (v ∷ us)) → Decoded (utf16_characters (u ∷ v ∷ us))
     by true e two one =
@@ -280,7 +260,7 @@ module _ (us : List ℕ) (small : AreUnits us) where
 
     -- no pair stands around a boundary
     none_around : (at : ℕ) → IsBoundary text (at + 1) → is_pair_at us at ≡ false
-    none_around at b = false_of (is_pair_at us at) (λ e.
+    none_around at b = false_from_ne_true (is_pair_at us at) (λ e.
         true_not_false (is_unit_boundary us (at + 1)) (unit_boundary (at + 1) b)
         (unit_boundary-between us (at + 1) small ∙ ap (λ (t : Bool). nat_le (at + 1) (length us) && not t) (within-pair us at ∙ e) ∙ nothing (nat_le (at + 1) (length us))))
       where
@@ -294,10 +274,10 @@ module _ (us : List ℕ) (small : AreUnits us) where
     fold = fold_code_point unicode
 
     right : (at : ℕ) → IsBoundary text at → ReadsRight spell utf16_width sized text (utf16_characters us) us at
-    right = reads_right spell utf16_width sized (utf16_characters us) us unicode fold (spelled us small) positive
+    right = reads_right spell utf16_width sized (utf16_characters us) us unicode fold (spelled us small) utf16_width-positive
 
     left : (at : ℕ) → IsBoundary text at → ReadsLeft spell utf16_width sized text (utf16_characters us) us at
-    left = reads_left spell utf16_width sized (utf16_characters us) us unicode fold (spelled us small) positive
+    left = reads_left spell utf16_width sized (utf16_characters us) us unicode fold (spelled us small) utf16_width-positive
 
     -- the units that spell a character, where it stands
     seen : (at i : ℕ) (p rest : List ℕ) → drop at us ≡ p ++ rest → slice_index us (at + i) ≡ slice_index (p ++ rest) i
@@ -326,7 +306,7 @@ module _ (us : List ℕ) (small : AreUnits us) where
     pub read-end : (at : ℕ) → IsBoundary text at → at ≡ length us → read text rightwards at ≡ None
     read-end at b e = elim (right at b) [
       | at_end z r ↦ r
-      | before_character k c rest g s l r ↦ absurd (omega (arith, positive c))
+      | before_character k c rest g s l r ↦ absurd (omega (arith, utf16_width-positive c))
     ]
 
     pub read-right : (at : ℕ) → IsBoundary text at → at ≢ length us → read text rightwards at ≡ Some (character_behind us at)
@@ -338,7 +318,7 @@ module _ (us : List ℕ) (small : AreUnits us) where
         by : (k c : ℕ) (rest : List ℕ) → slice_get (utf16_characters us) k ≡ Some c → drop at us ≡ spell c ++ rest
             → read text rightwards at ≡ Some (pair c (at + utf16_width c)) → (c < 0x1_0000) ⊎ (0x1_0000 ≤ c) → read text rightwards at ≡ Some (character_behind us at)
         by k c rest g s r (inl l) =
-            let to : at + utf16_width c ≡ at + 1 = ap (λ w. at + w) (width-one c l) in
+            let to : at + utf16_width c ≡ at + 1 = ap (λ w. at + w) (single-width c l) in
             let none : is_pair_at us at ≡ false = none_around at (subst (IsBoundary text) to (right_boundary text (utf16_text-IsText us unicode) at c (at + utf16_width c) r)) in
             r ∙ ap₂ (λ x y. Some (pair x y)) (sym (is_one at c rest l s)) to
             ∙ ap Some (sym (choice (is_pair_at us at) false (pair_at us at, at + 2) (slice_index us at, at + 1) none))
@@ -351,7 +331,7 @@ module _ (us : List ℕ) (small : AreUnits us) where
     pub read-start : (at : ℕ) → IsBoundary text at → at ≡ 0 → read text leftwards at ≡ None
     read-start at b e = elim (left at b) [
       | at_start z r ↦ r
-      | behind_character k c start rest g s m l r ↦ absurd (omega (arith, positive c))
+      | behind_character k c start rest g s m l r ↦ absurd (omega (arith, utf16_width-positive c))
     ]
 
     pub read-left : (at : ℕ) → IsBoundary text at → at ≢ 0 → read text leftwards at ≡ Some (character_before us at)
@@ -363,7 +343,7 @@ module _ (us : List ℕ) (small : AreUnits us) where
         by : (k c start : ℕ) (rest : List ℕ) → slice_get (utf16_characters us) k ≡ Some c → drop start us ≡ spell c ++ rest → start + utf16_width c ≡ at
             → read text leftwards at ≡ Some (pair c start) → (c < 0x1_0000) ⊎ (0x1_0000 ≤ c) → read text leftwards at ≡ Some (character_before us at)
         by k c start rest g s m r (inl l) =
-            let from : start ≡ at - 1 = omega (arith, m, width-one c l) in
+            let from : start ≡ at - 1 = omega (arith, m, single-width c l) in
             let there : IsBoundary text start = left_boundary text (utf16_text-IsText us unicode) at c start r in
             let value : c ≡ slice_index us (at - 1) = sym (is_one start c rest l s) ∙ ap (slice_index us) from in
             r ∙ ap₂ (λ x y. Some (pair x y)) value from
@@ -381,7 +361,7 @@ module _ (us : List ℕ) (small : AreUnits us) where
             let value : c ≡ pair_at us (at - 2) = sym two.1 ∙ ap (pair_at us) from in
             let far : 2 ≤ at = omega (arith, m, width-two c l) in
             r ∙ ap₂ (λ x y. Some (pair x y)) value from
-            ∙ ap Some (sym (choice (nat_le 2 at && is_pair_at us (at - 2)) true (pair_at us (at - 2), at - 2) (slice_index us (at - 1), at - 1) (and_true _ _ (le-leb 2 at far) stands)))
+            ∙ ap Some (sym (choice (nat_le 2 at && is_pair_at us (at - 2)) true (pair_at us (at - 2), at - 2) (slice_index us (at - 1), at - 1) (and_from _ _ (le-leb 2 at far) stands)))
 
     -- ---- As what readers answer
 

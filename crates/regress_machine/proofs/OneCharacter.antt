@@ -15,7 +15,6 @@ use Rattle.regex_meaning.specs.WellFormed.{is_one_character, has_text_in_sequenc
 use Rattle.regex_meaning.specs.Ticks.{Item, tick, ticks, and_then, with_ticks_between, nearest_first, body_tries, ticked}
 use Rattle.regex_meaning.specs.Layout.{Program, Mark, next, Has, IsCode, Loop1CharBody}
 use Rattle.regex_meaning.proofs.Each.{Each-append, Each-map, Each-drop, Each-take, Each-reverse}
-use Rattle.regex_meaning.proofs.FirstBytes.{le-true}
 use Rattle.regex_meaning.proofs.TextLemmas.{place_at-offset}
 use Rattle.regress_machine.specs.Machine.{LoopData, State, running, waiting, in_turn, with_some, run_states, scan, scans, act}
 use Rattle.regress_machine.specs.Bytes.{ReadsBytes, reads_bytes}
@@ -25,6 +24,7 @@ use Rattle.regress_machine.proofs.Nodes.{and_then-ticks, state_at, Enters, GoesO
 use Rattle.regress_machine.proofs.Beside.{Beside, nothing_left, one_more, beside, length-nearest, in_text_order, characters_beside-nearest}
 use Rattle.regress_machine.proofs.Run.{in_turns, numbers_between, outcome_at, run, repeat_run}
 use Rattle.regress_machine.proofs.OneTests.{one_of_length, ReadsOne, reads_one}
+use Rattle.std.proofs.lemmas.Bool.{le-leb}
 
 -- ---- Lists
 
@@ -52,7 +52,7 @@ spelled_one text c d p g inside = ap (λ b. if b then record { end = moved text 
         ap (λ n. nat_le 1 n && pointwise nat_eq (c ∷ []) (characters_beside text d 1 p)) left
         ∙ sym (ap (λ o. is_some_and o (λ e. pointwise nat_eq (c ∷ []) (e ∷ []))) none)
     go (one_more e is rest left within) =
-        ap (λ b. b && pointwise nat_eq (c ∷ []) (characters_beside text d 1 p)) (le-true 1 (characters_left text d p) (omega arith))
+        ap (λ b. b && pointwise nat_eq (c ∷ []) (characters_beside text d 1 p)) (le-leb 1 (characters_left text d p) (omega arith))
         ∙ ap (pointwise nat_eq (c ∷ []))
         (characters_beside-nearest text d 1 p inside (omega arith) ∙ ap (λ (l : List ℕ). in_text_order text d (take 1 l)) rest ∙ in_order d e)
         ∙ sym (ap (λ o. is_some_and o (λ e. pointwise nat_eq (c ∷ []) (e ∷ []))) is)

@@ -1,6 +1,6 @@
 -- What a well-formed tree says of each node.
 use Rattle.std.proofs.Common.{◌≡◌, ℕ, zero, suc, ◌+◌, ◌-◌, ◌<◌, ◌≤◌, List, [], ◌∷◌, ◌++◌, length, Bool, true, false, cond, refl, ap, ◌∙◌, sym, subst, arith, nat_eq, nat_lt, nat_le, ltb→lt, nltb→le, eqb-true, eq-eqb}
-use Rattle.std.proofs.lemmas.Bool.{eqb-false, le-ltb}
+use Rattle.std.proofs.lemmas.Bool.{eqb-false, le-ltb, or_left, or_right, leb-true}
 use Rattle.std.proofs.lemmas.List.Sums.{sum_by-cons, count_by-le-length}
 use Rattle.std.proofs.lemmas.List.Folds.{list_any-append}
 use Rattle.std.specs.Prelude.{count_by, ◌&&◌, ◌||◌, ◌==◌, if◌then◌else◌, IsTrue}
@@ -10,10 +10,9 @@ use Rattle.regex_meaning.specs.Tree.{Node, empty, goal, char, char_set, byte_set
 use Rattle.regex_meaning.specs.Text.{Text}
 use Rattle.regex_meaning.specs.WellFormed.{IsWellFormed, encloses, names_the_groups_inside, refers_to_a_group, is_one_character, has_one_character_body, has_text_in_sequence, fits_instructions}
 use Rattle.regex_meaning.proofs.WellFormedLemmas.{clauses}
-use Rattle.regex_meaning.proofs.FirstBytes.{and-left, and-right, or-left, or-right, true-le}
 use Rattle.regress_machine.specs.Bytes.{ReadsBytes, reads_bytes}
 use Rattle.regress_machine.proofs.Loops.{AreBelow}
-use Rattle.regex_meaning.proofs.Booleans.{or-false-left, or-false-right}
+use Rattle.regex_meaning.proofs.Booleans.{or-false-left, or-false-right, and-left, and-right}
 
 -- what the proofs of a node rest on, where there are n groups
 abbrev pub Ready : Text → (n : ℕ) → Node → Type 0
@@ -40,10 +39,10 @@ Distinct [] = Unit {0}
 Distinct (x ∷ xs) = (contains xs x ≡ false) × Distinct xs
 
 contains-left : (xs ys : List ℕ) (i : ℕ) → contains xs i ≡ true → contains (xs ++ ys) i ≡ true
-contains-left xs ys i h = list_any-append (nat_eq i) xs ys ∙ or-left (contains xs i) (contains ys i) h
+contains-left xs ys i h = list_any-append (nat_eq i) xs ys ∙ or_left (contains xs i) (contains ys i) h
 
 contains-right : (xs ys : List ℕ) (i : ℕ) → contains ys i ≡ true → contains (xs ++ ys) i ≡ true
-contains-right xs ys i h = list_any-append (nat_eq i) xs ys ∙ or-right (contains xs i) (contains ys i) h
+contains-right xs ys i h = list_any-append (nat_eq i) xs ys ∙ or_right (contains xs i) (contains ys i) h
 
 distinct-left : (xs ys : List ℕ) → Distinct (xs ++ ys) → Distinct xs
 distinct-left [] ys d = tt
@@ -202,7 +201,7 @@ sound_left text n node a b holds ids reads s = record {
   bodies = of_left has_one_character_body node a b holds s.bodies;
   sequences = of_left has_text_in_sequence node a b holds s.sequences;
   sets = of_left fits_instructions node a b holds s.sets;
-  bytes = λ h. s.bytes (reads ∙ or-left (reads_bytes a) (reads_bytes b) h);
+  bytes = λ h. s.bytes (reads ∙ or_left (reads_bytes a) (reads_bytes b) h);
   below = λ id h. s.below id (ap (λ (l : List ℕ). contains l id) ids ∙ contains-left (group_ids a) (group_ids b) id h);
   distinct = distinct-left (group_ids a) (group_ids b) (subst Distinct ids s.distinct);
 }
@@ -215,7 +214,7 @@ sound_right text n node a b holds ids reads s = record {
   bodies = of_right has_one_character_body node a b holds s.bodies;
   sequences = of_right has_text_in_sequence node a b holds s.sequences;
   sets = of_right fits_instructions node a b holds s.sets;
-  bytes = λ h. s.bytes (reads ∙ or-right (reads_bytes a) (reads_bytes b) h);
+  bytes = λ h. s.bytes (reads ∙ or_right (reads_bytes a) (reads_bytes b) h);
   below = λ id h. s.below id (ap (λ (l : List ℕ). contains l id) ids ∙ contains-right (group_ids a) (group_ids b) id h);
   distinct = distinct-right (group_ids a) (group_ids b) (subst Distinct ids s.distinct);
 }
@@ -243,8 +242,8 @@ below_named first end n contents h below i le less =
 
 back_ref-below : (n group : ℕ) → (nat_le 1 group && nat_le group n) ≡ true → group - 1 < n
 back_ref-below n group h =
-    let a : 1 ≤ group = true-le 1 group (and-left (nat_le 1 group) (nat_le group n) h) in
-    let b : group ≤ n = true-le group n (and-right (nat_le 1 group) (nat_le group n) h) in
+    let a : 1 ≤ group = leb-true 1 group (and-left (nat_le 1 group) (nat_le group n) h) in
+    let b : group ≤ n = leb-true group n (and-right (nat_le 1 group) (nat_le group n) h) in
     omega arith
 
 -- a test of a node of one character holds of the node itself
@@ -282,10 +281,10 @@ module _ (text : Text) (n : ℕ) where
   ready (anchor type multiline) s = tt
   ready (word_boundary invert unicode_icase) s = tt
   ready (capture_group id name contents) s = (
-    s.below id (or-left (nat_eq id id) (contains (group_ids contents) id) (eq-eqb id id refl)),
+    s.below id (or_left (nat_eq id id) (contains (group_ids contents) id) (eq-eqb id id refl)),
     s.distinct.0,
     ready contents (sound_inside text n (capture_group id name contents) contents (λ test. refl) refl
-        (λ i h. s.below i (or-right (nat_eq i id) (contains (group_ids contents) i) h)) s.distinct.1 s),
+        (λ i h. s.below i (or_right (nat_eq i id) (contains (group_ids contents) i) h)) s.distinct.1 s),
   )
   ready (back_ref group icase) s = back_ref-below n group s.refers
   ready (lookaround l contents) s = ready contents (sound_inside text n (lookaround l contents) contents (λ test. refl) refl s.below s.distinct s)

@@ -5,10 +5,10 @@ use Rattle.std.proofs.lemmas.List.{reverse-append, length-reverse, reverse-rever
 use lib.Pointwise.{pointwise}
 use Rattle.regex_meaning.specs.Text.{Text, Direction, rightwards, leftwards, last_place, characters_left, characters_beside}
 use Rattle.regex_meaning.specs.Ticks.{nearest_first}
-use Rattle.regex_meaning.proofs.FirstBytes.{and-right, true-le}
-use Rattle.std.proofs.lemmas.Bool.{leb-false}
+use Rattle.std.proofs.lemmas.Bool.{leb-false, leb-true}
 use Rattle.regress_machine.proofs.Beside.{length-nearest, in_text_order, characters_beside-nearest}
 use Rattle.std.proofs.Math.Bool.{and-true, and-false}
+use Rattle.regex_meaning.proofs.Booleans.{and-right}
 
 -- ---- Lists
 
@@ -98,7 +98,7 @@ module _ (text : Text) where
       by : (b : Bool) → nat_le (length cs) (characters_left text d p) ≡ b
           → (b && pointwise same cs (characters_beside text d (length cs) p)) ≡ stands same (in_reading_order d cs) (nearest_first text d p)
       by true e =
-          let le = true-le (length cs) (characters_left text d p) e in
+          let le = leb-true (length cs) (characters_left text d p) e in
           let n = length-reading d cs in
           let few : length cs ≤ length (nearest_first text d p) = omega (arith, all, le) in
           let l : length cs ≡ length (take (length cs) (nearest_first text d p)) = sym (length-take-le (length cs) (nearest_first text d p) few) in

@@ -11,7 +11,6 @@ use Rattle.regex_meaning.specs.Find.{no_groups}
 use Rattle.regex_meaning.specs.Ticks.{Item, tick, pair, and_then, ticked, items_at}
 use Rattle.regex_meaning.specs.WellFormed.{goal_count, is_end_of_cat, ends_in_goal}
 use Rattle.regex_meaning.specs.Layout.{Program, Mark, next, start, IsCode, Goal, anchor_insn, word_boundary_insn, BackRef}
-use Rattle.regex_meaning.proofs.FirstBytes.{and-left, and-right}
 use Rattle.regress_machine.specs.Machine.{LoopData, State, running, nothing, search}
 use Rattle.regress_machine.specs.Finds.{initial, end_in_offsets, end_of, first_pair, CanSearch, turns_at, FindsFirst}
 use Rattle.regress_machine.proofs.Search.{search_enough}
@@ -28,6 +27,7 @@ use Rattle.regress_machine.proofs.Ready.{Ready, root_ready}
 use Rattle.regex_meaning.proofs.WellFormedLemmas.{clauses}
 use Rattle.regex_meaning.proofs.Lists.{map-replicate}
 use Rattle.regex_meaning.proofs.Each.{Each-replicate}
+use Rattle.regex_meaning.proofs.Booleans.{and-left, and-right}
 
 and_then-itself : (items : List Item) → and_then items (λ o. pair o ∷ []) ≡ items
 and_then-itself [] = refl

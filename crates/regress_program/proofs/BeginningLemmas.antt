@@ -3,7 +3,7 @@ use Rattle.std.proofs.Common.{◌≡◌, ℕ, ◌+◌, ◌<◌, ◌≤◌, Bool,
 use Rattle.std.specs.Prelude.{if◌then◌else◌, nat_lt}
 use Rattle.std.proofs.lemmas.List.{drop_all}
 use Rattle.std.proofs.lemmas.Result.{IfOk-weaker}
-use Rattle.std.proofs.lemmas.Bool.{ne_eqb}
+use Rattle.std.proofs.lemmas.Bool.{ne_eqb, or_parts}
 use Rattle.regex_meaning.specs.Tree.{Node, byte_sequence, cat, alt, capture_group, loop, loop_1_char_body, Tree}
 use Rattle.regex_meaning.specs.WellFormed.{IsWellFormed}
 use Rattle.regex_meaning.specs.StartPredicate.{Beginning, open_ended, arbitrary, sequence, one_of, then_of, join, beginning, sequence_or, shared_front, union, first_byte, is_anchored, StartPredicate, start_of, start_predicate, start_arbitrary, start_byte_set, start_anchored, IsSound}
@@ -47,10 +47,6 @@ first_bytes_alone xs ys front one both e none f g =
 
 -- ---- Memory
 
-pub neither : (a b : Bool) → (a || b) ≡ false → (a ≡ false) × (b ≡ false)
-neither false b h = (refl, h)
-neither true b h = cc
-
 then-no_sequence : (a b : Beginning) (first rest : Bool) → (first || is_open a && rest) ≡ false
     → (first ≡ false → is_sequence a ≡ false) → (rest ≡ false → is_sequence b ≡ false) → is_sequence (then_of a b) ≡ false
 then-no_sequence a b true rest e f g = cc
@@ -79,7 +75,7 @@ unfolding may_grow beginning
 no_sequence (byte_sequence bytes) h = cc
 no_sequence (cat first rest) h = then-no_sequence (beginning first) (beginning rest) (may_grow first) (may_grow rest) h (no_sequence first) (no_sequence rest)
 no_sequence (alt left right) h =
-    let both = neither (may_grow left) (may_grow right) h in
+    let both = or_parts (may_grow left) (may_grow right) h in
     join-no_sequence (beginning left) (beginning right) (no_sequence left both.0) (no_sequence right both.1)
 no_sequence (capture_group id name contents) h = no_sequence contents h
 no_sequence (loop q start_group end_group loopee) h = if-no_sequence (nat_lt 0 q.min) (beginning loopee) (may_grow loopee) h (no_sequence loopee)
@@ -89,12 +85,12 @@ no_sequence _ h = refl
 -- the first node of a row, and the rest where it is open
 pub quiet-first : (first rest : Node) → may_grow (cat first rest) ≡ false → may_grow first ≡ false
 unfolding may_grow
-quiet-first first rest h = (neither (may_grow first) (is_open (beginning first) && may_grow rest) h).0
+quiet-first first rest h = (or_parts (may_grow first) (is_open (beginning first) && may_grow rest) h).0
 
 pub quiet-rest : (first rest : Node) → beginning first ≡ open_ended → may_grow (cat first rest) ≡ false → may_grow rest ≡ false
 unfolding may_grow
 quiet-rest first rest e h =
-    let behind = (neither (may_grow first) (is_open (beginning first) && may_grow rest) h).1 in
+    let behind = (or_parts (may_grow first) (is_open (beginning first) && may_grow rest) h).1 in
     sym (ap (λ b. is_open b && may_grow rest) e) ∙ behind
 
 quiet-unless : (anchored grows : Bool) → anchored ≡ false → (not anchored && grows) ≡ false → grows ≡ false

@@ -47,18 +47,6 @@ ends_in_goal-last (n ∷ m ∷ rest) last h =
 
 -- ---- Both of two tests
 
-pub both_first : (a b : Bool) → IsTrue (a && b) → IsTrue a
-both_first true b h = refl
-both_first false b h = h
-
-pub both_second : (a b : Bool) → IsTrue (a && b) → IsTrue b
-both_second true b h = h
-both_second false b h = cc
-
-pub false_by_not : (b : Bool) → (b ≡ true → ⊥) → b ≡ false
-false_by_not true h = absurd (h refl)
-false_by_not false h = refl
-
 -- a row is no one character
 pub is_one_character-cat_of : (nodes : List Node) → is_one_character (cat_of nodes) ≡ false
 is_one_character-cat_of [] = refl

@@ -12,11 +12,11 @@ use Rattle.regex_meaning.specs.Answers.{first_found, first_answer}
 use Rattle.regex_meaning.specs.Names.{answer}
 use Rattle.regex_meaning.specs.StartPredicate.{StartPredicate, start_arbitrary, start_byte_set, start_byte_sequence, start_anchored, start_predicate, may_start}
 use Rattle.regex_meaning.specs.WellFormed.{is_well_formed}
-use Rattle.regex_meaning.proofs.FirstBytes.{true-eq}
 use Rattle.regex_meaning.proofs.Sound.{predicate-holds}
 use Rattle.regress_program.specs.Code.{compiled}
 use Rattle.regress_search.specs.Attempts.{anchors, end_from, tried_next}
 use Rattle.regress_search.proofs.FirstMatch.{GoesFrom, on-from, found-last}
+use Rattle.std.proofs.lemmas.Bool.{eqb-true}
 
 pub anchors-is : (p : StartPredicate) → anchors p ≡ true → p ≡ start_anchored
 anchors-is start_arbitrary e = cc
@@ -30,7 +30,7 @@ predicate-compiled tree = refl
 
 left-end : (text : Text) (place : ℕ) → IsTrue (may_start start_anchored text place) → place ≡ 0
 unfolding may_start
-left-end text place h = true-eq place 0 h
+left-end text place h = eqb-true place 0 h
 
 module _ (tree : Tree) (text : Text) (w : IsTrue (is_well_formed tree.root)) (scalars : IsTrue (list_all is_scalar text.characters))
     (anchored : anchors (compiled tree).start_pred ≡ true) where

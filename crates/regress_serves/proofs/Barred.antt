@@ -2,7 +2,7 @@
 use Rattle.std.proofs.Common.{◌≡◌, ℕ, zero, suc, ◌+◌, ◌-◌, min, map, reverse, List, [], ◌∷◌, Option, Some, None, Bool, true, false, ◌&&◌, ◌||◌, refl, ap, ◌∙◌, sym, subst, arith, slice_get, slice_set, length, cond}
 use Rattle.std.specs.Prelude.{if◌then◌else◌, nat_lt, ◌==◌, encode_utf8_all}
 use Rattle.std.specs.List.{prefix_len}
-use Rattle.std.proofs.lemmas.Bool.{ltb-false}
+use Rattle.std.proofs.lemmas.Bool.{ltb-false, leb-true, eq-eqb}
 use Rattle.regex_meaning.specs.Lists.{numbers_from}
 use Rattle.regex_meaning.specs.Tree.{start_of_line, end_of_line}
 use Rattle.regex_meaning.specs.Text.{Text, rightwards, next_character, moved}
@@ -10,23 +10,15 @@ use Rattle.regex_meaning.specs.Offsets.{IsText, offset, place_at}
 use Rattle.regex_meaning.specs.Outcomes.{is_some_and, anchor_holds, differ, is_at_word_boundary}
 use Rattle.regex_meaning.specs.Ticks.{nearest_first}
 use Rattle.regex_meaning.specs.Layout.{Program, Insn, Goal, JustFail, Char, CharSet, ByteSet, ByteSeq, AsciiBracket, Bracket, MatchAny, MatchAnyExceptLineTerminator, StartOfLine, EndOfLine, WordBoundary, WordBoundaryUnicodeICase, Alt, Jump, EnterLoop, LoopAgain, ResetCaptureGroup, Loop1CharBody, BeginCaptureGroup, EndCaptureGroup, BackRef, Lookahead, Lookbehind}
-use Rattle.regex_meaning.proofs.FirstBytes.{true-le, eq-true}
 use Rattle.regex_meaning.proofs.TextLemmas.{offset-place_at}
 use Rattle.regress_machine.specs.Machine.{LoopData, State, running, waiting, Next, goes, asks, at_ip, next_ip, with_some, go, go_if, loop_turn, again_with, again_at, test_of, has_bytes, on_to, read_one, read_bytes, stay_if, run_states, scan, act_on, act, resumed, span}
 use Rattle.regress_machine.proofs.Beside.{Beside, nothing_left, one_more, beside, moved-zero}
 use Rattle.regress_serves.specs.Serves.{FindsNothing}
 use Rattle.regress_serves.specs.Barred.{holds_there, accepted_there, may_repeat, may_at, IsClosed}
 use Rattle.regress_serves.proofs.Below.{NothingBelow, Drops, DropAll, NothingNext, EachNothing, turn-nothing, nothing-here, nothing-more, nothing-one, nothing-waits, nothing-ends, nothing-goes, nothing-only, nothing-some, nothing-go, nothing-in_turn, nothing-loop, nothing-below-none, finds-nothing}
+use Rattle.regex_meaning.proofs.Booleans.{or-false-left, or-false-right}
 
 -- ---- Tests that fail
-
-or-false-left : (a b : Bool) → (a || b) ≡ false → a ≡ false
-or-false-left true b e = e
-or-false-left false b e = refl
-
-or-false-right : (a b : Bool) → (a || b) ≡ false → b ≡ false
-or-false-right true b e = cc
-or-false-right false b e = e
 
 and-false-then : (a b : Bool) → (a && b) ≡ false → a ≡ true → b ≡ false
 and-false-then true b e h = e
@@ -218,7 +210,7 @@ module _ (program : Program) (text : Text) (is : IsText text) (may : ℕ → Boo
         (or-false-left (may (s.ip + 1)) (f.min_iters == 0 && may f.exit) bar))
         (λ h. known (at_ip f.exit s) refl
         (and-false-then (f.min_iters == 0) (may f.exit) (or-false-right (may (s.ip + 1)) (f.min_iters == 0 && may f.exit) bar)
-        (let le = true-le f.min_iters 0 h in eq-true f.min_iters 0 (omega (arith, le)))))
+        (let le = leb-true f.min_iters 0 h in eq-eqb f.min_iters 0 (omega (arith, le)))))
     nothing-insn (Some (LoopAgain begin)) bar = nothing-again (slice_get program.insns begin) begin bar
     nothing-insn (Some (ResetCaptureGroup id)) bar =
         let u = record s { ip = s.ip + 1; groups = slice_set s.groups id None } in

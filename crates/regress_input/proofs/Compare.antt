@@ -11,13 +11,9 @@ use Rattle.regress_input.proofs.Slices.{place_is}
 use Rattle.regex_meaning.proofs.Booleans.{le-same}
 use Rattle.std.proofs.Math.Bool.{and-false}
 use Rattle.std.proofs.lemmas.Bool.{lt-leb}
+use Rattle.regress_input.proofs.Lists.{get-cons}
 
 -- ---- Ranges, one character more
-
-get-cons : (xs : List ℕ) (a c : ℕ) → slice_get xs a ≡ Some c → drop a xs ≡ c ∷ drop (suc a) xs
-get-cons [] a c e = absurd (cc)
-get-cons (x ∷ xs) zero c e = let same : x ≡ c = cc in ap (λ y. y ∷ xs) same
-get-cons (x ∷ xs) (suc a) c e = get-cons xs a c e
 
 -- the range from a place on begins with its character
 slice-first : (xs : List ℕ) (a n c : ℕ) → slice_get xs a ≡ Some c → slice_range xs a (a + suc n) ≡ c ∷ slice_range xs (suc a) (suc a + n)

@@ -31,20 +31,20 @@ pub data Bytes (bytes : List ℕ) (at c : ℕ) : Type 0 where
       → Follows (get_or bytes (at + 1) 0) → Follows (get_or bytes (at + 2) 0) → Follows (get_or bytes (at + 3) 0)
       → c + 63447168 ≡ get_or bytes at 0 * 262144 + get_or bytes (at + 1) 0 * 4096 + get_or bytes (at + 2) 0 * 64 + get_or bytes (at + 3) 0 → Bytes bytes at c
 
-encode_two : (c : ℕ) → 128 ≤ c → c < 2048 → encode c ≡ (192 + c / 64) ∷ next c ∷ []
+pub encode_two : (c : ℕ) → 128 ≤ c → c < 2048 → encode c ≡ (192 + c / 64) ∷ next c ∷ []
 unfolding encode
 encode_two c l h =
     let a : ltb c 128 ≡ false = le-ltb _ _ l in
     let b : ltb c 2048 ≡ true = lt-ltb _ _ h in rw (a, b) refl
 
-encode_three : (c : ℕ) → 2048 ≤ c → c < 65536 → encode c ≡ (224 + c / 4096) ∷ next (c / 64) ∷ next c ∷ []
+pub encode_three : (c : ℕ) → 2048 ≤ c → c < 65536 → encode c ≡ (224 + c / 4096) ∷ next (c / 64) ∷ next c ∷ []
 unfolding encode
 encode_three c l h =
     let a : ltb c 128 ≡ false = le-ltb _ _ (omega arith) in
     let b : ltb c 2048 ≡ false = le-ltb _ _ l in
     let d : ltb c 65536 ≡ true = lt-ltb _ _ h in rw (a, b, d) refl
 
-encode_four : (c : ℕ) → 65536 ≤ c → encode c ≡ (240 + c / 262144) ∷ next (c / 4096) ∷ next (c / 64) ∷ next c ∷ []
+pub encode_four : (c : ℕ) → 65536 ≤ c → encode c ≡ (240 + c / 262144) ∷ next (c / 4096) ∷ next (c / 64) ∷ next c ∷ []
 unfolding encode
 encode_four c l =
     let a : ltb c 128 ≡ false = le-ltb _ _ (omega arith) in

@@ -1,14 +1,11 @@
 //! Inputs: texts that are read a character at a time.
 
-ghost use Rattle.std.specs.Prelude.{◌≡◌, ◌<◌, ◌≤◌, ◌^◌, ◌==◌, ℕ, Bool, true, false, refl, option_map, IfSome, IfNone, IsTrue, if◌then◌else◌, Some, None, slice_get};
-ghost use Rattle.regex_meaning.specs.Text.{Text, rightwards, leftwards, is_word_char, is_line_terminator};
-ghost use Rattle.regex_meaning.specs.Tree.{bracket};
-ghost use Rattle.regex_meaning.specs.Outcomes.{accepts};
+ghost use Rattle.std.specs.Prelude.{◌≡◌, ◌<◌, ◌≤◌, ◌^◌, option_map, IfSome, IfNone, IsTrue, Some, slice_get};
+ghost use Rattle.regex_meaning.specs.Text.{Text, rightwards, leftwards};
 ghost use Rattle.regex_meaning.specs.Offsets.{IsText, IsBoundary, units, read};
-ghost use Rattle.regex_pattern_front.specs.TreeOf.{contents_of};
-ghost use Rattle.regex_meaning.specs.Units.{Encoding, utf8, utf16, ucs2, units_in, IsSpelledIn};
+ghost use Rattle.regex_meaning.specs.Units.{units_in, IsSpelledIn};
 ghost use Rattle.regress_input.specs.Reading.{way, led_to, same_fold, character, past as past_character, past_range, part, IsReadBack, units_on};
-ghost use Rattle.regress_input.specs.Reading.{is_of_bytes, bytes_of, bytes_if, IsInUtf8, byte_beside, past_bytes, where_bytes, IsFoundFrom};
+ghost use Rattle.regress_input.specs.Reading.{bytes_of, bytes_if, IsInUtf8, byte_beside, past_bytes, where_bytes, IsFoundFrom};
 
 mod ascii_input;
 mod ucs2_input;
@@ -19,152 +16,14 @@ pub use self::ascii_input::{ASCIICharProperties, AsciiInput};
 pub use self::ucs2_input::{Ucs2Input, Utf16CharProperties};
 pub use self::utf8_input::{UTF8CharProperties, Utf8Input};
 pub use self::utf16_input::Utf16Input;
-use crate::front::{BracketContents, ByteSearcher, nonascii_folds_to_ascii_word_char};
+pub use crate::code_units::{ByteUnits, CodeUnits, HasUnits, Ucs2Units, UnitsAre, Utf16Units};
+pub use crate::elements::{CharProperties, ElementType};
+use crate::front::ByteSearcher;
 use crate::position::{Direction, PositionType};
 use crate::units;
 pub use crate::utf16::is_unit_boundary;
 use std::fmt::Debug;
 use std::ops::Range;
-
-/// A character of an input. Contracts see its number.
-pub trait ElementType: Copy + Debug + Ord {
-    ghost number: { Self → ℕ };
-
-    // Whether a number is that of an element.
-    ghost is_number: { ℕ → Bool };
-
-    /// The element with this number; none where the number is that of none.
-    fn try_from(code: u32) -> Option<Self>
-        ensures { option_map (λ e. number e) result ≡ (if is_number code then Some code else None) };
-
-    /// The number of the character.
-    fn as_u32(self) -> u32
-        ensures { result ≡ number self };
-
-    ghost equal: { (a b : Self) → Self.eq a b ≡ (number a == number b) };
-
-    ghost same: { (a b : Self) → number a ≡ number b → a ≡ b };
-}
-
-/// What an encoding says of its characters: their fold, and the classes that patterns name.
-pub trait CharProperties {
-    type Element: ElementType;
-
-    ghost folded: { (unicode : Bool) → ℕ → ℕ };
-
-    /// What stands for a character where case does not count (ECMA-262, 21.2.2.8.2).
-    fn fold(c: Self::Element, unicode: bool) -> Self::Element
-        ensures { Self.Element.number result ≡ folded unicode (Self.Element.number c) };
-
-    /// Whether it is a letter or a digit of ASCII, or `_` (ECMA-262, 21.2.2.6.2).
-    #[inline(always)]
-    fn is_word_char(c: Self::Element) -> bool
-        ensures { result ≡ is_word_char false (Self.Element.number c) }
-    {
-        let c = c.as_u32();
-        0x61 <= c && c <= 0x7A || 0x41 <= c && c <= 0x5A || 0x30 <= c && c <= 0x39 || c == 0x5F
-    }
-
-    /// The same where case does not count and folds are those of the flag `u`.
-    #[inline(always)]
-    fn is_word_char_unicode_icase(c: Self::Element) -> bool
-        ensures { result ≡ is_word_char true (Self.Element.number c) }
-    {
-        Self::is_word_char(c) || nonascii_folds_to_ascii_word_char(c.as_u32())
-    }
-
-    /// Whether it ends a line (ECMA-262, 11.3).
-    #[inline(always)]
-    fn is_line_terminator(c: Self::Element) -> bool
-        ensures { result ≡ is_line_terminator (Self.Element.number c) }
-    {
-        let c = c.as_u32();
-        c == 0x0A || c == 0x0D || c == 0x2028 || c == 0x2029
-    }
-
-    /// Whether it is in the set, or with `invert` in its complement.
-    #[inline(always)]
-    fn bracket(bc: &BracketContents, c: Self::Element) -> bool
-        ensures { result ≡ accepts (bracket (contents_of bc.now)) (Self.Element.number c) }
-    {
-        let inside = bc.cps.contains(c.as_u32());
-        if bc.invert { !inside } else { inside }
-    }
-}
-
-/// The units in which offsets count, by the encoding whose units they are.
-pub trait CodeUnits {
-    ghost encoding: { Encoding };
-
-    ghost ARE_BYTES: { Bool };
-
-    /// Whether they are bytes.
-    const ARE_BYTES: bool;
-
-    ghost by_encoding: { ARE_BYTES ≡ is_of_bytes encoding };
-}
-
-/// Bytes of UTF-8, of which ASCII is a part.
-pub struct ByteUnits;
-
-/// 16-bit units of UTF-16.
-pub struct Utf16Units;
-
-/// 16-bit units, each of which is a character.
-pub struct Ucs2Units;
-
-impl CodeUnits for ByteUnits {
-    ghost encoding = { utf8 };
-
-    ghost ARE_BYTES = { true };
-
-    const ARE_BYTES: bool = true;
-
-    ghost by_encoding = { refl };
-}
-
-impl CodeUnits for Utf16Units {
-    ghost encoding = { utf16 };
-
-    ghost ARE_BYTES = { false };
-
-    const ARE_BYTES: bool = false;
-
-    ghost by_encoding = { refl };
-}
-
-impl CodeUnits for Ucs2Units {
-    ghost encoding = { ucs2 };
-
-    ghost ARE_BYTES = { false };
-
-    const ARE_BYTES: bool = false;
-
-    ghost by_encoding = { refl };
-}
-
-/// What has units.
-pub trait HasUnits {
-    type Units: CodeUnits;
-}
-
-/// What its units are. Each type that has units has it, and none can say otherwise.
-pub trait UnitsAre: HasUnits {
-    ghost CODE_UNITS_ARE_BYTES: { Bool };
-
-    /// Whether units are bytes, so that the text may be read a byte at a time.
-    const CODE_UNITS_ARE_BYTES: bool;
-
-    ghost by_units: { CODE_UNITS_ARE_BYTES ≡ Self.Units.ARE_BYTES };
-}
-
-impl<Text: HasUnits> UnitsAre for Text {
-    ghost CODE_UNITS_ARE_BYTES = { Text.Units.ARE_BYTES };
-
-    const CODE_UNITS_ARE_BYTES: bool = Text::Units::ARE_BYTES;
-
-    ghost by_units = { refl };
-}
 
 /// A text that can be read from any boundary. Contracts see the text.
 pub trait InputIndexer: Copy + Debug + UnitsAre {
@@ -468,7 +327,7 @@ pub trait InputIndexer: Copy + Debug + UnitsAre {
         requires from { IsBoundary (text self.now) (Self.Position.offset range.start) }
         requires to { IsBoundary (text self.now) (Self.Position.offset range.end) }
         requires in_order { Self.Position.offset range.start ≤ Self.Position.offset range.end }
-        ensures { led_to result (Self.Position.offset pos.new) ≡ past_range (text self.now) (Self.Position.offset range.start) (Self.Position.offset range.end) (way Dir.FORWARD) (Self.Position.offset pos.old) }
+        ensures { let at = Self.Position.offset in led_to result (at pos.new) ≡ past_range (text self.now) (at range.start) (at range.end) (way Dir.FORWARD) (at pos.old) }
     {
         let to = self.past_again(dir, *pos, range.start, range.end);
         units::leave_at(pos, to)

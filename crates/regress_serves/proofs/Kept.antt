@@ -14,7 +14,7 @@ module _ (program : Program) (text : Text) (d : Direction) where
   unless-exact exact n us ts e s = subst (λ b. Serves program text b d n us ts) (sym e) s
 
   -- so many steps, and others of which nothing is said
-  loosely : (m n : ℕ) (ts us ws : List Thread) → Serves program text false d m us ts → Serves program text false d n ws us → Serves program text false d m ws ts
+  pub loosely : (m n : ℕ) (ts us ws : List Thread) → Serves program text false d m us ts → Serves program text false d n ws us → Serves program text false d m ws ts
   loosely m n ts us ws a b = serves-fewer program text d m (m + n) ws ts (omega arith) (serves-then program text false d m n ts us ws a b)
 
   abbrev pub IsKeptBy : (State → Bool) → List State → Type 0

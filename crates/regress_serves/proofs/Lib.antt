@@ -6,3 +6,10 @@ pub mod Barred
 pub mod Units
 pub mod Tables
 pub mod Starts
+pub mod Rows
+pub mod Runs
+pub mod Loops
+pub mod Looks
+pub mod Ends
+pub mod Texts
+pub mod Checks

@@ -3,3 +3,4 @@ pub mod Left
 pub mod Barred
 pub mod Tables
 pub mod Starts
+pub mod Runs

@@ -1,7 +1,7 @@
 -- First bytes of characters and of texts.
-use Rattle.std.proofs.Common.{◌≡◌, ◌≢◌, ℕ, zero, suc, ◌+◌, ◌-◌, ◌*◌, ◌/◌, ◌<◌, ◌≤◌, Bool, true, false, ◌&&◌, ◌||◌, List, [], ◌∷◌, drop, filter, refl, sym, arith, T, lt→ltb, le→leb, ltb→lt, leb→le, eq-eqb, eqb→eq}
+use Rattle.std.proofs.Common.{◌≡◌, ◌≢◌, ℕ, zero, suc, ◌+◌, ◌-◌, ◌*◌, ◌/◌, ◌<◌, ◌≤◌, Bool, true, false, ◌&&◌, List, [], ◌∷◌, drop, filter, refl, sym, arith, T, eq-eqb}
 use mathlib.Core.Logic.{◌⊎◌, inl, inr}
-use Rattle.std.specs.Prelude.{if◌then◌else◌, nat_lt, nat_le, ◌==◌}
+use Rattle.std.specs.Prelude.{if◌then◌else◌, nat_le, ◌==◌}
 use Rattle.std.specs.Char.{encode_utf8 as encode}
 use Rattle.std.specs.List.{list_any}
 use Rattle.std.specs.Int.{is_in_range}
@@ -11,7 +11,7 @@ use Rattle.regex_meaning.specs.Text.{is_scalar}
 use Rattle.regex_meaning.specs.Outcomes.{in_intervals}
 use Rattle.regex_meaning.specs.StartPredicate.{bytes_where, begun_by, meet}
 use Rattle.regex_meaning.proofs.Booleans.{and-left, and-right}
-use Rattle.std.proofs.lemmas.Bool.{false_from_ne_true, cases_lt, and_from, or_left, or_right, lt-ltb, le-leb, ltb-true, leb-true, le-ltb, lt-leb, ne_eqb, eqb-true}
+use Rattle.std.proofs.lemmas.Bool.{cases_lt, and_from, or_left, or_right, lt-ltb, le-leb, leb-true, le-ltb, lt-leb, ne_eqb, eqb-true}
 
 -- ---- Tests
 

@@ -1,5 +1,5 @@
 -- Texts of the same characters have the same outcomes, where their folds agree on these.
-use Rattle.std.proofs.Common.{◌≡◌, ℕ, zero, suc, ◌+◌, ◌-◌, Bool, ◌&&◌, ◌||◌, List, [], ◌∷◌, length, map, take, drop, Option, Some, None, refl, ap, ◌∙◌, flat_map, option_and_then}
+use Rattle.std.proofs.Common.{◌≡◌, ℕ, zero, suc, ◌+◌, ◌-◌, Bool, ◌&&◌, ◌||◌, List, [], ◌∷◌, length, map, drop, Option, Some, None, refl, ap, ◌∙◌, flat_map, option_and_then}
 use Rattle.std.specs.Prelude.{◌==◌, slice_range}
 use mathlib.Core.Path.{fun_ext}
 use lib.Pointwise.{pointwise}

@@ -1,5 +1,5 @@
 -- Wherever a tree has an outcome, its start predicate holds.
-use Rattle.std.proofs.Common.{◌≡◌, ℕ, zero, suc, ◌+◌, ◌-◌, ◌<◌, ◌≤◌, Bool, true, false, not, ◌||◌, List, [], ◌∷◌, ◌++◌, map, length, take, drop, flat_map, refl, sym, arith}
+use Rattle.std.proofs.Common.{◌≡◌, ℕ, zero, suc, ◌+◌, ◌-◌, ◌<◌, ◌≤◌, Bool, true, false, ◌||◌, List, [], ◌∷◌, ◌++◌, map, length, take, drop, flat_map, refl, sym, arith}
 use Rattle.std.specs.Prelude.{if◌then◌else◌, nat_lt, nat_eq, ◌==◌, encode_utf8_all, slice_get}
 use Rattle.std.specs.List.{list_any, list_all, starts_with}
 use Rattle.std.specs.Char.{encode_utf8 as encode}

@@ -1,5 +1,5 @@
 -- What a search answers from an offset, and where it goes on.
-use Rattle.std.specs.Prelude.{ℕ, List, [], ◌∷◌, option_map, option_and_then, Option, Some, None}
+use Rattle.std.specs.Prelude.{ℕ, List, [], ◌∷◌, option_map, option_and_then, Option}
 use Rattle.std.specs.Option.{option_map_or}
 use Rattle.regex_meaning.specs.Tree.{Node}
 use Rattle.regex_meaning.specs.Text.{Text}

@@ -1,10 +1,10 @@
 -- The trees that are compiled.
-use Rattle.std.specs.Prelude.{ℕ, ◌+◌, ◌-◌, Bool, true, false, ◌&&◌, length, chars, count_by, Option, Some, None, if◌then◌else◌, nat_lt, nat_le, nat_eq, ◌==◌, IsTrue}
+use Rattle.std.specs.Prelude.{ℕ, ◌+◌, ◌-◌, Bool, true, false, ◌&&◌, length, chars, count_by, if◌then◌else◌, nat_lt, nat_le, nat_eq, ◌==◌, IsTrue}
 use Rattle.std.specs.List.{list_all}
 use Rattle.std.specs.Option.{option_map_or}
 use Rattle.std.specs.Str.{is_utf8}
 use Rattle.regex_meaning.specs.Lists.{contains, numbers_from}
-use Rattle.regex_meaning.specs.Tree.{Quantifier, Node, goal, char, char_set, byte_set, byte_sequence, cat, end_of_cat, alt, bracket, string_set, match_any, match_any_except_line_terminator, capture_group, back_ref, lookaround, loop, loop_1_char_body, gathered, group_ids, every}
+use Rattle.regex_meaning.specs.Tree.{Quantifier, Node, goal, char, char_set, byte_set, byte_sequence, cat, end_of_cat, bracket, string_set, match_any, match_any_except_line_terminator, back_ref, lookaround, loop, loop_1_char_body, gathered, group_ids, every}
 
 abbrev pub own_goals : Node → ℕ
 own_goals goal = 1

@@ -1,20 +1,17 @@
 -- The texts of bytes are texts that byte programs read.
-use Rattle.std.proofs.Common.{◌≡◌, ℕ, ◌+◌, ◌<◌, ◌≤◌, ◌⊎◌, List, [], ◌∷◌, map, Bool, true, refl, ap, ◌∙◌, arith}
+use Rattle.std.proofs.Common.{◌≡◌, ℕ, ◌+◌, List, [], ◌∷◌, map, Bool, true, refl, ap, ◌∙◌, arith}
 use Rattle.std.specs.Prelude.{nat_lt, chars}
 use Rattle.std.specs.List.{list_all}
 use Rattle.std.specs.Char.{len_utf8}
 use Rattle.std.specs.Str.{is_utf8}
-use Rattle.std.specs.Int.{is_in_range}
 use Rattle.std.proofs.lemmas.Str.{len_utf8_ascii}
-use mathlib.Core.Logic.{inl, inr}
-use lib.Utf8.{scalar, scalars, scalar_cases}
+use lib.Utf8.{scalar, scalars}
 use Rattle.regex_meaning.specs.Text.{is_scalar, offsets_from, one_unit, utf8_text, ascii_text}
-use Rattle.regex_meaning.proofs.FirstBytes.{in_range-true}
 use Rattle.regress_machine.specs.Bytes.{ReadsBytes}
 use Rattle.regress_machine.proofs.OneTests.{low_scalar}
 use Rattle.regress_machine.proofs.Bytes.{utf8_scalars}
 use Rattle.regex_meaning.proofs.Clean.{is_scalar-of}
-use Rattle.std.proofs.lemmas.Bool.{and_from, or_left, or_right, ltb-true}
+use Rattle.std.proofs.lemmas.Bool.{and_from, ltb-true}
 use Rattle.regex_meaning.proofs.Booleans.{and-left, and-right}
 
 all_scalar : (cs : List ℕ) → scalars cs ≡ true → list_all is_scalar cs ≡ true

@@ -1,8 +1,7 @@
 -- What a loop over one character finds.
-use Rattle.std.proofs.Common.{◌≡◌, ℕ, zero, suc, ◌+◌, ◌-◌, ◌<◌, ◌≤◌, min, List, [], ◌∷◌, ◌++◌, map, take, drop, Bool, true, false, refl, ap, ◌∙◌, sym, subst, arith, append-nil, reverse, cond}
+use Rattle.std.proofs.Common.{◌≡◌, ℕ, ◌+◌, ◌-◌, ◌<◌, ◌≤◌, min, List, [], ◌∷◌, ◌++◌, map, take, Bool, true, false, refl, ap, ◌∙◌, sym, subst, arith, append-nil, cond}
 use Rattle.std.specs.Prelude.{if◌then◌else◌, nat_le, nat_eq, ◌&&◌, chars}
 use Rattle.std.specs.List.{prefix_len}
-use Rattle.std.proofs.lemmas.List.{reverse-append}
 use Rattle.std.proofs.lemmas.List.Sums.{prefix_len-le-length}
 use lib.Pointwise.{pointwise}
 use Rattle.regex_meaning.specs.Lists.{numbers_from}
@@ -14,7 +13,7 @@ use Rattle.regex_meaning.specs.Outcomes.{Groups, Outcome, accepts, is_some_and, 
 use Rattle.regex_meaning.specs.WellFormed.{is_one_character, has_text_in_sequence, fits_instructions}
 use Rattle.regex_meaning.specs.Ticks.{Item, tick, ticks, and_then, with_ticks_between, nearest_first, body_tries, ticked}
 use Rattle.regex_meaning.specs.Layout.{Program, Mark, next, Has, IsCode, Loop1CharBody}
-use Rattle.regex_meaning.proofs.Each.{Each-append, Each-map, Each-drop, Each-take, Each-reverse}
+use Rattle.regex_meaning.proofs.Each.{Each-map, Each-drop, Each-take, Each-reverse}
 use Rattle.regex_meaning.proofs.TextLemmas.{place_at-offset}
 use Rattle.regress_machine.specs.Machine.{LoopData, State, running, waiting, in_turn, with_some, run_states, scan, scans, act}
 use Rattle.regress_machine.specs.Bytes.{ReadsBytes, reads_bytes}

@@ -1,6 +1,6 @@
 -- The units at boundaries.
 use Rattle.std.proofs.Common.{◌≡◌, ℕ, zero, suc, ◌+◌, ◌-◌, ◌*◌, ◌/◌, ◌%◌, ◌<◌, ◌≤◌, ◌⊎◌, inl, inr, Bool, true, false, cond, not, ◌&&◌, ◌||◌, List, [], ◌∷◌, ◌++◌, length, map, take, drop, flat_map, get_or, slice_get, slice_index, nat_le, nat_lt, nat_eq, is_some, position, Some, None, refl, sym, ◌∙◌, ap, ap₂, arith, eq-eqb, ne_eqb, le-leb, lt-ltb, le-ltb, take-append-drop, take_all}
-use Rattle.std.proofs.lemmas.Bool.{lt-leb, cases_Bool}
+use Rattle.std.proofs.lemmas.Bool.{lt-leb, cases_Bool, cases_lt}
 use Rattle.std.proofs.lemmas.List.{append-nil}
 use Rattle.std.proofs.lemmas.List.Concat.{flat_map-append}
 use Rattle.std.proofs.lemmas.Str.{length-encode, len_utf8_bounds}
@@ -16,9 +16,8 @@ use Rattle.regress_input.specs.Spellings.{sized_utf8, sized_utf16}
 use Rattle.regress_input.proofs.Lists.{get-cons, get-front, get-behind}
 use Rattle.regress_input.proofs.Places.{step_right, step_left}
 use Rattle.regress_input.proofs.Spelled.{offset-spelling, offset-behind}
-use Rattle.regress_input.proofs.Utf8Reads.{order, encode_two, encode_three, encode_four}
-use Rattle.regex_meaning.proofs.FirstBytes.{encode-1}
-use Rattle.regex_meaning.proofs.TextLemmas.{len_utf8-positive, utf16_width-positive}
+use Rattle.regress_input.proofs.Utf8Reads.{encode_one, encode_two, encode_three, encode_four, len_utf8-positive}
+use Rattle.regress_input.proofs.Utf16Reads.{positive}
 
 -- ---- In every encoding
 
@@ -28,7 +27,7 @@ width e c = length (spelled_in e c)
 -- a character has a unit
 pub has-unit : (e : Encoding) (c : ℕ) → 0 < length (spelled_in e c)
 has-unit utf8 c = omega (arith, sized_utf8 c, len_utf8-positive c)
-has-unit utf16 c = omega (arith, sized_utf16 c, utf16_width-positive c)
+has-unit utf16 c = omega (arith, sized_utf16 c, positive c)
 has-unit ucs2 c = omega arith
 
 module _ (e : Encoding) (text : Text) (s : IsSpelledIn e text) where
@@ -103,7 +102,7 @@ is_further zero = false
 is_further (suc i) = true
 
 byte-of : (c i b : ℕ) → slice_get (encode c) i ≡ Some b → continues b ≡ is_further i
-byte-of c i b g = by (order c 128) (order c 2048) (order c 65536)
+byte-of c i b g = by (cases_lt c 128) (cases_lt c 2048) (cases_lt c 65536)
   where
     is : (x : ℕ) (t : Bool) → Some x ≡ Some b → continues x ≡ t → continues b ≡ t
     is x t e h = let same : x ≡ b = cc in ap continues (sym same) ∙ h
@@ -134,7 +133,7 @@ byte-of c i b g = by (order c 128) (order c 2048) (order c 65536)
     four (suc (suc (suc (suc i)))) x y z v l e = absurd (cc)
 
     by : (c < 128) ⊎ (128 ≤ c) → (c < 2048) ⊎ (2048 ≤ c) → (c < 65536) ⊎ (65536 ≤ c) → continues b ≡ is_further i
-    by (inl l) _ _ = one i l (seen _ (encode-1 c l))
+    by (inl l) _ _ = one i l (seen _ (encode_one c l))
     by (inr l) (inl h) _ = two i _ c (omega arith) (seen _ (encode_two c l h))
     by (inr _) (inr l) (inl h) = three i _ (c / 64) c (omega arith) (seen _ (encode_three c l h))
     by (inr _) (inr _) (inr l) = four i _ (c / 4096) (c / 64) c (omega arith) (seen _ (encode_four c l))
@@ -148,7 +147,7 @@ none-before (w ∷ ws) at i less = rw (ne_eqb i at (omega arith)) (none-before w
 among : (cs : List ℕ) (a i b : ℕ) → slice_get (flat_map (spelled_in utf8) cs) i ≡ Some b
     → contains (offsets_from a (map (λ c. length (spelled_in utf8 c)) cs)) (a + i) ≡ not (continues b)
 among [] a i b g = absurd (cc)
-among (c ∷ cs) a i b g = by (order i (length (spelled_in utf8 c))) (λ j rest. among cs (a + length (spelled_in utf8 c)) j b rest)
+among (c ∷ cs) a i b g = by (cases_lt i (length (spelled_in utf8 c))) (λ j rest. among cs (a + length (spelled_in utf8 c)) j b rest)
   where
     w : ℕ
     w = length (spelled_in utf8 c)
@@ -184,7 +183,7 @@ some-position test xs = some-is (nat_lt (position_or_len test xs) (length xs)) _
     some-is false n = refl
 
     step : (m n : ℕ) → nat_lt m n ≡ nat_lt (1 + m) (suc n)
-    step m n = by (order m n)
+    step m n = by (cases_lt m n)
       where
         by : (m < n) ⊎ (n ≤ m) → nat_lt m n ≡ nat_lt (1 + m) (suc n)
         by (inl l) = lt-ltb m n l ∙ sym (lt-ltb (1 + m) (suc n) (omega arith))

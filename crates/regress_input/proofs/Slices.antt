@@ -1,5 +1,6 @@
 -- Ranges of texts whose characters are spelled by units.
 use Rattle.std.proofs.Common.{◌≡◌, ℕ, zero, suc, ◌+◌, ◌-◌, ◌<◌, ◌≤◌, List, [], ◌∷◌, ◌++◌, length, get_or, take, drop, map, slice_range, Bool, true, false, ◌&&◌, nat_le, nat_eq, cond, if◌then◌else◌, Option, Some, None, unwrap_or, refl, sym, ◌∙◌, ap, ap₂, subst, arith, length-append, length-drop, length-take, take-add, drop_at, le-leb, leb-true}
+use Rattle.std.proofs.lemmas.Bool.{and_parts, and_from}
 use Rattle.std.proofs.lemmas.List.Concat.{flat_map-append}
 use lib.Pointwise.{pointwise, bytes_decides}
 use Rattle.regex_meaning.specs.Text.{Text, Direction, rightwards, leftwards, offsets_from, moved, characters_left, characters_beside}

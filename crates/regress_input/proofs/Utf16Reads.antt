@@ -1,16 +1,17 @@
 -- Characters in UTF-16, read from their units.
 use Rattle.std.proofs.Common.{◌≡◌, ◌≢◌, ℕ, zero, suc, ◌+◌, ◌-◌, ◌/◌, ◌%◌, ◌<◌, ◌≤◌, ◌⊎◌, inl, inr, Bool, true, false, cond, if◌then◌else◌, not, ◌&&◌, List, [], ◌∷◌, ◌++◌, length, get_or, take, drop, flat_map, slice_get, slice_index, nat_le, nat_eq, Some, None, option_map, refl, sym, ◌∙◌, ap, ap₂, subst, arith, add-one, eq-eqb, ne_eqb, le-leb, leb-true, lt-ltb, le-ltb, get_or-drop}
-use Rattle.std.proofs.lemmas.Bool.{and_parts, lt-leb, and_from, false_from_ne_true}
+use Rattle.std.proofs.Math.Bool.{and-true, and-false}
+use Rattle.std.proofs.lemmas.Bool.{and_parts, lt-leb, and_from, false_from_ne_true, cases_lt}
 use Rattle.regex_meaning.specs.Text.{Text, rightwards, leftwards, is_high_surrogate, is_low_surrogate, character_of_pair, utf16_width, utf16_characters, utf16_text, is_unit_boundary, fold_code_point}
 use Rattle.regex_meaning.specs.Offsets.{IsBoundary, units, read}
 use Rattle.regex_meaning.specs.Units.{utf16, spelled_in}
 use Rattle.regex_meaning.specs.Laws.{is_within_pair}
-use Rattle.regex_meaning.proofs.TextLemmas.{utf16_text-IsText, utf16_width-positive}
-use Rattle.regex_meaning.proofs.UnitLemmas.{unit_boundary-place_at, unit_boundary-between, units-utf16, single-width, behind-first}
+use Rattle.regex_meaning.proofs.TextLemmas.{utf16_text-IsText}
+use Rattle.regex_meaning.proofs.UnitLemmas.{unit_boundary-place_at, unit_boundary-between, units-utf16}
+use Rattle.regress_input.specs.Spellings.{sized_utf16}
 use Rattle.regress_input.specs.Utf16.{AreUnits, is_pair_at, pair_at, character_behind, character_before}
 use Rattle.regress_input.proofs.Places.{pair, right_boundary, left_boundary, boundary_inside}
 use Rattle.regress_input.proofs.Spelled.{ReadsRight, ReadsLeft, reads_right, reads_left, at_end, before_character, at_start, behind_character}
-use Rattle.regress_input.proofs.Utf8Reads.{order}
 
 -- ---- The units of a character
 
@@ -31,15 +32,22 @@ pub spell-two : (c : ℕ) → 0x1_0000 ≤ c → spell c ≡ high_of c ∷ low_o
 unfolding spell
 spell-two c l = ap (λ (b : Bool). cond b (c ∷ []) (high_of c ∷ low_of c ∷ [])) (le-ltb c 0x1_0000 l)
 
+width-one : (c : ℕ) → c < 0x1_0000 → utf16_width c ≡ 1
+width-one c l = ap (λ (b : Bool). cond b 2 1) (lt-leb 0x1_0000 c l)
+
 width-two : (c : ℕ) → 0x1_0000 ≤ c → utf16_width c ≡ 2
 width-two c l = ap (λ (b : Bool). cond b 2 1) (le-leb 0x1_0000 c l)
 
 pub sized : (c : ℕ) → length (spell c) ≡ utf16_width c
-sized c = by (order c 0x1_0000)
+unfolding spell
+sized c = sized_utf16 c
+
+pub positive : (c : ℕ) → 0 < utf16_width c
+positive c = by (cases_lt c 0x1_0000)
   where
-    by : (c < 0x1_0000) ⊎ (0x1_0000 ≤ c) → length (spell c) ≡ utf16_width c
-    by (inl l) = ap length (spell-one c l) ∙ sym (single-width c l)
-    by (inr l) = ap length (spell-two c l) ∙ sym (width-two c l)
+    by : (c < 0x1_0000) ⊎ (0x1_0000 ≤ c) → 0 < utf16_width c
+    by (inl l) = omega (arith, width-one c l)
+    by (inr l) = omega (arith, width-two c l)
 
 -- ---- Surrogates
 
@@ -105,12 +113,15 @@ decode-pair u v us e = ap (λ (b : Bool). cond b (character_of_pair u v ∷ utf1
 pub decode-apart : (u v : ℕ) (us : List ℕ) → is_pair u v ≡ false → utf16_characters (u ∷ v ∷ us) ≡ u ∷ utf16_characters (v ∷ us)
 decode-apart u v us e = ap (λ (b : Bool). cond b (character_of_pair u v ∷ utf16_characters us) (u ∷ utf16_characters (v ∷ us))) e
 
+behind : (u : ℕ) (us : List ℕ) → AreUnits (u ∷ us) → AreUnits us
+behind u us small k inside = small (suc k) (omega arith)
+
 -- the units of the characters of units are these
 pub spelled : (us : List ℕ) → AreUnits us → flat_map spell (utf16_characters us) ≡ us
 spelled [] small = refl
 spelled (u ∷ []) small = ap (λ (l : List ℕ). l ++ []) (spell-one u (small 0 (omega arith)))
 spelled (u ∷ v ∷ us) small =
-    by (is_pair u v) refl (spelled us (behind-first v us (behind-first u (v ∷ us) small))) (spelled (v ∷ us) (behind-first u (v ∷ us) small))
+    by (is_pair u v) refl (spelled us (behind v us (behind u (v ∷ us) small))) (spelled (v ∷ us) (behind u (v ∷ us) small))
   where
     by : (b : Bool) → is_pair u v ≡ b → flat_map spell (utf16_characters us) ≡ us → flat_map spell (utf16_characters (v ∷ us)) ≡ v ∷ us
         → flat_map spell (utf16_characters (u ∷ v ∷ us)) ≡ u ∷ v ∷ us
@@ -145,7 +156,7 @@ pub decoded : (us : List ℕ) → AreUnits us → Decoded (utf16_characters us)
 decoded [] small = tt
 decoded (u ∷ []) small = (omega (arith, small 0 (omega arith)), tt, tt)
 decoded (u ∷ v ∷ us) small =
-    by (is_pair u v) refl (decoded us (behind-first v us (behind-first u (v ∷ us) small))) (decoded (v ∷ us) (behind-first u (v ∷ us) small))
+    by (is_pair u v) refl (decoded us (behind v us (behind u (v ∷ us) small))) (decoded (v ∷ us) (behind u (v ∷ us) small))
   where
     by : (b : Bool) → is_pair u v ≡ b → Decoded (utf16_characters us) → Decoded (utf16_characters (v ∷ us)) → Decoded (utf16_characters (u ∷ v ∷ us))
     by true e two one =
@@ -179,11 +190,11 @@ decoded-get (x ∷ cs) (suc k) c d e = decoded-get cs k c d.2 e
 -- the characters of the units of such characters are these
 pub decode : (cs : List ℕ) → Decoded cs → utf16_characters (flat_map spell cs) ≡ cs
 decode [] d = refl
-decode (c ∷ cs) d = by (order c 0x1_0000) (decode cs d.2)
+decode (c ∷ cs) d = by (cases_lt c 0x1_0000) (decode cs d.2)
   where
     one : (cs : List ℕ) → Apart c cs → Decoded cs → c < 0x1_0000 → utf16_characters (flat_map spell cs) ≡ cs → utf16_characters (c ∷ flat_map spell cs) ≡ c ∷ cs
     one [] a d' l e = refl
-    one (x ∷ cs) a d' l e = next (order x 0x1_0000)
+    one (x ∷ cs) a d' l e = next (cases_lt x 0x1_0000)
       where
         next : (x < 0x1_0000) ⊎ (0x1_0000 ≤ x) → utf16_characters (c ∷ flat_map spell (x ∷ cs)) ≡ c ∷ x ∷ cs
         next (inl m) =
@@ -213,7 +224,7 @@ module _ (us : List ℕ) (small : AreUnits us) where
   boundary-start i e = ap (is_unit_boundary us) e ∙ unit_boundary-between us 0 small ∙ ap (λ (b : Bool). b && true) (le-leb 0 (length us) (omega arith))
 
   pub boundary-end : (i : ℕ) → length us ≤ i → is_unit_boundary us i ≡ nat_eq i (length us)
-  boundary-end i l = unit_boundary-between us i small ∙ ap (λ (b : Bool). nat_le i (length us) && not b) (outside i l) ∙ alone (nat_le i (length us)) ∙ same (order (length us) i)
+  boundary-end i l = unit_boundary-between us i small ∙ ap (λ (b : Bool). nat_le i (length us) && not b) (outside i l) ∙ and-true (nat_le i (length us)) ∙ same (cases_lt (length us) i)
     where
       past : (k : ℕ) → length us ≤ k → slice_index us k ≡ 0
       past k m = none us k m
@@ -226,10 +237,6 @@ module _ (us : List ℕ) (small : AreUnits us) where
       outside : (i : ℕ) → length us ≤ i → is_within_pair us i ≡ false
       outside zero m = refl
       outside (suc j) m = low_apart (slice_index us j) (slice_index us (suc j)) (inl (omega (arith, past (suc j) m)))
-
-      alone : (b : Bool) → (b && true) ≡ b
-      alone true = refl
-      alone false = refl
 
       same : (length us < i) ⊎ (i ≤ length us) → nat_le i (length us) ≡ nat_eq i (length us)
       same (inl m) = lt-leb i (length us) m ∙ sym (ne_eqb i (length us) (λ e. absurd (omega arith)))
@@ -262,11 +269,7 @@ module _ (us : List ℕ) (small : AreUnits us) where
     none_around : (at : ℕ) → IsBoundary text (at + 1) → is_pair_at us at ≡ false
     none_around at b = false_from_ne_true (is_pair_at us at) (λ e.
         true_not_false (is_unit_boundary us (at + 1)) (unit_boundary (at + 1) b)
-        (unit_boundary-between us (at + 1) small ∙ ap (λ (t : Bool). nat_le (at + 1) (length us) && not t) (within-pair us at ∙ e) ∙ nothing (nat_le (at + 1) (length us))))
-      where
-        nothing : (b : Bool) → (b && false) ≡ false
-        nothing true = refl
-        nothing false = refl
+        (unit_boundary-between us (at + 1) small ∙ ap (λ (t : Bool). nat_le (at + 1) (length us) && not t) (within-pair us at ∙ e) ∙ and-false (nat_le (at + 1) (length us))))
 
     -- ---- Reads
 
@@ -274,10 +277,10 @@ module _ (us : List ℕ) (small : AreUnits us) where
     fold = fold_code_point unicode
 
     right : (at : ℕ) → IsBoundary text at → ReadsRight spell utf16_width sized text (utf16_characters us) us at
-    right = reads_right spell utf16_width sized (utf16_characters us) us unicode fold (spelled us small) utf16_width-positive
+    right = reads_right spell utf16_width sized (utf16_characters us) us unicode fold (spelled us small) positive
 
     left : (at : ℕ) → IsBoundary text at → ReadsLeft spell utf16_width sized text (utf16_characters us) us at
-    left = reads_left spell utf16_width sized (utf16_characters us) us unicode fold (spelled us small) utf16_width-positive
+    left = reads_left spell utf16_width sized (utf16_characters us) us unicode fold (spelled us small) positive
 
     -- the units that spell a character, where it stands
     seen : (at i : ℕ) (p rest : List ℕ) → drop at us ≡ p ++ rest → slice_index us (at + i) ≡ slice_index (p ++ rest) i
@@ -306,19 +309,19 @@ module _ (us : List ℕ) (small : AreUnits us) where
     pub read-end : (at : ℕ) → IsBoundary text at → at ≡ length us → read text rightwards at ≡ None
     read-end at b e = elim (right at b) [
       | at_end z r ↦ r
-      | before_character k c rest g s l r ↦ absurd (omega (arith, utf16_width-positive c))
+      | before_character k c rest g s l r ↦ absurd (omega (arith, positive c))
     ]
 
     pub read-right : (at : ℕ) → IsBoundary text at → at ≢ length us → read text rightwards at ≡ Some (character_behind us at)
     read-right at b n = elim (right at b) [
       | at_end z r ↦ absurd (n z)
-      | before_character k c rest g s l r ↦ by k c rest g s r (order c 0x1_0000)
+      | before_character k c rest g s l r ↦ by k c rest g s r (cases_lt c 0x1_0000)
     ]
       where
         by : (k c : ℕ) (rest : List ℕ) → slice_get (utf16_characters us) k ≡ Some c → drop at us ≡ spell c ++ rest
             → read text rightwards at ≡ Some (pair c (at + utf16_width c)) → (c < 0x1_0000) ⊎ (0x1_0000 ≤ c) → read text rightwards at ≡ Some (character_behind us at)
         by k c rest g s r (inl l) =
-            let to : at + utf16_width c ≡ at + 1 = ap (λ w. at + w) (single-width c l) in
+            let to : at + utf16_width c ≡ at + 1 = ap (λ w. at + w) (width-one c l) in
             let none : is_pair_at us at ≡ false = none_around at (subst (IsBoundary text) to (right_boundary text (utf16_text-IsText us unicode) at c (at + utf16_width c) r)) in
             r ∙ ap₂ (λ x y. Some (pair x y)) (sym (is_one at c rest l s)) to
             ∙ ap Some (sym (choice (is_pair_at us at) false (pair_at us at, at + 2) (slice_index us at, at + 1) none))
@@ -331,23 +334,23 @@ module _ (us : List ℕ) (small : AreUnits us) where
     pub read-start : (at : ℕ) → IsBoundary text at → at ≡ 0 → read text leftwards at ≡ None
     read-start at b e = elim (left at b) [
       | at_start z r ↦ r
-      | behind_character k c start rest g s m l r ↦ absurd (omega (arith, utf16_width-positive c))
+      | behind_character k c start rest g s m l r ↦ absurd (omega (arith, positive c))
     ]
 
     pub read-left : (at : ℕ) → IsBoundary text at → at ≢ 0 → read text leftwards at ≡ Some (character_before us at)
     read-left at b n = elim (left at b) [
       | at_start z r ↦ absurd (n z)
-      | behind_character k c start rest g s m l r ↦ by k c start rest g s m r (order c 0x1_0000)
+      | behind_character k c start rest g s m l r ↦ by k c start rest g s m r (cases_lt c 0x1_0000)
     ]
       where
         by : (k c start : ℕ) (rest : List ℕ) → slice_get (utf16_characters us) k ≡ Some c → drop start us ≡ spell c ++ rest → start + utf16_width c ≡ at
             → read text leftwards at ≡ Some (pair c start) → (c < 0x1_0000) ⊎ (0x1_0000 ≤ c) → read text leftwards at ≡ Some (character_before us at)
         by k c start rest g s m r (inl l) =
-            let from : start ≡ at - 1 = omega (arith, m, single-width c l) in
+            let from : start ≡ at - 1 = omega (arith, m, width-one c l) in
             let there : IsBoundary text start = left_boundary text (utf16_text-IsText us unicode) at c start r in
             let value : c ≡ slice_index us (at - 1) = sym (is_one start c rest l s) ∙ ap (slice_index us) from in
             r ∙ ap₂ (λ x y. Some (pair x y)) value from
-            ∙ ap Some (sym (choice (nat_le 2 at && is_pair_at us (at - 2)) false (pair_at us (at - 2), at - 2) (slice_index us (at - 1), at - 1) (none there from (order at 2))))
+            ∙ ap Some (sym (choice (nat_le 2 at && is_pair_at us (at - 2)) false (pair_at us (at - 2), at - 2) (slice_index us (at - 1), at - 1) (none there from (cases_lt at 2))))
           where
             none : IsBoundary text start → start ≡ at - 1 → (at < 2) ⊎ (2 ≤ at) → (nat_le 2 at && is_pair_at us (at - 2)) ≡ false
             none there from (inl o) = ap (λ (t : Bool). t && is_pair_at us (at - 2)) (lt-leb 2 at o)

@@ -1,5 +1,6 @@
 -- Characters in UTF-8, read from their bytes.
 use Rattle.std.proofs.Common.{◌≡◌, ℕ, zero, suc, ◌+◌, ◌-◌, ◌*◌, ◌<◌, ◌≤◌, ◌≢◌, ◌/◌, ◌⊎◌, inl, inr, ⊎_elim, ltb, lt-ltb, le-ltb, ltb-true, ltb-false, List, [], ◌∷◌, ◌++◌, ◌&&◌, Some, None, length, get_or, flat_map, slice_get, Bool, true, false, IsUtf8, chars, refl, sym, ◌∙◌, ap, ap₂, subst, option_map, arith, length-append, length-drop, get_or-drop}
+use Rattle.std.proofs.lemmas.Bool.{cases_lt}
 use Rattle.std.specs.Char.{IsScalar, len_utf8}
 use Rattle.std.proofs.lemmas.Str.{encodes-chars, scalars-chars, IsUtf8-had, length-encode, len_utf8_bounds}
 use lib.Utf8.{scalar, scalars, encode, encodes, next, scalar_cases}
@@ -54,15 +55,8 @@ encode_four c l =
 below_top : (c : ℕ) → IsScalar c → c < 1114112
 below_top c s = ⊎_elim (λ h. omega arith) (λ h. h.1) (scalar_cases c s)
 
-pub order : (m n : ℕ) → (m < n) ⊎ (n ≤ m)
-order m n = by (ltb m n) refl
-  where
-    by : (b : Bool) → ltb m n ≡ b → (m < n) ⊎ (n ≤ m)
-    by true e = inl (ltb-true m n e)
-    by false e = inr (ltb-false m n e)
-
 pub bytes_at : (bytes : List ℕ) (at c : ℕ) → StandsAt bytes at c → Bytes bytes at c
-bytes_at bytes at c s = by (order c 128) (order c 2048) (order c 65536)
+bytes_at bytes at c s = by (cases_lt c 128) (cases_lt c 2048) (cases_lt c 65536)
   where
     -- a byte behind the offset, where these are the character's
     seen : (p : List ℕ) (i : ℕ) → encode c ≡ p → get_or bytes (at + i) 0 ≡ get_or (p ++ s.rest) i 0

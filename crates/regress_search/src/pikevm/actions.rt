@@ -13,7 +13,7 @@ ghost use Rattle.regress_search.specs.Passing.{IsInBytes, is_literal, is_reader}
 use super::states::{LoopData, State, Turn, copy_of};
 use crate::reading::{self, stands_again};
 use crate::searched::Searched;
-use regex_pattern_front::types::{CaptureGroupID, LoopID};
+use regress_input::front::{CaptureGroupID, LoopID};
 use regress_input::cursor::Direction;
 use regress_input::indexing::InputIndexer;
 use regress_input::position::PositionType;

@@ -30,6 +30,19 @@ size (loop q start_group end_group loopee) = (end_group - start_group) + size lo
 size (loop_1_char_body q loopee) = size loopee + 1
 size _ = 1
 
+-- besides those of the nodes that it holds
+abbrev pub own_size : Node → ℕ
+own_size empty = 0
+own_size end_of_cat = 0
+own_size (cat first rest) = 0
+own_size (byte_sequence bytes) = length (chunks bytes)
+own_size (alt left right) = 2
+own_size (string_set strings icase) = strings_size strings
+own_size (capture_group id name contents) = 2
+own_size (lookaround l contents) = 2
+own_size (loop q start_group end_group loopee) = (end_group - start_group) + 2
+own_size _ = 1
+
 -- how many loops
 unfoldable pub loop_count : Node → ℕ
 loop_count (cat first rest) = loop_count first + loop_count rest

@@ -271,10 +271,11 @@ impl<'r, 't> Searcher<'r> for PikeVMExecutor<'r, Utf8Input<'t>> {
     ghost text_of = { λ text. utf8_text text.now };
 
     fn new(re: &'r CompiledRegex, text: &'t str) -> Result<Self, AllocError> {
-        let flags = re.flags();
-        let _well_formed = re.insns();
+        let program = re.program();
+        let flags = program.flags();
+        let _well_formed = program.insns();
         let searched = Searched {
-            program: re.program(),
+            program,
             start_pred: Some(re.start_pred()),
             input: Utf8Input::new(text, flags.unicode),
         };
@@ -298,10 +299,11 @@ impl<'r, 't> Searcher<'r> for PikeVMExecutor<'r, AsciiInput<'t>> {
     ghost text_of = { λ text. ascii_text text.now };
 
     fn new(re: &'r CompiledRegex, text: &'t str) -> Result<Self, AllocError> {
-        let flags = re.flags();
-        let _well_formed = re.insns();
+        let program = re.program();
+        let flags = program.flags();
+        let _well_formed = program.insns();
         let searched = Searched {
-            program: re.program(),
+            program,
             start_pred: Some(re.start_pred()),
             input: AsciiInput::new(text, flags.unicode),
         };

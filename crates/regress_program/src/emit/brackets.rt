@@ -1,6 +1,6 @@
 //! The code of brackets.
 
-ghost use Rattle.std.specs.Prelude.{◌≡◌, ◌||◌, nat_lt, OnOk, MatchOption, IsTrue};
+ghost use Rattle.std.specs.Prelude.{◌≡◌, ◌||◌, nat_lt, is_some, OnOk, IfSome};
 ghost use Rattle.std.specs.List.{list_all};
 ghost use Rattle.regex_meaning.specs.Tree.{bracket};
 ghost use Rattle.regex_meaning.specs.Layout.{is_ascii_set};
@@ -51,7 +51,8 @@ impl Emitter {
 
 // The set as one of bytes below 128, if it is one.
 fn ascii_bitmap(contents: &BracketContents) -> Option<AsciiBitmap>
-    ensures { MatchOption result (¬ (IsTrue (is_ascii_set (contents_of contents.now)))) (λ bitmap. IsTrue (is_ascii_set (contents_of contents.now)) × (ascii_bitmap_bytes bitmap ≡ bytes_where (in_intervals (contents_of contents.now).intervals))) }
+    ensures found { is_some result ≡ is_ascii_set (contents_of contents.now) }
+    ensures members { IfSome result (λ b. ascii_bitmap_bytes b ≡ bytes_where (in_intervals (contents_of contents.now).intervals)) }
 {
     if !is_ascii(contents) {
         return None;

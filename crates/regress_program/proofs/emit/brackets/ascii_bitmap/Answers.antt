@@ -25,8 +25,8 @@ loop-byte-preserved c =
           (sym (ap test c.from.ensures) ∙ sym c.contains.ensures ∙ w.if-contains.false) c.loop-byte.invariant)
     ]
 
-pub returns : goal.returns
-returns c =
+pub returns-clause-members : goal.returns-clause-members
+returns-clause-members c =
     let ascii = sym c.if-not-is_ascii.ensures in
     let end : c.loop-byte.byte ≡ 128 = omega arith in
-    (ascii, c.loop-byte.invariant ∙ ap (with_bytes_below [] (in_intervals c.args.contents.now.cps)) end ∙ ascii_bytes c.args.contents.now.cps (and-right _ _ ascii))
+    c.loop-byte.invariant ∙ ap (with_bytes_below [] (in_intervals c.args.contents.now.cps)) end ∙ ascii_bytes c.args.contents.now.cps (and-right _ _ ascii)

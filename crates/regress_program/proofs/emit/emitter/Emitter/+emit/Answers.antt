@@ -14,14 +14,14 @@ use Rattle.regress_program.proofs.emit.emitter.Emitter.+emit.Goals as goal
 use Rattle.regex_meaning.proofs.Booleans.{and-left, and-right}
 
 pub emit-returns-in-Cat : goal.emit-returns-in-Cat
-emit-returns-in-Cat t c = rw (c.in-Cat.is, node_of-Cat c.in-Cat.nodes, ← c.deref-in-Cat.ensures.value) c.emit_all.ensures
+emit-returns-in-Cat t c = rw (c.in-Cat.is, node_of-Cat c.in-Cat.nodes, ← c.deref.ensures.value) c.emit_all.ensures
 
 pub emit-emit_all-requires : goal.emit-emit_all-requires
 emit-emit_all-requires t c =
-    let is : node_of c.args.node.now ≡ cat_of c.deref-in-Cat.result.now = ap node_of c.in-Cat.is ∙ node_of-Cat c.in-Cat.nodes ∙ ap cat_of (sym c.deref-in-Cat.ensures.value) in
-    let same : weight (node_of c.args.node.now) ≡ weight (cat_of c.deref-in-Cat.result.now) = ap weight is in
-    let sets : IsTrue (every fits_instructions (cat_of c.deref-in-Cat.result.now)) = rw is at c.requires.sets in
-    let room : HasRoom (state_of c.args.self.now) (cat_of c.deref-in-Cat.result.now) = rw is at c.requires.room in
+    let is : node_of c.args.node.now ≡ cat_of c.deref.result.now = ap node_of c.in-Cat.is ∙ node_of-Cat c.in-Cat.nodes ∙ ap cat_of (sym c.deref.ensures.value) in
+    let same : weight (node_of c.args.node.now) ≡ weight (cat_of c.deref.result.now) = ap weight is in
+    let sets : IsTrue (every fits_instructions (cat_of c.deref.result.now)) = rw is at c.requires.sets in
+    let room : HasRoom (state_of c.args.self.now) (cat_of c.deref.result.now) = rw is at c.requires.room in
     (search rules, (sets, room))
 
 pub emit-emit_alt-requires : goal.emit-emit_alt-requires
@@ -183,7 +183,7 @@ emit-emit_lookaround-requires t c =
     let sets : IsTrue (every fits_instructions inside) = rw is at c.requires.sets in
     let room = rw is at c.requires.room in
     let smaller : weight (node_of c.args.node.now) ≡ weight inside + 1 = ap weight is in
-    (search rules, (rw c.deref-in-LookaroundAssertion.ensures sets, rw c.deref-in-LookaroundAssertion.ensures room))
+    (search rules, (rw c.deref-in-LookaroundAssertion.ensures sets, rw (c.deref-in-LookaroundAssertion.ensures, c.new-look.ensures) room))
 
 pub emit-emit_loop-requires : goal.emit-emit_loop-requires
 unfolding node_of weight

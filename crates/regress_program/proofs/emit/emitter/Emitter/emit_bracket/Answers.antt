@@ -9,12 +9,12 @@ use Rattle.std.proofs.lemmas.Bool.{false_from_ne_true}
 
 pub returns-in_ok-put-in-Some : goal.returns-in_ok-put-in-Some
 returns-in_ok-put-in-Some c =
-    let same = with_code-ascii c.args.mode.unicode c.args.mode.behind (contents_of c.args.contents.now) (state_of c.args.self.now) c.in-Some.ensures.0 in
-    rw (same, ← c.in-Some.ensures.1) c.in_ok-put-in-Some.ensures
+    let same = with_code-ascii c.args.mode.unicode c.args.mode.behind (contents_of c.args.contents.now) (state_of c.args.self.now) (sym c.in-Some.ensures.found) in
+    rw (same, ← c.in-Some.ensures.members) c.in_ok-put-in-Some.ensures
 
 pub returns-in_ok-add_bracket-in-None : goal.returns-in_ok-add_bracket-in-None
 returns-in_ok-add_bracket-in-None c =
-    let wide : is_ascii_set (contents_of c.args.contents.now) ≡ false = false_from_ne_true _ c.in-None.ensures in
+    let wide : is_ascii_set (contents_of c.args.contents.now) ≡ false = sym c.in-None.ensures.found in
     let index : c.len-index.result ≡ length (state_of c.args.self.now).brackets =
     c.len-index.ensures ∙ c.args.self.now.brackets.ok.0 ∙ sym (length-map c.args.self.now.brackets.items contents_of) in
     with_code-bracket c.args.mode.unicode c.args.mode.behind (contents_of c.args.contents.now)

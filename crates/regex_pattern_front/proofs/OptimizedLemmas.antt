@@ -3,6 +3,7 @@ use Rattle.std.proofs.Common.{◌≡◌, ℕ, zero, suc, ◌-◌, Bool, true, fa
 use mathlib.Core.Path.{fun_ext}
 use Rattle.std.specs.Prelude.{if◌then◌else◌, nat_le, map, ◌==◌}
 use Rattle.std.specs.List.{list_all}
+use Rattle.regex_pattern_front.proofs.BoolLemmas.{left, right, and_from}
 use Rattle.regex_meaning.specs.Lists.{contains, numbers_from}
 use Rattle.regex_meaning.specs.Tree.{Quantifier, Node, empty, goal, char, char_set, byte_set, byte_sequence, cat, end_of_cat, alt, bracket, string_set, match_any, match_any_except_line_terminator, anchor, word_boundary, capture_group, back_ref, lookaround, loop, loop_1_char_body, group_ids, every}
 use Rattle.regex_meaning.specs.Names.{name_of, named_ids, names_by_id}
@@ -106,44 +107,32 @@ is_one-reads _ h = grind arith
 
 -- ---- Tests of each node
 
-left : (a b : Bool) → (a && b) ≡ true → a ≡ true
-left true b h = refl
-left false b h = h
-
-right : (a b : Bool) → (a && b) ≡ true → b ≡ true
-right true b h = h
-right false b h = grind arith
-
-both : (a b : Bool) → a ≡ true → b ≡ true → (a && b) ≡ true
-both true b h k = k
-both false b h k = grind arith
-
 -- a test that holds of the optimized node where it holds of the node holds of each one
 module _ (test : Node → Bool) (keeps : (n : Node) → test n ≡ true → test (optimized n) ≡ true) where
   every-optimized : (n : Node) → every test n ≡ true → every test (optimized n) ≡ true
   unfolding optimized
   every-optimized (cat first rest) h =
-      both _ _
-      (both _ _ (keeps (cat first rest) (left (test (cat first rest)) _ (left _ (every test rest) h))) (every-optimized first (right (test (cat first rest)) _ (left _ (every test rest) h))))
+      and_from _ _
+      (and_from _ _ (keeps (cat first rest) (left (test (cat first rest)) _ (left _ (every test rest) h))) (every-optimized first (right (test (cat first rest)) _ (left _ (every test rest) h))))
       (every-optimized rest (right _ (every test rest) h))
   every-optimized (alt first rest) h =
-      both _ _
-      (both _ _ (keeps (alt first rest) (left (test (alt first rest)) _ (left _ (every test rest) h))) (every-optimized first (right (test (alt first rest)) _ (left _ (every test rest) h))))
+      and_from _ _
+      (and_from _ _ (keeps (alt first rest) (left (test (alt first rest)) _ (left _ (every test rest) h))) (every-optimized first (right (test (alt first rest)) _ (left _ (every test rest) h))))
       (every-optimized rest (right _ (every test rest) h))
   every-optimized (capture_group id name contents) h =
-      both _ _ (keeps (capture_group id name contents) (left _ (every test contents) h)) (every-optimized contents (right _ (every test contents) h))
+      and_from _ _ (keeps (capture_group id name contents) (left _ (every test contents) h)) (every-optimized contents (right _ (every test contents) h))
   every-optimized (lookaround l contents) h =
-      both _ _ (keeps (lookaround l contents) (left _ (every test contents) h)) (every-optimized contents (right _ (every test contents) h))
+      and_from _ _ (keeps (lookaround l contents) (left _ (every test contents) h)) (every-optimized contents (right _ (every test contents) h))
   every-optimized (loop q s e loopee) h =
       go (reads_one_character loopee) (keeps (loop q s e loopee) (left _ (every test loopee) h)) (right _ (every test loopee) h)
       (every-optimized loopee (right _ (every test loopee) h))
     where
       go : (r : Bool) → test (if r then loop_1_char_body q loopee else loop q s e (optimized loopee)) ≡ true → every test loopee ≡ true → every test (optimized loopee) ≡ true
           → every test (if r then loop_1_char_body q loopee else loop q s e (optimized loopee)) ≡ true
-      go true here below inside = both _ _ here below
-      go false here below inside = both _ _ here inside
+      go true here below inside = and_from _ _ here below
+      go false here below inside = and_from _ _ here inside
   every-optimized (loop_1_char_body q loopee) h =
-      both _ _ (keeps (loop_1_char_body q loopee) (left _ (every test loopee) h)) (every-optimized loopee (right _ (every test loopee) h))
+      and_from _ _ (keeps (loop_1_char_body q loopee) (left _ (every test loopee) h)) (every-optimized loopee (right _ (every test loopee) h))
   every-optimized empty h = h
   every-optimized goal h = h
   every-optimized (char c) h = h

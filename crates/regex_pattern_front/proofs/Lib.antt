@@ -1,3 +1,4 @@
+pub mod BoolLemmas
 pub mod ByteLemmas
 pub mod AddedBytes
 pub mod IntervalLemmas
@@ -5,4 +6,5 @@ pub mod NodeLemmas
 pub mod MatchLemmas
 pub mod OptimizedLemmas
 pub mod PartLemmas
+pub mod LevelLemmas
 pub mod LeafLemmas

@@ -1,5 +1,5 @@
 -- The parts of a parsed pattern make a well-formed tree.
-use Rattle.std.proofs.Common.{◌≡◌, ℕ, zero, suc, ◌+◌, ◌-◌, ◌<◌, ◌≤◌, Bool, true, false, ◌&&◌, ◌||◌, List, [], ◌∷◌, ◌++◌, length, count_by, sum_by, refl, sym, ap, ◌∙◌, arith, inl, inr, length-append, get_or, Option, Some, None}
+use Rattle.std.proofs.Common.{◌≡◌, ℕ, zero, suc, ◌+◌, ◌-◌, ◌<◌, ◌≤◌, Bool, true, false, ◌&&◌, ◌||◌, List, [], ◌∷◌, ◌++◌, length, count_by, sum_by, refl, sym, ap, ◌∙◌, arith, inl, inr, length-append, append_assoc, append-nil, get_or, Option, Some, None}
 use Rattle.std.specs.Prelude.{if◌then◌else◌, IsTrue, nat_eq, nat_le, ◌==◌}
 use Rattle.std.specs.List.{All, list_all}
 use Rattle.std.specs.Option.{ForSome}
@@ -8,6 +8,7 @@ use Rattle.std.proofs.lemmas.Bool.{cases_lt, cases_eq, lt-ltb, le-ltb, lt-leb, l
 use Rattle.std.proofs.lemmas.List.Sums.{sum_by-append}
 use Rattle.std.proofs.lemmas.List.Sorted.{sum_by-IsPermutation, All-permutation}
 use Rattle.std.proofs.lemmas.List.Elements.{All-cons, All-append}
+use Rattle.regex_pattern_front.proofs.BoolLemmas.{left, right, and_from}
 use Rattle.regex_meaning.specs.Lists.{contains, numbers_from}
 use Rattle.regex_meaning.specs.Tree as tree
 use Rattle.regex_meaning.specs.Tree.{group_ids, every, empty, goal, char, char_set, byte_set, byte_sequence, cat, end_of_cat, alt, bracket, string_set, match_any, match_any_except_line_terminator, anchor, word_boundary, capture_group, back_ref, lookaround, loop, loop_1_char_body, Lookaround, Quantifier}
@@ -15,7 +16,7 @@ use Rattle.regex_meaning.specs.WellFormed.{goal_count, encloses, is_in_order, na
 use Rattle.regex_meaning.proofs.WellFormedLemmas.{by_clauses}
 use Rattle.regex_pattern_front.specs.declared.ir.Node.{Node}
 use Rattle.regex_pattern_front.specs.TreeOf.{node_of, cat_of}
-use Rattle.regex_pattern_front.specs.Parts.{is_sound, times, once_within, IsPart, AreParts, IsLeaf}
+use Rattle.regex_pattern_front.specs.Parts.{is_sound, times, once_within, IsPart, AreParts, IsMadeOf, KeepsParts, IsLeaf}
 use Rattle.regex_pattern_front.proofs.ByteLemmas.{contains-numbers_from}
 use Rattle.regex_meaning.proofs.Booleans.{and-left, and-right}
 use Rattle.regex_meaning.proofs.Lists.{list_all-members}
@@ -155,6 +156,9 @@ parts-none first greatest = record { goals = refl; count = omega arith; ids = λ
 All-more : (greatest more : ℕ) (xs : List Node) → greatest ≤ more → All (λ n. IsTrue (every (is_sound greatest) (node_of n))) xs → All (λ n. IsTrue (every (is_sound more) (node_of n))) xs
 All-more greatest more xs h all = λ k d l. every-more greatest more (node_of (get_or xs k d)) h (all k d l)
 
+pub parts-more : (first end greatest more : ℕ) (xs : List Node) → greatest ≤ more → AreParts first end greatest xs → AreParts first end more xs
+parts-more first end greatest more xs h a = record { goals = a.goals; count = a.count; ids = a.ids; sound = All-more greatest more xs h a.sound }
+
 pub parts-push : (first middle end greatest more : ℕ) (xs : List Node) (n : Node) → greatest ≤ more
     → AreParts first middle greatest xs → IsPart middle end more (node_of n) → AreParts first end more (xs ++ n ∷ [])
 parts-push first middle end greatest more xs n h a p = record {
@@ -171,25 +175,11 @@ parts-push first middle end greatest more xs n h a p = record {
       (All-cons (λ n. IsTrue (every (is_sound more) (node_of n))) n [] p.sound (λ k d h. absurd (omega arith)));
 }
 
-pub parts-permuted : (first end greatest : ℕ) (xs ys : List Node) → IsPermutation xs ys → AreParts first end greatest xs → AreParts first end greatest ys
-parts-permuted first end greatest xs ys h a = record {
-  goals = sum_by-IsPermutation (λ n. goal_count (node_of n)) xs ys h ∙ a.goals;
-  count = rw (sum_by-IsPermutation (λ n. length (group_ids (node_of n))) xs ys h) a.count;
-  ids = λ id. sum_by-IsPermutation (λ n. times id (node_of n)) xs ys h ∙ a.ids id;
-  sound = All-permutation (λ n. IsTrue (every (is_sound greatest) (node_of n))) xs ys h a.sound;
-}
-
 All-split : (P : Node → Type 0) (xs ys : List Node) → All P (xs ++ ys) → All P xs × All P ys
 All-split P [] ys all = ((λ k d h. absurd (omega arith)), all)
 All-split P (x ∷ xs) ys all =
     let r = All-split P xs ys (λ k d h. all (suc k) d (omega arith)) in
     (All-cons P x xs (all 0 x (omega arith)) r.0, r.1)
-
-All-front : (P : Node → Type 0) (xs ys : List Node) → All P (xs ++ ys) → All P xs
-All-front P xs ys all = (All-split P xs ys all).0
-
-All-last : (P : Node → Type 0) (xs : List Node) (y : Node) → All P (xs ++ y ∷ []) → P y
-All-last P xs y all = (All-split P xs (y ∷ []) all).1 0 y (omega arith)
 
 pub parts-one : (first end greatest : ℕ) (n : Node) → AreParts first end greatest (n ∷ []) → IsPart first end greatest (node_of n)
 parts-one first end greatest n a = record {
@@ -199,37 +189,54 @@ parts-one first end greatest n a = record {
   sound = a.sound 0 n (omega arith);
 }
 
--- the last two nodes made one
-pub parts-alt : (first end greatest : ℕ) (xs : List Node) (l r n : Node) → node_of n ≡ alt (node_of l) (node_of r)
-    → AreParts first end greatest ((xs ++ l ∷ []) ++ r ∷ []) → AreParts first end greatest (xs ++ n ∷ [])
-parts-alt first end greatest xs l r n is a = record {
-  goals = joined (λ m. goal_count m) (λ x y. omega arith) ∙ a.goals;
-  count = rw (joined (λ m. length (group_ids m)) (λ x y. length-append (group_ids x) (group_ids y))) a.count;
-  ids = λ id. joined (λ m. times id m) (λ x y. count_by-append (nat_eq id) (group_ids x) (group_ids y)) ∙ a.ids id;
-  sound = All-append (λ m. IsTrue (every (is_sound greatest) (node_of m))) xs (n ∷ []) front
-      (All-cons (λ m. IsTrue (every (is_sound greatest) (node_of m))) n [] (rw is (and_from _ _ (and_from _ _ refl second) third)) (λ k d h. absurd (omega arith)));
+-- ---- Several nodes made one
+
+pub part-made : (first end greatest : ℕ) (xs : List Node) (n : tree.Node) → IsMadeOf xs n → AreParts first end greatest xs → IsPart first end greatest n
+part-made first end greatest xs n m a = record {
+  goals = m.goals ∙ a.goals;
+  count = rw m.count a.count;
+  ids = λ id. m.ids id ∙ a.ids id;
+  sound = m.sound greatest a.sound;
+}
+
+pub parts-made : (xs ys : List Node) (n : Node) → IsMadeOf ys (node_of n) → KeepsParts (xs ++ ys) (xs ++ n ∷ [])
+parts-made xs ys n m = λ first end greatest a. record {
+  goals = same (λ m. goal_count m) m.goals ∙ a.goals;
+  count = rw (same (λ m. length (group_ids m)) m.count) a.count;
+  ids = λ id. same (λ m. times id m) (m.ids id) ∙ a.ids id;
+  sound =
+      let parts = All-split (λ m. IsTrue (every (is_sound greatest) (node_of m))) xs ys a.sound in
+      All-append (λ m. IsTrue (every (is_sound greatest) (node_of m))) xs (n ∷ []) parts.0
+      (All-cons (λ m. IsTrue (every (is_sound greatest) (node_of m))) n [] (m.sound greatest parts.1) (λ k d h. absurd (omega arith)));
 }
   where
-    joined : (f : tree.Node → ℕ) → ((x y : tree.Node) → f (alt x y) ≡ f x + f y)
-        → sum_by (λ m. f (node_of m)) (xs ++ n ∷ []) ≡ sum_by (λ m. f (node_of m)) ((xs ++ l ∷ []) ++ r ∷ [])
-    joined f h =
+    same : (f : tree.Node → ℕ) → f (node_of n) ≡ sum_by (λ m. f (node_of m)) ys
+        → sum_by (λ m. f (node_of m)) (xs ++ n ∷ []) ≡ sum_by (λ m. f (node_of m)) (xs ++ ys)
+    same f h =
         let e = sum_by-append (λ m. f (node_of m)) xs (n ∷ []) in
-        let e1 = sum_by-append (λ m. f (node_of m)) (xs ++ l ∷ []) (r ∷ []) in
-        let e2 = sum_by-append (λ m. f (node_of m)) xs (l ∷ []) in
-        let e3 : f (node_of n) ≡ f (node_of l) + f (node_of r) = ap f is ∙ h (node_of l) (node_of r) in
+        let e1 = sum_by-append (λ m. f (node_of m)) xs ys in
         omega arith
 
-    P : Node → Type 0
-    P m = IsTrue (every (is_sound greatest) (node_of m))
+pub made-permuted : (xs ys : List Node) (n : tree.Node) → IsPermutation xs ys → IsMadeOf ys n → IsMadeOf xs n
+made-permuted xs ys n h m = record {
+  goals = m.goals ∙ sum_by-IsPermutation (λ n. goal_count (node_of n)) xs ys h;
+  count = m.count ∙ sum_by-IsPermutation (λ n. length (group_ids (node_of n))) xs ys h;
+  ids = λ id. m.ids id ∙ sum_by-IsPermutation (λ n. times id (node_of n)) xs ys h;
+  sound = λ greatest all. m.sound greatest (All-permutation (λ n. IsTrue (every (is_sound greatest) (node_of n))) xs ys h all);
+}
 
-    front : All P xs
-    front = All-front P xs (l ∷ []) (All-front P (xs ++ l ∷ []) (r ∷ []) a.sound)
+pub made-alt : (l r : Node) → IsMadeOf (l ∷ r ∷ []) (alt (node_of l) (node_of r))
+made-alt l r = record {
+  goals = omega arith;
+  count = let e = length-append (group_ids (node_of l)) (group_ids (node_of r)) in omega arith;
+  ids = λ id. let e = count_by-append (nat_eq id) (group_ids (node_of l)) (group_ids (node_of r)) in omega arith;
+  sound = λ greatest all. and_from _ _ (and_from _ _ refl (all 0 l (omega arith))) (all 1 l (omega arith));
+}
 
-    second : every (is_sound greatest) (node_of l) ≡ true
-    second = All-last P xs l (All-front P (xs ++ l ∷ []) (r ∷ []) a.sound)
-
-    third : every (is_sound greatest) (node_of r) ≡ true
-    third = All-last P (xs ++ l ∷ []) r a.sound
+-- the last two nodes made one
+pub parts-alt : (xs : List Node) (l r n : Node) → node_of n ≡ alt (node_of l) (node_of r) → KeepsParts ((xs ++ l ∷ []) ++ r ∷ []) (xs ++ n ∷ [])
+parts-alt xs l r n is = λ first end greatest a.
+    parts-made xs (l ∷ r ∷ []) n (rw is (made-alt l r)) first end greatest (rw (append_assoc xs (l ∷ []) (r ∷ [])) at a)
 
 -- ---- Nodes round parts
 
@@ -252,13 +259,8 @@ cat-sound greatest [] all = refl
 cat-sound greatest (x ∷ xs) all =
     and_from _ _ (and_from _ _ refl (all 0 x (omega arith))) (cat-sound greatest xs (λ k d h. all (suc k) d (omega arith)))
 
-pub part-cat : (first end greatest : ℕ) (xs : List Node) → AreParts first end greatest xs → IsPart first end greatest (cat_of xs)
-part-cat first end greatest xs a = record {
-  goals = cat-goals xs ∙ a.goals;
-  count = rw (cat-count xs) a.count;
-  ids = λ id. cat-ids id xs ∙ a.ids id;
-  sound = cat-sound greatest xs a.sound;
-}
+pub made-cat : (xs : List Node) → IsMadeOf xs (cat_of xs)
+made-cat xs = record { goals = cat-goals xs; count = cat-count xs; ids = λ id. cat-ids id xs; sound = λ greatest all. cat-sound greatest xs all }
 
 pub part-group : (first end greatest : ℕ) (name : List ℕ) (n : tree.Node) → IsPart (first + 1) end greatest n → IsPart first end greatest (capture_group first name n)
 part-group first end greatest name n p = record {
@@ -344,10 +346,6 @@ part-loop first end greatest q n order p = record {
 whole-goals : (n : tree.Node) → goal_count n ≡ 0 → (goal_count (cat n (cat goal end_of_cat)) == 1) ≡ true
 whole-goals n h = rw h
 
-append-none : (xs : List ℕ) → xs ++ [] ≡ xs
-append-none [] = refl
-append-none (x ∷ xs) = ap (λ ys. x ∷ ys) (append-none xs)
-
 whole-every : (greatest : ℕ) (n : tree.Node) (test : tree.Node → Bool) → ((m : tree.Node) → is_sound greatest m ≡ true → test m ≡ true)
     → every (is_sound greatest) n ≡ true → every test (cat n (cat goal end_of_cat)) ≡ true
 whole-every greatest n test weaker h =
@@ -355,7 +353,7 @@ whole-every greatest n test weaker h =
 
 pub whole : (groups greatest : ℕ) (n : tree.Node) → greatest ≤ groups → IsPart 0 groups greatest n → IsTrue (is_well_formed (cat n (cat goal end_of_cat)))
 whole groups greatest n within p =
-    let ids_are : group_ids (cat n (cat goal end_of_cat)) ≡ group_ids n = append-none (group_ids n) in
+    let ids_are : group_ids (cat n (cat goal end_of_cat)) ≡ group_ids n = append-nil (group_ids n) in
     let count_is : length (group_ids n) ≡ groups = omega (arith, p.count) in
     let root_count : length (group_ids (cat n (cat goal end_of_cat))) ≡ groups = ap length ids_are ∙ count_is in
     by_clauses (cat n (cat goal end_of_cat)) (record {
@@ -372,7 +370,7 @@ whole groups greatest n within p =
       sets = whole-every greatest n fits_instructions (λ m k. (Sound-from greatest m k).fits) p.sound;
     })
 
-pub empty-list : (xs : List Node) → length xs ≡ 0 → xs ≡ []
+pub empty-list : {A : Type 0} (xs : List A) → length xs ≡ 0 → xs ≡ []
 empty-list [] h = refl
 empty-list (x ∷ xs) h = absurd (omega arith)
 

@@ -27,6 +27,16 @@ optimized (loop q start_group end_group loopee) =
 optimized (loop_1_char_body q loopee) = loop_1_char_body q (optimized loopee)
 optimized node = node
 
+-- a loop as one over one character
+abbrev pub narrowed : Node → Node
+narrowed (loop q start_group end_group loopee) = loop_1_char_body q loopee
+narrowed node = node
+
+-- alternatives that were turned to look at the one before, the last of them first, as they were, with what stands behind
+abbrev pub turned_back : (done rest : Node) → Node
+turned_back (alt left before) rest = turned_back before (alt left rest)
+turned_back _ rest = rest
+
 -- optimizing keeps a tree well formed
 abbrev pub OptimizedIsWellFormed : Type 0
 OptimizedIsWellFormed = (root : Node) → IsTrue (is_well_formed root) → IsTrue (is_well_formed (optimized root))

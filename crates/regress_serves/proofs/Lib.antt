@@ -1,6 +1,6 @@
+-- From the relation of threads to what an executor does at each instruction.
 pub mod Serves
 pub mod Left
-pub mod Kept
 pub mod Below
 pub mod Barred
 pub mod Units
@@ -13,3 +13,4 @@ pub mod Looks
 pub mod Ends
 pub mod Texts
 pub mod Checks
+pub mod Arms

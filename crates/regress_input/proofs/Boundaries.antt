@@ -1,14 +1,12 @@
 -- The units at boundaries.
-use Rattle.std.proofs.Common.{◌≡◌, ℕ, zero, suc, ◌+◌, ◌-◌, ◌*◌, ◌/◌, ◌%◌, ◌<◌, ◌≤◌, ◌⊎◌, inl, inr, Bool, true, false, cond, not, ◌&&◌, ◌||◌, List, [], ◌∷◌, ◌++◌, length, map, take, drop, flat_map, get_or, slice_get, slice_index, nat_le, nat_lt, nat_eq, is_some, position, Some, None, refl, sym, ◌∙◌, ap, ap₂, arith, eq-eqb, ne_eqb, le-leb, lt-ltb, le-ltb, take-append-drop, take_all}
+use Rattle.std.proofs.Common.{◌≡◌, ℕ, zero, suc, ◌+◌, ◌-◌, ◌/◌, ◌<◌, ◌≤◌, ◌⊎◌, inl, inr, Bool, true, false, cond, not, ◌&&◌, List, [], ◌∷◌, ◌++◌, length, map, take, drop, flat_map, slice_get, slice_index, nat_le, nat_lt, nat_eq, is_some, position, Some, None, refl, sym, ◌∙◌, ap, ap₂, arith, eq-eqb, ne_eqb, le-leb, lt-ltb, le-ltb, take-append-drop, take_all}
 use Rattle.std.proofs.lemmas.Bool.{lt-leb, cases_Bool, cases_lt}
 use Rattle.std.proofs.lemmas.List.{append-nil}
 use Rattle.std.proofs.lemmas.List.Concat.{flat_map-append}
-use Rattle.std.proofs.lemmas.Str.{length-encode, len_utf8_bounds}
 use Rattle.std.specs.List.{position_or_len, list_any}
-use Rattle.std.specs.Char.{len_utf8}
 use lib.Utf8.{encode, next}
 use Rattle.regex_meaning.specs.Lists.{contains}
-use Rattle.regex_meaning.specs.Text.{Text, rightwards, leftwards, offsets_from, last_place}
+use Rattle.regex_meaning.specs.Text.{Text, rightwards, leftwards, offsets_from}
 use Rattle.regex_meaning.specs.Offsets.{IsText, offset, units, place_at, read}
 use Rattle.regex_meaning.specs.Units.{Encoding, utf8, utf16, ucs2, spelled_in, units_in, IsSpelledIn}
 use Rattle.regress_input.specs.Utf8.{continues}

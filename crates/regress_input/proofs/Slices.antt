@@ -9,7 +9,6 @@ use Rattle.regex_meaning.proofs.TextLemmas.{place-le, offset-IsBoundary}
 use Rattle.regress_input.specs.Reading.{place, part, characters_between, past_spelled, past_bytes}
 use Rattle.regress_input.proofs.Places.{HasPlace}
 use Rattle.regress_input.proofs.Spelled.{text_of, is_text, spelling, Cut, cut, cut_at, offset-spelling}
-use Rattle.std.proofs.lemmas.Bool.{and_from, and_parts}
 
 -- ---- Tests and options
 

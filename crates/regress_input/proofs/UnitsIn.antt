@@ -3,7 +3,7 @@ use Rattle.std.proofs.Common.{◌≡◌, ℕ, List, [], ◌∷◌, ◌++◌, Boo
 use Rattle.std.proofs.lemmas.List.{append-nil}
 use Rattle.std.proofs.lemmas.Str.{encodes-chars, encodes-IsAscii, IsUtf8-had}
 use lib.Utf8.{encode, encodes}
-use Rattle.regex_meaning.specs.Text.{utf8_text, ascii_text, utf16_text, ucs2_text, utf16_characters}
+use Rattle.regex_meaning.specs.Text.{utf8_text, ascii_text, utf16_text, ucs2_text}
 use Rattle.regex_meaning.specs.Units.{utf8, utf16, ucs2, spelled_in, units_in}
 use Rattle.regress_input.specs.Utf16.{AreUnits}
 use Rattle.regress_input.proofs.OneUnit.{all_single}

@@ -315,7 +315,7 @@ pub trait InputIndexer: Copy + Debug + UnitsAre {
     }
 
     /// Whether the characters of a range stand on the direction's side of a boundary, read left to right. Then the
-    /// position is behind them, and else it stays.
+    /// position is behind them, and else it is not specified.
     #[inline(always)]
     final fn subrange_eq<Dir: Direction>(
         &self,
@@ -334,7 +334,7 @@ pub trait InputIndexer: Copy + Debug + UnitsAre {
     }
 
     /// Whether these bytes stand on the direction's side of any offset, read left to right; they never do where units
-    /// are no bytes. Then the position is behind them, and else it stays.
+    /// are no bytes. Then the position is behind them, and else it is not specified.
     #[inline(always)]
     final fn match_bytes<Dir: Direction>(
         &self,

@@ -11,9 +11,7 @@ ghost use Rattle.regex_pattern_front.specs.TreeOf.{contents_of};
 ghost use Rattle.regress_input.specs.Reading.{way, led_to, past_if};
 
 use crate::cursor::{self, Direction};
-use crate::front::{
-    BracketContents, ByteArraySet, ByteSet, MAX_CHAR_SET_LENGTH, SmallArraySet,
-};
+use crate::front::{BracketContents, ByteArraySet, ByteSet, MAX_CHAR_SET_LENGTH, SmallArraySet};
 use crate::indexing::{CharProperties, CodeUnits, ElementType, InputIndexer};
 use crate::utf8;
 

@@ -51,7 +51,9 @@ fn optimize_all(nodes: &mut Vec<Node>)
 }
 
 // Alternatives, in a loop: on the way there each is turned to look at the one before it, and on the way back as it was.
+// Its nodes stay out of the frames that nested groups take.
 #[cycle(optimize)]
+#[inline(never)]
 fn optimize_row(row: &mut Node)
     ensures { node_of row.new ≡ optimized (node_of row.old) }
 {

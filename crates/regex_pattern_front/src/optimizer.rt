@@ -69,6 +69,7 @@ fn optimize_row(row: &mut Node)
 }
 
 // The alternatives of a row that was turned round, and those behind them.
+#[inline(never)]
 fn turned_back(mut done: Node, mut rest: Node) -> Node
     ensures { node_of result ≡ turned_back (node_of done) (node_of rest) }
 {

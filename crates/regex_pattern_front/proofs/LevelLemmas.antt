@@ -1,5 +1,5 @@
 -- The parentheses that are open, one more and one less.
-use Rattle.std.proofs.Common.{◌≡◌, ℕ, ◌+◌, ◌≤◌, List, [], ◌∷◌, ◌++◌, refl, sym}
+use Rattle.std.proofs.Common.{◌≡◌, ℕ, ◌+◌, ◌≤◌, List, [], ◌∷◌, ◌++◌, refl}
 use Rattle.regex_pattern_front.specs.declared.nesting.Open.{Open}
 use Rattle.regex_pattern_front.specs.Parts.{AreParts}
 use Rattle.regex_pattern_front.specs.Levels.{captures, nodes_at, AreOpen}

@@ -51,7 +51,9 @@ fn optimize_all(nodes: &mut Vec<Node>)
 }
 
 // Alternatives, in a loop: on the way there each is turned to look at the one before it, and on the way back as it was.
+// Its nodes stay out of the frames that nested groups take.
 #[cycle(optimize)]
+#[inline(never)]
 fn optimize_row(row: &mut Node)
     ensures { node_of row.new ≡ optimized (node_of row.old) }
 {
@@ -67,6 +69,7 @@ fn optimize_row(row: &mut Node)
 }
 
 // The alternatives of a row that was turned round, and those behind them.
+#[inline(never)]
 fn turned_back(mut done: Node, mut rest: Node) -> Node
     ensures { node_of result ≡ turned_back (node_of done) (node_of rest) }
 {

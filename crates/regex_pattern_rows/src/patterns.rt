@@ -69,12 +69,19 @@ fn patterns_have_these_trees(rt: HostRuntime) -> Result<(), Fail> {
     Ok(())
 }
 
+// Adds a piece of a pattern so many times.
+fn add(pattern: &mut Vec<u32>, piece: &str, count: usize) -> Result<(), AllocError> {
+    let piece = code_points(*pattern.allocator(), piece)?;
+    for _ in 0..count {
+        pattern.extend_from_slice(&piece)?;
+    }
+    Ok(())
+}
+
 // Whether a pattern of so many groups is refused.
 fn is_refused(alloc: Global, groups: usize) -> Result<bool, AllocError> {
     let mut pattern = Vec::new(alloc);
-    for _ in 0..groups {
-        pattern.extend_from_slice(&['(' as u32, ')' as u32])?;
-    }
+    add(&mut pattern, "()", groups)?;
     Ok(tree(alloc, &pattern, "")?.is_none())
 }
 
@@ -82,5 +89,32 @@ fn is_refused(alloc: Global, groups: usize) -> Result<bool, AllocError> {
 fn groups_have_a_limit(rt: HostRuntime) -> Result<(), Fail> {
     assert!(rt; !is_refused(rt.alloc(), 65535)?);
     assert!(rt; is_refused(rt.alloc(), 65536)?);
+    Ok(())
+}
+
+// Whether a pattern has a tree, which is optimized and dropped, where it has so many openings and as many closings behind
+// them.
+fn is_read(alloc: Global, opening: &str, closing: &str, count: usize) -> Result<bool, AllocError> {
+    let mut pattern = Vec::new(alloc);
+    add(&mut pattern, opening, count)?;
+    add(&mut pattern, closing, count)?;
+    match tree(alloc, &pattern, "")? {
+        Some(mut re) => {
+            optimize(&mut re);
+            Ok(true)
+        }
+        None => Ok(false),
+    }
+}
+
+// Each line is an opening, a space and its closing.
+const NESTS: &str = "a| \na \n(?: )\n( )\n( )b\n(?: )*\n(?=b )\n(?<! )b";
+
+#[test]
+fn wide_and_deep_patterns_are_read(rt: HostRuntime) -> Result<(), Fail> {
+    for line in NESTS.lines() {
+        let (opening, closing) = line.split_once(' ').unwrap_or((line, "no space"));
+        assert!(rt; is_read(rt.alloc(), opening, closing, 20000)?, "{line}");
+    }
     Ok(())
 }

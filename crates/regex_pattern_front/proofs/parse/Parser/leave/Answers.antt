@@ -1,7 +1,7 @@
-use Rattle.std.proofs.Common.{◌≡◌, ◌+◌, arith}
+use Rattle.std.proofs.Common.{arith}
 use Rattle.regex_pattern_front.specs.TreeOf.{node_of}
 use Rattle.regex_pattern_front.specs.Parts.{IsPart}
-use Rattle.regex_pattern_front.specs.Levels.{captures, nodes_at}
+use Rattle.regex_pattern_front.specs.Levels.{nodes_at}
 use Rattle.regex_pattern_front.proofs.PartLemmas.{parts-push}
 use Rattle.regex_pattern_front.proofs.LevelLemmas.{IsLast, open-pop}
 use Rattle.regex_pattern_front.proofs.parse.Parser.leave.Goals as goal

@@ -83,10 +83,13 @@ fn cat_of(alloc: Global, count: u32, nodes: &mut Vec<Node>) -> Option<Node> {
 fn strings_of(alloc: Global, count: u32, nodes: &mut Vec<Node>) -> Option<Node> {
     let mut alternatives = Vec::new(alloc);
     for _ in 0..count {
-        let Node::CharSet(string) = nodes.pop()? else {
+        let node = nodes.pop()?;
+        let Node::CharSet(string) = &node else {
             return None;
         };
-        alternatives.push(string).ok()?;
+        alternatives
+            .push(Vec::from_slice(alloc, string).ok()?)
+            .ok()?;
     }
     Some(Node::StringSet {
         alternatives,

@@ -7,13 +7,14 @@ ghost use Rattle.regress_input.specs.Reading.{way};
 ghost use Rattle.regress_program.specs.Code.{compiled};
 ghost use Rattle.regress_program.specs.Insns.{insn_of, loop_fields_of};
 ghost use Rattle.regress_machine.specs.Machine.{running, waiting, goes, asks, at_ip, next_ip, with_some, span, test_of, read_group, scan as scan_from, loop_turn, again_with, again_at, act, act_on};
-ghost use Rattle.regress_search.specs.States.{state_of, loop_of, next_of, opened, closed, reset, entered_at, behind_at, IsReached, CanTake, range_of, groups_of};
-ghost use Rattle.regress_search.specs.Passing.{IsInBytes, is_literal, is_reader};
+ghost use Rattle.regress_search.specs.States.{state_of, loop_of, next_of, range_of, groups_of};
+ghost use Rattle.regress_machine.specs.Turns.{opened, closed, reset, entered_at, behind_at, IsReached, CanTake, is_literal, is_reader};
+ghost use Rattle.regress_exec.specs.Passing.{IsInBytes};
 
 use super::states::{LoopData, State, Turn, copy_of};
-use crate::reading::{self, stands_again};
-use crate::searched::Searched;
 use regex_pattern_front::types::{CaptureGroupID, LoopID};
+use regress_exec::reading::{self, stands_again};
+use regress_exec::searched::Searched;
 use regress_input::cursor::Direction;
 use regress_input::indexing::InputIndexer;
 use regress_input::position::PositionType;

@@ -1,0 +1,27 @@
+use Rattle.std.specs.Prelude.{IsTrue}
+use Rattle.regex_meaning.specs.WellFormed.{is_well_formed}
+use Rattle.regress_program.specs.Code.{compiled}
+use Rattle.std.proofs.Common.{Some, ap, sym, subst, ◌∙◌, refl}
+use Rattle.regress_machine.specs.Bytes.{ReadsBytes}
+use Rattle.regress_machine.proofs.ByteTexts.{ascii_text-ReadsBytes}
+use Rattle.regex_meaning.specs.Text.{Text}
+use Rattle.regex_meaning.specs.Tree.{Flags}
+use Rattle.regex_pattern_front.specs.TreeOf.{tree_of}
+use Rattle.regress_exec.proofs.FirstMatch.{flags-compiled}
+use Rattle.regress_exec.proofs.Searchable.{all-ascii}
+use Rattle.regress_exec.proofs.searched.Searched+AsciiInput.in_ascii.Goals as goal
+
+pub invariant_of-result : goal.invariant_of-result
+invariant_of-result c =
+    let same = c.program.ensures in
+    let reads = subst ReadsBytes (sym c.new.ensures) (ascii_text-ReadsBytes c.args.text.now c.flags-flags.result.unicode (all-ascii c.args.text.now c.requires)) in
+    record {
+      unicode =
+          ap (λ (t : Text). t.unicode) c.new.ensures
+          ∙ ap (λ (f : Flags). f.unicode) (c.flags-flags.ensures ∙ flags-compiled (tree_of c.args.re.now))
+          ∙ ap (λ t. (tree_of t).flags.unicode) (sym same);
+      well_formed = subst (λ t. IsTrue (is_well_formed (tree_of t).root)) (sym same) c.insns-well_formed.ensures.well_formed;
+      bytes = λ _. record { reads = reads; units = refl };
+      predicted = ap Some (c.start_pred.ensures ∙ ap (λ t. (compiled (tree_of t)).start_pred) (sym same));
+      scalars = λ _. reads;
+    }

@@ -12,9 +12,12 @@ use Rattle.regex_meaning.specs.Lists.{contains, numbers_from}
 use Rattle.regex_meaning.specs.Tree.{Intervals, Node, char_set, byte_set, byte_sequence, cat, alt, bracket, capture_group, loop, loop_1_char_body, every, Tree}
 use Rattle.regex_meaning.specs.Text.{is_scalar}
 use Rattle.regex_meaning.specs.WellFormed.{has_text_in_sequence, fits_instructions, IsWellFormed}
-use Rattle.regex_meaning.specs.StartPredicate.{Beginning, open_ended, arbitrary, sequence, one_of, sequence_of, sequence_or, shared_front, first_byte, union, then_of, join, beginning, bytes_where, begun_by, meet, first_bytes, code_points, begins_characters, is_anchored, start_of, start_anchored, start_predicate}
-use Rattle.regex_meaning.proofs.FirstBytes.{and-left, and-right, and-both, or-left, or-right, lt-false, eq-false, in_range-below, in_range-true, true-in_range, true-lt, first_of_char}
-use Rattle.regex_meaning.proofs.Sound.{all-contains}
+use Rattle.regex_meaning.proofs.WellFormedLemmas.{clauses}
+use Rattle.regex_meaning.specs.StartPredicate.{Beginning, open_ended, arbitrary, sequence, one_of, sequence_of, sequence_or, shared_front, first_byte, union, then_of, join, beginning, bytes_where, begun_by, meet, first_bytes, code_points, IsSound, begins_characters, is_filled, is_anchored, start_of, start_anchored, start_predicate}
+use Rattle.regex_meaning.proofs.FirstBytes.{in_range-below, in_range-true, true-in_range, first_of_char}
+use Rattle.regex_meaning.proofs.Sound.{all-contains, predicate-holds}
+use Rattle.std.proofs.lemmas.Bool.{or_cases, and_from, or_left, or_right, ltb-true, le-ltb, ne_eqb}
+use Rattle.regex_meaning.proofs.Booleans.{and-left, and-right}
 
 abbrev begins_one : ℕ → Bool
 begins_one b = not (is_in_range 0x80 0xBF b)
@@ -30,16 +33,12 @@ all-filter ok test [] h = refl
 all-filter ok test (x ∷ xs) h = go (test x) refl (all-filter ok test xs h)
   where
     go : (b : Bool) → test x ≡ b → list_all ok (filter test xs) ≡ true → list_all ok (if b then x ∷ filter test xs else filter test xs) ≡ true
-    go true e k = and-both _ _ (h x e) k
+    go true e k = and_from _ _ (h x e) k
     go false e k = k
-
-either : (a b : Bool) → (a || b) ≡ true → (a ≡ true) ⊎ (b ≡ true)
-either true b h = inl refl
-either false b h = inr h
 
 all-union : (ok : ℕ → Bool) (xs ys : List ℕ) → list_all ok xs ≡ true → list_all ok ys ≡ true → list_all ok (union xs ys) ≡ true
 unfolding bytes_where
-all-union ok xs ys h k = all-filter ok (λ b. contains xs b || contains ys b) (numbers_from 0 256) (λ b t. go b (either (contains xs b) (contains ys b) t))
+all-union ok xs ys h k = all-filter ok (λ b. contains xs b || contains ys b) (numbers_from 0 256) (λ b t. go b (or_cases (contains xs b) (contains ys b) t))
   where
     go : (b : ℕ) → (contains xs b ≡ true) ⊎ (contains ys b ≡ true) → ok b ≡ true
     go b (inl t) = all-contains ok xs b h t
@@ -79,13 +78,13 @@ clean-if false x h = tt
 begun_by-none : (b : ℕ) → 0x80 ≤ b → b ≤ 0xBF → begun_by b ≡ []
 begun_by-none b h k =
     rw (
-      lt-false b 0x80 h,
+      le-ltb b 0x80 h,
       in_range-below 0xC2 0xDF b (omega arith),
-      eq-false b 0xE0 (omega arith),
+      ne_eqb b 0xE0 (omega arith),
       in_range-below 0xE1 0xEF b (omega arith),
-      eq-false b 0xF0 (omega arith),
+      ne_eqb b 0xF0 (omega arith),
       in_range-below 0xF1 0xF3 b (omega arith),
-      eq-false b 0xF4 (omega arith),
+      ne_eqb b 0xF4 (omega arith),
     )
 
 clean-first_bytes : (ivs : Intervals) → list_all begins_one (first_bytes ivs) ≡ true
@@ -99,18 +98,18 @@ clean-first_bytes ivs = all-filter begins_one (λ b. meet (begun_by b) ivs) (num
         let no : false ≡ true = rw none at t in no
     go b false e t = refl
 
-is_scalar-of : (c : ℕ) → IsScalar c → is_scalar c ≡ true
+pub is_scalar-of : (c : ℕ) → IsScalar c → is_scalar c ≡ true
 is_scalar-of c h = go (scalar_cases c h)
   where
     go : (c < 55296) ⊎ ((57344 ≤ c) × (c < 1114112)) → is_scalar c ≡ true
-    go (inl l) = or-left _ _ (in_range-true 0 0xD7FF c (omega arith) (omega arith))
-    go (inr l) = or-right (is_in_range 0 0xD7FF c) _ (in_range-true 0xE000 0x10_FFFF c l.0 (let u = l.1 in omega arith))
+    go (inl l) = or_left _ _ (in_range-true 0 0xD7FF c (omega arith) (omega arith))
+    go (inr l) = or_right (is_in_range 0 0xD7FF c) _ (in_range-true 0xE000 0x10_FFFF c l.0 (let u = l.1 in omega arith))
 
 clean-bytes : (cs bytes : List ℕ) → all_scalars cs ≡ true → encode_utf8_all cs ≡ bytes → list_all begins_one (take 1 bytes) ≡ true
 clean-bytes [] bytes s e = rw (← e) refl
 clean-bytes (c ∷ cs) bytes s e =
     let f = first_of_char c (is_scalar-of c (and-left _ _ s)) in
-    rw (← e, f.is) (and-both (begins_one f.byte) true (rw f.lead.begins) refl)
+    rw (← e, f.is) (and_from (begins_one f.byte) true (rw f.lead.begins) refl)
 
 clean-sequence_of : (bytes : List ℕ) → list_all begins_one (take 1 bytes) ≡ true → Clean (sequence_of bytes)
 clean-sequence_of [] h = tt
@@ -125,7 +124,7 @@ clean-byte_set : (members : List ℕ) → list_all (λ b. nat_lt b 128) members 
 unfolding bytes_where
 clean-byte_set members h =
     all-filter begins_one (contains members) (numbers_from 0 256)
-    (λ b t. let low = true-lt b 128 (all-contains (λ c. nat_lt c 128) members b h t) in rw (in_range-below 0x80 0xBF b low))
+    (λ b t. let low = ltb-true b 128 (all-contains (λ c. nat_lt c 128) members b h t) in rw (in_range-below 0x80 0xBF b low))
 
 clean : (node : Node) → IsTrue (every has_text_in_sequence node) → IsTrue (every fits_instructions node) → Clean (beginning node)
 unfolding beginning
@@ -151,10 +150,30 @@ clean-start (sequence (b ∷ c ∷ bs)) h = h
 clean-start (one_of []) h = refl
 clean-start (one_of (b ∷ bs)) h = h
 
-pub predicate-on_characters : (tree : Tree) → IsWellFormed tree.root → IsTrue (begins_characters (start_predicate tree))
+predicate-on_characters : (tree : Tree) → IsWellFormed tree.root → IsTrue (begins_characters (start_predicate tree))
 unfolding start_predicate
 predicate-on_characters tree w = go (not tree.flags.multiline && is_anchored tree.root)
   where
     go : (b : Bool) → IsTrue (begins_characters (if b then start_anchored else start_of (beginning tree.root)))
     go true = refl
-    go false = clean-start (beginning tree.root) (clean tree.root w.sequences w.sets)
+    go false = clean-start (beginning tree.root) (clean tree.root (clauses tree.root w).sequences (clauses tree.root w).sets)
+
+filled-start : (b : Beginning) → IsTrue (is_filled (start_of b))
+filled-start open_ended = refl
+filled-start arbitrary = refl
+filled-start (sequence []) = refl
+filled-start (sequence (b ∷ [])) = refl
+filled-start (sequence (b ∷ c ∷ bs)) = refl
+filled-start (one_of []) = refl
+filled-start (one_of (b ∷ bs)) = refl
+
+predicate-filled : (tree : Tree) → IsTrue (is_filled (start_predicate tree))
+unfolding start_predicate
+predicate-filled tree = go (not tree.flags.multiline && is_anchored tree.root)
+  where
+    go : (b : Bool) → IsTrue (is_filled (if b then start_anchored else start_of (beginning tree.root)))
+    go true = refl
+    go false = filled-start (beginning tree.root)
+
+pub predicate-sound : (tree : Tree) → IsWellFormed tree.root → IsSound (start_predicate tree) tree.root
+predicate-sound tree w = record { holds = predicate-holds tree w; on_characters = predicate-on_characters tree w; filled = predicate-filled tree }

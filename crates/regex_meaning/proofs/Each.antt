@@ -1,5 +1,6 @@
 -- A fact of each element of a list.
-use Rattle.std.proofs.Common.{◌≡◌, Bool, true, false, List, [], ◌∷◌, refl, ◌++◌, filter, flat_map, map}
+use Rattle.std.proofs.Common.{◌≡◌, ℕ, zero, suc, Bool, true, false, List, [], ◌∷◌, refl, sym, subst, ◌++◌, filter, flat_map, map, take, drop, reverse, replicate, slice_set}
+use Rattle.std.proofs.lemmas.List.{reverse-append}
 use Rattle.std.specs.Prelude.{if◌then◌else◌}
 pub use Rattle.regex_meaning.specs.Laws.{Each}
 
@@ -25,6 +26,34 @@ module _ {A : Type 0} where
   pub Each-map : (P Q : A → Type 0) → ((x : A) → P x → Q x) → (xs : List A) → Each P xs → Each Q xs
   Each-map P Q f [] h = tt
   Each-map P Q f (x ∷ xs) h = (f x h.0, Each-map P Q f xs h.1)
+
+  pub Each-all : (P : A → Type 0) → ((x : A) → P x) → (xs : List A) → Each P xs
+  Each-all P h [] = tt
+  Each-all P h (x ∷ xs) = (h x, Each-all P h xs)
+
+  pub Each-take : (P : A → Type 0) (n : ℕ) (xs : List A) → Each P xs → Each P (take n xs)
+  Each-take P zero xs h = tt
+  Each-take P (suc n) [] h = tt
+  Each-take P (suc n) (x ∷ xs) h = (h.0, Each-take P n xs h.1)
+
+  pub Each-drop : (P : A → Type 0) (n : ℕ) (xs : List A) → Each P xs → Each P (drop n xs)
+  Each-drop P zero xs h = h
+  Each-drop P (suc n) [] h = tt
+  Each-drop P (suc n) (x ∷ xs) h = Each-drop P n xs h.1
+
+  pub Each-reverse : (P : A → Type 0) (xs : List A) → Each P xs → Each P (reverse xs)
+  Each-reverse P [] h = tt
+  Each-reverse P (x ∷ xs) h =
+      subst (Each P) (sym (reverse-append (x ∷ []) xs)) (Each-append P (reverse xs) (x ∷ []) (Each-reverse P xs h.1) (h.0, tt))
+
+  pub Each-replicate : (P : A → Type 0) (n : ℕ) (x : A) → P x → Each P (replicate n x)
+  Each-replicate P zero x p = tt
+  Each-replicate P (suc n) x p = (p, Each-replicate P n x p)
+
+  pub Each-set : (P : A → Type 0) (xs : List A) (i : ℕ) (x : A) → Each P xs → P x → Each P (slice_set xs i x)
+  Each-set P [] i x h p = h
+  Each-set P (y ∷ ys) zero x h p = (p, h.1)
+  Each-set P (y ∷ ys) (suc i) x h p = (h.0, Each-set P ys i x h.1 p)
 
 module _ {A B : Type 0} where
   flat_map-if_same : (f g : A → List B) (b : Bool) (x : A) (ys : List A) → (b ≡ true → f x ≡ g x)

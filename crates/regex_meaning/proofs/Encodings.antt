@@ -11,7 +11,7 @@ use Rattle.regex_meaning.specs.Text.{Text, is_scalar, is_lowercase, is_uppercase
 use Rattle.regex_meaning.specs.Offsets.{place_at}
 use Rattle.regex_meaning.specs.Find.{match_list}
 use Rattle.regex_meaning.specs.Names.{answer, answers_from}
-use Rattle.regex_meaning.proofs.Each.{Each}
+use Rattle.regex_meaning.proofs.Each.{Each, Each-all}
 use Rattle.regex_meaning.proofs.SameTexts.{match_list-same}
 
 -- ---- Folds
@@ -61,15 +61,11 @@ fold_ascii-fold_code_point true c less = rw (ne_eqb c 0x017F (omega arith), ne_e
 
 -- ---- UTF-8 and UTF-16
 
-any-each : (cs : List ℕ) → Each (λ c. Unit {0}) cs
-any-each [] = tt
-any-each (c ∷ cs) = (tt, any-each cs)
-
 pub utf8-utf16 : (root : Node) (bytes units : List ℕ) (unicode : Bool) (place : ℕ) → chars bytes ≡ utf16_characters units
     → match_list root (utf8_text bytes unicode) place ≡ match_list root (utf16_text units unicode) place
 utf8-utf16 root bytes units unicode place e =
     match_list-same (chars bytes) unicode (offsets_from 0 (map len_utf8 (chars bytes))) (offsets_from 0 (map utf16_width (utf16_characters units)))
-    (fold_char unicode) (fold_code_point unicode) (λ c. Unit {0}) (any-each (chars bytes))
+    (fold_char unicode) (fold_code_point unicode) (λ c. Unit {0}) (Each-all (λ c. Unit {0}) (λ c. tt) (chars bytes))
     (λ c d p q. rw (fold_char-fold_code_point unicode c, fold_char-fold_code_point unicode d) refl) root place
     ∙ ap (λ (cs : List ℕ). match_list root (record {
       characters = cs;

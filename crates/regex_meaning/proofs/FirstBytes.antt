@@ -1,7 +1,7 @@
 -- First bytes of characters and of texts.
-use Rattle.std.proofs.Common.{◌≡◌, ◌≢◌, ℕ, zero, suc, ◌+◌, ◌-◌, ◌*◌, ◌/◌, ◌<◌, ◌≤◌, Bool, true, false, ◌&&◌, ◌||◌, List, [], ◌∷◌, drop, filter, refl, sym, arith, T, lt→ltb, le→leb, ltb→lt, leb→le, eq-eqb, eqb→eq}
+use Rattle.std.proofs.Common.{◌≡◌, ◌≢◌, ℕ, zero, suc, ◌+◌, ◌-◌, ◌*◌, ◌/◌, ◌<◌, ◌≤◌, Bool, true, false, ◌&&◌, List, [], ◌∷◌, drop, filter, refl, sym, arith, T, eq-eqb}
 use mathlib.Core.Logic.{◌⊎◌, inl, inr}
-use Rattle.std.specs.Prelude.{if◌then◌else◌, nat_lt, nat_le, ◌==◌}
+use Rattle.std.specs.Prelude.{if◌then◌else◌, nat_le, ◌==◌}
 use Rattle.std.specs.Char.{encode_utf8 as encode}
 use Rattle.std.specs.List.{list_any}
 use Rattle.std.specs.Int.{is_in_range}
@@ -10,26 +10,10 @@ use Rattle.regex_meaning.specs.Tree.{Intervals}
 use Rattle.regex_meaning.specs.Text.{is_scalar}
 use Rattle.regex_meaning.specs.Outcomes.{in_intervals}
 use Rattle.regex_meaning.specs.StartPredicate.{bytes_where, begun_by, meet}
+use Rattle.regex_meaning.proofs.Booleans.{and-left, and-right}
+use Rattle.std.proofs.lemmas.Bool.{cases_lt, and_from, or_left, or_right, lt-ltb, le-leb, leb-true, le-ltb, lt-leb, ne_eqb, eqb-true}
 
 -- ---- Tests
-
-pub and-left : (a b : Bool) → (a && b) ≡ true → a ≡ true
-and-left true b h = refl
-and-left false b h = h
-
-pub and-right : (a b : Bool) → (a && b) ≡ true → b ≡ true
-and-right true b h = h
-and-right false b h = grind arith
-
-pub and-both : (a b : Bool) → a ≡ true → b ≡ true → (a && b) ≡ true
-and-both a b h k = rw (h, k)
-
-pub or-left : (a b : Bool) → a ≡ true → (a || b) ≡ true
-or-left a b h = rw h
-
-pub or-right : (a b : Bool) → b ≡ true → (a || b) ≡ true
-or-right true b h = refl
-or-right false b h = h
 
 pub T-true : (b : Bool) → T b → b ≡ true
 T-true true t = refl
@@ -38,60 +22,29 @@ T-true false t = absurd t
 pub true-T : (b : Bool) → b ≡ true → T b
 true-T b h = rw h tt
 
-pub lt-true : (x y : ℕ) → x < y → nat_lt x y ≡ true
-lt-true x y h = T-true _ (lt→ltb x y h)
-
-pub le-true : (x y : ℕ) → x ≤ y → nat_le x y ≡ true
-le-true x y h = T-true _ (le→leb x y h)
-
-pub true-lt : (x y : ℕ) → nat_lt x y ≡ true → x < y
-true-lt x y h = ltb→lt x y (true-T _ h)
-
-pub true-le : (x y : ℕ) → nat_le x y ≡ true → x ≤ y
-true-le x y h = leb→le x y (true-T _ h)
-
-not_true : (b : Bool) → (b ≡ true → ⊥) → b ≡ false
-not_true true h = absurd (h refl)
-not_true false h = refl
-
-pub lt-false : (x y : ℕ) → y ≤ x → nat_lt x y ≡ false
-lt-false x y h = not_true _ (λ e. let less = true-lt x y e in absurd (omega arith))
-
-pub le-false : (x y : ℕ) → y < x → nat_le x y ≡ false
-le-false x y h = not_true _ (λ e. let less = true-le x y e in absurd (omega arith))
-
-pub eq-false : (x y : ℕ) → x ≢ y → (x == y) ≡ false
-eq-false x y h = not_true _ (λ e. h (eqb→eq x y (true-T _ e)))
-
-pub eq-true : (x y : ℕ) → x ≡ y → (x == y) ≡ true
-eq-true x y h = eq-eqb x y h
-
-pub true-eq : (x y : ℕ) → (x == y) ≡ true → x ≡ y
-true-eq x y h = eqb→eq x y (true-T _ h)
-
 pub in_range-true : (lo hi c : ℕ) → lo ≤ c → c ≤ hi → is_in_range lo hi c ≡ true
-in_range-true lo hi c h k = and-both _ _ (le-true lo c h) (le-true c hi k)
+in_range-true lo hi c h k = and_from _ _ (le-leb lo c h) (le-leb c hi k)
 
 pub true-in_range : (lo hi c : ℕ) → is_in_range lo hi c ≡ true → (lo ≤ c) × (c ≤ hi)
-true-in_range lo hi c h = (true-le lo c (and-left _ _ h), true-le c hi (and-right _ _ h))
+true-in_range lo hi c h = (leb-true lo c (and-left _ _ h), leb-true c hi (and-right _ _ h))
 
 pub in_range-below : (lo hi c : ℕ) → c < lo → is_in_range lo hi c ≡ false
-in_range-below lo hi c h = rw (le-false lo c h)
+in_range-below lo hi c h = rw (lt-leb lo c h)
 
 pub in_range-above : (lo hi c : ℕ) → lo ≤ c → hi < c → is_in_range lo hi c ≡ false
-in_range-above lo hi c k h = rw (le-true lo c k) (le-false c hi h)
+in_range-above lo hi c k h = rw (le-leb lo c k) (lt-leb c hi h)
 
 -- ---- Sets of bytes
 
 contains-cons : (x : ℕ) (xs : List ℕ) (b : ℕ) → contains xs b ≡ true → contains (x ∷ xs) b ≡ true
-contains-cons x xs b h = or-right _ _ h
+contains-cons x xs b h = or_right _ _ h
 
 hit : (c : Bool) (x b : ℕ) (rest : List ℕ) → c ≡ true → x ≡ b → contains (if c then x ∷ rest else rest) b ≡ true
-hit true x b rest h e = or-left _ _ (eq-true b x (sym e))
+hit true x b rest h e = or_left _ _ (eq-eqb b x (sym e))
 hit false x b rest h e = grind arith
 
 miss : (c : Bool) (x b : ℕ) (rest : List ℕ) → contains rest b ≡ true → contains (if c then x ∷ rest else rest) b ≡ true
-miss true x b rest h = or-right _ _ h
+miss true x b rest h = or_right _ _ h
 miss false x b rest h = h
 
 contains-filter : (test : ℕ → Bool) (b first count : ℕ) → first ≤ b → b < first + count → test b ≡ true
@@ -104,8 +57,8 @@ contains-filter test b first (suc count) h k t =
     rest = filter test (numbers_from (first + 1) count)
 
     go : (e : Bool) → (first == b) ≡ e → (first ≢ b → contains rest b ≡ true) → contains (if test first then first ∷ rest else rest) b ≡ true
-    go true e next = let same = true-eq first b e in hit (test first) first b rest (rw same t) same
-    go false e next = miss (test first) first b rest (next (λ same. cc (eq-true first b same, e)))
+    go true e next = let same = eqb-true first b e in hit (test first) first b rest (rw same t) same
+    go false e next = miss (test first) first b rest (next (λ same. cc (eq-eqb first b same, e)))
 
 pub contains-bytes_where : (test : ℕ → Bool) (b : ℕ) → b < 256 → test b ≡ true → contains (bytes_where test) b ≡ true
 unfolding bytes_where
@@ -129,11 +82,11 @@ meets-any lo hi c (y ∷ ys) h k t = go (is_in_range y.0 y.1 c) refl (λ rest. m
         let second : y.0 ≤ hi = omega arith in
         let third : y.0 ≤ y.1 = omega arith in
         let fourth : lo ≤ hi = omega arith in
-        or-left _ _ (and-both _ _ (and-both _ _ (and-both _ _ (le-true lo hi fourth) (le-true y.0 y.1 third)) (le-true lo y.1 first)) (le-true y.0 hi second))
-    go false e next = or-right _ _ (next (rw e at t))
+        or_left _ _ (and_from _ _ (and_from _ _ (and_from _ _ (le-leb lo hi fourth) (le-leb y.0 y.1 third)) (le-leb lo y.1 first)) (le-leb y.0 hi second))
+    go false e next = or_right _ _ (next (rw e at t))
 
 meet-one : (lo hi c : ℕ) (ivs : Intervals) → lo ≤ c → c ≤ hi → in_intervals ivs c ≡ true → meet ((lo, hi) ∷ []) ivs ≡ true
-meet-one lo hi c ivs h k t = or-left _ _ (meets-any lo hi c ivs h k t)
+meet-one lo hi c ivs h k t = or_left _ _ (meets-any lo hi c ivs h k t)
 
 -- what is known of the first byte of a character
 pub record Lead (c b : ℕ) : Type 0 where
@@ -142,25 +95,25 @@ pub record Lead (c b : ℕ) : Type 0 where
   pub meets : (ivs : Intervals) → in_intervals ivs c ≡ true → meet (begun_by b) ivs ≡ true
 
 begun_by-2 : (b : ℕ) → 0xC2 ≤ b → b ≤ 0xDF → begun_by b ≡ ((b - 0xC0) * 0x40, (b - 0xC0) * 0x40 + 0x3F) ∷ []
-begun_by-2 b h k = rw (lt-false b 0x80 (omega arith), in_range-true 0xC2 0xDF b h k)
+begun_by-2 b h k = rw (le-ltb b 0x80 (omega arith), in_range-true 0xC2 0xDF b h k)
 
 begun_by-3 : (b : ℕ) → 0xE1 ≤ b → b ≤ 0xEF → begun_by b ≡ ((b - 0xE0) * 0x1000, (b - 0xE0) * 0x1000 + 0xFFF) ∷ []
 begun_by-3 b h k =
-    rw (lt-false b 0x80 (omega arith), in_range-above 0xC2 0xDF b (omega arith) (omega arith), eq-false b 0xE0 (omega arith), in_range-true 0xE1 0xEF b h k)
+    rw (le-ltb b 0x80 (omega arith), in_range-above 0xC2 0xDF b (omega arith) (omega arith), ne_eqb b 0xE0 (omega arith), in_range-true 0xE1 0xEF b h k)
 
 begun_by-4 : (b : ℕ) → 0xF1 ≤ b → b ≤ 0xF3 → begun_by b ≡ ((b - 0xF0) * 0x4_0000, (b - 0xF0) * 0x4_0000 + 0x3_FFFF) ∷ []
 begun_by-4 b h k =
     rw (
-      lt-false b 0x80 (omega arith),
+      le-ltb b 0x80 (omega arith),
       in_range-above 0xC2 0xDF b (omega arith) (omega arith),
-      eq-false b 0xE0 (omega arith),
+      ne_eqb b 0xE0 (omega arith),
       in_range-above 0xE1 0xEF b (omega arith) (omega arith),
-      eq-false b 0xF0 (omega arith),
+      ne_eqb b 0xF0 (omega arith),
       in_range-true 0xF1 0xF3 b h k,
     )
 
 begun_by-1 : (b : ℕ) → b < 0x80 → begun_by b ≡ (b, b) ∷ []
-begun_by-1 b h = rw (lt-true b 0x80 h)
+begun_by-1 b h = rw (lt-ltb b 0x80 h)
 
 -- the first byte, and what is known of it
 pub record FirstOf (c : ℕ) : Type 0 where
@@ -171,22 +124,22 @@ pub record FirstOf (c : ℕ) : Type 0 where
 
 pub encode-1 : (c : ℕ) → c < 128 → encode c ≡ c ∷ []
 unfolding encode
-encode-1 c h = rw (lt-true c 128 h)
+encode-1 c h = rw (lt-ltb c 128 h)
 
 rest-of : List ℕ → List ℕ
 rest-of bs = drop 1 bs
 
 encode-2 : (c : ℕ) → 128 ≤ c → c < 2048 → encode c ≡ (192 + c / 64) ∷ rest-of (encode c)
 unfolding encode rest-of
-encode-2 c h k = rw (lt-false c 128 h, lt-true c 2048 k)
+encode-2 c h k = rw (le-ltb c 128 h, lt-ltb c 2048 k)
 
 encode-3 : (c : ℕ) → 2048 ≤ c → c < 65536 → encode c ≡ (224 + c / 4096) ∷ rest-of (encode c)
 unfolding encode rest-of
-encode-3 c h k = rw (lt-false c 128 (omega arith), lt-false c 2048 h, lt-true c 65536 k)
+encode-3 c h k = rw (le-ltb c 128 (omega arith), le-ltb c 2048 h, lt-ltb c 65536 k)
 
 encode-4 : (c : ℕ) → 65536 ≤ c → encode c ≡ (240 + c / 262144) ∷ rest-of (encode c)
 unfolding encode rest-of
-encode-4 c h = rw (lt-false c 128 (omega arith), lt-false c 2048 (omega arith), lt-false c 65536 h)
+encode-4 c h = rw (le-ltb c 128 (omega arith), le-ltb c 2048 (omega arith), le-ltb c 65536 h)
 
 lead-1 : (c : ℕ) → c < 128 → Lead c c
 lead-1 c h = record {
@@ -245,16 +198,13 @@ scalar-below c h = go (is_in_range 0 0xD7FF c) refl
     go true e = let r = true-in_range 0 0xD7FF c e in omega arith
     go false e = let r = true-in_range 0xE000 0x10_FFFF c (rw e at h) in omega arith
 
-below-or : (x y : ℕ) → (x < y) ⊎ (y ≤ x)
-below-or x y = grind arith
-
 first_past-2 : (c : ℕ) → 2048 ≤ c → c < 0x11_0000 → (c < 65536) ⊎ (65536 ≤ c) → FirstOf c
-first_past-2 c h k (inl l) = go (below-or c 4096)
+first_past-2 c h k (inl l) = go (cases_lt c 4096)
   where
     go : (c < 4096) ⊎ (4096 ≤ c) → FirstOf c
     go (inl m) = record { byte = 224 + c / 4096; rest = rest-of (encode c); is = encode-3 c h l; lead = lead-3-low c h m }
     go (inr m) = record { byte = 224 + c / 4096; rest = rest-of (encode c); is = encode-3 c h l; lead = lead-3 c m l }
-first_past-2 c h k (inr l) = go (below-or c 0x4_0000) (below-or c 0x10_0000)
+first_past-2 c h k (inr l) = go (cases_lt c 0x4_0000) (cases_lt c 0x10_0000)
   where
     go : (c < 0x4_0000) ⊎ (0x4_0000 ≤ c) → (c < 0x10_0000) ⊎ (0x10_0000 ≤ c) → FirstOf c
     go (inl m) n = record { byte = 240 + c / 262144; rest = rest-of (encode c); is = encode-4 c l; lead = lead-4-low c l m }
@@ -262,9 +212,9 @@ first_past-2 c h k (inr l) = go (below-or c 0x4_0000) (below-or c 0x10_0000)
     go (inr m) (inr n) = record { byte = 240 + c / 262144; rest = rest-of (encode c); is = encode-4 c l; lead = lead-4-high c n k }
 
 pub first_of_char : (c : ℕ) → is_scalar c ≡ true → FirstOf c
-first_of_char c scalar = go (below-or c 128) (below-or c 2048)
+first_of_char c scalar = go (cases_lt c 128) (cases_lt c 2048)
   where
     go : (c < 128) ⊎ (128 ≤ c) → (c < 2048) ⊎ (2048 ≤ c) → FirstOf c
     go (inl l) m = record { byte = c; rest = []; is = encode-1 c l; lead = lead-1 c l }
     go (inr l) (inl m) = record { byte = 192 + c / 64; rest = rest-of (encode c); is = encode-2 c l m; lead = lead-2 c l m }
-    go (inr l) (inr m) = first_past-2 c m (scalar-below c scalar) (below-or c 65536)
+    go (inr l) (inr m) = first_past-2 c m (scalar-below c scalar) (cases_lt c 65536)

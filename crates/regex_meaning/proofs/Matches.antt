@@ -1,5 +1,5 @@
 -- The list of matches as one equation.
-use Rattle.std.proofs.Common.{◌≡◌, ℕ, zero, suc, ◌+◌, ◌-◌, ◌<◌, ◌≤◌, Bool, true, false, List, [], ◌∷◌, Option, Some, None, refl, ap, ◌∙◌, arith, add-one, ltb→lt, nltb→le}
+use Rattle.std.proofs.Common.{◌≡◌, ℕ, zero, suc, ◌+◌, ◌-◌, ◌<◌, ◌≤◌, Bool, true, false, List, [], ◌∷◌, Option, Some, None, refl, ap, ◌∙◌, arith, add-one}
 use Rattle.std.specs.Prelude.{if◌then◌else◌, nat_lt, option_and_then}
 use Rattle.std.specs.Option.{option_or}
 use Rattle.regex_meaning.specs.Laws.{Each, IsOnward, list_from, match_then_list}
@@ -8,17 +8,12 @@ use Rattle.regex_meaning.specs.Text.{Text, rightwards, last_place}
 use Rattle.regex_meaning.specs.Outcomes.{Outcome}
 use Rattle.regex_meaning.specs.Find.{Found, no_groups, first_of, match_at, first_match, first_match_among, place_behind, matches_from, match_list}
 use Rattle.regex_meaning.proofs.Onward.{outcomes-onward}
+use Rattle.std.proofs.lemmas.Bool.{ltb-true}
 
 -- the answer of a test is known in each branch
 pub if-cases : {A : Type 0} (P : A → Type 0) (b : Bool) (x y : A) → (b ≡ true → P x) → (b ≡ false → P y) → P (if b then x else y)
 if-cases P true x y h k = h refl
 if-cases P false x y h k = k refl
-
-pub below : (x y : ℕ) → nat_lt x y ≡ true → x < y
-below x y h = ltb→lt x y (rw h tt)
-
-pub not_below : (x y : ℕ) → nat_lt x y ≡ false → y ≤ x
-not_below x y h = nltb→le x y (rw h tt)
 
 module _ (root : Node) (text : Text) where
   -- the match, if any, stands at or behind the place, and ends in the text
@@ -68,7 +63,7 @@ module _ (root : Node) (text : Text) where
   goes-behind : (place : ℕ) (m : Found) → StandsFrom place (Some m) → GoesOn place (place_behind root text m)
   goes-behind place m h =
       if-cases (GoesOn place) (nat_lt m.start m.end) (Some m.end) (if nat_lt m.end (last_place text) then Some (m.end + 1) else None)
-      (λ e. let less = below m.start m.end e in omega arith)
+      (λ e. let less = ltb-true m.start m.end e in omega arith)
       (λ e. if-cases (GoesOn place) (nat_lt m.end (last_place text)) (Some (m.end + 1)) None (λ f. omega arith) (λ f. tt))
 
   -- the list goes on behind the place and within the text, if anywhere
@@ -79,9 +74,9 @@ module _ (root : Node) (text : Text) where
   pub goes-inside : (place : ℕ) (m : Found) → StandsFrom place (Some m) → GoesOnInside place (place_behind root text m)
   goes-inside place m h =
       if-cases (GoesOnInside place) (nat_lt m.start m.end) (Some m.end) (if nat_lt m.end (last_place text) then Some (m.end + 1) else None)
-      (λ e. let less = below m.start m.end e in (omega arith, omega arith))
+      (λ e. let less = ltb-true m.start m.end e in (omega arith, omega arith))
       (λ e. if-cases (GoesOnInside place) (nat_lt m.end (last_place text)) (Some (m.end + 1)) None
-      (λ f. let less = below m.end (last_place text) f in (omega arith, omega arith)) (λ f. tt))
+      (λ f. let less = ltb-true m.end (last_place text) f in (omega arith, omega arith)) (λ f. tt))
 
   none-left : (count : ℕ) → matches_from root text count None ≡ []
   unfolding matches_from

@@ -87,10 +87,10 @@ module _ (text : Text) where
       (λ o g. Each-map _ _ (λ p i. IsOnward-trans d place o.end p.end g i) (next o) (k o)) os h
 
   -- the iterations of the loop go on
-  abbrev pub BodyOnward : Direction → Repetition → Type 0
+  abbrev pub BodyOnward : Direction → Repetition Outcome → Type 0
   BodyOnward d r = (place : ℕ) (groups : Groups) → AllOnward d place (r.body place groups)
 
-  pub rounds-onward : (d : Direction) (r : Repetition) → BodyOnward d r → (turns k place : ℕ) (groups : Groups)
+  pub rounds-onward : (d : Direction) (r : Repetition Outcome) → BodyOnward d r → (turns k place : ℕ) (groups : Groups)
       → AllOnward d place (rounds r turns k place groups)
   unfolding rounds
   rounds-onward d r b zero k place groups = tt

@@ -1,6 +1,6 @@
 -- Matches and answers in a row.
-use Rattle.std.proofs.Common.{◌≡◌, ℕ, zero, suc, ◌+◌, ◌-◌, ◌<◌, ◌≤◌, List, [], ◌∷◌, ◌++◌, length, map, replicate, min, max, Option, Some, None, refl, sym, ap, ◌∙◌, arith, le_refl, option_map, option_and_then, IfSome, lt-ltb}
-use Rattle.std.specs.Prelude.{if◌then◌else◌, nat_lt, slice_set}
+use Rattle.std.proofs.Common.{◌≡◌, ℕ, zero, suc, ◌+◌, ◌-◌, ◌<◌, ◌≤◌, List, [], ◌∷◌, ◌++◌, length, map, min, max, Option, Some, None, refl, sym, ap, ◌∙◌, arith, le_refl, option_map, option_and_then, IfSome, lt-ltb}
+use Rattle.std.specs.Prelude.{if◌then◌else◌, nat_lt}
 use Rattle.std.specs.Option.{option_or}
 use Rattle.std.proofs.lemmas.List.{length-set, length-replicate, length-map, length-append}
 use Rattle.regex_meaning.specs.Tree.{Node, group_ids}
@@ -11,22 +11,14 @@ use Rattle.regex_meaning.specs.Find.{Found, no_groups, first_of, match_at, first
 use Rattle.regex_meaning.specs.Names.{Answer, answer, answers_from}
 use Rattle.regex_meaning.specs.Answers.{first_answer, next_start, answers_on, answer_then_list}
 use Rattle.regex_meaning.specs.Laws.{IsOnward, StandsIn, IsRange, IsAnswerOf, StandInOrder}
-use Rattle.regex_meaning.proofs.Each.{Each, Each-map, Each-image}
-use Rattle.regex_meaning.proofs.Matches.{StandsFrom, stands-first, if-cases, below}
+use Rattle.regex_meaning.proofs.Each.{Each, Each-map, Each-image, Each-set, Each-replicate}
+use Rattle.regex_meaning.proofs.Matches.{StandsFrom, stands-first, if-cases}
 use Rattle.regex_meaning.proofs.States.{AreKept, outcomes-states}
 use Rattle.regex_meaning.proofs.TextLemmas.{offset-less, offset-le, place-less, offset-place_at, offset-IsBoundary}
 use Rattle.regex_meaning.proofs.AnswerLemmas.{answers-go_on}
+use Rattle.std.proofs.lemmas.Bool.{ltb-true}
 
 -- ---- What outcomes keep
-
-Each-set : {A : Type 0} (P : A → Type 0) (xs : List A) (i : ℕ) (x : A) → P x → Each P xs → Each P (slice_set xs i x)
-Each-set P [] i x p h = tt
-Each-set P (y ∷ ys) zero x p h = (p, h.1)
-Each-set P (y ∷ ys) (suc i) x p h = (h.0, Each-set P ys i x p h.1)
-
-Each-replicate : {A : Type 0} (P : A → Type 0) (n : ℕ) (x : A) → P x → Each P (replicate n x)
-Each-replicate P zero x p = tt
-Each-replicate P (suc n) x p = (p, Each-replicate P n x p)
 
 module _ (text : Text) where
   count-kept : (n : ℕ) → AreKept text (λ place. Unit {0}) (λ groups. length groups ≡ n)
@@ -49,8 +41,8 @@ module _ (text : Text) where
   inside-kept : AreKept text (λ place. place ≤ last_place text) (λ groups. Each (StandsIn text) groups)
   inside-kept = record {
     onward = inside-onward;
-    cleared = λ id groups h. Each-set (StandsIn text) groups id None tt h;
-    set = λ id a b groups p q h. Each-set (StandsIn text) groups id (Some (min a b, max a b)) (omega arith, omega arith) h;
+    cleared = λ id groups h. Each-set (StandsIn text) groups id None h tt;
+    set = λ id a b groups p q h. Each-set (StandsIn text) groups id (Some (min a b, max a b)) h (omega arith, omega arith);
   }
 
   pub outcomes-inside : (node : Node) (d : Direction) (place : ℕ) (groups : Groups) → place ≤ last_place text → Each (StandsIn text) groups
@@ -116,7 +108,7 @@ module _ (root : Node) (text : Text) where
   goes-behind : (m : Found) → m.start ≤ m.end → GoesBehind m (place_behind root text m)
   goes-behind m h =
       if-cases (GoesBehind m) (nat_lt m.start m.end) (Some m.end) (if nat_lt m.end (last_place text) then Some (m.end + 1) else None)
-      (λ e. let less = below m.start m.end e in (less, le_refl m.end))
+      (λ e. let less = ltb-true m.start m.end e in (less, le_refl m.end))
       (λ e. if-cases (GoesBehind m) (nat_lt m.end (last_place text)) (Some (m.end + 1)) None (λ f. (omega arith, omega arith)) (λ f. tt))
 
   order-behind : (count : ℕ) (m : Found)

@@ -1,22 +1,17 @@
 -- What comes after k iterations of a loop, as one equation.
-use Rattle.std.proofs.Common.{◌≡◌, ◌≢◌, ◌⊎◌, ℕ, zero, suc, ◌+◌, ◌-◌, ◌<◌, ◌≤◌, Bool, true, false, not, ◌&&◌, List, [], ◌∷◌, refl, ap, arith, add-one, eq-eqb, nltb→le, filter, flat_map}
+use Rattle.std.proofs.Common.{◌≡◌, ◌≢◌, ◌⊎◌, ℕ, zero, suc, ◌+◌, ◌-◌, ◌<◌, ◌≤◌, Bool, true, false, not, ◌&&◌, List, [], ◌∷◌, refl, ap, arith, add-one, filter, flat_map}
 use Rattle.std.specs.Prelude.{if◌then◌else◌, nat_le, nat_lt, ◌==◌}
 use mathlib.Core.Logic.{inl, inr}
 use Rattle.regex_meaning.specs.Text.{Text, Direction, rightwards, leftwards, characters_left}
 use Rattle.regex_meaning.specs.Outcomes.{Groups, Outcome, Repetition, rounds, repeat, counts, preferred}
 use Rattle.regex_meaning.proofs.Each.{Each, Each-map, flat_map-filter_same}
 use Rattle.regex_meaning.proofs.Onward.{IsOnward, BodyOnward}
+use Rattle.std.proofs.lemmas.Bool.{ltb-false, eqb-false}
 
 not_both : (a b : Bool) → not (a && b) ≡ true → (a ≡ false) ⊎ (b ≡ false)
 not_both true true h = grind arith
 not_both true false h = inr refl
 not_both false b h = inl refl
-
-differs : (x y : ℕ) → (x == y) ≡ false → x ≢ y
-differs x y h e = cc (eq-eqb x y e, h)
-
-not_below : (x y : ℕ) → nat_lt x y ≡ false → y ≤ x
-not_below x y h = nltb→le x y (rw h tt)
 
 module _ (text : Text) (d : Direction) where
   left-onward : (a b : ℕ) → IsOnward text d a b → characters_left text d b ≤ characters_left text d a
@@ -33,7 +28,7 @@ module _ (text : Text) (d : Direction) where
       go rightwards h = omega arith
       go leftwards h = omega arith
 
-  module _ (r : Repetition) (body_on : BodyOnward text d r) where
+  module _ (r : Repetition Outcome) (body_on : BodyOnward text d r) where
     -- the iterations that may still count
     abbrev missing : (k place : ℕ) → ℕ
     missing k place = r.least - k + characters_left text d place
@@ -43,10 +38,10 @@ module _ (text : Text) (d : Direction) where
     fewer k place o on h = go (not_both _ _ h)
       where
         go : ((o.end == place) ≡ false) ⊎ (nat_lt r.least (k + 1) ≡ false) → missing (k + 1) o.end < missing k place
-        go (inl e) = let less = left-moved place o.end on (differs o.end place e) in omega arith
+        go (inl e) = let less = left-moved place o.end on (eqb-false o.end place e) in omega arith
         go (inr e) =
             let less = left-onward place o.end on in
-            let below = not_below r.least (k + 1) e in omega arith
+            let below = ltb-false r.least (k + 1) e in omega arith
 
     -- one turn is the same where the turns behind it are
     same_turn : (n m k place : ℕ) (groups : Groups)

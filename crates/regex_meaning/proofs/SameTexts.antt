@@ -1,5 +1,5 @@
 -- Texts of the same characters have the same outcomes, where their folds agree on these.
-use Rattle.std.proofs.Common.{◌≡◌, ℕ, zero, suc, ◌+◌, ◌-◌, Bool, ◌&&◌, ◌||◌, List, [], ◌∷◌, length, map, take, drop, Option, Some, None, refl, ap, ◌∙◌, flat_map, option_and_then}
+use Rattle.std.proofs.Common.{◌≡◌, ℕ, zero, suc, ◌+◌, ◌-◌, Bool, ◌&&◌, ◌||◌, List, [], ◌∷◌, length, map, drop, Option, Some, None, refl, ap, ◌∙◌, flat_map, option_and_then}
 use Rattle.std.specs.Prelude.{◌==◌, slice_range}
 use mathlib.Core.Path.{fun_ext}
 use lib.Pointwise.{pointwise}
@@ -7,21 +7,8 @@ use Rattle.regex_meaning.specs.Tree.{Quantifier, Node, empty, goal, char, char_s
 use Rattle.regex_meaning.specs.Text.{Text, Direction, rightwards, leftwards}
 use Rattle.regex_meaning.specs.Outcomes.{Groups, Outcome, Repetition, repetition, repeat, outcomes, captured, cleared, one_character, spelled, same_as_group, group_range, looked, direction_of}
 use Rattle.regex_meaning.specs.Find.{Found, no_groups, first_match, first_match_among, place_behind, matches_from, match_list}
-use Rattle.regex_meaning.proofs.Each.{Each}
-
-flat_map-same : {A B : Type 0} (f g : A → List B) → ((x : A) → f x ≡ g x) → (xs : List A) → flat_map f xs ≡ flat_map g xs
-flat_map-same f g h [] = refl
-flat_map-same f g h (x ∷ xs) = rw (h x, flat_map-same f g h xs) refl
-
-Each-take : {A : Type 0} (P : A → Type 0) (n : ℕ) (xs : List A) → Each P xs → Each P (take n xs)
-Each-take P zero xs h = tt
-Each-take P (suc n) [] h = tt
-Each-take P (suc n) (x ∷ xs) h = (h.0, Each-take P n xs h.1)
-
-Each-drop : {A : Type 0} (P : A → Type 0) (n : ℕ) (xs : List A) → Each P xs → Each P (drop n xs)
-Each-drop P zero xs h = h
-Each-drop P (suc n) [] h = tt
-Each-drop P (suc n) (x ∷ xs) h = Each-drop P n xs h.1
+use Rattle.regex_meaning.proofs.Each.{Each, Each-take, Each-drop}
+use Rattle.regex_meaning.proofs.Lists.{flat_map-same}
 
 pointwise-same : (P : ℕ → Type 0) (e f : ℕ → ℕ → Bool) → ((c d : ℕ) → P c → P d → e c d ≡ f c d)
     → (cs ds : List ℕ) → Each P cs → Each P ds → pointwise e cs ds ≡ pointwise f cs ds
@@ -68,7 +55,7 @@ module _ (characters : List ℕ) (unicode : Bool) (s_offsets t_offsets : List �
       (λ c d p q. ap (λ (b : Bool). c == d || (icase && b)) (alike c d p q))
       (slice_range characters range.0 range.1) (Each-range range.0 range.1) d place groups
 
-  repeat-same : (r : Repetition) (d : Direction) (k place : ℕ) (groups : Groups) → repeat s r d k place groups ≡ repeat t r d k place groups
+  repeat-same : (r : Repetition Outcome) (d : Direction) (k place : ℕ) (groups : Groups) → repeat s r d k place groups ≡ repeat t r d k place groups
   repeat-same r rightwards k place groups = refl
   repeat-same r leftwards k place groups = refl
 

@@ -12,15 +12,17 @@ use Rattle.regex_meaning.specs.Tree.{Quantifier, Node, empty, goal, char, char_s
 use Rattle.regex_meaning.specs.Text.{Text, rightwards, is_scalar, character_before, last_place}
 use Rattle.regex_meaning.specs.Outcomes.{Outcome, Groups, Repetition, repetition, rounds, counts, preferred, captured, cleared, accepts, one_character, spelled, looked, is_edge, outcomes}
 use Rattle.regex_meaning.specs.WellFormed.{has_text_in_sequence, fits_instructions, IsWellFormed}
+use Rattle.regex_meaning.proofs.WellFormedLemmas.{clauses}
 use Rattle.regex_meaning.specs.StartPredicate.{Beginning, open_ended, arbitrary, sequence, one_of, sequence_of, then_of, join, beginning, bytes_from, bytes_where, first_bytes, code_points, is_anchored, start_of, start_anchored, start_predicate, may_start}
 use Rattle.regex_meaning.specs.Find.{no_groups}
-use Rattle.regex_meaning.proofs.Each.{Each-append, Each-if, Each-when, Each-filter, Each-map, Each-flat_map, Each-image}
-use Rattle.regex_meaning.proofs.FirstBytes.{and-left, and-right, true-lt, true-eq, eq-true, le-false, encode-1, FirstOf, contains-bytes_where}
+use Rattle.regex_meaning.proofs.Each.{Each-append, Each-if, Each-when, Each-filter, Each-map, Each-flat_map, Each-image, Each-all}
+use Rattle.regex_meaning.proofs.FirstBytes.{encode-1, FirstOf, contains-bytes_where}
 use Rattle.regex_meaning.proofs.Start.{Says, OfChars, starts-first, from-byte, join-left, join-right, next-says, spelled-bytes, first-byte-in, in-singles, in-bracket}
+use Rattle.std.proofs.lemmas.Bool.{ltb-true, lt-leb, eq-eqb, eqb-true}
+use Rattle.regex_meaning.proofs.Booleans.{and-left, and-right}
 
 Each-any : {A : Type 0} (X : Type 0) → X → (xs : List A) → Each (λ (x : A). X) xs
-Each-any X x [] = tt
-Each-any X x (y ∷ ys) = (x, Each-any X x ys)
+Each-any X x xs = Each-all (λ y. X) (λ y. x) xs
 
 preferred-each : (P : Outcome → Type 0) (greedy : Bool) (again leave : List Outcome) → Each P again → Each P leave → Each P (preferred greedy again leave)
 preferred-each P true again leave h k = Each-append P again leave h k
@@ -37,7 +39,7 @@ all-contains test [] c h t = grind arith
 all-contains test (m ∷ ms) c h t = go (nat_eq c m) refl (all-contains test ms c (and-right (test m) _ h))
   where
     go : (b : Bool) → nat_eq c m ≡ b → (contains ms c ≡ true → test c ≡ true) → test c ≡ true
-    go true e next = rw (true-eq c m e) (and-left (test m) _ h)
+    go true e next = rw (eqb-true c m e) (and-left (test m) _ h)
     go false e next = next (rw e at t)
 
 looked-stay : (negate : Bool) (os : List Outcome) (p : ℕ) (g : Groups) → Each (λ o. o.end ≡ p) (looked negate os p g)
@@ -47,7 +49,7 @@ looked-stay true [] p g = (refl, tt)
 looked-stay true (o ∷ os) p g = tt
 
 -- a loop whose iterations stay where they are stays there
-rounds-stay : (r : Repetition) → ((p : ℕ) (g : Groups) → Each (λ o. o.end ≡ p) (r.body p g)) → (turns k p : ℕ) (g : Groups)
+rounds-stay : (r : Repetition Outcome) → ((p : ℕ) (g : Groups) → Each (λ o. o.end ≡ p) (r.body p g)) → (turns k p : ℕ) (g : Groups)
     → Each (λ o. o.end ≡ p) (rounds r turns k p g)
 unfolding rounds
 rounds-stay r h zero k p g = tt
@@ -75,7 +77,7 @@ module _ (text : Text) (of_chars : OfChars text) where
   carried (sequence bs) p o later h k = Each-any _ h later
   carried (one_of members) p o later h k = Each-any _ h later
 
-  rounds-begin : (b : Beginning) (r : Repetition) → 0 < r.least → ((p : ℕ) (g : Groups) → Begins b p (r.body p g))
+  rounds-begin : (b : Beginning) (r : Repetition Outcome) → 0 < r.least → ((p : ℕ) (g : Groups) → Begins b p (r.body p g))
       → (turns p : ℕ) (g : Groups) → Begins b p (rounds r turns 0 p g)
   unfolding rounds
   rounds-begin b r l h zero p g = tt
@@ -89,20 +91,20 @@ module _ (text : Text) (of_chars : OfChars text) where
       (Each-flat_map Begun Begun later
       (λ o s. carried b p o (later o) s (λ e. rounds-stay r (λ q f. subst (λ (a : Beginning). Begins a q (r.body q f)) e (h q f)) turns 1 o.end o.groups)) bodies
       (Each-filter Begun (counts r 0 p) (r.body p g) (h p g))) tt)
-      (rw (le-false r.least 0 l) tt)
+      (rw (lt-leb r.least 0 l) tt)
 
   loop-begins : (b : Beginning) (q : Quantifier) (body : ℕ → Groups → List Outcome) → ((p : ℕ) (g : Groups) → Begins b p (body p g))
       → (turns p : ℕ) (g : Groups) → Begins (if nat_lt 0 q.min then b else arbitrary) p (rounds (repetition q body) turns 0 p g)
   loop-begins b q body h turns p g = go (nat_lt 0 q.min) refl
     where
       go : (c : Bool) → nat_lt 0 q.min ≡ c → Begins (if c then b else arbitrary) p (rounds (repetition q body) turns 0 p g)
-      go true e = rounds-begin b (repetition q body) (true-lt 0 q.min e) h turns p g
+      go true e = rounds-begin b (repetition q body) (ltb-true 0 q.min e) h turns p g
       go false e = Each-any (Unit {0}) tt (rounds (repetition q body) turns 0 p g)
 
   byte_set-begins : (members : List ℕ) → list_all (λ b. nat_lt b 128) members ≡ true → (c : ℕ) (f : FirstOf c)
       → contains members c ≡ true → contains (bytes_where (contains members)) f.byte ≡ true
   byte_set-begins members h c f t =
-      let low = true-lt c 128 (all-contains (λ b. nat_lt b 128) members c h t) in
+      let low = ltb-true c 128 (all-contains (λ b. nat_lt b 128) members c h t) in
       let same : c ≡ f.byte = ap first_or_zero (sym (encode-1 c low) ∙ f.is) in
       contains-bytes_where (contains members) f.byte f.lead.is_byte (subst (λ (b : ℕ). contains members b ≡ true) same t)
 
@@ -229,7 +231,7 @@ predicate-holds tree w text p c l ne = go (not tree.flags.multiline && is_anchor
     go : (b : Bool) → (not tree.flags.multiline && is_anchored tree.root) ≡ b
         → IsTrue (may_start (if b then start_anchored else start_of (beginning tree.root)) text p)
     go true e =
-        some-of (λ o. p ≡ 0) ((p == 0) ≡ true) _ ne (anchored text tree.root (and-right _ _ e) p (no_groups tree.root) l) (λ o z. eq-true p 0 z)
+        some-of (λ o. p ≡ 0) ((p == 0) ≡ true) _ ne (anchored text tree.root (and-right _ _ e) p (no_groups tree.root) l) (λ o z. eq-eqb p 0 z)
     go false e =
         some-of (λ o. Says (beginning tree.root) (bytes_from text p) p o.end) (IsTrue (may_start (start_of (beginning tree.root)) text p)) _ ne
-        (begins text c tree.root w.sequences w.sets p (no_groups tree.root)) (λ o s. start-holds (beginning tree.root) text p o.end s)
+        (begins text c tree.root (clauses tree.root w).sequences (clauses tree.root w).sets p (no_groups tree.root)) (λ o s. start-holds (beginning tree.root) text p o.end s)

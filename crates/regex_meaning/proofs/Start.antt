@@ -1,5 +1,5 @@
 -- Wherever a tree has an outcome, its start predicate holds.
-use Rattle.std.proofs.Common.{◌≡◌, ℕ, zero, suc, ◌+◌, ◌-◌, ◌<◌, ◌≤◌, Bool, true, false, not, ◌||◌, List, [], ◌∷◌, ◌++◌, map, length, take, drop, flat_map, refl, sym, arith}
+use Rattle.std.proofs.Common.{◌≡◌, ℕ, zero, suc, ◌+◌, ◌-◌, ◌<◌, ◌≤◌, Bool, true, false, ◌||◌, List, [], ◌∷◌, ◌++◌, map, length, take, drop, flat_map, refl, sym, arith}
 use Rattle.std.specs.Prelude.{if◌then◌else◌, nat_lt, nat_eq, ◌==◌, encode_utf8_all, slice_get}
 use Rattle.std.specs.List.{list_any, list_all, starts_with}
 use Rattle.std.specs.Char.{encode_utf8 as encode}
@@ -12,19 +12,9 @@ use Rattle.regex_meaning.specs.Text.{Text, is_scalar}
 use Rattle.regex_meaning.specs.Outcomes.{is_some_and, in_intervals, accepts}
 use Rattle.regex_meaning.specs.StartPredicate.{Beginning, open_ended, arbitrary, sequence, one_of, join, sequence_or, shared_front, union, first_byte, begins_with_one_of, bytes_from, outside, without, code_points, first_bytes, begun_by, meet}
 use Rattle.regex_meaning.specs.Lists.{contains}
-use Rattle.regex_meaning.proofs.FirstBytes.{in_range-true, true-in_range, lt-true, scalar-below, and-left, and-right, and-both, or-left, or-right, true-eq, eq-true, contains-bytes_where, first_of_char, FirstOf}
-
-or-false-left : (a b : Bool) → (a || b) ≡ false → a ≡ false
-or-false-left true b h = h
-or-false-left false b h = refl
-
-or-false-right : (a b : Bool) → (a || b) ≡ false → b ≡ false
-or-false-right true b h = grind arith
-or-false-right false b h = h
-
-not-true-false : (b : Bool) → not b ≡ true → b ≡ false
-not-true-false true h = grind arith
-not-true-false false h = refl
+use Rattle.regex_meaning.proofs.FirstBytes.{in_range-true, true-in_range, scalar-below, contains-bytes_where, first_of_char, FirstOf}
+use Rattle.std.proofs.lemmas.Bool.{cases_lt, not-true, and_from, or_left, or_right, lt-ltb, eq-eqb, eqb-true}
+use Rattle.regex_meaning.proofs.Booleans.{or-false-left, or-false-right, and-left, and-right}
 
 -- what a beginning says of the bytes from a place and of the end of an outcome there
 abbrev pub Says : Beginning → List ℕ → (place end : ℕ) → Type 0
@@ -49,7 +39,7 @@ starts-shared-left bytes [] ys h = h
 starts-shared-left bytes (x ∷ xs) [] h = refl
 starts-shared-left [] (x ∷ xs) (y ∷ ys) h = grind arith
 starts-shared-left (b ∷ bytes) (x ∷ xs) (y ∷ ys) h = go (x == y)
-    (and-both _ _ (and-left (nat_eq x b) _ h) (starts-shared-left bytes xs ys (and-right (nat_eq x b) _ h)))
+    (and_from _ _ (and-left (nat_eq x b) _ h) (starts-shared-left bytes xs ys (and-right (nat_eq x b) _ h)))
   where
     go : (e : Bool) → starts_with nat_eq (b ∷ bytes) (x ∷ shared_front xs ys) ≡ true → starts_with nat_eq (b ∷ bytes) (if e then x ∷ shared_front xs ys else []) ≡ true
     go true k = k
@@ -62,22 +52,22 @@ starts-shared-right [] (x ∷ xs) (y ∷ ys) h = grind arith
 starts-shared-right (b ∷ bytes) (x ∷ xs) (y ∷ ys) h = go (x == y) refl (starts-shared-right bytes xs ys (and-right (nat_eq y b) _ h))
   where
     go : (e : Bool) → (x == y) ≡ e → starts_with nat_eq bytes (shared_front xs ys) ≡ true → starts_with nat_eq (b ∷ bytes) (if e then x ∷ shared_front xs ys else []) ≡ true
-    go true e k = and-both _ _ (rw (true-eq x y e) (and-left (nat_eq y b) _ h)) k
+    go true e k = and_from _ _ (rw (eqb-true x y e) (and-left (nat_eq y b) _ h)) k
     go false e k = refl
 
 -- a sequence's first byte stands first
 pub starts-first : (bytes xs : List ℕ) → 0 < length xs → starts_with nat_eq bytes xs ≡ true → begins_with_one_of (first_byte xs) bytes ≡ true
 starts-first bytes [] l h = absurd (omega arith)
 starts-first [] (x ∷ xs) l h = grind arith
-starts-first (b ∷ bytes) (x ∷ xs) l h = or-left _ _ (eq-true b x (sym (true-eq x b (and-left (nat_eq x b) _ h))))
+starts-first (b ∷ bytes) (x ∷ xs) l h = or_left _ _ (eq-eqb b x (sym (eqb-true x b (and-left (nat_eq x b) _ h))))
 
 begins-union-left : (bytes xs ys : List ℕ) → BeginsInByte bytes → begins_with_one_of xs bytes ≡ true → begins_with_one_of (union xs ys) bytes ≡ true
 begins-union-left [] xs ys i h = h
-begins-union-left (b ∷ bytes) xs ys i h = contains-bytes_where (λ c. contains xs c || contains ys c) b i (or-left _ (contains ys b) h)
+begins-union-left (b ∷ bytes) xs ys i h = contains-bytes_where (λ c. contains xs c || contains ys c) b i (or_left _ (contains ys b) h)
 
 begins-union-right : (bytes xs ys : List ℕ) → BeginsInByte bytes → begins_with_one_of ys bytes ≡ true → begins_with_one_of (union xs ys) bytes ≡ true
 begins-union-right [] xs ys i h = h
-begins-union-right (b ∷ bytes) xs ys i h = contains-bytes_where (λ c. contains xs c || contains ys c) b i (or-right (contains xs b) _ h)
+begins-union-right (b ∷ bytes) xs ys i h = contains-bytes_where (λ c. contains xs c || contains ys c) b i (or_right (contains xs b) _ h)
 
 says-sequence_or : (front firsts bytes : List ℕ) (p e : ℕ) → starts_with nat_eq bytes front ≡ true → begins_with_one_of firsts bytes ≡ true
     → Says (sequence_or front firsts) bytes p e
@@ -135,14 +125,14 @@ next-says test members h (c ∷ cs) (suc place) s t = next-says test members h c
 cancel-front : (xs ys zs : List ℕ) → pointwise nat_eq ys (take (length ys) zs) ≡ true
     → pointwise nat_eq (xs ++ ys) (take (length (xs ++ ys)) (xs ++ zs)) ≡ true
 cancel-front [] ys zs h = h
-cancel-front (x ∷ xs) ys zs h = and-both _ _ (eq-true x x refl) (cancel-front xs ys zs h)
+cancel-front (x ∷ xs) ys zs h = and_from _ _ (eq-eqb x x refl) (cancel-front xs ys zs h)
 
 pub spelled-bytes : (cs ds : List ℕ) → pointwise nat_eq cs (take (length cs) ds) ≡ true
     → starts_with nat_eq (encode_utf8_all ds) (encode_utf8_all cs) ≡ true
 spelled-bytes [] ds h = refl
 spelled-bytes (c ∷ cs) [] h = grind arith
 spelled-bytes (c ∷ cs) (d ∷ ds) h =
-    rw (true-eq c d (and-left (nat_eq c d) _ h))
+    rw (eqb-true c d (and-left (nat_eq c d) _ h))
     (cancel-front (encode d) (encode_utf8_all cs) (encode_utf8_all ds) (spelled-bytes cs ds (and-right (nat_eq c d) _ h)))
 
 -- ---- Sets of characters
@@ -157,10 +147,7 @@ any-append-left test (x ∷ xs) ys h = go (test x) h (any-append-left test xs ys
 
 any-append-right : (test : (ℕ × ℕ) → Bool) (xs ys : Intervals) → list_any test ys ≡ true → list_any test (xs ++ ys) ≡ true
 any-append-right test [] ys h = h
-any-append-right test (x ∷ xs) ys h = or-right (test x) _ (any-append-right test xs ys h)
-
-below-or : (x y : ℕ) → (x < y) ⊎ (y ≤ x)
-below-or x y = grind arith
+any-append-right test (x ∷ xs) ys h = or_right (test x) _ (any-append-right test xs ys h)
 
 in-outside : (other this : ℕ × ℕ) (c : ℕ) → is_in_range this.0 this.1 c ≡ true → is_in_range other.0 other.1 c ≡ false → in_intervals (outside other this) c ≡ true
 in-outside other this c h k = go (nat_lt other.1 other.0) refl
@@ -177,15 +164,15 @@ in-outside other this c h k = go (nat_lt other.1 other.0) refl
     within : (c < other.0) ⊎ (other.0 ≤ c) → (other.1 < c) ⊎ (c ≤ other.1) → in_intervals (before ++ behind) c ≡ true
     within (inl l) m =
         any-append-left (λ i. is_in_range i.0 i.1 c) before behind
-        (rw (lt-true this.0 other.0 (omega (arith, r.0))) (or-left _ _ (in_range-true this.0 (min this.1 (other.0 - 1)) c r.0 (omega (arith, r.1)))))
+        (rw (lt-ltb this.0 other.0 (omega (arith, r.0))) (or_left _ _ (in_range-true this.0 (min this.1 (other.0 - 1)) c r.0 (omega (arith, r.1)))))
     within (inr l) (inl m) =
         any-append-right (λ i. is_in_range i.0 i.1 c) before behind
-        (rw (lt-true other.1 this.1 (omega (arith, r.1))) (or-left _ _ (in_range-true (max this.0 (other.1 + 1)) this.1 c (omega (arith, r.0)) r.1)))
+        (rw (lt-ltb other.1 this.1 (omega (arith, r.1))) (or_left _ _ (in_range-true (max this.0 (other.1 + 1)) this.1 c (omega (arith, r.0)) r.1)))
     within (inr l) (inr m) = let e = in_range-true other.0 other.1 c l m in cc (e, k)
 
     go : (b : Bool) → nat_lt other.1 other.0 ≡ b → in_intervals (if b then this ∷ [] else before ++ behind) c ≡ true
-    go true e = or-left _ _ h
-    go false e = within (below-or c other.0) (below-or other.1 c)
+    go true e = or_left _ _ h
+    go false e = within (cases_lt c other.0) (cases_lt other.1 c)
 
 in-each-outside : (other : ℕ × ℕ) (these : Intervals) (c : ℕ) → in_intervals these c ≡ true → is_in_range other.0 other.1 c ≡ false
     → in_intervals (flat_map (outside other) these) c ≡ true
@@ -213,14 +200,14 @@ in-singles (d ∷ members) c h = go (c == d) refl (in-singles members c)
   where
     go : (b : Bool) → (c == d) ≡ b → (contains members c ≡ true → in_intervals (map (λ e. (e, e)) members) c ≡ true)
         → (is_in_range d d c || in_intervals (map (λ e. (e, e)) members) c) ≡ true
-    go true e next = let same = true-eq c d e in or-left _ _ (in_range-true d d c (omega arith) (omega arith))
-    go false e next = or-right (is_in_range d d c) _ (next (rw e at h))
+    go true e next = let same = eqb-true c d e in or_left _ _ (in_range-true d d c (omega arith) (omega arith))
+    go false e next = or_right (is_in_range d d c) _ (next (rw e at h))
 
 pub in-bracket : (contents : BracketContents) (c : ℕ) → is_scalar c ≡ true → accepts (bracket contents) c ≡ true → in_intervals (code_points contents) c ≡ true
 in-bracket contents c s h = go contents.invert refl
   where
     go : (b : Bool) → contents.invert ≡ b → in_intervals (if b then without ((0, 0x10_FFFF) ∷ []) contents.intervals else contents.intervals) c ≡ true
     go true e =
-        in-without ((0, 0x10_FFFF) ∷ []) contents.intervals c (or-left _ _ (in_range-true 0 0x10_FFFF c (omega arith) (let l = scalar-below c s in omega arith)))
-        (not-true-false (in_intervals contents.intervals c) (rw e at h))
+        in-without ((0, 0x10_FFFF) ∷ []) contents.intervals c (or_left _ _ (in_range-true 0 0x10_FFFF c (omega arith) (let l = scalar-below c s in omega arith)))
+        (not-true (in_intervals contents.intervals c) (rw e at h))
     go false e = rw e at h

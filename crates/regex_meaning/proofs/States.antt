@@ -82,10 +82,10 @@ module _ (text : Text) (P : ℕ → Type 0) (G : Groups → Type 0) (kept : AreK
   preferred-states false again leave h k = Each-append IsState leave again k h
 
   -- each iteration of the loop gives states
-  abbrev BodyStates : Repetition → Type 0
+  abbrev BodyStates : Repetition Outcome → Type 0
   BodyStates r = (place : ℕ) (groups : Groups) → P place → G groups → AreStates (r.body place groups)
 
-  rounds-states : (r : Repetition) → BodyStates r → (turns k place : ℕ) (groups : Groups) → P place → G groups
+  rounds-states : (r : Repetition Outcome) → BodyStates r → (turns k place : ℕ) (groups : Groups) → P place → G groups
       → AreStates (rounds r turns k place groups)
   unfolding rounds
   rounds-states r b zero k place groups p g = tt

@@ -132,13 +132,13 @@ module _ (width : ℕ → ℕ) where
   first-offset [] at = refl
   first-offset (c ∷ cs) at = refl
 
-one_unit-positive : (c : ℕ) → 0 < one_unit c
+pub one_unit-positive : (c : ℕ) → 0 < one_unit c
 one_unit-positive c = omega arith
 
-len_utf8-positive : (c : ℕ) → 0 < len_utf8 c
+pub len_utf8-positive : (c : ℕ) → 0 < len_utf8 c
 len_utf8-positive c = grind arith
 
-utf16_width-positive : (c : ℕ) → 0 < utf16_width c
+pub utf16_width-positive : (c : ℕ) → 0 < utf16_width c
 utf16_width-positive c = grind arith
 
 pub utf8_text-IsText : (bytes : List ℕ) (unicode : Bool) → IsText (utf8_text bytes unicode)

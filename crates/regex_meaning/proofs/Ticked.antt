@@ -1,40 +1,27 @@
 -- Without its ticks, the list with ticks is the list of outcomes.
-use Rattle.std.proofs.Common.{◌≡◌, ℕ, zero, suc, ◌+◌, ◌-◌, Bool, true, false, not, ◌&&◌, List, [], ◌∷◌, refl, ap, sym, ◌∙◌, ◌++◌, filter, flat_map, map}
-use Rattle.std.specs.Prelude.{if◌then◌else◌, nat_le, nat_lt, ◌==◌}
+use Rattle.std.proofs.Common.{◌≡◌, ℕ, zero, suc, ◌+◌, ◌-◌, Bool, true, false, List, [], ◌∷◌, refl, ap, sym, ◌∙◌, ◌++◌, filter, flat_map, map}
+use Rattle.std.specs.Prelude.{if◌then◌else◌, nat_le, nat_lt}
 use Rattle.regex_meaning.specs.Tree.{Quantifier, Node, empty, goal, char, char_set, byte_set, byte_sequence, cat, end_of_cat, alt, bracket, string_set, match_any, match_any_except_line_terminator, anchor, word_boundary, capture_group, back_ref, lookaround, loop, loop_1_char_body}
 use Rattle.regex_meaning.specs.Text.{Text, Direction}
-use Rattle.regex_meaning.specs.Outcomes.{Groups, Outcome, repetition, rounds, preferred, captured, cleared, looked, direction_of, spelled, spells, outcomes, most_of}
-use Rattle.regex_meaning.specs.Ticks.{Item, tick, pair, pairs, ticks, and_then, ticked_pairs, with_ticks_between, ticked_alt, ways, ticked_repetition, ticked_rounds, ticked_string, ticked_strings, ticked}
+use Rattle.regex_meaning.specs.Outcomes.{Groups, Outcome, repetition, rounds, counts, preferred, captured, cleared, looked, direction_of, spelled, spells, outcomes, most_of}
+use Rattle.regex_meaning.specs.Ticks.{Item, tick, pair, pairs, ticks, and_then, ticked_pairs, with_ticks_between, ticked_alt, ways, ticked_rounds, ticked_string, ticked_strings, ticked}
+use Rattle.std.proofs.lemmas.List.{append-nil, map-id}
+use Rattle.std.proofs.lemmas.List.Concat.{flat_map_single}
+use Rattle.regex_meaning.proofs.Lists.{flat_map-same}
 
 -- ---- Lists
 
-append-nil : (xs : List Outcome) → xs ++ [] ≡ xs
-append-nil [] = refl
-append-nil (x ∷ xs) = ap (λ (ys : List Outcome). x ∷ ys) (append-nil xs)
-
-flat_map-same : (f g : Outcome → List Outcome) (xs : List Outcome) → ((o : Outcome) → f o ≡ g o) → flat_map f xs ≡ flat_map g xs
-flat_map-same f g [] h = refl
-flat_map-same f g (x ∷ xs) h = rw (h x, flat_map-same f g xs h)
-
-flat_map-one : (f : Outcome → Outcome) (xs : List Outcome) → flat_map (λ o. f o ∷ []) xs ≡ map f xs
-flat_map-one f [] = refl
-flat_map-one f (x ∷ xs) = ap (λ (ys : List Outcome). f x ∷ ys) (flat_map-one f xs)
-
-map-same : (xs : List Outcome) → map (λ o. o) xs ≡ xs
-map-same [] = refl
-map-same (x ∷ xs) = ap (λ (ys : List Outcome). x ∷ ys) (map-same xs)
-
 -- a list for each kept element is a list for each, with nothing where it is dropped
-flat_map-filter : (dropped : Outcome → Bool) (f : Outcome → List Outcome) (xs : List Outcome)
-    → flat_map (λ o. if dropped o then [] else f o) xs ≡ flat_map f (filter (λ o. not (dropped o)) xs)
-flat_map-filter dropped f [] = refl
-flat_map-filter dropped f (x ∷ xs) = go (dropped x) (flat_map-filter dropped f xs)
+flat_map-filter : (kept : Outcome → Bool) (f : Outcome → List Outcome) (xs : List Outcome)
+    → flat_map (λ o. if kept o then f o else []) xs ≡ flat_map f (filter kept xs)
+flat_map-filter kept f [] = refl
+flat_map-filter kept f (x ∷ xs) = go (kept x) (flat_map-filter kept f xs)
   where
-    go : (b : Bool) → flat_map (λ o. if dropped o then [] else f o) xs ≡ flat_map f (filter (λ o. not (dropped o)) xs)
-        → (if b then [] else f x) ++ flat_map (λ o. if dropped o then [] else f o) xs
-        ≡ flat_map f (if not b then x ∷ filter (λ o. not (dropped o)) xs else filter (λ o. not (dropped o)) xs)
-    go true h = h
-    go false h = rw h
+    go : (b : Bool) → flat_map (λ o. if kept o then f o else []) xs ≡ flat_map f (filter kept xs)
+        → (if b then f x else []) ++ flat_map (λ o. if kept o then f o else []) xs
+        ≡ flat_map f (if b then x ∷ filter kept xs else filter kept xs)
+    go true h = rw h
+    go false h = h
 
 -- ---- Pairs
 
@@ -63,7 +50,7 @@ pairs-and_then (pair o ∷ items) next = rw (pairs-append (next o) (and_then ite
 
 pairs-ticked_pairs : (items : List Item) → pairs (ticked_pairs items) ≡ pairs items
 pairs-ticked_pairs items =
-    rw (pairs-and_then items (λ o. tick ∷ pair o ∷ []), flat_map-one (λ o. o) (pairs items), map-same (pairs items))
+    rw (pairs-and_then items (λ o. tick ∷ pair o ∷ []), flat_map_single (λ o. o) (pairs items), map-id (pairs items))
 
 pairs-ticked_alt : (left right : List Item) → pairs (ticked_alt left right) ≡ pairs left ++ pairs right
 pairs-ticked_alt left right = rw (pairs-append (ticked_pairs left) (tick ∷ right), pairs-ticked_pairs left)
@@ -83,30 +70,30 @@ pairs-ways true true false again leave = pairs-append leave (tick ∷ again)
 -- ---- Loops
 
 if-pairs : (b : Bool) (items : List Item) (os : List Outcome) → pairs items ≡ os
-    → pairs (if b then [] else items) ≡ (if b then [] else os)
-if-pairs true items os e = refl
-if-pairs false items os e = e
+    → pairs (if b then items else []) ≡ (if b then os else [])
+if-pairs true items os e = e
+if-pairs false items os e = refl
 
-pairs-again : (dropped : Outcome → Bool) (further : Outcome → List Item) (later : Outcome → List Outcome)
+pairs-again : (kept : Outcome → Bool) (further : Outcome → List Item) (later : Outcome → List Outcome)
     → ((o : Outcome) → pairs (further o) ≡ later o) → (items : List Item) (os : List Outcome) → pairs items ≡ os
-    → pairs (and_then items (λ o. tick ∷ (if dropped o then [] else further o))) ≡ flat_map later (filter (λ o. not (dropped o)) os)
-pairs-again dropped further later h items os e =
-    rw (pairs-and_then items (λ o. tick ∷ (if dropped o then [] else further o)), e)
-    (flat_map-same (λ o. pairs (if dropped o then [] else further o)) (λ o. if dropped o then [] else later o) os
-    (λ o. if-pairs (dropped o) (further o) (later o) (h o))
-    ∙ flat_map-filter dropped later os)
+    → pairs (and_then items (λ o. tick ∷ (if kept o then further o else []))) ≡ flat_map later (filter kept os)
+pairs-again kept further later h items os e =
+    rw (pairs-and_then items (λ o. tick ∷ (if kept o then further o else [])), e)
+    (flat_map-same (λ o. pairs (if kept o then further o else [])) (λ o. if kept o then later o else [])
+    (λ o. if-pairs (kept o) (further o) (later o) (h o)) os
+    ∙ flat_map-filter kept later os)
 
 pairs-ticked_rounds : (q : Quantifier) (ticked_body : ℕ → Groups → List Item) (body : ℕ → Groups → List Outcome)
     → ((place : ℕ) (groups : Groups) → pairs (ticked_body place groups) ≡ body place groups)
     → (turns k place : ℕ) (groups : Groups)
-    → pairs (ticked_rounds (ticked_repetition q ticked_body) turns k place groups) ≡ rounds (repetition q body) turns k place groups
+    → pairs (ticked_rounds (repetition q ticked_body) turns k place groups) ≡ rounds (repetition q body) turns k place groups
 unfolding ticked_rounds rounds
 pairs-ticked_rounds q ticked_body body h zero k place groups = refl
 pairs-ticked_rounds q ticked_body body h (suc turns) k place groups =
     pairs-ways (nat_lt k (most_of q)) (nat_le q.min k) q.greedy _ (pair (record { end = place; groups = groups }) ∷ [])
     ∙ ap (λ (os : List Outcome). preferred q.greedy (if nat_lt k (most_of q) then os else []) (if nat_le q.min k then record { end = place; groups = groups } ∷ [] else []))
-    (pairs-again (λ o. o.end == place && nat_lt q.min (k + 1))
-    (λ o. ticked_rounds (ticked_repetition q ticked_body) turns (k + 1) o.end o.groups)
+    (pairs-again (counts (repetition q body) k place)
+    (λ o. ticked_rounds (repetition q ticked_body) turns (k + 1) o.end o.groups)
     (λ o. rounds (repetition q body) turns (k + 1) o.end o.groups)
     (λ o. pairs-ticked_rounds q ticked_body body h turns (k + 1) o.end o.groups)
     (ticked_body place groups) (body place groups) (h place groups))
@@ -149,7 +136,7 @@ module _ (text : Text) where
   pairs-ticked (string_set strings icase) d place groups = pairs-ticked_strings icase strings d place groups
   pairs-ticked (cat first rest) d place groups =
       rw (pairs-and_then (ticked text first d place groups) (λ o. ticked text rest d o.end o.groups), pairs-ticked first d place groups)
-      (flat_map-same _ _ (outcomes text first d place groups) (λ o. pairs-ticked rest d o.end o.groups))
+      (flat_map-same _ _ (λ o. pairs-ticked rest d o.end o.groups) (outcomes text first d place groups))
   pairs-ticked (alt left right) d place groups =
       rw (
         pairs-ticked_alt (ticked text left d place groups) (ticked text right d place groups),
@@ -160,7 +147,7 @@ module _ (text : Text) where
       rw (
         pairs-and_then (ticked text contents d place (cleared id 1 groups)) (λ o. tick ∷ pair (captured id place o) ∷ []),
         pairs-ticked contents d place (cleared id 1 groups),
-      ) (flat_map-one (captured id place) _)
+      ) (flat_map_single (captured id place) _)
   pairs-ticked (lookaround l contents) d place groups =
       rw (pairs-ticks, pairs-pair)
       (ap (λ (os : List Outcome). looked l.negate os place groups)

@@ -1,25 +1,14 @@
 -- The boundaries of UTF-16 texts, unit by unit.
-use Rattle.std.proofs.Common.{◌≡◌, ℕ, zero, suc, ◌+◌, ◌<◌, ◌≤◌, Bool, true, false, cond, not, ◌&&◌, List, [], ◌∷◌, length, map, refl, sym, ap, ◌∙◌, arith, zero-add, eq-eqb, ne_eqb, lt-ltb, le-leb, leb-true, is_some, nat_eq, nat_le, nat_lt, Some, None, slice_index}
+use Rattle.std.proofs.Common.{◌≡◌, ℕ, zero, suc, ◌+◌, ◌<◌, Bool, true, false, cond, not, ◌&&◌, List, [], ◌∷◌, length, map, refl, sym, ap, ◌∙◌, arith, zero-add, eq-eqb, ne_eqb, lt-ltb, le-leb, leb-true, is_some, nat_eq, nat_le, nat_lt, Some, None, slice_index}
 use Rattle.std.specs.List.{list_any, position_or_len}
-use Rattle.std.proofs.lemmas.Bool.{cases_Bool, cases_lt, lt-leb, and_parts}
+use Rattle.std.proofs.lemmas.Bool.{cases_Bool, lt-leb, and_parts}
 use mathlib.Core.Logic.{inl, inr}
 use Rattle.regex_meaning.specs.Lists.{contains}
-use Rattle.regex_meaning.specs.Text.{is_high_surrogate, is_low_surrogate, character_of_pair, utf16_width, utf16_characters, offsets_from, is_unit_boundary, utf16_text, one_unit, ascii_text, ucs2_text}
+use Rattle.regex_meaning.specs.Text.{is_high_surrogate, is_low_surrogate, character_of_pair, utf16_width, utf16_characters, offsets_from, is_unit_boundary, utf16_text, one_unit}
 use Rattle.regex_meaning.specs.Offsets.{place_at, units}
 use Rattle.regex_meaning.specs.Laws.{is_within_pair}
-
--- two tests of order are the same where the orders are
-le-same : (a b c d : ℕ) → (a ≤ b → c ≤ d) → (c ≤ d → a ≤ b) → nat_le a b ≡ nat_le c d
-le-same a b c d to back = elim (cases_lt b a) [
-  | inl less ↦ lt-leb a b less ∙ sym (not-le (λ le. let l = back le in omega arith))
-  | inr le ↦ le-leb a b le ∙ sym (le-leb c d (to le))
-]
-  where
-    not-le : (c ≤ d → ⊥) → nat_le c d ≡ false
-    not-le none = elim (cases_lt d c) [
-      | inl less ↦ lt-leb c d less
-      | inr le ↦ absurd (none le)
-    ]
+use Rattle.std.proofs.Math.Bool.{and-false}
+use Rattle.regex_meaning.proofs.Booleans.{le-same}
 
 any-position : (test : ℕ → Bool) (xs : List ℕ) → list_any test xs ≡ nat_lt (position_or_len test xs) (length xs)
 any-position test [] = refl
@@ -41,10 +30,6 @@ unit_boundary-place_at units unicode i =
 
 -- ---- Between units
 
-and-false : (b : Bool) → (b && false) ≡ false
-and-false true = refl
-and-false false = refl
-
 -- no offset stands before the first
 none-before : (ws : List ℕ) (at i : ℕ) → i < at → contains (offsets_from at ws) i ≡ false
 none-before [] at i less = rw (ne_eqb i at (omega arith)) refl
@@ -56,7 +41,7 @@ AreUnits units = (k : ℕ) → k < length units → slice_index units k < 0x1_00
 abbrev pub is_between : List ℕ → ℕ → Bool
 is_between units i = nat_le i (length units) && not (is_within_pair units i)
 
-single-width : (u : ℕ) → u < 0x1_0000 → utf16_width u ≡ 1
+pub single-width : (u : ℕ) → u < 0x1_0000 → utf16_width u ≡ 1
 single-width u less = rw (lt-leb 0x1_0000 u less) refl
 
 pair-width : (u v : ℕ) → utf16_width (character_of_pair u v) ≡ 2
@@ -109,7 +94,7 @@ step-pair u v us at (suc (suc (suc i))) ws more high low =
     ∙ ap (λ (b : Bool). b && not (is_within_pair us (suc i)))
     (le-same (suc i) (length us) (suc (suc (suc i))) (suc (suc (length us))) (λ h. omega arith) (λ h. omega arith))
 
-behind-first : (u : ℕ) (us : List ℕ) → AreUnits (u ∷ us) → AreUnits us
+pub behind-first : (u : ℕ) (us : List ℕ) → AreUnits (u ∷ us) → AreUnits us
 behind-first u us small k inside = small (suc k) (omega arith)
 
 -- offsets of the characters of these units
@@ -164,13 +149,6 @@ last-utf16 (u ∷ v ∷ us) at small = elim (cases_Bool (is_high_surrogate u && 
       rw (apart, single-width u (small 0 (omega arith)))
       (last-utf16 (v ∷ us) (at + 1) (behind-first u (v ∷ us) small) ∙ one-on at (length (v ∷ us)))
 ]
-
--- the length of each text is that of its units
-pub units-ascii : (bytes : List ℕ) (unicode : Bool) → units (ascii_text bytes unicode) ≡ length bytes
-units-ascii bytes unicode = last-single bytes 0 ∙ zero-add (length bytes)
-
-pub units-ucs2 : (us : List ℕ) (unicode : Bool) → units (ucs2_text us unicode) ≡ length us
-units-ucs2 us unicode = last-single us 0 ∙ zero-add (length us)
 
 pub units-utf16 : (us : List ℕ) (unicode : Bool) → AreUnits us → units (utf16_text us unicode) ≡ length us
 units-utf16 us unicode small = last-utf16 us 0 small ∙ zero-add (length us)

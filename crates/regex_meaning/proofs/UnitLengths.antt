@@ -1,9 +1,9 @@
 -- The lengths of texts in units.
-use Rattle.std.proofs.Common.{◌≡◌, ℕ, ◌+◌, ◌<◌, ◌^◌, Bool, true, false, cond, ◌&&◌, List, [], ◌∷◌, length, get_or, map, chars, nat_le, IsUtf8, length-append, refl, sym, ◌∙◌, ap, arith}
+use Rattle.std.proofs.Common.{◌≡◌, ℕ, ◌+◌, ◌<◌, ◌^◌, Bool, List, [], ◌∷◌, length, get_or, map, chars, IsUtf8, length-append, refl, ◌∙◌, ap, arith}
 use Rattle.std.specs.Char.{len_utf8}
 use Rattle.std.proofs.lemmas.Str.{length-encode, encodes-chars, IsUtf8-had}
 use lib.Utf8.{encode, encodes}
-use Rattle.regex_meaning.specs.Text.{Text, offsets_from, one_unit, is_high_surrogate, is_low_surrogate, character_of_pair, utf16_width, utf16_characters, utf8_text, ascii_text, utf16_text, ucs2_text}
+use Rattle.regex_meaning.specs.Text.{offsets_from, one_unit, utf8_text, ascii_text, ucs2_text}
 use Rattle.regex_meaning.specs.Offsets.{units}
 
 abbrev total : (width : ℕ → ℕ) → List ℕ → ℕ

@@ -1,5 +1,6 @@
 -- What a search answers from an offset, and where it goes on.
-use Rattle.std.specs.Prelude.{ℕ, List, [], ◌∷◌, option_map, option_and_then, Option, Some, None}
+use Rattle.std.specs.Prelude.{ℕ, List, [], ◌∷◌, option_map, option_and_then, Option}
+use Rattle.std.specs.Option.{option_map_or}
 use Rattle.regex_meaning.specs.Tree.{Node}
 use Rattle.regex_meaning.specs.Text.{Text}
 use Rattle.regex_meaning.specs.Offsets.{offset, place_at}
@@ -21,10 +22,8 @@ module _ (root : Node) (text : Text) where
 
   -- the answers from an offset on, if there is one
   abbrev pub answers_on : (next : Option ℕ) → List Answer
-  answers_on None = []
-  answers_on (Some start) = answers_from root text start
+  answers_on next = option_map_or (answers_from root text) next []
 
   -- an answer, and those from where the list goes on
   abbrev pub answer_then_list : Option Answer → (next : Option ℕ) → List Answer
-  answer_then_list None next = []
-  answer_then_list (Some m) next = m ∷ answers_on next
+  answer_then_list first next = option_map_or (λ m. m ∷ answers_on next) first []

@@ -1,6 +1,6 @@
 -- Laws of these definitions.
-use Rattle.std.specs.Prelude.{◌≡◌, ◌↔◌, IsTrue, ℕ, zero, suc, ◌+◌, ◌-◌, ◌<◌, ◌≤◌, Bool, false, not, ◌&&◌, is_some, slice_index, List, [], ◌∷◌, ◌++◌, length, map, codes, chars, IsAscii, IfSome, if◌then◌else◌, nat_lt, nat_le, max, Option, Some, None, filter, flat_map}
-use Rattle.std.specs.Option.{option_or}
+use Rattle.std.specs.Prelude.{◌≡◌, ℕ, zero, suc, ◌+◌, ◌-◌, ◌<◌, ◌≤◌, Bool, false, not, ◌&&◌, is_some, slice_index, List, [], ◌∷◌, ◌++◌, length, map, codes, chars, IsAscii, IfSome, if◌then◌else◌, nat_lt, nat_le, max, Option, Some, None, filter, flat_map}
+use Rattle.std.specs.Option.{option_or, option_map_or}
 use Rattle.regex_meaning.specs.Tree.{Quantifier, Node, Tree, Flags, group_ids}
 use Rattle.regex_meaning.specs.Text.{Text, Direction, rightwards, leftwards, last_place, is_high_surrogate, is_low_surrogate, is_unit_boundary, utf8_text, ascii_text, utf16_text, ucs2_text, utf16_characters}
 use Rattle.regex_meaning.specs.Offsets.{IsText, offset, place_at, IsBoundary}
@@ -11,7 +11,7 @@ use Rattle.regex_meaning.specs.Answers.{first_answer, next_start, answer_then_li
 use Rattle.regex_meaning.specs.Replace.{expansion, replaced}
 use Rattle.regex_meaning.specs.Flags.{flags_text, flags_of_text, escape}
 use Rattle.regex_meaning.specs.StartPredicate.{start_predicate, IsSound}
-use Rattle.regex_meaning.specs.WellFormed.{IsWellFormed, is_well_formed}
+use Rattle.regex_meaning.specs.WellFormed.{IsWellFormed}
 use Rattle.regex_meaning.specs.Ticks.{pairs, ticked, need, needs_from}
 
 -- ---- Outcomes
@@ -66,13 +66,11 @@ OutcomesStayInText = (text : Text) (node : Node) (d : Direction) (place : ℕ) (
 
 -- the matches from a place on, if there is one
 abbrev pub list_from : Node → Text → Option ℕ → List Found
-list_from root text None = []
-list_from root text (Some place) = match_list root text place
+list_from root text next = option_map_or (match_list root text) next []
 
 -- a match, and the list from where it goes on
 abbrev pub match_then_list : Node → Text → Option Found → List Found
-match_then_list root text None = []
-match_then_list root text (Some m) = m ∷ list_from root text (place_behind root text m)
+match_then_list root text found = option_map_or (λ m. m ∷ list_from root text (place_behind root text m)) found []
 
 -- the matches from a place on are the first one, if there is one, and those from behind it
 abbrev pub MatchListUnfolds : Type 0
@@ -200,8 +198,7 @@ needs_on tree text spent (Some place) = needs_from tree text (last_place text + 
 
 -- the needs behind a match; none behind the end
 abbrev pub needs_behind : Tree → Text → (spent : ℕ) → Option Found → List ℕ
-needs_behind tree text spent None = []
-needs_behind tree text spent (Some m) = needs_on tree text spent (place_behind tree.root text m)
+needs_behind tree text spent found = option_map_or (λ m. needs_on tree text spent (place_behind tree.root text m)) found []
 
 -- the first need is that of the first match, or of there being none, and the others go on from there
 abbrev pub NeedsUnfold : Type 0
@@ -220,7 +217,3 @@ NamesAgree = (m : Answer) → Each (λ named. named_group m named.0 ≡ named.1)
 -- the start predicate of a well-formed tree rules out no place with an outcome
 abbrev pub PredicateIsSound : Type 0
 PredicateIsSound = (tree : Tree) → IsWellFormed tree.root → IsSound (start_predicate tree) tree.root
-
--- the test of well-formed trees says what the clauses say
-abbrev pub TestIsClauses : Type 0
-TestIsClauses = (root : Node) → IsTrue (is_well_formed root) ↔ IsWellFormed root

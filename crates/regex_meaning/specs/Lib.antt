@@ -14,4 +14,3 @@ pub mod Names
 pub mod Answers
 pub mod Replace
 pub mod Flags
-pub mod Computing

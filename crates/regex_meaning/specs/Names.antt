@@ -3,7 +3,7 @@ use Rattle.std.specs.Prelude.{ℕ, zero, suc, ◌+◌, Bool, List, [], ◌∷◌
 use Rattle.std.specs.List.{list_any, list_all}
 use Rattle.std.specs.Option.{option_or, option_map_or}
 use Rattle.regex_meaning.specs.Lists.{numbers_from}
-use Rattle.regex_meaning.specs.Tree.{Node, cat, alt, capture_group, lookaround, loop, loop_1_char_body}
+use Rattle.regex_meaning.specs.Tree.{Node, capture_group, gathered}
 use Rattle.regex_meaning.specs.Text.{Text}
 use Rattle.regex_meaning.specs.Find.{Found, match_list}
 use Rattle.regex_meaning.specs.Offsets.{offset, place_at}
@@ -15,15 +15,13 @@ pub record Answer : Type 0 where
   pub captures : Groups
   pub names : List (List ℕ)
 
+abbrev pub own_name : Node → List (ℕ × List ℕ)
+own_name (capture_group id name contents) = (id, name) ∷ []
+own_name _ = []
+
 -- each group's id and name, in the order of the tree
 abbrev pub named_ids : Node → List (ℕ × List ℕ)
-named_ids (cat first rest) = named_ids first ++ named_ids rest
-named_ids (alt left right) = named_ids left ++ named_ids right
-named_ids (capture_group id name contents) = (id, name) ∷ named_ids contents
-named_ids (lookaround l contents) = named_ids contents
-named_ids (loop q start_group end_group loopee) = named_ids loopee
-named_ids (loop_1_char_body q loopee) = named_ids loopee
-named_ids _ = []
+named_ids root = gathered ◌++◌ own_name root
 
 abbrev pub name_of : List (ℕ × List ℕ) → ℕ → List ℕ
 name_of [] id = []

@@ -1,6 +1,7 @@
 -- The outcomes of a node at a place, most preferred first.
 use Rattle.std.specs.Prelude.{ℕ, zero, suc, ◌+◌, ◌-◌, ◌^◌, min, max, Bool, true, false, not, ◌&&◌, ◌||◌, List, [], ◌∷◌, length, Option, Some, None, if◌then◌else◌, nat_lt, nat_le, nat_eq, ◌==◌, slice_get, slice_set, slice_range, chars, unwrap_or, ◌++◌, filter, flat_map, map}
 use Rattle.std.specs.List.{list_any}
+use Rattle.std.specs.Option.{option_map_or}
 use lib.Pointwise.{pointwise}
 use Rattle.regex_meaning.specs.Lists.{contains}
 use Rattle.regex_meaning.specs.Tree.{Intervals, AnchorType, start_of_line, end_of_line, Quantifier, Lookaround, Node, empty, goal, char, char_set, byte_set, byte_sequence, cat, end_of_cat, alt, bracket, string_set, match_any, match_any_except_line_terminator, anchor, word_boundary, capture_group, back_ref, lookaround, loop, loop_1_char_body}
@@ -49,27 +50,26 @@ accepts match_any_except_line_terminator d = not (is_line_terminator d)
 accepts _ d = false
 
 abbrev pub is_some_and : Option ℕ → (ℕ → Bool) → Bool
-is_some_and None test = false
-is_some_and (Some c) test = test c
+is_some_and o test = option_map_or test o false
 
 -- ---- Loops
 
--- a loop of which `body` is one iteration; `most` is never absent
-pub record Repetition : Type 0 where
+-- a loop of which `body` gives one iteration's list; `most` is never absent
+pub record Repetition (A : Type 0) : Type 0 where
   pub least : ℕ
   pub most : ℕ
   pub greedy : Bool
-  pub body : ℕ → Groups → List Outcome
+  pub body : ℕ → Groups → List A
 
 -- an absent maximum is `usize::MAX`
 abbrev pub most_of : Quantifier → ℕ
 most_of q = unwrap_or q.max (2 ^ 64 - 1)
 
-abbrev pub repetition : Quantifier → (body : ℕ → Groups → List Outcome) → Repetition
+abbrev pub repetition : {A : Type 0} → Quantifier → (body : ℕ → Groups → List A) → Repetition A
 repetition q body = record { least = q.min; most = most_of q; greedy = q.greedy; body = body }
 
 -- an outcome of an iteration after k others counts unless it is empty past the minimum
-abbrev pub counts : Repetition → (k place : ℕ) → Outcome → Bool
+abbrev pub counts : {A : Type 0} → Repetition A → (k place : ℕ) → Outcome → Bool
 counts r k place o = not (o.end == place && nat_lt r.least (k + 1))
 
 -- a greedy loop prefers `again`
@@ -78,7 +78,7 @@ preferred true again leave = again ++ leave
 preferred false again leave = leave ++ again
 
 -- The outcomes after k iterations, of which `turns` bounds those that still count. `repeat` gives enough of them.
-unfoldable pub rounds : Repetition → (turns k place : ℕ) → Groups → List Outcome
+unfoldable pub rounds : Repetition Outcome → (turns k place : ℕ) → Groups → List Outcome
 rounds r zero k place groups = []
 rounds r (suc turns) k place groups =
     let again = flat_map (λ o. rounds r turns (k + 1) o.end o.groups) (filter (counts r k place) (r.body place groups)) in
@@ -141,37 +141,48 @@ module _ (text : Text) where
       (is_some_and (character_after text place) (is_word_char unicode_icase))
 
   -- The outcomes after k iterations. Those up to the minimum count, and then each one that moves.
-  abbrev pub repeat : Repetition → Direction → (k place : ℕ) → Groups → List Outcome
+  abbrev pub repeat : Repetition Outcome → Direction → (k place : ℕ) → Groups → List Outcome
   repeat r direction k place groups =
       rounds r (r.least - k + characters_left text direction place + 1) k place groups
 
+  -- Beside each case is the clause of ECMA-262, 9th edition, whose matcher it restates.
   unfoldable pub outcomes : Node → Direction → ℕ → Groups → List Outcome
+  -- 21.2.2.4, the empty alternative
   outcomes empty direction place groups = record { end = place; groups = groups } ∷ []
+  -- 21.2.2.2, the continuation at the end of the pattern
   outcomes goal direction place groups = record { end = place; groups = groups } ∷ []
+  -- 21.2.2.8 and 21.2.2.8.1, one character of a set; that of a bracket by 21.2.2.13
   outcomes (char c) direction place groups = one_character (accepts (char c)) direction place groups
   outcomes (char_set members) direction place groups = one_character (accepts (char_set members)) direction place groups
-  outcomes (byte_set members) direction place groups = one_character (accepts (byte_set members)) direction place groups
   outcomes (bracket contents) direction place groups = one_character (accepts (bracket contents)) direction place groups
   outcomes match_any direction place groups = one_character (accepts match_any) direction place groups
   outcomes match_any_except_line_terminator direction place groups =
       one_character (accepts match_any_except_line_terminator) direction place groups
+  -- rule of this crate: what the bytes or the strings spell, string after string
+  outcomes (byte_set members) direction place groups = one_character (accepts (byte_set members)) direction place groups
   outcomes (byte_sequence bytes) direction place groups = spelled nat_eq (chars bytes) direction place groups
   outcomes (string_set strings icase) direction place groups =
       flat_map (λ s. spelled (spells icase) s direction place groups) strings
+  -- 21.2.2.4, each end of the first child in turn
   outcomes end_of_cat direction place groups = record { end = place; groups = groups } ∷ []
   outcomes (cat first rest) direction place groups =
       flat_map (λ o. outcomes rest direction o.end o.groups) (outcomes first direction place groups)
+  -- 21.2.2.3, the left arm first
   outcomes (alt left right) direction place groups =
       outcomes left direction place groups ++ outcomes right direction place groups
+  -- 21.2.2.8, with the range in order in both directions
   outcomes (capture_group id name contents) direction place groups =
       map (captured id place) (outcomes contents direction place (cleared id 1 groups))
+  -- 21.2.2.9 and 21.2.2.9.1
   outcomes (back_ref group icase) direction place groups =
       same_as_group icase (group_range groups (group - 1)) direction place groups
+  -- 21.2.2.6
   outcomes (anchor type multiline) direction place groups = here_if (anchor_holds type multiline place) place groups
   outcomes (word_boundary invert unicode_icase) direction place groups =
       here_if (differ invert (is_at_word_boundary unicode_icase place)) place groups
   outcomes (lookaround l contents) direction place groups =
       looked l.negate (outcomes contents (direction_of l) place groups) place groups
+  -- 21.2.2.5, 21.2.2.5.1 and 21.2.2.7; an iteration first clears the groups inside
   outcomes (loop q start_group end_group loopee) direction place groups =
       repeat (repetition q (λ p g. outcomes loopee direction p (cleared start_group (end_group - start_group) g)))
       direction 0 place groups

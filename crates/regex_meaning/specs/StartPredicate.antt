@@ -65,9 +65,7 @@ sequence_of (b ∷ bs) = sequence (b ∷ bs)
 -- that of the first child that does not stay open
 abbrev pub then_of : Beginning → Beginning → Beginning
 then_of open_ended rest = rest
-then_of arbitrary rest = arbitrary
-then_of (sequence bytes) rest = sequence bytes
-then_of (one_of bytes) rest = one_of bytes
+then_of first rest = first
 
 abbrev pub shared_front : List ℕ → List ℕ → List ℕ
 shared_front [] ys = []
@@ -124,13 +122,10 @@ pub data StartPredicate : Type 0 where
   start_anchored : StartPredicate
 
 abbrev pub start_of : Beginning → StartPredicate
-start_of open_ended = start_arbitrary
-start_of arbitrary = start_arbitrary
-start_of (sequence []) = start_arbitrary
 start_of (sequence (b ∷ [])) = start_byte_set (b ∷ [])
 start_of (sequence (b ∷ c ∷ bs)) = start_byte_sequence (b ∷ c ∷ bs)
-start_of (one_of []) = start_arbitrary
 start_of (one_of (b ∷ bs)) = start_byte_set (b ∷ bs)
+start_of _ = start_arbitrary
 
 unfoldable pub start_predicate : Tree → StartPredicate
 start_predicate tree =
@@ -155,13 +150,19 @@ may_start start_anchored text place = place == 0
 
 -- no byte of it stands inside a character
 abbrev pub begins_characters : StartPredicate → Bool
-begins_characters start_arbitrary = true
 begins_characters (start_byte_set members) = list_all (λ b. not (is_in_range 0x80 0xBF b)) members
 begins_characters (start_byte_sequence bytes) = list_all (λ b. not (is_in_range 0x80 0xBF b)) (take 1 bytes)
-begins_characters start_anchored = true
+begins_characters _ = true
+
+-- its set or its sequence has a byte
+abbrev pub is_filled : StartPredicate → Bool
+is_filled (start_byte_set []) = false
+is_filled (start_byte_sequence []) = false
+is_filled _ = true
 
 -- wherever the tree has an outcome, the predicate holds
 pub record IsSound (p : StartPredicate) (root : Node) : Type 0 where
   pub holds : (text : Text) (place : ℕ) → IsTrue (list_all is_scalar text.characters) → place ≤ last_place text
       → outcomes text root rightwards place (no_groups root) ≢ [] → IsTrue (may_start p text place)
   pub on_characters : IsTrue (begins_characters p)
+  pub filled : IsTrue (is_filled p)

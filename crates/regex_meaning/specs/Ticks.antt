@@ -1,13 +1,14 @@
 -- The outcomes of a node with ticks among them: one for each step of a search that tries them in order.
-use Rattle.std.specs.Prelude.{ℕ, zero, suc, ◌+◌, ◌-◌, min, Bool, true, false, ◌&&◌, List, [], ◌∷◌, map, reverse, length, take, drop, replicate, Option, Some, None, if◌then◌else◌, nat_lt, nat_le, nat_eq, encode_utf8_all, filter, ◌++◌}
+use Rattle.std.specs.Prelude.{ℕ, zero, suc, ◌+◌, ◌-◌, min, Bool, true, false, List, [], ◌∷◌, map, reverse, length, take, drop, replicate, Option, Some, None, if◌then◌else◌, nat_lt, nat_le, nat_eq, encode_utf8_all, filter, ◌++◌}
 use Rattle.std.specs.List.{starts_with, prefix_len}
 use Rattle.std.specs.Option.{option_map_or}
 use Rattle.regex_meaning.specs.Lists.{numbers_from}
 use Rattle.regex_meaning.specs.Tree.{Quantifier, Node, empty, byte_sequence, cat, end_of_cat, alt, string_set, capture_group, lookaround, loop, loop_1_char_body, Tree}
 use Rattle.regex_meaning.specs.Text.{Text, Direction, rightwards, leftwards, last_place, characters_left}
-use Rattle.regex_meaning.specs.Outcomes.{Groups, Outcome, accepts, cleared, captured, most_of, spells, spelled, looked, direction_of, outcomes}
+use Rattle.regex_meaning.specs.Outcomes.{Groups, Outcome, accepts, cleared, captured, most_of, Repetition, repetition, counts, spells, spelled, looked, direction_of, outcomes}
 use Rattle.regex_meaning.specs.StartPredicate.{StartPredicate, start_anchored, start_predicate, may_start}
 use Rattle.regex_meaning.specs.Find.{no_groups, first_match, place_behind}
+use Rattle.regex_meaning.specs.Layout.{chunks}
 
 pub data Item : Type 0 where
   tick : Item
@@ -62,21 +63,12 @@ ways false true greedy again leave = leave
 ways true true true again leave = again ++ (tick ∷ leave)
 ways true true false again leave = leave ++ (tick ∷ again)
 
-pub record TickedRepetition : Type 0 where
-  pub least : ℕ
-  pub most : ℕ
-  pub greedy : Bool
-  pub body : ℕ → Groups → List Item
-
-abbrev pub ticked_repetition : Quantifier → (body : ℕ → Groups → List Item) → TickedRepetition
-ticked_repetition q body = record { least = q.min; most = most_of q; greedy = q.greedy; body = body }
-
-unfoldable pub ticked_rounds : TickedRepetition → (turns k place : ℕ) → Groups → List Item
+unfoldable pub ticked_rounds : Repetition Item → (turns k place : ℕ) → Groups → List Item
 ticked_rounds r zero k place groups = []
 ticked_rounds r (suc turns) k place groups =
     let again = and_then (r.body place groups) (λ o.
     let further = ticked_rounds r turns (k + 1) o.end o.groups in
-    tick ∷ (if nat_eq o.end place && nat_lt r.least (k + 1) then [] else further)) in
+    tick ∷ (if counts r k place o then further else [])) in
     let leave = pair (record { end = place; groups = groups }) ∷ [] in
     ways (nat_lt k r.most) (nat_le r.least k) r.greedy again leave
 
@@ -91,15 +83,6 @@ abbrev pub chunk_tries : List (List ℕ) → List ℕ → ℕ
 chunk_tries [] bytes = 0
 chunk_tries (chunk ∷ chunks) bytes =
     if starts_with nat_eq bytes chunk then chunk_tries chunks (drop (length chunk) bytes) + 1 else 1
-
--- at most `count` pieces of 16 bytes, the last one shorter where needed
-abbrev pub chunks_of : (count : ℕ) → List ℕ → List (List ℕ)
-chunks_of zero bytes = []
-chunks_of (suc count) [] = []
-chunks_of (suc count) (b ∷ bytes) = take 16 (b ∷ bytes) ∷ chunks_of count (drop 16 (b ∷ bytes))
-
-abbrev pub chunks : List ℕ → List (List ℕ)
-chunks bytes = chunks_of (length bytes) bytes
 
 module _ (text : Text) where
   -- the characters on the direction's side, the nearest first
@@ -133,7 +116,7 @@ module _ (text : Text) where
   abbrev pub body_tries : Quantifier → Node → Direction → ℕ → ℕ
   body_tries q loopee direction place = min (most_of q) (prefix_len (accepts loopee) (nearest_first direction place) + 1)
 
-  abbrev pub ticked_repeat : TickedRepetition → Direction → (k place : ℕ) → Groups → List Item
+  abbrev pub ticked_repeat : Repetition Item → Direction → (k place : ℕ) → Groups → List Item
   ticked_repeat r direction k place groups =
       ticked_rounds r (r.least - k + characters_left text direction place + 1) k place groups
 
@@ -153,7 +136,7 @@ module _ (text : Text) where
       let inside = ticked_pairs (ticked contents (direction_of l) place groups) in
       tick ∷ (ticks (ticks_to_first inside) ++ map pair (looked l.negate (pairs inside) place groups))
   ticked (loop q start_group end_group loopee) direction place groups =
-      tick ∷ ticked_repeat (ticked_repetition q (λ p g.
+      tick ∷ ticked_repeat (repetition q (λ p g.
       ticks (end_group - start_group) ++ ticked loopee direction p (cleared start_group (end_group - start_group) g)))
       direction 0 place groups
   ticked (loop_1_char_body q loopee) direction place groups =

@@ -1,5 +1,5 @@
 -- The units in which the characters of a text are spelled.
-use Rattle.std.specs.Prelude.{◌≡◌, ℕ, ◌+◌, ◌-◌, ◌/◌, ◌%◌, Bool, true, false, List, [], ◌∷◌, length, map, flat_map, if◌then◌else◌, nat_lt, encode_utf8_all}
+use Rattle.std.specs.Prelude.{◌≡◌, ℕ, ◌+◌, ◌-◌, ◌/◌, ◌%◌, List, [], ◌∷◌, length, map, flat_map, if◌then◌else◌, nat_lt, encode_utf8_all}
 use Rattle.regex_meaning.specs.Text.{Text, offsets_from}
 
 -- In UTF-8 the units are bytes (ASCII is a part of it); in UTF-16 and UCS-2 they are of 16 bits.

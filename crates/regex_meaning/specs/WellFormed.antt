@@ -1,19 +1,17 @@
 -- The trees that are compiled.
-use Rattle.std.specs.Prelude.{ℕ, ◌+◌, ◌-◌, Bool, true, false, ◌&&◌, length, chars, count_by, Option, Some, None, if◌then◌else◌, nat_lt, nat_le, nat_eq, ◌==◌, IsTrue}
+use Rattle.std.specs.Prelude.{ℕ, ◌+◌, ◌-◌, Bool, true, false, ◌&&◌, length, chars, count_by, if◌then◌else◌, nat_lt, nat_le, nat_eq, ◌==◌, IsTrue}
 use Rattle.std.specs.List.{list_all}
+use Rattle.std.specs.Option.{option_map_or}
 use Rattle.std.specs.Str.{is_utf8}
 use Rattle.regex_meaning.specs.Lists.{contains, numbers_from}
-use Rattle.regex_meaning.specs.Tree.{Quantifier, Node, goal, char, char_set, byte_set, byte_sequence, cat, end_of_cat, alt, bracket, string_set, match_any, match_any_except_line_terminator, capture_group, back_ref, lookaround, loop, loop_1_char_body, group_ids, every}
+use Rattle.regex_meaning.specs.Tree.{Quantifier, Node, goal, char, char_set, byte_set, byte_sequence, cat, end_of_cat, bracket, string_set, match_any, match_any_except_line_terminator, back_ref, lookaround, loop, loop_1_char_body, gathered, group_ids, every}
+
+abbrev pub own_goals : Node → ℕ
+own_goals goal = 1
+own_goals _ = 0
 
 abbrev pub goal_count : Node → ℕ
-goal_count goal = 1
-goal_count (cat first rest) = goal_count first + goal_count rest
-goal_count (alt left right) = goal_count left + goal_count right
-goal_count (capture_group id name contents) = goal_count contents
-goal_count (lookaround l contents) = goal_count contents
-goal_count (loop q start_group end_group loopee) = goal_count loopee
-goal_count (loop_1_char_body q loopee) = goal_count loopee
-goal_count _ = 0
+goal_count root = gathered ◌+◌ own_goals root
 
 abbrev pub is_end_of_cat : Node → Bool
 is_end_of_cat end_of_cat = true
@@ -54,11 +52,7 @@ refers_to_a_group n (back_ref group icase) = nat_le 1 group && nat_le group n
 refers_to_a_group n _ = true
 
 abbrev pub is_in_order : Quantifier → Bool
-is_in_order q = if_given q.max
-  where
-    if_given : Option ℕ → Bool
-    if_given None = true
-    if_given (Some max) = nat_le q.min max
+is_in_order q = option_map_or (nat_le q.min) q.max true
 
 -- no minimum is above its maximum
 abbrev pub has_order_in_quantifier : Node → Bool
@@ -93,17 +87,6 @@ fits_instructions (char_set members) = nat_le (length members) 4
 fits_instructions (string_set strings icase) = list_all (list_all (λ c. nat_le c 0x10_FFFF)) strings
 fits_instructions _ = true
 
-pub record IsWellFormed (root : Node) : Type 0 where
-  pub goal_last : IsTrue (goal_is_last root)
-  pub ids : IsTrue (each_id_stands_once root)
-  pub enclosed : IsTrue (every names_the_groups_inside root)
-  pub references : IsTrue (every (refers_to_a_group (length (group_ids root))) root)
-  pub quantifiers : IsTrue (every has_order_in_quantifier root)
-  pub bodies : IsTrue (every has_one_character_body root)
-  pub sequences : IsTrue (every has_text_in_sequence root)
-  pub sets : IsTrue (every fits_instructions root)
-
--- the same as a test
 unfoldable pub is_well_formed : Node → Bool
 is_well_formed root =
     goal_is_last root
@@ -114,3 +97,6 @@ is_well_formed root =
     && every has_one_character_body root
     && every has_text_in_sequence root
     && every fits_instructions root
+
+abbrev pub IsWellFormed : Node → Type 0
+IsWellFormed root = IsTrue (is_well_formed root)

@@ -5,7 +5,7 @@ ghost use Rattle.regex_meaning.specs.Laws.{PairsAreOutcomes, RepeatUnfolds, Outc
 ghost use Rattle.regex_meaning.specs.Laws.{FirstMatchUnfolds, MatchListUnfolds, NeedsUnfold};
 ghost use Rattle.regex_meaning.specs.Laws.{PlacesHaveOffsets, EncodingsAreTexts, UnitBoundariesAreBoundaries, SameInUtf16, SameInAscii};
 ghost use Rattle.regex_meaning.specs.Laws.{AnswersGoOn, ListGoesOnAhead, AnswersStandInText, AnswersAreRanges, AnswersStandInOrder, AnswersAreFew, AnswersResume, NamesAgree};
-ghost use Rattle.regex_meaning.specs.Laws.{WholeMatchesChangeNothing, FlagsReadBack, EscapeIsInjective, PredicateIsSound, TestIsClauses};
+ghost use Rattle.regex_meaning.specs.Laws.{WholeMatchesChangeNothing, FlagsReadBack, EscapeIsInjective, PredicateIsSound};
 
 /// The ticks of a search are put among its outcomes, and change none of them.
 pub fn ticks_change_nothing()
@@ -130,9 +130,4 @@ pub fn escape_is_injective()
 /// The start predicate of a well-formed tree is sound.
 pub fn predicate_is_sound()
     ensures { PredicateIsSound }
-{}
-
-/// The test of well-formed trees decides the eight clauses.
-pub fn well_formed_is_decided()
-    ensures { TestIsClauses }
 {}

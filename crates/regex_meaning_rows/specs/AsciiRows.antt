@@ -2,7 +2,7 @@
 use Rattle.std.specs.Prelude.{◌≡◌, [], ◌∷◌, Some, None, refl, true, false, codes}
 use Rattle.regex_meaning.specs.Tree.{goal, char, char_set, cat, end_of_cat, alt, capture_group, back_ref, lookaround, loop_1_char_body}
 use Rattle.regex_meaning.specs.Text.{ascii_text}
-use Rattle.regex_meaning.specs.Computing.{found, matches, times, look}
+use Rattle.regex_meaning_rows.specs.Computing.{found, matches, times, look}
 
 -- `a|ab`
 alternatives : matches (cat (alt (cat (char 97) end_of_cat) (cat (char 97) (cat (char 98) end_of_cat))) (cat goal end_of_cat)) (ascii_text (codes "abc") false) 0 ≡ (found 0 1 [] ∷ [])

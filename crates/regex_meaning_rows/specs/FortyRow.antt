@@ -2,7 +2,7 @@
 use Rattle.std.specs.Prelude.{◌≡◌, [], ◌∷◌, None, refl, true, false}
 use Rattle.regex_meaning.specs.Tree.{Node, goal, char, cat, end_of_cat, alt, loop}
 use Rattle.regex_meaning.specs.Text.{utf8_text}
-use Rattle.regex_meaning.specs.Computing.{found, first, times}
+use Rattle.regex_meaning_rows.specs.Computing.{found, first, times}
 
 -- `(?:a|a)*`
 abbrev forty-tree : Node

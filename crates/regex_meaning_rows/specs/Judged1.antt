@@ -3,7 +3,7 @@
 use Rattle.std.specs.Prelude.{◌≡◌, [], ◌∷◌, Some, None, refl, true, false}
 use Rattle.regex_meaning.specs.Tree.{goal, char, char_set, cat, end_of_cat, alt, bracket, match_any_except_line_terminator, anchor, start_of_line, end_of_line, word_boundary, capture_group, back_ref, lookaround, loop, loop_1_char_body}
 use Rattle.regex_meaning.specs.Text.{utf8_text}
-use Rattle.regex_meaning.specs.Computing.{found, matches, times, in_brackets, look}
+use Rattle.regex_meaning_rows.specs.Computing.{found, matches, times, in_brackets, look}
 
 -- `(?:a|a)*` on `aaaaaaaaaaaa`
 judged_1_01 : matches (cat (cat (loop (times 0 None true) 0 0 (alt (cat (char 97) end_of_cat) (cat (char 97) end_of_cat))) end_of_cat) (cat goal end_of_cat)) (utf8_text (97 ∷ 97 ∷ 97 ∷ 97 ∷ 97 ∷ 97 ∷ 97 ∷ 97 ∷ 97 ∷ 97 ∷ 97 ∷ 97 ∷ []) false) 0 ≡ (found 0 12 [] ∷ found 12 12 [] ∷ [])

@@ -3,7 +3,7 @@
 use Rattle.std.specs.Prelude.{◌≡◌, [], ◌∷◌, Some, None, refl, true, false}
 use Rattle.regex_meaning.specs.Tree.{goal, char, char_set, cat, end_of_cat, alt, bracket, match_any, match_any_except_line_terminator, anchor, start_of_line, end_of_line, word_boundary, capture_group, back_ref, lookaround, loop, loop_1_char_body}
 use Rattle.regex_meaning.specs.Text.{utf8_text}
-use Rattle.regex_meaning.specs.Computing.{found, matches, times, in_brackets, look}
+use Rattle.regex_meaning_rows.specs.Computing.{found, matches, times, in_brackets, look}
 
 -- `b?(?:(?:((a|ab)[ab])*(?:(a)a+){2}){2,}(?:(?:(?:b|a?))+|a*?){1,2})+?b` on `aa`
 judged_2_01 : matches (cat (cat (loop_1_char_body (times 0 (Some 1) true) (char 98)) (cat (loop (times 1 None false) 0 3 (cat (loop (times 2 None true) 0 3 (cat (loop (times 0 None true) 0 2 (capture_group 0 [] (cat (capture_group 1 [] (alt (cat (char 97) end_of_cat) (cat (char 97) (cat (char 98) end_of_cat)))) (cat (bracket (in_brackets false ((97, 98) ∷ []))) end_of_cat)))) (cat (loop (times 2 (Some 2) true) 2 3 (cat (capture_group 2 [] (cat (char 97) end_of_cat)) (cat (loop_1_char_body (times 1 None true) (char 97)) end_of_cat))) end_of_cat))) (cat (loop (times 1 (Some 2) true) 3 3 (alt (cat (loop (times 1 None true) 3 3 (cat (alt (cat (char 98) end_of_cat) (cat (loop_1_char_body (times 0 (Some 1) true) (char 97)) end_of_cat)) end_of_cat)) end_of_cat) (cat (loop_1_char_body (times 0 None false) (char 97)) end_of_cat))) end_of_cat))) (cat (char 98) end_of_cat))) (cat goal end_of_cat)) (utf8_text (97 ∷ 97 ∷ []) false) 0 ≡ []

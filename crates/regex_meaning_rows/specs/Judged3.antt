@@ -3,7 +3,7 @@
 use Rattle.std.specs.Prelude.{◌≡◌, [], ◌∷◌, Some, None, refl, true, false}
 use Rattle.regex_meaning.specs.Tree.{goal, char, char_set, cat, end_of_cat, alt, bracket, match_any, match_any_except_line_terminator, anchor, start_of_line, end_of_line, word_boundary, capture_group, back_ref, lookaround, loop, loop_1_char_body}
 use Rattle.regex_meaning.specs.Text.{utf8_text}
-use Rattle.regex_meaning.specs.Computing.{found, matches, times, in_brackets, look}
+use Rattle.regex_meaning_rows.specs.Computing.{found, matches, times, in_brackets, look}
 
 -- `a{0,}"+?\S` of flags `iu` on `\u{FEFF},"c\u{17F}""c`
 judged_3_01 : matches (cat (cat (loop_1_char_body (times 0 None true) (char_set (65 ∷ 97 ∷ []))) (cat (loop_1_char_body (times 1 None false) (char 34)) (cat (bracket (in_brackets false ((0, 8) ∷ (14, 31) ∷ (33, 159) ∷ (161, 5759) ∷ (5761, 8191) ∷ (8203, 8231) ∷ (8234, 8238) ∷ (8240, 8286) ∷ (8288, 12287) ∷ (12289, 65278) ∷ (65280, 1114111) ∷ []))) end_of_cat))) (cat goal end_of_cat)) (utf8_text (239 ∷ 187 ∷ 191 ∷ 44 ∷ 34 ∷ 99 ∷ 197 ∷ 191 ∷ 34 ∷ 34 ∷ 99 ∷ []) true) 0 ≡ (found 4 6 [] ∷ found 8 10 [] ∷ [])

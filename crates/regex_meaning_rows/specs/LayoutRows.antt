@@ -3,7 +3,7 @@ use Rattle.std.specs.Prelude.{◌≡◌, ℕ, ◌^◌, ◌-◌, List, [], ◌∷
 use Rattle.regex_meaning.specs.Tree.{goal, char, byte_set, byte_sequence, cat, end_of_cat, alt, lookaround, loop, loop_1_char_body}
 use Rattle.regex_meaning.specs.Layout.{Insn, Goal, Char, Alt, Jump, EnterLoop, LoopAgain, Loop1CharBody, ByteSeq, Lookbehind, Program, Mark, IsCode, reads_bytes}
 use Rattle.regex_meaning.specs.StartPredicate.{start_arbitrary}
-use Rattle.regex_meaning.specs.Computing.{times, look, no_flags}
+use Rattle.regex_meaning_rows.specs.Computing.{times, look, no_flags}
 
 abbrev program : List Insn → Program
 program insns = record { insns = insns; brackets = []; loops = 1; groups = 0; flags = no_flags; group_names = []; start_pred = start_arbitrary }

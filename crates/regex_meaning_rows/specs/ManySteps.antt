@@ -8,7 +8,7 @@ use Rattle.std.specs.Prelude.{zero, suc}
 use Rattle.regex_meaning.specs.Outcomes.{outcomes, rounds}
 use Rattle.regex_meaning.specs.Find.{no_groups}
 use Rattle.regex_meaning.specs.Ticks.{Item, tick, pair, ticked, ticked_rounds}
-use Rattle.regex_meaning.specs.Computing.{times}
+use Rattle.regex_meaning_rows.specs.Computing.{times}
 
 -- more ticks than these stand before the first pair
 abbrev takes_more_than : ℕ → List Item → Bool

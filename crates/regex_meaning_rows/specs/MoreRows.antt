@@ -2,7 +2,7 @@
 use Rattle.std.specs.Prelude.{◌≡◌, [], ◌∷◌, Some, None, refl, true, false, codes}
 use Rattle.regex_meaning.specs.Tree.{goal, char, cat, end_of_cat, alt, bracket, capture_group, lookaround, loop, loop_1_char_body}
 use Rattle.regex_meaning.specs.Text.{utf8_text, utf16_text, ucs2_text}
-use Rattle.regex_meaning.specs.Computing.{found, matches, times, in_brackets, look}
+use Rattle.regex_meaning_rows.specs.Computing.{found, matches, times, in_brackets, look}
 
 -- the empty pattern on the empty text
 empty_on_empty : matches (cat end_of_cat (cat goal end_of_cat)) (utf8_text [] false) 0 ≡ (found 0 0 [] ∷ [])

@@ -4,7 +4,7 @@ use Rattle.regex_meaning.specs.Tree.{goal, char, cat, end_of_cat, match_any, loo
 use Rattle.regex_meaning.specs.Text.{utf8_text, ascii_text, utf16_text, ucs2_text}
 use Rattle.regex_meaning.specs.Offsets.{offset, units, place_at}
 use Rattle.std.specs.Str.{chars}
-use Rattle.regex_meaning.specs.Computing.{found, matches, goes_on_at, times}
+use Rattle.regex_meaning_rows.specs.Computing.{found, matches, goes_on_at, times}
 
 -- `é€` and U+1F600: 2, 3 and 4 bytes
 offsets : map (offset (utf8_text (195 ∷ 169 ∷ 226 ∷ 130 ∷ 172 ∷ 240 ∷ 159 ∷ 152 ∷ 128 ∷ []) false)) (0 ∷ 1 ∷ 2 ∷ 3 ∷ []) ≡ (0 ∷ 2 ∷ 5 ∷ 9 ∷ [])

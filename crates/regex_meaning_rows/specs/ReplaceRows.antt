@@ -2,7 +2,7 @@
 use Rattle.std.specs.Prelude.{◌≡◌, [], ◌∷◌, Some, None, refl, true, false, codes}
 use Rattle.regex_meaning.specs.Tree.{goal, char, cat, end_of_cat, alt, bracket, word_boundary, capture_group, lookaround, loop_1_char_body}
 use Rattle.regex_meaning.specs.Text.{utf8_text}
-use Rattle.regex_meaning.specs.Computing.{named, replaced_by, times, in_brackets, look}
+use Rattle.regex_meaning_rows.specs.Computing.{named, replaced_by, times, in_brackets, look}
 
 -- `(\d{4})-(\d{2})-(\d{2})` in `2023-12-25` by `$2/$3/$1`
 date : replaced_by 1 (cat (cat (capture_group 0 [] (cat (loop_1_char_body (times 4 (Some 4) true) (bracket (in_brackets false ((48, 57) ∷ [])))) end_of_cat)) (cat (char 45) (cat (capture_group 1 [] (cat (loop_1_char_body (times 2 (Some 2) true) (bracket (in_brackets false ((48, 57) ∷ [])))) end_of_cat)) (cat (char 45) (cat (capture_group 2 [] (cat (loop_1_char_body (times 2 (Some 2) true) (bracket (in_brackets false ((48, 57) ∷ [])))) end_of_cat)) end_of_cat))))) (cat goal end_of_cat)) (codes "2023-12-25") (codes "$2/$3/$1") ≡ (codes "12/25/2023")

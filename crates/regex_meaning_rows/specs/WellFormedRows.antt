@@ -4,7 +4,7 @@ use Rattle.regex_meaning.specs.Tree.{empty, goal, char, char_set, byte_set, byte
 use Rattle.regex_meaning.specs.WellFormed.{is_well_formed}
 use Rattle.std.specs.Str.{is_utf8, chars}
 use Rattle.std.specs.Char.{encode_utf8 as encode}
-use Rattle.regex_meaning.specs.Computing.{times, look}
+use Rattle.regex_meaning_rows.specs.Computing.{times, look}
 
 no_goal : is_well_formed (char 97) ≡ false
 unfolding is_well_formed is_utf8 chars encode

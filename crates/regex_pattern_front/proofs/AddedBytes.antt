@@ -5,18 +5,15 @@ use Rattle.std.proofs.lemmas.Bool.{cases_eq, cases_lt, ne_eqb, eq-eqb, lt-ltb, l
 use Rattle.regex_meaning.specs.Lists.{contains}
 use Rattle.regex_meaning.specs.StartPredicate.{bytes_where}
 use Rattle.regex_pattern_front.proofs.ByteLemmas.{contains-bytes_where, bytes_where-same}
+use Rattle.std.proofs.Math.Bool.{or-false}
 
 -- the old bytes, and those below n that pass
 abbrev pub with_bytes_below : (old : List ℕ) (test : ℕ → Bool) (n : ℕ) → List ℕ
 with_bytes_below old test n = bytes_where (λ b. contains old b || (nat_lt b n && test b))
 
-or-none : (t : Bool) → (t || false) ≡ t
-or-none true = refl
-or-none false = refl
-
 pub with_bytes-none : (p test : ℕ → Bool) → bytes_where p ≡ with_bytes_below (bytes_where p) test 0
 with_bytes-none p test =
-    bytes_where-same _ _ (λ b h. rw (contains-bytes_where p b h, le-ltb b 0 (omega arith)) (sym (or-none (p b))))
+    bytes_where-same _ _ (λ b h. rw (contains-bytes_where p b h, le-ltb b 0 (omega arith)) (sym (or-false (p b))))
 
 pub with_bytes-more : (old now next : List ℕ) (test : ℕ → Bool) (n : ℕ) → test n ≡ true
     → now ≡ with_bytes_below old test n → next ≡ bytes_where (λ b. b == n || contains now b) → next ≡ with_bytes_below old test (n + 1)

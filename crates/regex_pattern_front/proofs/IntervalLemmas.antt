@@ -66,9 +66,6 @@ in_joined : (a b e d c : ℕ) (rest : Bool) → a ≤ e → e - 1 ≤ b → a �
 in_joined a b e d c true h k l m = grind (arith, nat_tests)
 in_joined a b e d c false h k l m = grind (arith, nat_tests)
 
-true-le : (x y : ℕ) → nat_le x y ≡ true → x ≤ y
-true-le x y h = leb-true x y h
-
 false-le : (x y : ℕ) → nat_le x y ≡ false → y < x
 false-le x y h = leb-false x y h
 
@@ -89,7 +86,7 @@ member-merged now (next ∷ others) c h r =
     let joined : Interval = record now { last = max now.last next.last } in
     member-merged_step (nat_le (next.first - 1) now.last) now next others c
     (λ t.
-    let near : next.first - 1 ≤ now.last = true-le _ _ t in
+    let near : next.first - 1 ≤ now.last = leb-true _ _ t in
     member-merged joined others c (omega arith) (Rises-weaker now.first next.first others after r.2)
     ∙ in_joined now.first now.last next.first next.last c (member others c) after near h some)
     (λ t. rw (member-merged next others c some r.2))

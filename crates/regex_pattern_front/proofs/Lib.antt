@@ -1,7 +1,10 @@
+pub mod BoolLemmas
 pub mod ByteLemmas
 pub mod AddedBytes
 pub mod IntervalLemmas
 pub mod NodeLemmas
+pub mod MatchLemmas
 pub mod OptimizedLemmas
 pub mod PartLemmas
+pub mod LevelLemmas
 pub mod LeafLemmas

@@ -2,7 +2,7 @@
 use Rattle.std.proofs.Common.{◌≡◌, Bool, false, List, [], ◌∷◌, ℕ, suc, ◌<◌, ap, ◌∙◌, refl, arith, length, get_or, sym, Vec, Global, Box, Option, String}
 use Rattle.regex_meaning.specs.Tree as tree
 use Rattle.regex_pattern_front.specs.TreeOf.{node_of, nodes_of, cat_of}
-use Rattle.regex_pattern_front.specs.Optimized.{reads_one_character, optimized}
+use Rattle.regex_pattern_front.specs.Optimized.{reads_one_character, optimized, narrowed, turned_back}
 use Rattle.regex_pattern_front.specs.declared.ir.Node.{Node, Row_of-Node, end_of-Node, more_of-Node, items-the_row-Node, items_hidden-the_row-Node-0, Cat', Alt', CaptureGroup', LookaroundAssertion', Loop', Loop1CharBody'}
 use Rattle.regex_pattern_front.specs.declared.ir.Node.TheVariants.{Empty, Goal, Char, CharSet, ByteSet, ByteSequence, Cat, Alt, Bracket, StringSet, MatchAny, MatchAnyExceptLineTerminator, Anchor, WordBoundary, CaptureGroup, BackRef, LookaroundAssertion, Loop, Loop1CharBody, rolls-Cat, rolls-Alt, rolls-CaptureGroup, rolls-LookaroundAssertion, rolls-Loop, rolls-Loop1CharBody}
 use Rattle.regex_pattern_front.specs.declared.ir.Node.TheOpen.{Node-F}
@@ -100,3 +100,71 @@ optimized-rolled (Node-F.Loop1CharBody l q) h = absurd (h.not_Loop1CharBody l q 
 
 pub optimized-leaf : (n : Node) → HasNone n → node_of n ≡ optimized (node_of n)
 optimized-leaf = ind-Node (λ n. HasNone n → node_of n ≡ optimized (node_of n)) (λ x y is. optimized-rolled x)
+
+-- ---- What a node is not
+
+narrowed-Cat : (v : Vec Node Global) → node_of (Cat v) ≡ narrowed (node_of (Cat v))
+narrowed-Cat v = rw (node_of-Cat v) (of v.items)
+  where
+    of : (xs : List Node) → cat_of xs ≡ narrowed (cat_of xs)
+    of [] = refl
+    of (x ∷ xs) = refl
+
+narrowed-rolled : (x : Node-F Node) → ((l : Box Node Global) (q : Quantifier) (groups : Range ℕ) → roll-Node x ≡ Loop l q groups → ⊥)
+    → node_of (roll-Node x) ≡ narrowed (node_of (roll-Node x))
+unfolding node_of roll-Node roll
+narrowed-rolled Node-F.Empty h = refl
+narrowed-rolled Node-F.Goal h = refl
+narrowed-rolled (Node-F.Char c) h = refl
+narrowed-rolled (Node-F.CharSet v) h = refl
+narrowed-rolled (Node-F.ByteSet v) h = refl
+narrowed-rolled (Node-F.ByteSequence v) h = refl
+narrowed-rolled (Node-F.Cat v) h = narrowed-Cat v
+narrowed-rolled (Node-F.Alt l r) h = refl
+narrowed-rolled (Node-F.Bracket b) h = refl
+narrowed-rolled (Node-F.StringSet a i) h = refl
+narrowed-rolled Node-F.MatchAny h = refl
+narrowed-rolled Node-F.MatchAnyExceptLineTerminator h = refl
+narrowed-rolled (Node-F.Anchor a m) h = refl
+narrowed-rolled (Node-F.WordBoundary i u) h = refl
+narrowed-rolled (Node-F.CaptureGroup i n name) h = refl
+narrowed-rolled (Node-F.BackRef g i) h = refl
+narrowed-rolled (Node-F.LookaroundAssertion n b s e c) h = refl
+narrowed-rolled (Node-F.Loop l q e) h = absurd (h l q e (sym (rolls-Loop l q e)))
+narrowed-rolled (Node-F.Loop1CharBody l q) h = refl
+
+pub narrowed-other : (n : Node) → ((l : Box Node Global) (q : Quantifier) (groups : Range ℕ) → n ≡ Loop l q groups → ⊥) → node_of n ≡ narrowed (node_of n)
+narrowed-other = ind-Node (λ n. ((l : Box Node Global) (q : Quantifier) (groups : Range ℕ) → n ≡ Loop l q groups → ⊥) → node_of n ≡ narrowed (node_of n)) (λ x y is. narrowed-rolled x)
+
+turned-Cat : (rest : tree.Node) (v : Vec Node Global) → turned_back (node_of (Cat v)) rest ≡ rest
+turned-Cat rest v = rw (node_of-Cat v) (of v.items)
+  where
+    of : (xs : List Node) → turned_back (cat_of xs) rest ≡ rest
+    of [] = refl
+    of (x ∷ xs) = refl
+
+turned-rolled : (rest : tree.Node) (x : Node-F Node) → ((l r : Box Node Global) → roll-Node x ≡ Alt l r → ⊥) → turned_back (node_of (roll-Node x)) rest ≡ rest
+unfolding node_of roll-Node roll
+turned-rolled rest Node-F.Empty h = refl
+turned-rolled rest Node-F.Goal h = refl
+turned-rolled rest (Node-F.Char c) h = refl
+turned-rolled rest (Node-F.CharSet v) h = refl
+turned-rolled rest (Node-F.ByteSet v) h = refl
+turned-rolled rest (Node-F.ByteSequence v) h = refl
+turned-rolled rest (Node-F.Cat v) h = turned-Cat rest v
+turned-rolled rest (Node-F.Alt l r) h = absurd (h l r (sym (rolls-Alt l r)))
+turned-rolled rest (Node-F.Bracket b) h = refl
+turned-rolled rest (Node-F.StringSet a i) h = refl
+turned-rolled rest Node-F.MatchAny h = refl
+turned-rolled rest Node-F.MatchAnyExceptLineTerminator h = refl
+turned-rolled rest (Node-F.Anchor a m) h = refl
+turned-rolled rest (Node-F.WordBoundary i u) h = refl
+turned-rolled rest (Node-F.CaptureGroup i n name) h = refl
+turned-rolled rest (Node-F.BackRef g i) h = refl
+turned-rolled rest (Node-F.LookaroundAssertion n b s e c) h = refl
+turned-rolled rest (Node-F.Loop l q e) h = refl
+turned-rolled rest (Node-F.Loop1CharBody l q) h = refl
+
+-- nothing was turned
+pub turned-other : (rest : tree.Node) (n : Node) → ((l r : Box Node Global) → n ≡ Alt l r → ⊥) → turned_back (node_of n) rest ≡ rest
+turned-other rest = ind-Node (λ n. ((l r : Box Node Global) → n ≡ Alt l r → ⊥) → turned_back (node_of n) rest ≡ rest) (λ x y is. turned-rolled rest x)

@@ -1,15 +1,20 @@
 -- Optimizing keeps trees well formed, and their outcomes.
 use Rattle.std.proofs.Common.{◌≡◌, ℕ, zero, suc, ◌-◌, Bool, true, false, ◌&&◌, List, [], ◌∷◌, length, refl, ap, arith}
 use mathlib.Core.Path.{fun_ext}
-use Rattle.std.specs.Prelude.{if◌then◌else◌, nat_le}
+use Rattle.std.specs.Prelude.{if◌then◌else◌, nat_le, map, ◌==◌}
 use Rattle.std.specs.List.{list_all}
+use Rattle.regex_pattern_front.proofs.BoolLemmas.{left, right, and_from}
 use Rattle.regex_meaning.specs.Lists.{contains, numbers_from}
 use Rattle.regex_meaning.specs.Tree.{Quantifier, Node, empty, goal, char, char_set, byte_set, byte_sequence, cat, end_of_cat, alt, bracket, string_set, match_any, match_any_except_line_terminator, anchor, word_boundary, capture_group, back_ref, lookaround, loop, loop_1_char_body, group_ids, every}
+use Rattle.regex_meaning.specs.Names.{name_of, named_ids, names_by_id}
 use Rattle.regex_meaning.specs.Text.{Text, Direction}
 use Rattle.regex_meaning.specs.Outcomes.{Groups, Outcome, outcomes}
-use Rattle.regex_meaning.specs.WellFormed.{goal_count, is_end_of_cat, ends_in_goal, encloses, names_the_groups_inside, refers_to_a_group, has_order_in_quantifier, is_one_character, has_one_character_body, has_text_in_sequence, fits_instructions, IsWellFormed}
-use Rattle.regex_meaning.proofs.WellFormedLemmas.{well_formed-iff}
-use Rattle.regex_pattern_front.specs.Optimized.{reads_one_character, optimized, OptimizedIsWellFormed, OptimizedHasSameOutcomes}
+use Rattle.regex_meaning.specs.WellFormed.{goal_count, is_end_of_cat, ends_in_goal, encloses, names_the_groups_inside, refers_to_a_group, has_order_in_quantifier, is_one_character, has_one_character_body, has_text_in_sequence, fits_instructions}
+use Rattle.regex_meaning.proofs.WellFormedLemmas.{clauses, by_clauses}
+use Rattle.regex_pattern_front.specs.Optimized.{reads_one_character, optimized, OptimizedIsWellFormed, OptimizedHasSameOutcomes, OptimizedHasSameAnswers}
+use Rattle.regex_pattern_front.proofs.MatchLemmas.{answers-same}
+use Rattle.std.proofs.lemmas.Bool.{and_from}
+use Rattle.regex_meaning.proofs.Booleans.{and-left, and-right}
 
 -- ---- What is read off a tree
 
@@ -17,18 +22,18 @@ goal_count-optimized : (n : Node) → goal_count (optimized n) ≡ goal_count n
 unfolding optimized
 goal_count-optimized (cat first rest) = rw (goal_count-optimized first, goal_count-optimized rest)
 goal_count-optimized (alt left right) = rw (goal_count-optimized left, goal_count-optimized right)
-goal_count-optimized (capture_group id name contents) = goal_count-optimized contents
-goal_count-optimized (lookaround l contents) = goal_count-optimized contents
+goal_count-optimized (capture_group id name contents) = rw (goal_count-optimized contents)
+goal_count-optimized (lookaround l contents) = rw (goal_count-optimized contents)
 goal_count-optimized (loop q s e loopee) = go (reads_one_character loopee) (goal_count-optimized loopee)
   where
     go : (r : Bool) → goal_count (optimized loopee) ≡ goal_count loopee
-        → goal_count (if r then loop_1_char_body q loopee else loop q s e (optimized loopee)) ≡ goal_count loopee
+        → goal_count (if r then loop_1_char_body q loopee else loop q s e (optimized loopee)) ≡ goal_count (loop q s e loopee)
     go true h = refl
-    go false h = h
-goal_count-optimized (loop_1_char_body q loopee) = goal_count-optimized loopee
+    go false h = rw h
+goal_count-optimized (loop_1_char_body q loopee) = rw (goal_count-optimized loopee)
 goal_count-optimized _ = refl
 
-group_ids-optimized : (n : Node) → group_ids (optimized n) ≡ group_ids n
+pub group_ids-optimized : (n : Node) → group_ids (optimized n) ≡ group_ids n
 unfolding optimized
 group_ids-optimized (cat first rest) = rw (group_ids-optimized first, group_ids-optimized rest)
 group_ids-optimized (alt left right) = rw (group_ids-optimized left, group_ids-optimized right)
@@ -42,6 +47,27 @@ group_ids-optimized (loop q s e loopee) = go (reads_one_character loopee) (group
     go false h = h
 group_ids-optimized (loop_1_char_body q loopee) = group_ids-optimized loopee
 group_ids-optimized _ = refl
+
+pub named_ids-optimized : (n : Node) → named_ids (optimized n) ≡ named_ids n
+unfolding optimized
+named_ids-optimized (cat first rest) = rw (named_ids-optimized first, named_ids-optimized rest)
+named_ids-optimized (alt left right) = rw (named_ids-optimized left, named_ids-optimized right)
+named_ids-optimized (capture_group id name contents) = ap (λ ids. (id, name) ∷ ids) (named_ids-optimized contents)
+named_ids-optimized (lookaround l contents) = named_ids-optimized contents
+named_ids-optimized (loop q s e loopee) = go (reads_one_character loopee) (named_ids-optimized loopee)
+  where
+    go : (r : Bool) → named_ids (optimized loopee) ≡ named_ids loopee
+        → named_ids (if r then loop_1_char_body q loopee else loop q s e (optimized loopee)) ≡ named_ids loopee
+    go true h = refl
+    go false h = h
+named_ids-optimized (loop_1_char_body q loopee) = named_ids-optimized loopee
+named_ids-optimized _ = refl
+
+names_by_id-optimized : (n : Node) → names_by_id (optimized n) ≡ names_by_id n
+names_by_id-optimized n = ap by_id (named_ids-optimized n)
+  where
+    by_id : List (ℕ × List ℕ) → List (List ℕ)
+    by_id named = if list_all (λ p. length p.1 == 0) named then [] else map (name_of named) (numbers_from 0 (length named))
 
 is_end_of_cat-optimized : (n : Node) → is_end_of_cat (optimized n) ≡ is_end_of_cat n
 unfolding optimized
@@ -83,44 +109,32 @@ is_one-reads _ h = grind arith
 
 -- ---- Tests of each node
 
-left : (a b : Bool) → (a && b) ≡ true → a ≡ true
-left true b h = refl
-left false b h = h
-
-right : (a b : Bool) → (a && b) ≡ true → b ≡ true
-right true b h = h
-right false b h = grind arith
-
-both : (a b : Bool) → a ≡ true → b ≡ true → (a && b) ≡ true
-both true b h k = k
-both false b h k = grind arith
-
 -- a test that holds of the optimized node where it holds of the node holds of each one
 module _ (test : Node → Bool) (keeps : (n : Node) → test n ≡ true → test (optimized n) ≡ true) where
   every-optimized : (n : Node) → every test n ≡ true → every test (optimized n) ≡ true
   unfolding optimized
   every-optimized (cat first rest) h =
-      both _ _
-      (both _ _ (keeps (cat first rest) (left (test (cat first rest)) _ (left _ (every test rest) h))) (every-optimized first (right (test (cat first rest)) _ (left _ (every test rest) h))))
-      (every-optimized rest (right _ (every test rest) h))
+      and_from _ _
+      (and_from _ _ (keeps (cat first rest) (and-left (test (cat first rest)) _ (and-left _ (every test rest) h))) (every-optimized first (and-right (test (cat first rest)) _ (and-left _ (every test rest) h))))
+      (every-optimized rest (and-right _ (every test rest) h))
   every-optimized (alt first rest) h =
-      both _ _
-      (both _ _ (keeps (alt first rest) (left (test (alt first rest)) _ (left _ (every test rest) h))) (every-optimized first (right (test (alt first rest)) _ (left _ (every test rest) h))))
-      (every-optimized rest (right _ (every test rest) h))
+      and_from _ _
+      (and_from _ _ (keeps (alt first rest) (and-left (test (alt first rest)) _ (and-left _ (every test rest) h))) (every-optimized first (and-right (test (alt first rest)) _ (and-left _ (every test rest) h))))
+      (every-optimized rest (and-right _ (every test rest) h))
   every-optimized (capture_group id name contents) h =
-      both _ _ (keeps (capture_group id name contents) (left _ (every test contents) h)) (every-optimized contents (right _ (every test contents) h))
+      and_from _ _ (keeps (capture_group id name contents) (and-left _ (every test contents) h)) (every-optimized contents (and-right _ (every test contents) h))
   every-optimized (lookaround l contents) h =
-      both _ _ (keeps (lookaround l contents) (left _ (every test contents) h)) (every-optimized contents (right _ (every test contents) h))
+      and_from _ _ (keeps (lookaround l contents) (and-left _ (every test contents) h)) (every-optimized contents (and-right _ (every test contents) h))
   every-optimized (loop q s e loopee) h =
-      go (reads_one_character loopee) (keeps (loop q s e loopee) (left _ (every test loopee) h)) (right _ (every test loopee) h)
-      (every-optimized loopee (right _ (every test loopee) h))
+      go (reads_one_character loopee) (keeps (loop q s e loopee) (and-left _ (every test loopee) h)) (and-right _ (every test loopee) h)
+      (every-optimized loopee (and-right _ (every test loopee) h))
     where
       go : (r : Bool) → test (if r then loop_1_char_body q loopee else loop q s e (optimized loopee)) ≡ true → every test loopee ≡ true → every test (optimized loopee) ≡ true
           → every test (if r then loop_1_char_body q loopee else loop q s e (optimized loopee)) ≡ true
-      go true here below inside = both _ _ here below
-      go false here below inside = both _ _ here inside
+      go true here below inside = and_from _ _ here below
+      go false here below inside = and_from _ _ here inside
   every-optimized (loop_1_char_body q loopee) h =
-      both _ _ (keeps (loop_1_char_body q loopee) (left _ (every test loopee) h)) (every-optimized loopee (right _ (every test loopee) h))
+      and_from _ _ (keeps (loop_1_char_body q loopee) (and-left _ (every test loopee) h)) (every-optimized loopee (and-right _ (every test loopee) h))
   every-optimized empty h = h
   every-optimized goal h = h
   every-optimized (char c) h = h
@@ -188,8 +202,8 @@ sets-optimized _ h = refl
 
 pub well_formed-optimized : OptimizedIsWellFormed
 well_formed-optimized root h =
-    let w : IsWellFormed root = (well_formed-iff root).0 h in
-    (well_formed-iff (optimized root)).1 (record {
+    let w = clauses root h in
+    by_clauses (optimized root) (record {
       goal_last = rw (goal_count-optimized root, ends_in_goal-optimized root) w.goal_last;
       ids = rw (group_ids-optimized root) w.ids;
       enclosed = every-optimized names_the_groups_inside names-optimized root w.enclosed;
@@ -216,7 +230,7 @@ nothing_named first zero h = refl
 nothing_named first (suc count) h = grind arith
 
 encloses_none : (s e : ℕ) (n : Node) → group_ids n ≡ [] → encloses s e n ≡ true → e - s ≡ 0
-encloses_none s e n none h = nothing_named s (e - s) (right (nat_le s e && list_all (contains (numbers_from s (e - s))) []) _ (rw none at h))
+encloses_none s e n none h = nothing_named s (e - s) (and-right (nat_le s e && list_all (contains (numbers_from s (e - s))) []) _ (rw none at h))
 
 module _ (text : Text) where
   fun_ext3 : (F G : Direction → ℕ → Groups → List Outcome) → ((d : Direction) (p : ℕ) (g : Groups) → F d p g ≡ G d p g) → F ≡ G
@@ -225,18 +239,18 @@ module _ (text : Text) where
   same : (n : Node) → every names_the_groups_inside n ≡ true → outcomes text (optimized n) ≡ outcomes text n
   unfolding optimized outcomes
   same (cat first rest) h =
-      fun_ext3 _ _ (λ d p g. rw (same first (right (names_the_groups_inside (cat first rest)) _ (left _ (every names_the_groups_inside rest) h)), same rest (right _ (every names_the_groups_inside rest) h)))
+      fun_ext3 _ _ (λ d p g. rw (same first (and-right (names_the_groups_inside (cat first rest)) _ (and-left _ (every names_the_groups_inside rest) h)), same rest (and-right _ (every names_the_groups_inside rest) h)))
   same (alt first rest) h =
-      fun_ext3 _ _ (λ d p g. rw (same first (right (names_the_groups_inside (alt first rest)) _ (left _ (every names_the_groups_inside rest) h)), same rest (right _ (every names_the_groups_inside rest) h)))
+      fun_ext3 _ _ (λ d p g. rw (same first (and-right (names_the_groups_inside (alt first rest)) _ (and-left _ (every names_the_groups_inside rest) h)), same rest (and-right _ (every names_the_groups_inside rest) h)))
   same (capture_group id name contents) h = fun_ext3 _ _ (λ d p g. rw (same contents h))
-  same (lookaround l contents) h = fun_ext3 _ _ (λ d p g. rw (same contents (right _ (every names_the_groups_inside contents) h)))
+  same (lookaround l contents) h = fun_ext3 _ _ (λ d p g. rw (same contents (and-right _ (every names_the_groups_inside contents) h)))
   same (loop q s e loopee) h =
-      go (reads_one_character loopee) refl (same loopee (right _ (every names_the_groups_inside loopee) h))
+      go (reads_one_character loopee) refl (same loopee (and-right _ (every names_the_groups_inside loopee) h))
     where
       go : (r : Bool) → reads_one_character loopee ≡ r → outcomes text (optimized loopee) ≡ outcomes text loopee
           → outcomes text (if r then loop_1_char_body q loopee else loop q s e (optimized loopee)) ≡ outcomes text (loop q s e loopee)
       go true k inside =
-          fun_ext3 _ _ (λ d p g. rw (encloses_none s e loopee (no_ids loopee k) (left (encloses s e loopee) (every names_the_groups_inside loopee) h)))
+          fun_ext3 _ _ (λ d p g. rw (encloses_none s e loopee (no_ids loopee k) (and-left (encloses s e loopee) (every names_the_groups_inside loopee) h)))
       go false k inside = fun_ext3 _ _ (λ d p g. rw inside)
   same (loop_1_char_body q loopee) h = fun_ext3 _ _ (λ d p g. rw (same loopee h))
   same empty h = refl
@@ -255,4 +269,8 @@ module _ (text : Text) where
   same (back_ref group icase) h = refl
 
 pub outcomes-optimized : OptimizedHasSameOutcomes
-outcomes-optimized root h text d p g = ap (λ F. F d p g) (same text root ((well_formed-iff root).0 h).enclosed)
+outcomes-optimized root h text d p g = ap (λ F. F d p g) (same text root (clauses root h).enclosed)
+
+pub answers-optimized : OptimizedHasSameAnswers
+answers-optimized root h text start =
+    answers-same (optimized root) root text (same text root (clauses root h).enclosed) (group_ids-optimized root) (names_by_id-optimized root) start

@@ -1,50 +1,41 @@
 -- The parts of a parsed pattern make a well-formed tree.
-use Rattle.std.proofs.Common.{◌≡◌, ℕ, zero, suc, ◌+◌, ◌-◌, ◌<◌, ◌≤◌, Bool, true, false, ◌&&◌, ◌||◌, List, [], ◌∷◌, ◌++◌, length, count_by, sum_by, refl, sym, ap, ◌∙◌, arith, inl, inr, length-append, get_or, Option, Some, None}
+use Rattle.std.proofs.Common.{◌≡◌, ℕ, zero, suc, ◌+◌, ◌-◌, ◌<◌, ◌≤◌, Bool, true, false, ◌&&◌, ◌||◌, List, [], ◌∷◌, ◌++◌, length, count_by, sum_by, refl, sym, ap, ◌∙◌, arith, inl, inr, length-append, append_assoc, append-nil, get_or, Option, Some, None}
 use Rattle.std.specs.Prelude.{if◌then◌else◌, IsTrue, nat_eq, nat_le, ◌==◌}
 use Rattle.std.specs.List.{All, list_all}
 use Rattle.std.specs.Option.{ForSome}
 use Rattle.std.specs.List.Sorted.{IsPermutation}
-use Rattle.std.proofs.lemmas.Bool.{cases_lt, cases_eq, lt-ltb, le-ltb, lt-leb, le-leb, leb-true, eq-eqb, ne_eqb, and_parts}
+use Rattle.std.proofs.lemmas.Bool.{cases_lt, cases_eq, lt-ltb, le-ltb, lt-leb, le-leb, leb-true, eq-eqb, ne_eqb, and_parts, and_from, or_right}
 use Rattle.std.proofs.lemmas.List.Sums.{sum_by-append}
 use Rattle.std.proofs.lemmas.List.Sorted.{sum_by-IsPermutation, All-permutation}
 use Rattle.std.proofs.lemmas.List.Elements.{All-cons, All-append}
+use Rattle.regex_pattern_front.proofs.BoolLemmas.{left, right, and_from}
 use Rattle.regex_meaning.specs.Lists.{contains, numbers_from}
 use Rattle.regex_meaning.specs.Tree as tree
 use Rattle.regex_meaning.specs.Tree.{group_ids, every, empty, goal, char, char_set, byte_set, byte_sequence, cat, end_of_cat, alt, bracket, string_set, match_any, match_any_except_line_terminator, anchor, word_boundary, capture_group, back_ref, lookaround, loop, loop_1_char_body, Lookaround, Quantifier}
 use Rattle.regex_meaning.specs.WellFormed.{goal_count, encloses, is_in_order, names_the_groups_inside, refers_to_a_group, has_order_in_quantifier, has_one_character_body, has_text_in_sequence, fits_instructions, is_well_formed}
-use Rattle.regex_meaning.proofs.WellFormedLemmas.{well_formed-iff}
+use Rattle.regex_meaning.proofs.WellFormedLemmas.{by_clauses}
 use Rattle.regex_pattern_front.specs.declared.ir.Node.{Node}
 use Rattle.regex_pattern_front.specs.TreeOf.{node_of, cat_of}
-use Rattle.regex_pattern_front.specs.Parts.{is_sound, times, once_within, IsPart, AreParts, IsLeaf}
+use Rattle.regex_pattern_front.specs.Parts.{is_sound, times, once_within, IsPart, AreParts, IsMadeOf, KeepsParts, IsLeaf}
 use Rattle.regex_pattern_front.proofs.ByteLemmas.{contains-numbers_from}
+use Rattle.regex_meaning.proofs.Booleans.{and-left, and-right}
+use Rattle.regex_meaning.proofs.Lists.{list_all-members}
 
 -- ---- Tests
-
-left : (a b : Bool) → (a && b) ≡ true → a ≡ true
-left true b h = refl
-left false b h = h
-
-right : (a b : Bool) → (a && b) ≡ true → b ≡ true
-right true b h = h
-right false b h = grind arith
-
-both : (a b : Bool) → a ≡ true → b ≡ true → (a && b) ≡ true
-both true b h k = k
-both false b h k = grind arith
 
 -- a test that follows from another
 module _ (test other : tree.Node → Bool) (weaker : (n : tree.Node) → test n ≡ true → other n ≡ true) where
   pub every-weaker : (n : tree.Node) → every test n ≡ true → every other n ≡ true
   every-weaker (cat first rest) h =
-      both _ _ (both _ _ (weaker _ (left (test (cat first rest)) _ (left _ (every test rest) h))) (every-weaker first (right (test (cat first rest)) _ (left _ (every test rest) h))))
-      (every-weaker rest (right _ (every test rest) h))
+      and_from _ _ (and_from _ _ (weaker _ (and-left (test (cat first rest)) _ (and-left _ (every test rest) h))) (every-weaker first (and-right (test (cat first rest)) _ (and-left _ (every test rest) h))))
+      (every-weaker rest (and-right _ (every test rest) h))
   every-weaker (alt first rest) h =
-      both _ _ (both _ _ (weaker _ (left (test (alt first rest)) _ (left _ (every test rest) h))) (every-weaker first (right (test (alt first rest)) _ (left _ (every test rest) h))))
-      (every-weaker rest (right _ (every test rest) h))
-  every-weaker (capture_group id name contents) h = both _ _ (weaker _ (left _ (every test contents) h)) (every-weaker contents (right _ (every test contents) h))
-  every-weaker (lookaround l contents) h = both _ _ (weaker _ (left _ (every test contents) h)) (every-weaker contents (right _ (every test contents) h))
-  every-weaker (loop q s e loopee) h = both _ _ (weaker _ (left _ (every test loopee) h)) (every-weaker loopee (right _ (every test loopee) h))
-  every-weaker (loop_1_char_body q loopee) h = both _ _ (weaker _ (left _ (every test loopee) h)) (every-weaker loopee (right _ (every test loopee) h))
+      and_from _ _ (and_from _ _ (weaker _ (and-left (test (alt first rest)) _ (and-left _ (every test rest) h))) (every-weaker first (and-right (test (alt first rest)) _ (and-left _ (every test rest) h))))
+      (every-weaker rest (and-right _ (every test rest) h))
+  every-weaker (capture_group id name contents) h = and_from _ _ (weaker _ (and-left _ (every test contents) h)) (every-weaker contents (and-right _ (every test contents) h))
+  every-weaker (lookaround l contents) h = and_from _ _ (weaker _ (and-left _ (every test contents) h)) (every-weaker contents (and-right _ (every test contents) h))
+  every-weaker (loop q s e loopee) h = and_from _ _ (weaker _ (and-left _ (every test loopee) h)) (every-weaker loopee (and-right _ (every test loopee) h))
+  every-weaker (loop_1_char_body q loopee) h = and_from _ _ (weaker _ (and-left _ (every test loopee) h)) (every-weaker loopee (and-right _ (every test loopee) h))
   every-weaker empty h = weaker _ h
   every-weaker goal h = weaker _ h
   every-weaker (char c) h = weaker _ h
@@ -72,11 +63,11 @@ pub record Sound (greatest : ℕ) (n : tree.Node) : Type 0 where
 six : (a b c d e f : Bool) → (a && b && c && d && e && f) ≡ true
     → (a ≡ true) × (b ≡ true) × (c ≡ true) × (d ≡ true) × (e ≡ true) × (f ≡ true)
 six a b c d e f h =
-    let to_e = left (a && b && c && d && e) f h in
-    let to_d = left (a && b && c && d) e to_e in
-    let to_c = left (a && b && c) d to_d in
-    let to_b = left (a && b) c to_c in
-    (left a b to_b, right a b to_b, right (a && b) c to_c, right (a && b && c) d to_d, right (a && b && c && d) e to_e, right (a && b && c && d && e) f h)
+    let to_e = and-left (a && b && c && d && e) f h in
+    let to_d = and-left (a && b && c && d) e to_e in
+    let to_c = and-left (a && b && c) d to_d in
+    let to_b = and-left (a && b) c to_c in
+    (and-left a b to_b, and-right a b to_b, and-right (a && b) c to_c, and-right (a && b && c) d to_d, and-right (a && b && c && d) e to_e, and-right (a && b && c && d && e) f h)
 
 pub Sound-from : (greatest : ℕ) (n : tree.Node) → is_sound greatest n ≡ true → Sound greatest n
 Sound-from greatest n h =
@@ -84,13 +75,13 @@ Sound-from greatest n h =
     record { names = p.0; refers = p.1; order = p.2; body = p.3; text = p.4; fits = p.5 }
 
 pub sound-from : (greatest : ℕ) (n : tree.Node) → Sound greatest n → is_sound greatest n ≡ true
-sound-from greatest n s = both _ _ (both _ _ (both _ _ (both _ _ (both _ _ s.names s.refers) s.order) s.body) s.text) s.fits
+sound-from greatest n s = and_from _ _ (and_from _ _ (and_from _ _ (and_from _ _ (and_from _ _ s.names s.refers) s.order) s.body) s.text) s.fits
 
 refers-more : (greatest more : ℕ) (n : tree.Node) → greatest ≤ more → refers_to_a_group greatest n ≡ true → refers_to_a_group more n ≡ true
 refers-more greatest more (back_ref group icase) h k =
     let p = and_parts (nat_le 1 group) (nat_le group greatest) k in
     let low : group ≤ greatest = leb-true _ _ p.1 in
-    both _ _ p.0 (le-leb group more (omega arith))
+    and_from _ _ p.0 (le-leb group more (omega arith))
 refers-more greatest more _ h k = refl
 
 sound-more : (greatest more : ℕ) (n : tree.Node) → greatest ≤ more → is_sound greatest n ≡ true → is_sound more n ≡ true
@@ -165,6 +156,9 @@ parts-none first greatest = record { goals = refl; count = omega arith; ids = λ
 All-more : (greatest more : ℕ) (xs : List Node) → greatest ≤ more → All (λ n. IsTrue (every (is_sound greatest) (node_of n))) xs → All (λ n. IsTrue (every (is_sound more) (node_of n))) xs
 All-more greatest more xs h all = λ k d l. every-more greatest more (node_of (get_or xs k d)) h (all k d l)
 
+pub parts-more : (first end greatest more : ℕ) (xs : List Node) → greatest ≤ more → AreParts first end greatest xs → AreParts first end more xs
+parts-more first end greatest more xs h a = record { goals = a.goals; count = a.count; ids = a.ids; sound = All-more greatest more xs h a.sound }
+
 pub parts-push : (first middle end greatest more : ℕ) (xs : List Node) (n : Node) → greatest ≤ more
     → AreParts first middle greatest xs → IsPart middle end more (node_of n) → AreParts first end more (xs ++ n ∷ [])
 parts-push first middle end greatest more xs n h a p = record {
@@ -181,25 +175,11 @@ parts-push first middle end greatest more xs n h a p = record {
       (All-cons (λ n. IsTrue (every (is_sound more) (node_of n))) n [] p.sound (λ k d h. absurd (omega arith)));
 }
 
-pub parts-permuted : (first end greatest : ℕ) (xs ys : List Node) → IsPermutation xs ys → AreParts first end greatest xs → AreParts first end greatest ys
-parts-permuted first end greatest xs ys h a = record {
-  goals = sum_by-IsPermutation (λ n. goal_count (node_of n)) xs ys h ∙ a.goals;
-  count = rw (sum_by-IsPermutation (λ n. length (group_ids (node_of n))) xs ys h) a.count;
-  ids = λ id. sum_by-IsPermutation (λ n. times id (node_of n)) xs ys h ∙ a.ids id;
-  sound = All-permutation (λ n. IsTrue (every (is_sound greatest) (node_of n))) xs ys h a.sound;
-}
-
 All-split : (P : Node → Type 0) (xs ys : List Node) → All P (xs ++ ys) → All P xs × All P ys
 All-split P [] ys all = ((λ k d h. absurd (omega arith)), all)
 All-split P (x ∷ xs) ys all =
     let r = All-split P xs ys (λ k d h. all (suc k) d (omega arith)) in
     (All-cons P x xs (all 0 x (omega arith)) r.0, r.1)
-
-All-front : (P : Node → Type 0) (xs ys : List Node) → All P (xs ++ ys) → All P xs
-All-front P xs ys all = (All-split P xs ys all).0
-
-All-last : (P : Node → Type 0) (xs : List Node) (y : Node) → All P (xs ++ y ∷ []) → P y
-All-last P xs y all = (All-split P xs (y ∷ []) all).1 0 y (omega arith)
 
 pub parts-one : (first end greatest : ℕ) (n : Node) → AreParts first end greatest (n ∷ []) → IsPart first end greatest (node_of n)
 parts-one first end greatest n a = record {
@@ -209,43 +189,60 @@ parts-one first end greatest n a = record {
   sound = a.sound 0 n (omega arith);
 }
 
--- the last two nodes made one
-pub parts-alt : (first end greatest : ℕ) (xs : List Node) (l r n : Node) → node_of n ≡ alt (node_of l) (node_of r)
-    → AreParts first end greatest ((xs ++ l ∷ []) ++ r ∷ []) → AreParts first end greatest (xs ++ n ∷ [])
-parts-alt first end greatest xs l r n is a = record {
-  goals = joined (λ m. goal_count m) (λ x y. refl) ∙ a.goals;
-  count = rw (joined (λ m. length (group_ids m)) (λ x y. length-append (group_ids x) (group_ids y))) a.count;
-  ids = λ id. joined (λ m. times id m) (λ x y. count_by-append (nat_eq id) (group_ids x) (group_ids y)) ∙ a.ids id;
-  sound = All-append (λ m. IsTrue (every (is_sound greatest) (node_of m))) xs (n ∷ []) front
-      (All-cons (λ m. IsTrue (every (is_sound greatest) (node_of m))) n [] (rw is (both _ _ (both _ _ refl second) third)) (λ k d h. absurd (omega arith)));
+-- ---- Several nodes made one
+
+pub part-made : (first end greatest : ℕ) (xs : List Node) (n : tree.Node) → IsMadeOf xs n → AreParts first end greatest xs → IsPart first end greatest n
+part-made first end greatest xs n m a = record {
+  goals = m.goals ∙ a.goals;
+  count = rw m.count a.count;
+  ids = λ id. m.ids id ∙ a.ids id;
+  sound = m.sound greatest a.sound;
+}
+
+pub parts-made : (xs ys : List Node) (n : Node) → IsMadeOf ys (node_of n) → KeepsParts (xs ++ ys) (xs ++ n ∷ [])
+parts-made xs ys n m = λ first end greatest a. record {
+  goals = same (λ m. goal_count m) m.goals ∙ a.goals;
+  count = rw (same (λ m. length (group_ids m)) m.count) a.count;
+  ids = λ id. same (λ m. times id m) (m.ids id) ∙ a.ids id;
+  sound =
+      let parts = All-split (λ m. IsTrue (every (is_sound greatest) (node_of m))) xs ys a.sound in
+      All-append (λ m. IsTrue (every (is_sound greatest) (node_of m))) xs (n ∷ []) parts.0
+      (All-cons (λ m. IsTrue (every (is_sound greatest) (node_of m))) n [] (m.sound greatest parts.1) (λ k d h. absurd (omega arith)));
 }
   where
-    joined : (f : tree.Node → ℕ) → ((x y : tree.Node) → f (alt x y) ≡ f x + f y)
-        → sum_by (λ m. f (node_of m)) (xs ++ n ∷ []) ≡ sum_by (λ m. f (node_of m)) ((xs ++ l ∷ []) ++ r ∷ [])
-    joined f h =
+    same : (f : tree.Node → ℕ) → f (node_of n) ≡ sum_by (λ m. f (node_of m)) ys
+        → sum_by (λ m. f (node_of m)) (xs ++ n ∷ []) ≡ sum_by (λ m. f (node_of m)) (xs ++ ys)
+    same f h =
         let e = sum_by-append (λ m. f (node_of m)) xs (n ∷ []) in
-        let e1 = sum_by-append (λ m. f (node_of m)) (xs ++ l ∷ []) (r ∷ []) in
-        let e2 = sum_by-append (λ m. f (node_of m)) xs (l ∷ []) in
-        let e3 : f (node_of n) ≡ f (node_of l) + f (node_of r) = ap f is ∙ h (node_of l) (node_of r) in
+        let e1 = sum_by-append (λ m. f (node_of m)) xs ys in
         omega arith
 
-    P : Node → Type 0
-    P m = IsTrue (every (is_sound greatest) (node_of m))
+pub made-permuted : (xs ys : List Node) (n : tree.Node) → IsPermutation xs ys → IsMadeOf ys n → IsMadeOf xs n
+made-permuted xs ys n h m = record {
+  goals = m.goals ∙ sum_by-IsPermutation (λ n. goal_count (node_of n)) xs ys h;
+  count = m.count ∙ sum_by-IsPermutation (λ n. length (group_ids (node_of n))) xs ys h;
+  ids = λ id. m.ids id ∙ sum_by-IsPermutation (λ n. times id (node_of n)) xs ys h;
+  sound = λ greatest all. m.sound greatest (All-permutation (λ n. IsTrue (every (is_sound greatest) (node_of n))) xs ys h all);
+}
 
-    front : All P xs
-    front = All-front P xs (l ∷ []) (All-front P (xs ++ l ∷ []) (r ∷ []) a.sound)
+pub made-alt : (l r : Node) → IsMadeOf (l ∷ r ∷ []) (alt (node_of l) (node_of r))
+made-alt l r = record {
+  goals = omega arith;
+  count = let e = length-append (group_ids (node_of l)) (group_ids (node_of r)) in omega arith;
+  ids = λ id. let e = count_by-append (nat_eq id) (group_ids (node_of l)) (group_ids (node_of r)) in omega arith;
+  sound = λ greatest all. and_from _ _ (and_from _ _ refl (all 0 l (omega arith))) (all 1 l (omega arith));
+}
 
-    second : every (is_sound greatest) (node_of l) ≡ true
-    second = All-last P xs l (All-front P (xs ++ l ∷ []) (r ∷ []) a.sound)
-
-    third : every (is_sound greatest) (node_of r) ≡ true
-    third = All-last P (xs ++ l ∷ []) r a.sound
+-- the last two nodes made one
+pub parts-alt : (xs : List Node) (l r n : Node) → node_of n ≡ alt (node_of l) (node_of r) → KeepsParts ((xs ++ l ∷ []) ++ r ∷ []) (xs ++ n ∷ [])
+parts-alt xs l r n is = λ first end greatest a.
+    parts-made xs (l ∷ r ∷ []) n (rw is (made-alt l r)) first end greatest (rw (append_assoc xs (l ∷ []) (r ∷ [])) at a)
 
 -- ---- Nodes round parts
 
 cat-goals : (xs : List Node) → goal_count (cat_of xs) ≡ sum_by (λ n. goal_count (node_of n)) xs
 cat-goals [] = refl
-cat-goals (x ∷ xs) = ap (λ m. goal_count (node_of x) + m) (cat-goals xs) ∙ sym (sum_by-cons (λ n. goal_count (node_of n)) x xs)
+cat-goals (x ∷ xs) = omega (arith, cat-goals xs, sum_by-cons (λ n. goal_count (node_of n)) x xs)
 
 cat-count : (xs : List Node) → length (group_ids (cat_of xs)) ≡ sum_by (λ n. length (group_ids (node_of n))) xs
 cat-count [] = refl
@@ -260,22 +257,17 @@ cat-ids id (x ∷ xs) = count_by-append (nat_eq id) (group_ids (node_of x)) (gro
 cat-sound : (greatest : ℕ) (xs : List Node) → All (λ n. IsTrue (every (is_sound greatest) (node_of n))) xs → every (is_sound greatest) (cat_of xs) ≡ true
 cat-sound greatest [] all = refl
 cat-sound greatest (x ∷ xs) all =
-    both _ _ (both _ _ refl (all 0 x (omega arith))) (cat-sound greatest xs (λ k d h. all (suc k) d (omega arith)))
+    and_from _ _ (and_from _ _ refl (all 0 x (omega arith))) (cat-sound greatest xs (λ k d h. all (suc k) d (omega arith)))
 
-pub part-cat : (first end greatest : ℕ) (xs : List Node) → AreParts first end greatest xs → IsPart first end greatest (cat_of xs)
-part-cat first end greatest xs a = record {
-  goals = cat-goals xs ∙ a.goals;
-  count = rw (cat-count xs) a.count;
-  ids = λ id. cat-ids id xs ∙ a.ids id;
-  sound = cat-sound greatest xs a.sound;
-}
+pub made-cat : (xs : List Node) → IsMadeOf xs (cat_of xs)
+made-cat xs = record { goals = cat-goals xs; count = cat-count xs; ids = λ id. cat-ids id xs; sound = λ greatest all. cat-sound greatest xs all }
 
 pub part-group : (first end greatest : ℕ) (name : List ℕ) (n : tree.Node) → IsPart (first + 1) end greatest n → IsPart first end greatest (capture_group first name n)
 part-group first end greatest name n p = record {
-  goals = p.goals;
+  goals = omega (arith, p.goals);
   count = let g = p.count in omega arith;
   ids = λ id. count_by-cons (nat_eq id) first (group_ids n) ∙ ap (λ m. (if nat_eq id first then 1 else 0) + m) (p.ids id) ∙ within-first first end id (omega (arith, p.count));
-  sound = both _ _ refl p.sound;
+  sound = and_from _ _ refl p.sound;
 }
 
 -- ---- The groups inside
@@ -295,16 +287,6 @@ contained_more false n r h k = let some : 0 < n = k h in omega arith
 counted-contained : (xs : List ℕ) (id : ℕ) → contains xs id ≡ true → 0 < count_by (nat_eq id) xs
 counted-contained [] id h = grind arith
 counted-contained (x ∷ xs) id h = rw (count_by-cons (nat_eq id) x xs) (contained_more (nat_eq id x) (count_by (nat_eq id) xs) (contains xs id) h (λ k. counted-contained xs id k))
-
-or-right : (a b : Bool) → b ≡ true → (a || b) ≡ true
-or-right true b h = refl
-or-right false b h = h
-
--- what holds of each member holds of all
-list_all-members : (p : ℕ → Bool) (xs : List ℕ) → ((x : ℕ) → contains xs x ≡ true → p x ≡ true) → list_all p xs ≡ true
-list_all-members p [] h = refl
-list_all-members p (x ∷ xs) h =
-    both _ _ (h x (rw (eq-eqb x x refl))) (list_all-members p xs (λ y k. h y (or-right (nat_eq y x) _ k)))
 
 numbers-within : (x first count : ℕ) → contains (numbers_from first count) x ≡ true → (first ≤ x) × (x < first + count)
 numbers-within x first zero h = grind arith
@@ -331,7 +313,7 @@ inside-once first end id h =
 part-encloses : (first end greatest : ℕ) (n : tree.Node) → IsPart first end greatest n → encloses first end n ≡ true
 part-encloses first end greatest n p =
     let length_is : first + (end - first) ≡ end = omega (arith, p.count) in
-    both _ _ (both _ _ (le-leb first end (omega (arith, p.count)))
+    and_from _ _ (and_from _ _ (le-leb first end (omega (arith, p.count)))
     (list_all-members (contains (numbers_from first (end - first))) (group_ids n) (λ id k.
     let c : 0 < once_within first end id = rw (← p.ids id) (counted-contained (group_ids n) id k) in
     let r = inside-once first end id c in
@@ -344,19 +326,19 @@ part-encloses first end greatest n p =
 pub part-lookaround : (first end greatest : ℕ) (negate backwards : Bool) (n : tree.Node) → IsPart first end greatest n
     → IsPart first end greatest (lookaround (record { negate = negate; backwards = backwards; start_group = first; end_group = end }) n)
 part-lookaround first end greatest negate backwards n p = record {
-  goals = p.goals;
+  goals = omega (arith, p.goals);
   count = p.count;
   ids = p.ids;
-  sound = both _ _ (sound-from greatest (lookaround (record { negate = negate; backwards = backwards; start_group = first; end_group = end }) n) (record { names = part-encloses first end greatest n p; refers = refl; order = refl; body = refl; text = refl; fits = refl })) p.sound;
+  sound = and_from _ _ (sound-from greatest (lookaround (record { negate = negate; backwards = backwards; start_group = first; end_group = end }) n) (record { names = part-encloses first end greatest n p; refers = refl; order = refl; body = refl; text = refl; fits = refl })) p.sound;
 }
 
 pub part-loop : (first end greatest : ℕ) (q : Quantifier) (n : tree.Node) → is_in_order q ≡ true → IsPart first end greatest n
     → IsPart first end greatest (loop q first end n)
 part-loop first end greatest q n order p = record {
-  goals = p.goals;
+  goals = omega (arith, p.goals);
   count = p.count;
   ids = p.ids;
-  sound = both _ _ (sound-from greatest (loop q first end n) (record { names = part-encloses first end greatest n p; refers = refl; order = order; body = refl; text = refl; fits = refl })) p.sound;
+  sound = and_from _ _ (sound-from greatest (loop q first end n) (record { names = part-encloses first end greatest n p; refers = refl; order = order; body = refl; text = refl; fits = refl })) p.sound;
 }
 
 -- ---- The whole pattern
@@ -364,22 +346,18 @@ part-loop first end greatest q n order p = record {
 whole-goals : (n : tree.Node) → goal_count n ≡ 0 → (goal_count (cat n (cat goal end_of_cat)) == 1) ≡ true
 whole-goals n h = rw h
 
-append-none : (xs : List ℕ) → xs ++ [] ≡ xs
-append-none [] = refl
-append-none (x ∷ xs) = ap (λ ys. x ∷ ys) (append-none xs)
-
 whole-every : (greatest : ℕ) (n : tree.Node) (test : tree.Node → Bool) → ((m : tree.Node) → is_sound greatest m ≡ true → test m ≡ true)
     → every (is_sound greatest) n ≡ true → every test (cat n (cat goal end_of_cat)) ≡ true
 whole-every greatest n test weaker h =
-    every-weaker (is_sound greatest) test weaker (cat n (cat goal end_of_cat)) (both _ _ (both _ _ refl h) refl)
+    every-weaker (is_sound greatest) test weaker (cat n (cat goal end_of_cat)) (and_from _ _ (and_from _ _ refl h) refl)
 
 pub whole : (groups greatest : ℕ) (n : tree.Node) → greatest ≤ groups → IsPart 0 groups greatest n → IsTrue (is_well_formed (cat n (cat goal end_of_cat)))
 whole groups greatest n within p =
-    let ids_are : group_ids (cat n (cat goal end_of_cat)) ≡ group_ids n = append-none (group_ids n) in
+    let ids_are : group_ids (cat n (cat goal end_of_cat)) ≡ group_ids n = append-nil (group_ids n) in
     let count_is : length (group_ids n) ≡ groups = omega (arith, p.count) in
     let root_count : length (group_ids (cat n (cat goal end_of_cat))) ≡ groups = ap length ids_are ∙ count_is in
-    (well_formed-iff (cat n (cat goal end_of_cat))).1 (record {
-      goal_last = both _ _ (whole-goals n p.goals) refl;
+    by_clauses (cat n (cat goal end_of_cat)) (record {
+      goal_last = and_from _ _ (whole-goals n p.goals) refl;
       ids = rw ids_are (list_all-members _ (numbers_from 0 (length (group_ids n))) (λ id k.
           let r = numbers-within id 0 (length (group_ids n)) k in
           rw (p.ids id, once-inside 0 groups id (omega arith) (omega arith))));
@@ -392,7 +370,7 @@ whole groups greatest n within p =
       sets = whole-every greatest n fits_instructions (λ m k. (Sound-from greatest m k).fits) p.sound;
     })
 
-pub empty-list : (xs : List Node) → length xs ≡ 0 → xs ≡ []
+pub empty-list : {A : Type 0} (xs : List A) → length xs ≡ 0 → xs ≡ []
 empty-list [] h = refl
 empty-list (x ∷ xs) h = absurd (omega arith)
 

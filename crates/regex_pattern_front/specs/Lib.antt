@@ -4,3 +4,4 @@ pub mod ByteSets
 pub mod Searching
 pub mod Optimized
 pub mod Parts
+pub mod Levels

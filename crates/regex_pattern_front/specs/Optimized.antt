@@ -1,9 +1,10 @@
 -- The tree with loops over one character.
 use Rattle.std.specs.Prelude.{◌≡◌, ℕ, Bool, true, false, IsTrue, if◌then◌else◌}
-use Rattle.regex_meaning.specs.Tree.{Node, char, char_set, byte_set, cat, alt, bracket, match_any, match_any_except_line_terminator, capture_group, lookaround, loop, loop_1_char_body}
+use Rattle.regex_meaning.specs.Tree.{Node, group_ids, char, char_set, byte_set, cat, alt, bracket, match_any, match_any_except_line_terminator, capture_group, lookaround, loop, loop_1_char_body}
 use Rattle.regex_meaning.specs.Text.{Text, Direction}
 use Rattle.regex_meaning.specs.Outcomes.{Groups, outcomes}
 use Rattle.regex_meaning.specs.WellFormed.{is_well_formed}
+use Rattle.regex_meaning.specs.Names.{answers_from, named_ids}
 
 -- the nodes that read one character and accept it or not
 abbrev pub reads_one_character : Node → Bool
@@ -26,6 +27,16 @@ optimized (loop q start_group end_group loopee) =
 optimized (loop_1_char_body q loopee) = loop_1_char_body q (optimized loopee)
 optimized node = node
 
+-- a loop as one over one character
+abbrev pub narrowed : Node → Node
+narrowed (loop q start_group end_group loopee) = loop_1_char_body q loopee
+narrowed node = node
+
+-- alternatives that were turned to look at the one before, the last of them first, as they were, with what stands behind
+abbrev pub turned_back : (done rest : Node) → Node
+turned_back (alt left before) rest = turned_back before (alt left rest)
+turned_back _ rest = rest
+
 -- optimizing keeps a tree well formed
 abbrev pub OptimizedIsWellFormed : Type 0
 OptimizedIsWellFormed = (root : Node) → IsTrue (is_well_formed root) → IsTrue (is_well_formed (optimized root))
@@ -34,3 +45,16 @@ OptimizedIsWellFormed = (root : Node) → IsTrue (is_well_formed root) → IsTru
 abbrev pub OptimizedHasSameOutcomes : Type 0
 OptimizedHasSameOutcomes = (root : Node) → IsTrue (is_well_formed root)
     → (text : Text) (direction : Direction) (place : ℕ) (groups : Groups) → outcomes text (optimized root) direction place groups ≡ outcomes text root direction place groups
+
+-- and the list of matches that it had, from each start
+abbrev pub OptimizedHasSameAnswers : Type 0
+OptimizedHasSameAnswers = (root : Node) → IsTrue (is_well_formed root)
+    → (text : Text) (start : ℕ) → answers_from (optimized root) text start ≡ answers_from root text start
+
+-- optimizing leaves the groups, in the order of the tree, so it leaves how many there are
+abbrev pub OptimizedHasSameGroups : Type 0
+OptimizedHasSameGroups = (root : Node) → group_ids (optimized root) ≡ group_ids root
+
+-- and the name of each
+abbrev pub OptimizedHasSameNames : Type 0
+OptimizedHasSameNames = (root : Node) → named_ids (optimized root) ≡ named_ids root

@@ -34,6 +34,21 @@ pub record AreParts (first end greatest : ℕ) (nodes : List Node) : Type 0 wher
   pub ids : (id : ℕ) → sum_by (λ n. times id (node_of n)) nodes ≡ once_within first end id
   pub sound : All (λ n. IsTrue (every (is_sound greatest) (node_of n))) nodes
 
+-- what is known of the first nodes together is known of the others
+abbrev pub KeepsParts : List Node → List Node → Type 0
+KeepsParts old new = (first end greatest : ℕ) → AreParts first end greatest old → AreParts first end greatest new
+
+-- what is known of the nodes together is known of the one
+abbrev pub JoinsParts : List Node → tree.Node → Type 0
+JoinsParts nodes n = (first end greatest : ℕ) → AreParts first end greatest nodes → IsPart first end greatest n
+
+-- one node that has what these nodes have together
+pub record IsMadeOf (nodes : List Node) (n : tree.Node) : Type 0 where
+  pub goals : goal_count n ≡ sum_by (λ m. goal_count (node_of m)) nodes
+  pub count : length (group_ids n) ≡ sum_by (λ m. length (group_ids (node_of m))) nodes
+  pub ids : (id : ℕ) → times id n ≡ sum_by (λ m. times id (node_of m)) nodes
+  pub sound : (greatest : ℕ) → All (λ m. IsTrue (every (is_sound greatest) (node_of m))) nodes → IsTrue (every (is_sound greatest) n)
+
 -- a part without groups
 pub record IsLeaf (greatest : ℕ) (n : tree.Node) : Type 0 where
   pub goals : goal_count n ≡ 0

@@ -5,6 +5,7 @@ ghost use Rattle.std.specs.Prelude.{◌≡◌, ◌<◌, ◌≤◌, length, IfOk,
 use crate::escapes::name;
 use crate::parse::ParseError;
 use crate::reader::Reader;
+use crate::types::CaptureGroupID;
 use std::alloc::Global;
 use std::collections::BTreeMap;
 
@@ -19,6 +20,33 @@ pub(crate) enum Opening {
     Plain,
     /// `(?=`, `(?!`, `(?<=` or `(?<!`
     Look { negate: bool, backwards: bool },
+}
+
+impl Opening {
+    ghost use Rattle.regex_pattern_front.specs.Levels.{captures};
+
+    /// How many capturing groups open with it: one or none.
+    pub(crate) fn captures(self) -> CaptureGroupID
+        ensures { result ≡ captures self }
+    {
+        match self {
+            Opening::Capture | Opening::Named => 1,
+            Opening::Plain | Opening::Look { .. } => 0,
+        }
+    }
+
+    /// Whether terms stand in reverse order inside it, where outside they do so or not.
+    pub(crate) fn is_behind(self, outside: bool) -> bool {
+        match self {
+            Opening::Look { backwards, .. } => backwards,
+            _ => outside,
+        }
+    }
+
+    /// Whether a quantifier may follow what it opens.
+    pub(crate) fn is_atom(self) -> bool {
+        !matches!(self, Opening::Look { .. })
+    }
 }
 
 /// Reads an opening parenthesis with what belongs to it, if one stands here.

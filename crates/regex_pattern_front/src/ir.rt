@@ -1,5 +1,7 @@
 //! The pattern tree.
 
+ghost use Rattle.std.specs.Prelude.{◌≡◌};
+
 use crate::flags::Flags;
 use crate::types::{BracketContents, CaptureGroupID};
 use std::ops::Range;
@@ -22,7 +24,6 @@ pub struct Quantifier {
 }
 
 /// A node of the pattern tree.
-#[derive(Drop)]
 pub enum Node {
     /// Matches the empty text.
     Empty,
@@ -93,6 +94,81 @@ pub enum Node {
         loopee: Box<Node>,
         quant: Quantifier,
     },
+}
+
+impl Node {
+    ghost use Rattle.regex_pattern_front.specs.Optimized.{narrowed};
+    ghost use Rattle.regex_pattern_front.specs.TreeOf.{node_of};
+
+    // Of a loop the loop over one character, which names no groups.
+    pub(crate) fn narrowed(self) -> Node
+        ensures { node_of result ≡ narrowed (node_of self) }
+    {
+        match self {
+            Node::Loop {
+                loopee,
+                quant,
+                enclosed_groups: _,
+            } => Node::Loop1CharBody { loopee, quant },
+            other => other,
+        }
+    }
+}
+
+// A loop along the last node inside each node, so that a long row of alternatives takes no more stack than a short one,
+// nor do groups in groups. Only what stands before a last node is let go by a call inside the call.
+impl Drop for Node {
+    fn drop(mut self) {
+        loop {
+            match self {
+                Node::Cat(mut children) => match children.pop() {
+                    Some(last) => self = last,
+                    None => return,
+                },
+                Node::Alt(_, right) => self = Box::into_inner(right),
+                Node::CaptureGroup {
+                    id: _,
+                    contents,
+                    name: _,
+                } => self = Box::into_inner(contents),
+                Node::LookaroundAssertion {
+                    negate: _,
+                    backwards: _,
+                    start_group: _,
+                    end_group: _,
+                    contents,
+                } => self = Box::into_inner(contents),
+                Node::Loop {
+                    loopee,
+                    quant: _,
+                    enclosed_groups: _,
+                } => self = Box::into_inner(loopee),
+                Node::Loop1CharBody { loopee, quant: _ } => self = Box::into_inner(loopee),
+                Node::CharSet(_) => return,
+                Node::ByteSet(_) => return,
+                Node::ByteSequence(_) => return,
+                Node::Bracket(_) => return,
+                Node::StringSet {
+                    alternatives: _,
+                    icase: _,
+                } => return,
+                Node::Empty => return,
+                Node::Goal => return,
+                Node::Char { c: _ } => return,
+                Node::MatchAny => return,
+                Node::MatchAnyExceptLineTerminator => return,
+                Node::Anchor {
+                    anchor_type: _,
+                    multiline: _,
+                } => return,
+                Node::WordBoundary {
+                    invert: _,
+                    unicode_icase: _,
+                } => return,
+                Node::BackRef { group: _, icase: _ } => return,
+            }
+        }
+    }
 }
 
 /// A pattern tree and its flags.

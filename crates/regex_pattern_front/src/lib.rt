@@ -9,6 +9,8 @@ pub mod flags;
 pub mod folding;
 mod groups;
 pub mod ir;
+mod leaves;
+mod nesting;
 pub mod optimizer;
 pub mod parse;
 mod reader;

@@ -1,13 +1,15 @@
 //! Loops over one character.
 
 ghost use Rattle.std.specs.Prelude.{◌≡◌};
-ghost use Rattle.regex_pattern_front.specs.TreeOf.{node_of};
-ghost use Rattle.regex_pattern_front.specs.Optimized.{reads_one_character, optimized, OptimizedIsWellFormed, OptimizedHasSameOutcomes};
+ghost use Rattle.regex_pattern_front.specs.TreeOf.{cat_of, node_of};
+ghost use Rattle.regex_pattern_front.specs.Optimized.{reads_one_character, optimized, narrowed, turned_back};
+ghost use Rattle.regex_pattern_front.specs.Optimized.{OptimizedIsWellFormed, OptimizedHasSameOutcomes, OptimizedHasSameAnswers, OptimizedHasSameGroups, OptimizedHasSameNames};
 
 use crate::ir::{Node, Regex};
 use std::mem;
 
-/// Makes each `Loop` over a node of one character a `Loop1CharBody`, and changes nothing else. Takes no memory.
+/// Makes each `Loop` over a node of one character a `Loop1CharBody`, and changes nothing else. Takes no memory, and no
+/// more stack for many alternatives than for two.
 pub fn optimize(re: &mut Regex)
     ensures root { node_of re.new.node ≡ optimized (node_of re.old.node) }
     ensures flags { re.new.flags ≡ re.old.flags }
@@ -19,71 +21,69 @@ pub fn optimize(re: &mut Regex)
 fn optimize_node(node: &mut Node)
     ensures { node_of node.new ≡ optimized (node_of node.old) }
 {
-    let taken = mem::replace(node, Node::Empty);
-    *node = optimized(taken);
+    match node {
+        Node::Cat(children) => optimize_all(children),
+        Node::Alt(left, right) => {
+            optimize_node(left);
+            optimize_row(right);
+        }
+        Node::CaptureGroup { contents, .. } => optimize_node(contents),
+        Node::LookaroundAssertion { contents, .. } => optimize_node(contents),
+        Node::Loop { loopee, .. } => {
+            if reads_one_character(loopee) {
+                narrow(node);
+            } else {
+                optimize_node(loopee);
+            }
+        }
+        Node::Loop1CharBody { loopee, .. } => optimize_node(loopee),
+        _ => {}
+    }
 }
 
 #[cycle(optimize)]
-fn optimized(node: Node) -> Node
-    ensures { node_of result ≡ optimized (node_of node) }
+fn optimize_all(nodes: &mut Vec<Node>)
+    ensures { cat_of nodes.new.items ≡ optimized (cat_of nodes.old.items) }
 {
-    match node {
-        Node::Cat(mut children) => {
-            for i in 0..children.len() {
-                optimize_node(&mut children[i]);
-            }
-            Node::Cat(children)
-        }
-        Node::Alt(mut left, mut right) => {
-            optimize_node(&mut left);
-            optimize_node(&mut right);
-            Node::Alt(left, right)
-        }
-        Node::CaptureGroup {
-            id,
-            mut contents,
-            name,
-        } => {
-            optimize_node(&mut contents);
-            Node::CaptureGroup { id, contents, name }
-        }
-        Node::LookaroundAssertion {
-            negate,
-            backwards,
-            start_group,
-            end_group,
-            mut contents,
-        } => {
-            optimize_node(&mut contents);
-            Node::LookaroundAssertion {
-                negate,
-                backwards,
-                start_group,
-                end_group,
-                contents,
-            }
-        }
-        Node::Loop {
-            mut loopee,
-            quant,
-            enclosed_groups,
-        } => {
-            if reads_one_character(&loopee) {
-                return Node::Loop1CharBody { loopee, quant };
-            }
-            optimize_node(&mut loopee);
-            Node::Loop {
-                loopee,
-                quant,
-                enclosed_groups,
-            }
-        }
-        Node::Loop1CharBody { mut loopee, quant } => {
-            optimize_node(&mut loopee);
-            Node::Loop1CharBody { loopee, quant }
-        }
-        other => other,
+    for i in 0..nodes.len() {
+        optimize_node(&mut nodes[i]);
     }
+}
+
+// Alternatives, in a loop: on the way there each is turned to look at the one before it, and on the way back as it was.
+#[cycle(optimize)]
+fn optimize_row(row: &mut Node)
+    ensures { node_of row.new ≡ optimized (node_of row.old) }
+{
+    let mut done = Node::Empty;
+    let mut rest = mem::replace(row, Node::Empty);
+    while let Node::Alt(left, right) = &mut rest {
+        optimize_node(left);
+        mem::swap(&mut **right, &mut done);
+        mem::swap(&mut rest, &mut done);
+    }
+    optimize_node(&mut rest);
+    *row = turned_back(done, rest);
+}
+
+// The alternatives of a row that was turned round, and those behind them.
+fn turned_back(mut done: Node, mut rest: Node) -> Node
+    ensures { node_of result ≡ turned_back (node_of done) (node_of rest) }
+{
+    while let Node::Alt(_, right) = &mut done {
+        mem::swap(&mut **right, &mut rest);
+        mem::swap(&mut done, &mut rest);
+    }
+    rest
+}
+
+// Makes a loop one over one character.
+#[inline(never)]
+fn narrow(node: &mut Node)
+    ensures { node_of node.new ≡ narrowed (node_of node.old) }
+{
+    let taken = mem::replace(node, Node::Empty);
+    *node = taken.narrowed();
 }
 
 // Whether a node reads one character and accepts it or not.
@@ -101,12 +101,20 @@ fn reads_one_character(node: &Node) -> bool
     }
 }
 
-// The optimized tree is well formed if the tree is.
+/// A law: the optimized tree is well formed if the tree is.
 pub fn optimized_is_well_formed()
     ensures { OptimizedIsWellFormed }
 {}
 
-// The optimized tree has the tree's outcomes.
+/// A law: the optimized tree of a well-formed tree has the tree's outcomes.
 pub fn optimized_has_same_outcomes()
     ensures { OptimizedHasSameOutcomes }
+{}
+
+/// A law: the optimized tree of a well-formed tree has the tree's matches in each text, and always its groups and their
+/// names.
+pub fn optimized_has_same_matches()
+    ensures answers { OptimizedHasSameAnswers }
+    ensures groups { OptimizedHasSameGroups }
+    ensures names { OptimizedHasSameNames }
 {}

@@ -1,20 +1,22 @@
 //! From the text of a pattern to its tree.
 
-ghost use Rattle.std.specs.Prelude.{◌≡◌, ℕ, ◌<◌, ◌≤◌, length, IfOk, OnOk, IsTrue};
+ghost use Rattle.std.specs.Prelude.{◌≡◌, ℕ, ◌+◌, ◌<◌, ◌≤◌, length, IfOk, OnOk, IsTrue};
 ghost use Rattle.regex_meaning.specs.WellFormed.{is_well_formed};
 ghost use Rattle.regex_pattern_front.specs.TreeOf.{node_of, tree_of};
-ghost use Rattle.regex_pattern_front.specs.Parts.{IsPart, AreParts, IsLeaf};
+ghost use Rattle.regex_pattern_front.specs.Parts.{IsPart};
+ghost use Rattle.regex_pattern_front.specs.Levels.{IsReading, captures};
 ghost use Rattle.regex_pattern_front.specs.declared.parse.ParseError.TheVariants.{Memory};
 
-use crate::classes::{ClassEscape, class};
-use crate::escapes::{character_escape, name};
+use crate::escapes::name;
 use crate::flags::Flags;
-use crate::folding::expand_code_point;
-use crate::groups::{GroupNumbers, Opening, group_numbers, read_opening};
-use crate::ir::{AnchorType, Node, Regex};
+use crate::groups::{Opening, group_numbers, read_opening};
+use crate::ir::{Node, Regex};
+use crate::leaves::{Leaf, LeafReader};
+use crate::nesting::{Level, Open};
 use crate::reader::Reader;
-use crate::types::{BracketContents, CaptureGroupID};
+use crate::types::CaptureGroupID;
 use std::alloc::{AllocError, AllocFailed, Global};
+use std::mem;
 use std::ops::Range;
 
 /// Why there is no tree of a pattern.
@@ -46,320 +48,190 @@ impl<T: Drop> From<AllocFailed<T>> for ParseError {
 ///
 /// The tree is `Cat`[the pattern, `Goal`]. Bars nest to the right, and an alternative is a `Cat` of its terms, which
 /// stand in reverse order inside a lookbehind (ECMA-262, 21.2.1 and 21.2.2).
+///
+/// What is open waits on the heap, so neither many alternatives nor deep groups take stack.
 pub fn try_parse(alloc: Global, pattern: &[u32], flags: Flags) -> Result<Regex, ParseError>
     ensures flags { IfOk result (λ re. re.flags ≡ flags) }
     ensures well_formed { IfOk result (λ re. IsTrue (is_well_formed (tree_of re).root)) }
 {
     let mut parser = Parser {
-        alloc,
-        flags,
-        numbers: group_numbers(alloc, pattern)?,
-        reader: Reader { rest: pattern },
+        leaves: LeafReader {
+            alloc,
+            flags,
+            numbers: group_numbers(alloc, pattern)?,
+            reader: Reader { rest: pattern },
+            references: 0,
+        },
         groups: 0,
-        references: 0,
+        level: Level::new(alloc, false),
+        around: Vec::new(alloc),
     };
-    let node = parser.disjunction(false)?;
-    if parser.reader.next().is_some() || parser.references > u32::from(parser.groups) {
-        return Err(ParseError::Syntax);
-    }
-    let node = Node::Cat(vec![in alloc; node, Node::Goal]?);
+    parser.read_all()?;
+    let node = parser.finish()?;
     Ok(Regex { node, flags })
 }
 
 /// What is read of a pattern so far.
 #[derive(Drop)]
 struct Parser<'p> {
-    alloc: Global,
-    flags: Flags,
-    numbers: GroupNumbers,
-    reader: Reader<'p>,
+    leaves: LeafReader<'p>,
     /// How many capturing groups have opened.
     groups: CaptureGroupID,
-    /// The greatest group that a reference names.
-    references: u32,
-}
-
-// A term that has no group inside, and whether it takes a quantifier.
-#[derive(Drop)]
-struct Leaf {
-    node: Node,
-    is_atom: bool,
+    level: Level,
+    /// The parentheses round it, the outermost first.
+    around: Vec<Open>,
 }
 
 impl Parser<'_> {
-    // Alternatives with bars between them. Behind, that is inside a lookbehind, terms stand in reverse order.
-    #[cycle(parse)]
-    fn disjunction(&mut self, behind: bool) -> Result<Node, ParseError>
-        ensures moves { length self.new.reader.rest.now ≤ length self.old.reader.rest.now }
-        ensures part { IfOk result (λ n. IsPart self.old.groups self.new.groups self.new.references (node_of n)) }
-        ensures references { OnOk result (self.old.references ≤ self.new.references) }
+    fn read_all(&mut self) -> Result<(), ParseError>
+        requires { IsReading self.old }
+        ensures { OnOk result (IsReading self.new) }
     {
-        let first = self.alternative(behind)?;
-        let mut alternatives = vec![in self.alloc; first]?;
-        while self.reader.eat('|') {
-            let next = self.alternative(behind)?;
-            alternatives.push(next)?;
+        while !self.leaves.reader.rest.is_empty() {
+            self.step()?;
         }
-        Ok(join(self.alloc, alternatives)?)
+        Ok(())
     }
 
-    // Terms up to a bar, a closing parenthesis or the end.
-    #[cycle(parse)]
-    fn alternative(&mut self, behind: bool) -> Result<Node, ParseError>
-        ensures moves { length self.new.reader.rest.now ≤ length self.old.reader.rest.now }
-        ensures part { IfOk result (λ n. IsPart self.old.groups self.new.groups self.new.references (node_of n)) }
-        ensures references { OnOk result (self.old.references ≤ self.new.references) }
+    // Reads a bar, a parenthesis or a term.
+    fn step(&mut self) -> Result<(), ParseError>
+        requires { IsReading self.old }
+        ensures reading { OnOk result (IsReading self.new) }
+        ensures read { OnOk result (length self.new.leaves.reader.rest.now < length self.old.leaves.reader.rest.now) }
     {
-        let mut terms = Vec::new(self.alloc);
-        while !self.is_at_end() {
-            let term = self.term(behind)?;
-            terms.push(term)?;
+        if self.leaves.reader.eat('|') {
+            return Ok(self.level.end_arm()?);
         }
-        Ok(cat(terms, behind))
+        if self.leaves.reader.eat(')') {
+            return self.leave();
+        }
+        match read_opening(&mut self.leaves.reader)? {
+            Some(opening) => self.enter(opening),
+            None => self.term(),
+        }
     }
 
-    fn is_at_end(&self) -> bool {
-        self.reader.rest.is_empty() || matches!(self.reader.peek(), Some('|' | ')'))
+    // Reads a term that is no parenthesis.
+    fn term(&mut self) -> Result<(), ParseError>
+        requires { IsReading self.old }
+        ensures reading { OnOk result (IsReading self.new) }
+        ensures read { OnOk result (length self.new.leaves.reader.rest.now < length self.old.leaves.reader.rest.now) }
+    {
+        let Leaf { node, is_atom } = self.leaves.leaf()?;
+        let groups = self.groups..self.groups;
+        let node = quantified(&mut self.leaves, node, groups, is_atom)?;
+        self.level.push(node)?;
+        Ok(())
     }
 
-    #[cycle(parse)]
-    fn term(&mut self, behind: bool) -> Result<Node, ParseError>
-        ensures read { OnOk result (length self.new.reader.rest.now < length self.old.reader.rest.now) }
-        ensures moves { length self.new.reader.rest.now ≤ length self.old.reader.rest.now }
-        ensures part { IfOk result (λ n. IsPart self.old.groups self.new.groups self.new.references (node_of n)) }
-        ensures references { OnOk result (self.old.references ≤ self.new.references) }
+    // Goes into a parenthesis, behind what opens it.
+    fn enter(&mut self, opening: Opening) -> Result<(), ParseError>
+        requires { IsReading self.old }
+        ensures reading { OnOk result (IsReading self.new) }
+        ensures moves { length self.new.leaves.reader.rest.now ≤ length self.old.leaves.reader.rest.now }
     {
-        let Some(opening) = read_opening(&mut self.reader)? else {
-            return self.simple_term();
-        };
-        if let Opening::Look { negate, backwards } = opening {
-            return self.lookaround(negate, backwards);
-        }
+        let alloc = self.leaves.alloc;
+        let name = group_name(alloc, &mut self.leaves.reader, opening)?;
         let start = self.groups;
-        let atom = self.group(opening, behind)?;
-        let end = self.groups;
-        quantified(self.alloc, &mut self.reader, atom, start..end)
+        let more = opening.captures();
+        if more > CaptureGroupID::MAX - start {
+            return Err(ParseError::Syntax);
+        }
+        self.groups = start + more;
+        let inner = Level::new(alloc, opening.is_behind(self.level.behind()));
+        self.around.push(Open {
+            outer: mem::replace(&mut self.level, inner),
+            opening,
+            name,
+            start,
+        })?;
+        Ok(())
     }
 
-    // A lookaround, behind what opens it.
-    #[cycle(parse)]
-    fn lookaround(&mut self, negate: bool, backwards: bool) -> Result<Node, ParseError>
-        ensures moves { length self.new.reader.rest.now ≤ length self.old.reader.rest.now }
-        ensures part { IfOk result (λ n. IsPart self.old.groups self.new.groups self.new.references (node_of n)) }
-        ensures references { OnOk result (self.old.references ≤ self.new.references) }
+    // Goes out of a parenthesis, behind what closes it.
+    fn leave(&mut self) -> Result<(), ParseError>
+        requires { IsReading self.old }
+        ensures reading { OnOk result (IsReading self.new) }
+        ensures moves { length self.new.leaves.reader.rest.now ≤ length self.old.leaves.reader.rest.now }
     {
-        let start_group = self.groups;
-        let contents = self.enclosed(backwards)?;
-        Ok(Node::LookaroundAssertion {
+        let Some(
+            Open {
+                outer,
+                opening,
+                name,
+                start,
+            },
+        ) = self.around.pop()
+        else {
+            return Err(ParseError::Syntax);
+        };
+        let contents = mem::replace(&mut self.level, outer).joined()?;
+        let end = self.groups;
+        let node = enclosed(self.leaves.alloc, opening, name, contents, start..end)?;
+        let node = quantified(&mut self.leaves, node, start..end, opening.is_atom())?;
+        self.level.push(node)?;
+        Ok(())
+    }
+
+    // The root of what was read, if nothing is open and each reference has its group.
+    fn finish(self) -> Result<Node, ParseError>
+        requires { IsReading self }
+        ensures { IfOk result (λ n. IsTrue (is_well_formed (node_of n))) }
+    {
+        if !self.around.is_empty() || self.leaves.references > u32::from(self.groups) {
+            return Err(ParseError::Syntax);
+        }
+        let alloc = self.leaves.alloc;
+        let node = self.level.joined()?;
+        Ok(Node::Cat(vec![in alloc; node, Node::Goal]?))
+    }
+}
+
+// What a parenthesis and its contents are, which have these groups inside.
+fn enclosed(
+    alloc: Global,
+    opening: Opening,
+    name: Option<String>,
+    contents: Node,
+    groups: Range<CaptureGroupID>,
+) -> Result<Node, AllocError>
+    ensures { IfOk result (λ n. (greatest : ℕ) → IsPart (groups.start + captures opening) groups.end greatest (node_of contents) → IsPart groups.start groups.end greatest (node_of n)) }
+{
+    match opening {
+        Opening::Plain => Ok(contents),
+        Opening::Capture | Opening::Named => Ok(Node::CaptureGroup {
+            id: groups.start,
+            contents: Box::new(alloc, contents)?,
+            name,
+        }),
+        Opening::Look { negate, backwards } => Ok(Node::LookaroundAssertion {
             negate,
             backwards,
-            start_group,
-            end_group: self.groups,
-            contents: Box::new(self.alloc, contents)?,
-        })
-    }
-
-    // A group, behind what opens it.
-    #[cycle(parse)]
-    fn group(&mut self, opening: Opening, behind: bool) -> Result<Node, ParseError>
-        ensures moves { length self.new.reader.rest.now ≤ length self.old.reader.rest.now }
-        ensures part { IfOk result (λ n. IsPart self.old.groups self.new.groups self.new.references (node_of n)) }
-        ensures references { OnOk result (self.old.references ≤ self.new.references) }
-    {
-        if let Opening::Plain = opening {
-            return self.enclosed(behind);
-        }
-        let name = group_name(self.alloc, &mut self.reader, opening)?;
-        let id = self.groups;
-        if id == CaptureGroupID::MAX {
-            return Err(ParseError::Syntax);
-        }
-        self.groups += 1;
-        let contents = self.enclosed(behind)?;
-        Ok(Node::CaptureGroup {
-            id,
-            contents: Box::new(self.alloc, contents)?,
-            name,
-        })
-    }
-
-    // A pattern and the parenthesis that closes it.
-    #[cycle(parse)]
-    fn enclosed(&mut self, behind: bool) -> Result<Node, ParseError>
-        ensures moves { length self.new.reader.rest.now ≤ length self.old.reader.rest.now }
-        ensures part { IfOk result (λ n. IsPart self.old.groups self.new.groups self.new.references (node_of n)) }
-        ensures references { OnOk result (self.old.references ≤ self.new.references) }
-    {
-        let contents = self.disjunction(behind)?;
-        if self.reader.eat(')') {
-            Ok(contents)
-        } else {
-            Err(ParseError::Syntax)
-        }
-    }
-
-    // A term that is no parenthesis. Its locals stay out of the frames that nested groups take.
-    #[inline(never)]
-    fn simple_term(&mut self) -> Result<Node, ParseError>
-        ensures read { OnOk result (length self.new.reader.rest.now < length self.old.reader.rest.now) }
-        ensures moves { length self.new.reader.rest.now ≤ length self.old.reader.rest.now }
-        ensures part { IfOk result (λ n. IsPart self.old.groups self.new.groups self.new.references (node_of n)) }
-        ensures references { OnOk result (self.old.references ≤ self.new.references) }
-    {
-        let Leaf { node, is_atom } = self.leaf()?;
-        if !is_atom {
-            return Ok(node);
-        }
-        let group = self.groups;
-        quantified(self.alloc, &mut self.reader, node, group..group)
-    }
-
-    fn leaf(&mut self) -> Result<Leaf, ParseError>
-        ensures read { OnOk result (length self.new.reader.rest.now < length self.old.reader.rest.now) }
-        ensures moves { length self.new.reader.rest.now ≤ length self.old.reader.rest.now }
-        ensures leaf { IfOk result (λ l. IsLeaf self.new.references (node_of l.node)) }
-        ensures groups { self.new.groups ≡ self.old.groups }
-        ensures references { self.old.references ≤ self.new.references }
-    {
-        let unicode = self.flags.unicode;
-        if !unicode && self.reader.braces().is_some() {
-            return Err(ParseError::Syntax);
-        }
-        let c = self.reader.next().ok_or(ParseError::Syntax)?;
-        match char::from_u32(c) {
-            Some('^') => Ok(self.anchor(AnchorType::StartOfLine)),
-            Some('$') => Ok(self.anchor(AnchorType::EndOfLine)),
-            Some('\\') => self.escape(),
-            Some('.') => Ok(self.dot()),
-            Some('[') => {
-                let contents = class(self.alloc, &mut self.reader, self.flags)?;
-                Ok(bracket(contents))
-            }
-            Some('*' | '+' | '?' | '(' | ')' | '|') => Err(ParseError::Syntax),
-            Some(']' | '{' | '}') if unicode => Err(ParseError::Syntax),
-            _ => self.character(c),
-        }
-    }
-
-    fn anchor(&self, anchor_type: AnchorType) -> Leaf
-        ensures { (greatest : ℕ) → IsLeaf greatest (node_of result.node) }
-    {
-        Leaf {
-            node: Node::Anchor {
-                anchor_type,
-                multiline: self.flags.multiline,
-            },
-            is_atom: false,
-        }
-    }
-
-    fn dot(&self) -> Leaf
-        ensures { (greatest : ℕ) → IsLeaf greatest (node_of result.node) }
-    {
-        if self.flags.dot_all {
-            atom(Node::MatchAny)
-        } else {
-            atom(Node::MatchAnyExceptLineTerminator)
-        }
-    }
-
-    // With `icase` a character of several spellings is the set of them.
-    fn character(&self, c: u32) -> Result<Leaf, ParseError>
-        ensures { IfOk result (λ l. (greatest : ℕ) → IsLeaf greatest (node_of l.node)) }
-    {
-        let members = expand_code_point(self.alloc, c, self.flags.icase, self.flags.unicode)?;
-        if members.len() > 1 {
-            Ok(atom(Node::CharSet(members)))
-        } else {
-            Ok(atom(Node::Char { c }))
-        }
-    }
-
-    // What follows a backslash.
-    fn escape(&mut self) -> Result<Leaf, ParseError>
-        ensures moves { length self.new.reader.rest.now ≤ length self.old.reader.rest.now }
-        ensures leaf { IfOk result (λ l. IsLeaf self.new.references (node_of l.node)) }
-        ensures groups { self.new.groups ≡ self.old.groups }
-        ensures references { self.old.references ≤ self.new.references }
-    {
-        let letter = self.reader.peek();
-        if let Some(escape) = ClassEscape::of(letter) {
-            let _ = self.reader.next();
-            let contents = escape.contents(self.alloc, self.flags)?;
-            return Ok(bracket(contents));
-        }
-        match letter {
-            Some('b' | 'B') => {
-                let _ = self.reader.next();
-                Ok(self.boundary(letter == Some('B')))
-            }
-            Some('k' | '1'..='9') => {
-                let group = group_number(self.alloc, &mut self.reader, &self.numbers)?;
-                Ok(self.reference(group))
-            }
-            _ => {
-                let c = character_escape(&mut self.reader, self.flags.unicode)?;
-                self.character(c)
-            }
-        }
-    }
-
-    fn boundary(&self, invert: bool) -> Leaf
-        ensures { (greatest : ℕ) → IsLeaf greatest (node_of result.node) }
-    {
-        Leaf {
-            node: Node::WordBoundary {
-                invert,
-                unicode_icase: self.flags.icase && self.flags.unicode,
-            },
-            is_atom: false,
-        }
-    }
-
-    fn reference(&mut self, group: u32) -> Leaf
-        requires { 0 < group }
-        ensures leaf { IsLeaf self.new.references (node_of result.node) }
-        ensures moves { self.new.reader ≡ self.old.reader }
-        ensures groups { self.new.groups ≡ self.old.groups }
-        ensures references { self.old.references ≤ self.new.references }
-    {
-        self.references = self.references.max(group);
-        atom(Node::BackRef {
-            group,
-            icase: self.flags.icase,
-        })
+            start_group: groups.start,
+            end_group: groups.end,
+            contents: Box::new(alloc, contents)?,
+        }),
     }
 }
 
-fn atom(node: Node) -> Leaf
-    ensures { result.node ≡ node }
-{
-    Leaf {
-        node,
-        is_atom: true,
-    }
-}
-
-fn bracket(contents: BracketContents) -> Leaf
-    ensures { (greatest : ℕ) → IsLeaf greatest (node_of result.node) }
-{
-    atom(Node::Bracket(contents))
-}
-
-// The atom, which has these groups inside, or a loop over it where a quantifier follows.
+// The term, which has these groups inside, or a loop over it where it is an atom and a quantifier follows.
 fn quantified(
-    alloc: Global,
-    reader: &mut Reader,
-    atom: Node,
+    leaves: &mut LeafReader,
+    term: Node,
     groups: Range<CaptureGroupID>,
+    is_atom: bool,
 ) -> Result<Node, ParseError>
-    ensures moves { length reader.new.rest.now ≤ length reader.old.rest.now }
-    ensures part { IfOk result (λ n. (greatest : ℕ) → IsPart groups.start groups.end greatest (node_of atom) → IsPart groups.start groups.end greatest (node_of n)) }
+    ensures moves { length leaves.new.reader.rest.now ≤ length leaves.old.reader.rest.now }
+    ensures references { leaves.new.references ≡ leaves.old.references }
+    ensures part { IfOk result (λ n. (greatest : ℕ) → IsPart groups.start groups.end greatest (node_of term) → IsPart groups.start groups.end greatest (node_of n)) }
 {
-    match reader.quantifier()? {
-        None => Ok(atom),
+    if !is_atom {
+        return Ok(term);
+    }
+    match leaves.reader.quantifier()? {
+        None => Ok(term),
         Some(quant) => Ok(Node::Loop {
-            loopee: Box::new(alloc, atom)?,
+            loopee: Box::new(leaves.alloc, term)?,
             quant,
             enclosed_groups: groups,
         }),
@@ -378,62 +250,4 @@ fn group_name(
         Opening::Named => Ok(Some(name(alloc, reader)?)),
         _ => Ok(None),
     }
-}
-
-// The group of `\1` or `\k<name>`, behind the backslash.
-fn group_number(
-    alloc: Global,
-    reader: &mut Reader,
-    numbers: &GroupNumbers,
-) -> Result<u32, ParseError>
-    ensures moves { length reader.new.rest.now ≤ length reader.old.rest.now }
-    ensures counts_from_one { IfOk result (λ group. 0 < group) }
-{
-    let number = if reader.eat('k') {
-        named_group(alloc, reader, numbers)?
-    } else {
-        reader.number().and_then(|n| u32::try_from(n).ok())
-    };
-    match number {
-        Some(number) if number > 0 => Ok(number),
-        _ => Err(ParseError::Syntax),
-    }
-}
-
-fn named_group(
-    alloc: Global,
-    reader: &mut Reader,
-    numbers: &GroupNumbers,
-) -> Result<Option<u32>, ParseError>
-    ensures moves { length reader.new.rest.now ≤ length reader.old.rest.now }
-{
-    if !reader.eat('<') {
-        return Err(ParseError::Syntax);
-    }
-    let name = name(alloc, reader)?;
-    Ok(numbers.get(name.as_str()).copied())
-}
-
-// The terms one after another.
-fn cat(mut terms: Vec<Node>, behind: bool) -> Node
-    ensures { (first end greatest : ℕ) → AreParts first end greatest terms.items → IsPart first end greatest (node_of result) }
-{
-    if behind {
-        terms.reverse();
-    }
-    Node::Cat(terms)
-}
-
-// The alternatives, nested to the right; an empty list is the empty pattern.
-#[inline(never)]
-fn join(alloc: Global, mut alternatives: Vec<Node>) -> Result<Node, AllocError>
-    ensures { IfOk result (λ n. (first end greatest : ℕ) → AreParts first end greatest alternatives.items → IsPart first end greatest (node_of n)) }
-{
-    let Some(mut joined) = alternatives.pop() else {
-        return Ok(Node::Empty);
-    };
-    while let Some(left) = alternatives.pop() {
-        joined = Node::Alt(Box::new(alloc, left)?, Box::new(alloc, joined)?);
-    }
-    Ok(joined)
 }

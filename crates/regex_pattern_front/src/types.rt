@@ -14,6 +14,9 @@ pub type LoopID = u16;
 /// How many capturing groups a pattern may have.
 pub const MAX_CAPTURE_GROUPS: usize = 65535;
 
+/// How many characters a set of characters holds that stands in one instruction.
+pub const MAX_CHAR_SET_LENGTH: usize = 4;
+
 /// A set of code points, or with `invert` its complement.
 #[derive(Drop)]
 pub struct BracketContents {

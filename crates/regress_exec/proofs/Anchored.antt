@@ -1,6 +1,6 @@
 -- Where the start predicate rules places out, no match begins there; and what stands one character on.
 use Rattle.std.proofs.Common.{◌≡◌, ℕ, ◌+◌, ◌<◌, ◌≤◌, List, [], ◌∷◌, Option, Some, None, Bool, true, false, refl, ap, sym, ◌∙◌, subst, arith, inl, inr}
-use Rattle.std.proofs.lemmas.Bool.{cases_lt}
+use Rattle.std.proofs.lemmas.Bool.{cases_lt, eqb-true}
 use Rattle.std.specs.Prelude.{option_map, option_and_then, IsTrue, is_some}
 use Rattle.std.specs.Option.{option_map_or}
 use Rattle.std.specs.List.{list_all}
@@ -11,9 +11,7 @@ use Rattle.regex_meaning.specs.Outcomes.{Outcome, outcomes}
 use Rattle.regex_meaning.specs.Find.{first_of, match_at, no_groups}
 use Rattle.regex_meaning.specs.StartPredicate.{StartPredicate, start_arbitrary, start_byte_set, start_byte_sequence, start_anchored, start_predicate, may_start}
 use Rattle.regex_meaning.specs.WellFormed.{is_well_formed}
-use Rattle.regex_meaning.proofs.WellFormedLemmas.{well_formed-iff}
 use Rattle.regex_meaning.proofs.TextLemmas.{IsBoundary-place, offset-IsBoundary, offset-less, offset-le, place-less}
-use Rattle.regex_meaning.proofs.FirstBytes.{true-eq}
 use Rattle.regex_meaning.proofs.Sound.{predicate-holds}
 use Rattle.regress_program.specs.Code.{compiled}
 use Rattle.regress_exec.specs.Attempts.{anchors, tried_next, IsNextTry, IsVain, NoneBetween, end_from}
@@ -37,7 +35,7 @@ anchored-by (Some x) f p anchored e same is = (let known : f x ≡ p = cc in anc
 
 left-end : (text : Text) (place : ℕ) → IsTrue (may_start start_anchored text place) → place ≡ 0
 unfolding may_start
-left-end text place h = true-eq place 0 h
+left-end text place h = eqb-true place 0 h
 
 module _ (tree : Tree) (text : Text) (is : IsText text) where
   -- what the predicate does not let through has no match
@@ -47,7 +45,7 @@ module _ (tree : Tree) (text : Text) (is : IsText text) where
     where
       by : (os : List Outcome) → outcomes text tree.root rightwards p (no_groups tree.root) ≡ os → first_of p os ≡ None
       by [] e = refl
-      by (o ∷ os) e = absurd (out (predicate-holds tree ((well_formed-iff tree.root).0 w) text p scalars inside (λ none. cc)))
+      by (o ∷ os) e = absurd (out (predicate-holds tree w text p scalars inside (λ none. cc)))
 
   -- where outcomes stand at the left end alone, none stands behind another place
   pub anchored-behind : IsTrue (is_well_formed tree.root) → IsTrue (list_all is_scalar text.characters) → start_predicate tree ≡ start_anchored

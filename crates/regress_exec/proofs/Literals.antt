@@ -9,6 +9,7 @@ use Rattle.regex_meaning.specs.StartPredicate.{bytes_where}
 use Rattle.regex_meaning.specs.Layout.{Insn, Jump, ResetCaptureGroup, EndCaptureGroup, LoopAgain, Goal, AsciiBracket, Bracket, Lookahead, Lookbehind, char_set_insn, spelling_insn, anchor_insn, word_boundary_insn, ordered, is_ascii_set, reads_bytes}
 use Rattle.regress_program.specs.Code.{size, strings_size, loop_count, brackets_of, string_code, strings_code, code_of, compiled}
 use Rattle.regress_machine.specs.Turns.{is_literal}
+use Rattle.regex_meaning.proofs.Booleans.{or-false-left, or-false-right}
 
 -- instructions of which none has literal bytes
 abbrev plain : List Insn → Type 0
@@ -26,14 +27,6 @@ plain-map f h (x ∷ xs) = (h x, plain-map f h xs)
 plain-if : (b : Bool) (x y : Insn) → is_literal x ≡ false → is_literal y ≡ false → is_literal (if b then x else y) ≡ false
 plain-if true x y h k = h
 plain-if false x y h k = k
-
-none-left : (a b : Bool) → (a || b) ≡ false → a ≡ false
-none-left true b h = cc
-none-left false b h = refl
-
-none-right : (a b : Bool) → (a || b) ≡ false → b ≡ false
-none-right true b h = cc
-none-right false b h = h
 
 plain-char_set : (members : List ℕ) → is_literal (char_set_insn members) ≡ false
 plain-char_set [] = refl
@@ -78,15 +71,15 @@ module _ (unicode : Bool) where
   code-plain behind (cat first rest) at loops brackets h =
       plain-append (code_of unicode behind first at loops brackets)
       (code_of unicode behind rest (at + size first) (loops + loop_count first) (brackets + length (brackets_of first)))
-      (code-plain behind first at loops brackets (none-left (reads_bytes first) (reads_bytes rest) h))
-      (code-plain behind rest (at + size first) (loops + loop_count first) (brackets + length (brackets_of first)) (none-right (reads_bytes first) (reads_bytes rest) h))
+      (code-plain behind first at loops brackets (or-false-left (reads_bytes first) (reads_bytes rest) h))
+      (code-plain behind rest (at + size first) (loops + loop_count first) (brackets + length (brackets_of first)) (or-false-right (reads_bytes first) (reads_bytes rest) h))
   code-plain behind (alt left right) at loops brackets h =
       let second = at + size left + 2 in (
         refl,
         plain-append (code_of unicode behind left (at + 1) loops brackets)
             (Jump (second + size right) ∷ code_of unicode behind right second (loops + loop_count left) (brackets + length (brackets_of left)))
-            (code-plain behind left (at + 1) loops brackets (none-left (reads_bytes left) (reads_bytes right) h))
-            (refl, code-plain behind right second (loops + loop_count left) (brackets + length (brackets_of left)) (none-right (reads_bytes left) (reads_bytes right) h)),
+            (code-plain behind left (at + 1) loops brackets (or-false-left (reads_bytes left) (reads_bytes right) h))
+            (refl, code-plain behind right second (loops + loop_count left) (brackets + length (brackets_of left)) (or-false-right (reads_bytes left) (reads_bytes right) h)),
       )
   code-plain behind (bracket contents) at loops brackets h =
       (plain-if (is_ascii_set contents) (AsciiBracket (bytes_where (in_intervals contents.intervals))) (Bracket brackets) refl refl, tt)

@@ -2,22 +2,21 @@
 use Rattle.std.proofs.Common.{◌≡◌, ℕ, suc, List, [], ◌∷◌, true, refl}
 use Rattle.std.specs.Prelude.{IsTrue, IsAscii, nat_lt}
 use Rattle.std.specs.List.{list_all}
-use Rattle.regex_meaning.proofs.FirstBytes.{and-both, lt-true}
 use Rattle.regex_meaning.specs.Tree.{Tree}
 use Rattle.regex_meaning.specs.Text.{Text}
 use Rattle.regex_meaning.specs.Offsets.{IsText}
 use Rattle.regex_meaning.specs.WellFormed.{is_well_formed}
-use Rattle.regex_meaning.proofs.WellFormedLemmas.{well_formed-iff}
 use Rattle.regress_program.specs.Code.{compiled}
 use Rattle.regress_program.proofs.CodeLemmas.{compiled-is_code}
 use Rattle.regress_machine.specs.Bytes.{ReadsBytes, reads_bytes}
 use Rattle.regress_machine.specs.Finds.{CanSearch}
+use Rattle.std.proofs.lemmas.Bool.{and_from, lt-ltb}
 
 pub can-search : (tree : Tree) (text : Text) → IsTrue (is_well_formed tree.root) → IsText text → text.unicode ≡ tree.flags.unicode
     → (IsTrue (reads_bytes tree.root) → ReadsBytes text) → CanSearch (compiled tree) tree text
 can-search tree text w is u b = record {
-  code = (compiled-is_code tree ((well_formed-iff tree.root).0 w)).code;
-  well_formed = (well_formed-iff tree.root).0 w;
+  code = (compiled-is_code tree w).code;
+  well_formed = w;
   is_text = is;
   unicode = u;
   bytes = b;
@@ -26,4 +25,4 @@ can-search tree text w is u b = record {
 -- the bytes of ASCII, by the test of each
 pub all-ascii : (bytes : List ℕ) → IsAscii bytes → list_all (λ b. nat_lt b 128) bytes ≡ true
 all-ascii [] h = refl
-all-ascii (b ∷ bytes) h = and-both (nat_lt b 128) (list_all (λ b. nat_lt b 128) bytes) (lt-true b 128 (h 0)) (all-ascii bytes (λ i. h (suc i)))
+all-ascii (b ∷ bytes) h = and_from (nat_lt b 128) (list_all (λ b. nat_lt b 128) bytes) (lt-ltb b 128 (h 0)) (all-ascii bytes (λ i. h (suc i)))

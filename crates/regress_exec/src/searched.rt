@@ -45,10 +45,11 @@ impl<'r, 't> Searched<'r, Utf8Input<'t>> {
         ensures program { tree_of result.program.now ≡ tree_of re.now }
         ensures text { ⟦<Utf8Input<'t> as InputIndexer>⟧.text result.input ≡ utf8_text text.now (tree_of re.now).flags.unicode }
     {
-        let flags = re.flags();
-        let _well_formed = re.insns();
+        let program = re.program();
+        let flags = program.flags();
+        let _well_formed = program.insns();
         Searched {
-            program: re.program(),
+            program,
             start_pred: Some(re.start_pred()),
             input: Utf8Input::new(text, flags.unicode),
         }
@@ -62,10 +63,11 @@ impl<'r, 't> Searched<'r, AsciiInput<'t>> {
         ensures program { tree_of result.program.now ≡ tree_of re.now }
         ensures text { ⟦<AsciiInput<'t> as InputIndexer>⟧.text result.input ≡ ascii_text text.now (tree_of re.now).flags.unicode }
     {
-        let flags = re.flags();
-        let _well_formed = re.insns();
+        let program = re.program();
+        let flags = program.flags();
+        let _well_formed = program.insns();
         Searched {
-            program: re.program(),
+            program,
             start_pred: Some(re.start_pred()),
             input: AsciiInput::new(text, flags.unicode),
         }

@@ -1,5 +1,8 @@
 -- Characters that are tested by their bytes.
 use Rattle.std.proofs.Common.{◌≡◌, ℕ, zero, suc, ◌+◌, ◌-◌, ◌<◌, ◌≤◌, ◌⊎◌, inl, inr, ⊎_elim, List, [], ◌∷◌, ◌++◌, ◌&&◌, ◌||◌, length, get_or, take, drop, flat_map, slice_range, Bool, true, false, if◌then◌else◌, nat_eq, All, chars, encode_utf8, Some, None, option_and_then, refl, sym, ◌∙◌, ap, ap₂, subst, arith, ne_eqb, eqb-true, eq-eqb, take_at}
+use Rattle.std.proofs.lemmas.List.{append-nil}
+use Rattle.std.proofs.Math.Bool.{and-true}
+use Rattle.std.proofs.lemmas.Bool.{cases_lt}
 use lib.Pointwise.{pointwise}
 use lib.Utf8.{scalars, encode, encodes}
 use Rattle.std.specs.Char.{IsScalar, len_utf8}
@@ -16,7 +19,7 @@ use Rattle.regress_input.specs.Reading.{IsInUtf8, bytes_of, byte_beside, one_on,
 use Rattle.regress_input.specs.Utf8.{StandsAt, EndsAt}
 use Rattle.regress_input.proofs.Spelled.{ReadsRight, ReadsLeft, reads_right, reads_left, at_end, before_character, at_start, behind_character, text_of, length-units}
 use Rattle.regress_input.proofs.Slices.{same_option, StandBehind, StandBefore, past_bytes-right, right-past_bytes, past_bytes-left, left-past_bytes, chosen}
-use Rattle.regress_input.proofs.Utf8Reads.{Bytes, one, two, three, four, bytes_at, back_one, back_two, back_three, back_four, encodes-flat_map, len_utf8-positive, scalar_among, order}
+use Rattle.regress_input.proofs.Utf8Reads.{Bytes, one, two, three, four, bytes_at, back_one, back_two, back_three, back_four, encodes-flat_map, len_utf8-positive, scalar_among}
 
 -- ---- Sets of ASCII bytes
 
@@ -28,17 +31,13 @@ contains-high (m ∷ members) h b l =
 
 -- a character of more than one byte is none of ASCII
 wide : (c : ℕ) → 2 ≤ len_utf8 c → 128 ≤ c
-wide c l = ⊎_elim (λ h. absurd (omega (arith, len_utf8_ascii c h))) (λ h. h) (order c 128)
+wide c l = ⊎_elim (λ h. absurd (omega (arith, len_utf8_ascii c h))) (λ h. h) (cases_lt c 128)
 
 -- ---- The bytes of one character alone
 
 module _ (literal : List ℕ) (c : ℕ) (is_scalar : IsScalar c) (spells : literal ≡ encode_utf8 c) where
   bare : literal ≡ encode c ++ []
-  bare = spells ∙ sym (nothing (encode c))
-    where
-      nothing : (l : List ℕ) → l ++ [] ≡ l
-      nothing [] = refl
-      nothing (x ∷ l) = ap (λ m. x ∷ m) (nothing l)
+  bare = spells ∙ sym (append-nil (encode c))
 
   -- they stand at the start of themselves
   pub stands_alone : StandsAt literal 0 c
@@ -48,16 +47,12 @@ module _ (literal : List ℕ) (c : ℕ) (is_scalar : IsScalar c) (spells : liter
   pub test_is : (d : ℕ) → accepts (byte_sequence literal) d ≡ nat_eq c d
   test_is d =
       let one_char : chars (encodes (c ∷ [])) ≡ c ∷ [] = chars-encodes (c ∷ []) (ap (λ (b : Bool). b && true) is_scalar) in
-      ap (λ (l : List ℕ). pointwise nat_eq (chars l) (d ∷ [])) bare ∙ ap (λ (l : List ℕ). pointwise nat_eq l (d ∷ [])) one_char ∙ alone (nat_eq c d)
-    where
-      alone : (b : Bool) → (b && true) ≡ b
-      alone true = refl
-      alone false = refl
+      ap (λ (l : List ℕ). pointwise nat_eq (chars l) (d ∷ [])) bare ∙ ap (λ (l : List ℕ). pointwise nat_eq l (d ∷ [])) one_char ∙ and-true (nat_eq c d)
 
 -- ---- Only one character ends at an offset
 
 pub ends_same : (bytes : List ℕ) (end s c t d : ℕ) → EndsAt bytes end s c → EndsAt bytes end t d → (s ≡ t) × (c ≡ d)
-ends_same bytes end s c t d a b = by (order (get_or bytes (end - 1) 0) 128) (order (get_or bytes (end - 2) 0) 192) (order (get_or bytes (end - 3) 0) 192)
+ends_same bytes end s c t d a b = by (cases_lt (get_or bytes (end - 1) 0) 128) (cases_lt (get_or bytes (end - 2) 0) 192) (cases_lt (get_or bytes (end - 3) 0) 192)
   where
     by : (get_or bytes (end - 1) 0 < 128) ⊎ (128 ≤ get_or bytes (end - 1) 0)
         → (get_or bytes (end - 2) 0 < 192) ⊎ (192 ≤ get_or bytes (end - 2) 0)
@@ -78,7 +73,7 @@ ends_same bytes end s c t d a b = by (order (get_or bytes (end - 1) 0) 128) (ord
 -- the last byte of a character, where it is one of ASCII and where not
 last_byte : (bytes : List ℕ) (end start c : ℕ) → EndsAt bytes end start c
     → ((get_or bytes (end - 1) 0 ≡ c) × (end - 1 ≡ start)) ⊎ ((128 ≤ get_or bytes (end - 1) 0) × (128 ≤ c))
-last_byte bytes end start c s = by (order (get_or bytes (end - 1) 0) 128)
+last_byte bytes end start c s = by (cases_lt (get_or bytes (end - 1) 0) 128)
   where
     by : (get_or bytes (end - 1) 0 < 128) ⊎ (128 ≤ get_or bytes (end - 1) 0)
         → ((get_or bytes (end - 1) 0 ≡ c) × (end - 1 ≡ start)) ⊎ ((128 ≤ get_or bytes (end - 1) 0) × (128 ≤ c))

@@ -1,5 +1,7 @@
 -- Characters that are compared one by one.
 use Rattle.std.proofs.Common.{◌≡◌, ℕ, zero, suc, ◌+◌, ◌-◌, ◌<◌, ◌≤◌, ◌≢◌, ◌⊎◌, inl, inr, List, [], ◌∷◌, ◌++◌, ◌&&◌, length, take, drop, slice_get, slice_range, Bool, true, false, not, cond, nat_eq, eq-eqb, eqb-true, if◌then◌else◌, nat_le, Option, Some, None, option_map, refl, sym, ◌∙◌, ap, ap₂, subst, arith, le-leb, leb-true, add-one, length-take, length-drop}
+use Rattle.std.proofs.Math.Bool.{and-false}
+use Rattle.std.proofs.lemmas.Bool.{lt-leb}
 use lib.Pointwise.{pointwise}
 use Rattle.std.proofs.lemmas.Option.{slice_get_within}
 use Rattle.regex_meaning.specs.Text.{Text, Direction, rightwards, leftwards, next_character, moved, characters_left, characters_beside}
@@ -8,74 +10,7 @@ use Rattle.regex_meaning.proofs.TextLemmas.{offset-injective, offset-less, offse
 use Rattle.regress_input.specs.Reading.{way, place, characters_between, past_spelled}
 use Rattle.regress_input.proofs.Places.{HasPlace, place_of_boundary, pair, step_right, step_left, read-place}
 use Rattle.regress_input.proofs.Slices.{place_is}
-
--- ---- Ranges, one character more
-
-get-cons : (xs : List ℕ) (a c : ℕ) → slice_get xs a ≡ Some c → drop a xs ≡ c ∷ drop (suc a) xs
-get-cons [] a c e = absurd (cc)
-get-cons (x ∷ xs) zero c e = let same : x ≡ c = cc in ap (λ y. y ∷ xs) same
-get-cons (x ∷ xs) (suc a) c e = get-cons xs a c e
-
--- the range from a place on begins with its character
-slice-first : (xs : List ℕ) (a n c : ℕ) → slice_get xs a ≡ Some c → slice_range xs a (a + suc n) ≡ c ∷ slice_range xs (suc a) (suc a + n)
-slice-first xs a n c e =
-    let i : a + suc n - a ≡ suc n = omega arith in
-    let j : suc a + n - suc a ≡ n = omega arith in
-    ap (λ m. take m (drop a xs)) i ∙ ap (take (suc n)) (get-cons xs a c e) ∙ ap (λ m. c ∷ take m (drop (suc a) xs)) (sym j)
-
-take-snoc : (xs : List ℕ) (n c : ℕ) → slice_get xs n ≡ Some c → take (suc n) xs ≡ take n xs ++ c ∷ []
-take-snoc [] n c e = absurd (cc)
-take-snoc (x ∷ xs) zero c e = let same : x ≡ c = cc in ap (λ y. y ∷ []) same
-take-snoc (x ∷ xs) (suc n) c e = ap (λ l. x ∷ l) (take-snoc xs n c e)
-
-get-drop : (xs : List ℕ) (a i : ℕ) → slice_get (drop a xs) i ≡ slice_get xs (a + i)
-get-drop xs zero i = let e : i ≡ 0 + i = omega arith in ap (slice_get xs) e
-get-drop [] (suc a) i = refl
-get-drop (x ∷ xs) (suc a) i = let e : suc a + i ≡ suc (a + i) = omega arith in get-drop xs a i ∙ ap (slice_get (x ∷ xs)) (sym e)
-
--- the range up to behind a place ends with its character
-slice-last : (xs : List ℕ) (s a c : ℕ) → s ≤ a → slice_get xs a ≡ Some c → slice_range xs s (suc a) ≡ slice_range xs s a ++ c ∷ []
-slice-last xs s a c l e =
-    let i : suc a - s ≡ suc (a - s) = omega arith in
-    let j : s + (a - s) ≡ a = omega arith in
-    ap (λ m. take m (drop s xs)) i ∙ take-snoc (drop s xs) (a - s) c (get-drop xs s (a - s) ∙ ap (slice_get xs) j ∙ e)
-
-and_false : (b : Bool) → (b && false) ≡ false
-and_false true = refl
-and_false false = refl
-
-and_swap : (a b c : Bool) → (a && (b && c)) ≡ (b && (a && c))
-and_swap true true c = refl
-and_swap true false c = refl
-and_swap false true c = refl
-and_swap false false c = refl
-
-pointwise-snoc : (f : ℕ → ℕ → Bool) (xs ys : List ℕ) (c d : ℕ) → length xs ≡ length ys → pointwise f (xs ++ c ∷ []) (ys ++ d ∷ []) ≡ (f c d && pointwise f xs ys)
-pointwise-snoc f [] [] c d e = refl
-pointwise-snoc f [] (y ∷ ys) c d e = absurd (omega arith)
-pointwise-snoc f (x ∷ xs) [] c d e = absurd (omega arith)
-pointwise-snoc f (x ∷ xs) (y ∷ ys) c d e = ap (λ b. f x y && b) (pointwise-snoc f xs ys c d (omega arith)) ∙ and_swap (f x y) (f c d) (pointwise f xs ys)
-
-le_fails : (m n : ℕ) → n < m → nat_le m n ≡ false
-le_fails m n l = by (nat_le m n) refl
-  where
-    by : (b : Bool) → nat_le m n ≡ b → nat_le m n ≡ false
-    by false e = e
-    by true e = absurd (omega (arith, leb-true m n e))
-
-le_same : (a b c d : ℕ) → (a ≤ b → c ≤ d) → (c ≤ d → a ≤ b) → nat_le a b ≡ nat_le c d
-le_same a b c d f g = by (nat_le a b) refl
-  where
-    by : (t : Bool) → nat_le a b ≡ t → nat_le a b ≡ nat_le c d
-    by true e = e ∙ sym (le-leb c d (f (leb-true a b e)))
-    by false e = e ∙ sym (other (nat_le c d) refl)
-      where
-        other : (s : Bool) → nat_le c d ≡ s → nat_le c d ≡ false
-        other false q = q
-        other true q = absurd (no (sym e ∙ le-leb a b (g (leb-true c d q))))
-          where
-            no : false ≡ true → ⊥
-            no z = cc
+use Rattle.regress_input.proofs.Lists.{slice-first, slice-last, pointwise-snoc, le_same}
 
 -- ---- One by one
 
@@ -132,7 +67,7 @@ module _ (text : Text) (same : ℕ → ℕ → Bool) where
               (tests ∙ ap (λ (b : Bool). nat_le n (length cs - suc k) && (b && pointwise same (slice_range cs (suc a) (suc a + n)) (slice_range cs (suc k) (suc k + n)))) s) end)
           go false s tests end =
               sym (fails (nat_le (suc n) (length cs - k) && pointwise same (slice_range cs a (a + suc n)) (slice_range cs k (k + suc n))) (k + suc n)
-              (tests ∙ ap (λ (b : Bool). nat_le n (length cs - suc k) && (b && pointwise same (slice_range cs (suc a) (suc a + n)) (slice_range cs (suc k) (suc k + n)))) s ∙ and_false (nat_le n (length cs - suc k))))
+              (tests ∙ ap (λ (b : Bool). nat_le n (length cs - suc k) && (b && pointwise same (slice_range cs (suc a) (suc a + n)) (slice_range cs (suc k) (suc k + n)))) s ∙ and-false (nat_le n (length cs - suc k))))
 
       absent : (xs : List ℕ) (i : ℕ) → slice_get xs i ≡ None → length xs ≤ i
       absent [] i e = omega arith
@@ -145,7 +80,7 @@ module _ (text : Text) (same : ℕ → ℕ → Bool) where
       by (Some c) e None f =
           let past : length cs ≤ k = absent cs k f in
           sym (fails (nat_le (suc n) (length cs - k) && pointwise same (slice_range cs a (a + suc n)) (slice_range cs k (k + suc n))) (k + suc n)
-          (ap (λ (b : Bool). b && pointwise same (slice_range cs a (a + suc n)) (slice_range cs k (k + suc n))) (le_fails (suc n) (length cs - k) (omega arith))))
+          (ap (λ (b : Bool). b && pointwise same (slice_range cs a (a + suc n)) (slice_range cs k (k + suc n))) (lt-leb (suc n) (length cs - k) (omega arith))))
       by (Some c) e (Some d) f = here c d e f (same c d) refl
 
   run-right : (n a k : ℕ) → a + n ≤ length cs → run rightwards n a k ≡ at_once rightwards n a k
@@ -204,7 +139,7 @@ module _ (text : Text) (same : ℕ → ℕ → Bool) where
           (tests c d e f ∙ ap (λ (b : Bool). nat_le n k && (b && pointwise same (slice_range cs (a - n) a) (slice_range cs (k - n) k))) s) end)
       go c d e f false s =
           sym (fails (nat_le (suc n) (suc k) && pointwise same (slice_range cs (suc a - suc n) (suc a)) (slice_range cs (suc k - suc n) (suc k))) (suc k - suc n)
-          (tests c d e f ∙ ap (λ (b : Bool). nat_le n k && (b && pointwise same (slice_range cs (a - n) a) (slice_range cs (k - n) k))) s ∙ and_false (nat_le n k)))
+          (tests c d e f ∙ ap (λ (b : Bool). nat_le n k && (b && pointwise same (slice_range cs (a - n) a) (slice_range cs (k - n) k))) s ∙ and-false (nat_le n k)))
 
       by : (o : Option ℕ) → slice_get cs a ≡ o → (p : Option ℕ) → slice_get cs k ≡ p
           → both o p (run leftwards n (suc a - 1) (suc k - 1)) ≡ at_once leftwards (suc n) (suc a) (suc k)
@@ -223,7 +158,7 @@ module _ (text : Text) (same : ℕ → ℕ → Bool) where
   run-left (suc n) (suc a) zero l m o = by (slice_get cs a)
     where
       test : (nat_le (suc n) 0 && pointwise same (slice_range cs (suc a - suc n) (suc a)) (slice_range cs (0 - suc n) 0)) ≡ false
-      test = ap (λ (b : Bool). b && pointwise same (slice_range cs (suc a - suc n) (suc a)) (slice_range cs (0 - suc n) 0)) (le_fails (suc n) 0 (omega arith))
+      test = ap (λ (b : Bool). b && pointwise same (slice_range cs (suc a - suc n) (suc a)) (slice_range cs (0 - suc n) 0)) (lt-leb (suc n) 0 (omega arith))
 
       by : (o : Option ℕ) → both o None (run leftwards n (suc a - 1) (0 - 1)) ≡ at_once leftwards (suc n) (suc a) zero
       by None = sym (fails _ (0 - suc n) test)
@@ -454,14 +389,3 @@ module _ (text : Text) (same : ℕ → ℕ → Bool) where
         let less : at' < at = omega (arith, offset-less text s.place (suc s.place) is_text (omega arith) s.from.within, s.from.offset_is, s.upto.offset_is) in
         let order : stop ≤ at' = omega (arith, offset-le text (moved text leftwards c'.count c'.from) c'.from is_text (omega arith) c'.at_from.within, c'.at_from.offset_is, c'.stops.offset_is) in
         omega arith
-
--- what the loop's test tells
-pub unequal : (x y : ℕ) (b e : Bool) → b ≡ not e → e ≡ nat_eq x y → b ≡ true → x ≢ y
-unequal x y b e f g h z = absurd (no (sym (g ∙ eq-eqb x y z)))
-  where
-    no : true ≡ e → ⊥
-    no t = let p : b ≡ false = f ∙ ap not (sym t) in cc
-
-pub equal : (x y : ℕ) (b e : Bool) → b ≡ not e → e ≡ nat_eq x y → b ≡ false → x ≡ y
-equal x y b true f g h = eqb-true x y (sym g)
-equal x y b false f g h = absurd (cc)

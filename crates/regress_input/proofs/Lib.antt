@@ -2,6 +2,9 @@ pub mod Places
 pub mod Spelled
 pub mod Utf8Reads
 pub mod Moves
+pub mod UnitsIn
+pub mod Lists
+pub mod Boundaries
 pub mod Slices
 pub mod Utf8Slices
 pub mod ByteTests

@@ -1,14 +1,19 @@
--- What is read and found in bytes.
-use Rattle.std.proofs.Common.{◌≡◌, ℕ, Bool, true, false, List, Option, Some, refl, sym, subst}
-use Rattle.regress_input.specs.Reading.{where_bytes, IsFoundFrom}
+-- What is read in bytes.
+use Rattle.std.proofs.Common.{◌≡◌, ℕ, ◌≤◌, Bool, true, false, List, length, Option, Some, IsTrue, refl, ap, arith}
+use Rattle.regex_meaning.specs.Text.{Text}
+use Rattle.regex_meaning.specs.Offsets.{IsText, units}
+use Rattle.regress_input.specs.Reading.{where_bytes, bytes_if, IsInUtf8}
+use Rattle.regress_input.proofs.ByteTests.{units-bytes_of}
 
 -- a byte is read only where units are bytes
 pub are_bytes : (are : Bool) (read : Option ℕ) (byte : ℕ) → where_bytes are read ≡ Some byte → (are ≡ true) × (read ≡ Some byte)
 are_bytes true read byte e = (refl, e)
 are_bytes false read byte e = absurd (cc)
 
--- found in the same bytes, at the same offset
-pub found-same : (stands_at : List ℕ → ℕ → Bool) (all same : List ℕ) (at : ℕ) (found also : Option ℕ) → all ≡ same → also ≡ found
-    → IsFoundFrom true stands_at all at found → IsFoundFrom true stands_at same at also
-found-same stands_at all same at found also e f h =
-    subst (λ l. IsFoundFrom true stands_at l at also) e (subst (λ o. IsFoundFrom true stands_at all at o) (sym f) h)
+-- where there are bytes, they are as many as the text has units
+pub inside_bytes : (are : Bool) (text : Text) → IsText text → (IsTrue are → IsInUtf8 text) → (all : List ℕ) → Some all ≡ bytes_if are text → units text ≤ length all
+inside_bytes true text is_text in_utf8 all e = let same = some_same e in omega (arith, units-bytes_of text is_text (in_utf8 refl), ap length same)
+  where
+    some_same : {A : Type 0} {x y : A} → Some x ≡ Some y → x ≡ y
+    some_same f = cc
+inside_bytes false text is_text in_utf8 all e = absurd (cc)

@@ -3,7 +3,7 @@ use Rattle.std.proofs.Common.{◌≡◌, ◌≢◌, ℕ, zero, suc, ◌+◌, ◌
 use Rattle.std.proofs.lemmas.Option.{slice_get-get_or, slice_get_past}
 use Rattle.regex_meaning.specs.Text.{Text, Direction, rightwards, leftwards, one_unit}
 use Rattle.regex_meaning.specs.Offsets.{IsText, IsBoundary, offset, units, place_at, read}
-use Rattle.regex_meaning.proofs.TextLemmas.{place_at-offset, offset-IsBoundary}
+use Rattle.regex_meaning.proofs.TextLemmas.{place_at-offset, offset-IsBoundary, one_unit-positive}
 use Rattle.regress_input.specs.Reading.{part, characters_between, past_spelled, past_bytes}
 use Rattle.regress_input.proofs.Places.{place_of_boundary, pair, read-place}
 use Rattle.regress_input.proofs.Spelled.{text_of, is_text, offset-spelling}
@@ -15,10 +15,7 @@ single c = c ∷ []
 sized : (c : ℕ) → length (single c) ≡ one_unit c
 sized c = refl
 
-positive : (c : ℕ) → 0 < one_unit c
-positive c = omega arith
-
-all_single : (us : List ℕ) → flat_map single us ≡ us
+pub all_single : (us : List ℕ) → flat_map single us ≡ us
 all_single [] = refl
 all_single (u ∷ us) = ap (λ l. u ∷ l) (all_single us)
 
@@ -32,7 +29,7 @@ module _ (us : List ℕ) (unicode : Bool) (fold : ℕ → ℕ) where
   this = text_of one_unit us unicode fold
 
   this_is_text : IsText this
-  this_is_text = is_text one_unit positive us unicode fold
+  this_is_text = is_text one_unit one_unit-positive us unicode fold
 
   -- the offset of a place is its number
   offset_of_place : (k : ℕ) → k ≤ length us → offset this k ≡ k
@@ -78,16 +75,16 @@ module _ (us : List ℕ) (unicode : Bool) (fold : ℕ → ℕ) where
   pub part-one : (a b : ℕ) → IsBoundary this a → IsBoundary this b → a ≤ b → text_of one_unit (slice_range us a b) unicode fold ≡ part this a b
   part-one a b f g l =
       ap (λ cs. text_of one_unit cs unicode fold) (sym (between_is a b f g))
-      ∙ part-is single one_unit sized us us unicode fold (all_single us) positive a b f g l
+      ∙ part-is single one_unit sized us us unicode fold (all_single us) one_unit-positive a b f g l
 
-  injective : IsInjective single one_unit sized us us unicode fold (all_single us) positive
+  injective : IsInjective single one_unit sized us us unicode fold (all_single us) one_unit-positive
   injective p q i j e = sym (all_single (slice_range us p q)) ∙ e ∙ all_single (slice_range us i j)
 
   pub literal-one : (d : Direction) (at a b : ℕ) → IsBoundary this at → IsBoundary this a → IsBoundary this b → a ≤ b
       → past_bytes us (slice_range us a b) d at ≡ past_spelled this nat_eq (characters_between this a b) d at
   literal-one rightwards at a b at_b f g l =
-      literal-right single one_unit sized us us unicode fold (all_single us) positive injective at a b at_b f g l
+      literal-right single one_unit sized us us unicode fold (all_single us) one_unit-positive injective at a b at_b f g l
       (λ to h. boundary to (omega (arith, h.to_is, h.fits)))
   literal-one leftwards at a b at_b f g l =
-      literal-left single one_unit sized us us unicode fold (all_single us) positive injective at a b at_b f g l
+      literal-left single one_unit sized us us unicode fold (all_single us) one_unit-positive injective at a b at_b f g l
       (λ to h. boundary to (omega (arith, h.to_is, h.fits, inside at at_b)))

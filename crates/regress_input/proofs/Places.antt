@@ -1,6 +1,6 @@
 -- Places of a text and their offsets.
 use Rattle.std.proofs.Common.{◌≡◌, ℕ, zero, suc, ◌+◌, ◌-◌, ◌<◌, ◌≤◌, IsTrue, slice_get, Option, Some, None, is_some, option_map, option_and_then, refl, sym, ◌∙◌, ap, subst, arith, add-one, le_refl}
-use Rattle.std.proofs.lemmas.Option.{slice_get_within, some_pair_parts}
+use Rattle.std.proofs.lemmas.Option.{slice_get_within, slice_get_past, some_pair_parts}
 use Rattle.regex_meaning.proofs.TextLemmas.{offset-less, offset-le, place_at-offset, offset-place_at}
 use Rattle.regex_meaning.specs.Text.{Text, Direction, rightwards, leftwards, last_place}
 use Rattle.regex_meaning.specs.Offsets.{IsText, offset, units, place_at, IsBoundary, read_at, read}
@@ -155,3 +155,10 @@ pub end_boundary : (text : Text) → IsText text → (at : ℕ) → at ≡ units
 end_boundary text t at e =
     let found : place_at text at ≡ Some (last_place text) = ap (place_at text) e ∙ place_at-offset text (last_place text) t (omega arith) in
     boundary_of_place text at (last_place text) found
+
+-- at the right end there is no character to the right
+pub read-last : (text : Text) → IsText text → (at : ℕ) → at ≡ units text → read text rightwards at ≡ None
+read-last text t at e =
+    let last = last_place text in
+    read-place text rightwards at last (ap (place_at text) e ∙ place_at-offset text last t (omega arith))
+    ∙ ap (option_map (λ c. pair c (offset text (last + 1)))) (slice_get_past text.characters last (omega arith))

@@ -1,5 +1,6 @@
 -- Ranges of texts whose characters are spelled by units.
 use Rattle.std.proofs.Common.{◌≡◌, ℕ, zero, suc, ◌+◌, ◌-◌, ◌<◌, ◌≤◌, List, [], ◌∷◌, ◌++◌, length, get_or, take, drop, map, slice_range, Bool, true, false, ◌&&◌, nat_le, nat_eq, cond, if◌then◌else◌, Option, Some, None, unwrap_or, refl, sym, ◌∙◌, ap, ap₂, subst, arith, length-append, length-drop, length-take, take-add, drop_at, le-leb, leb-true}
+use Rattle.std.proofs.lemmas.Bool.{and_parts, and_from}
 use Rattle.std.proofs.lemmas.List.Concat.{flat_map-append}
 use lib.Pointwise.{pointwise, bytes_decides}
 use Rattle.regex_meaning.specs.Text.{Text, Direction, rightwards, leftwards, offsets_from, moved, characters_left, characters_beside}
@@ -8,6 +9,7 @@ use Rattle.regex_meaning.proofs.TextLemmas.{place-le, offset-IsBoundary}
 use Rattle.regress_input.specs.Reading.{place, part, characters_between, past_spelled, past_bytes}
 use Rattle.regress_input.proofs.Places.{HasPlace}
 use Rattle.regress_input.proofs.Spelled.{text_of, is_text, spelling, Cut, cut, cut_at, offset-spelling}
+use Rattle.std.proofs.lemmas.Bool.{and_from, and_parts}
 
 -- ---- Tests and options
 
@@ -20,10 +22,6 @@ same_option (Some x) p f g = sym (f x refl)
 pub chosen : (b : Bool) (to x : ℕ) → cond b (Some to) None ≡ Some x → (b ≡ true) × (x ≡ to)
 chosen true to x e = (refl, cc)
 chosen false to x e = absurd (cc)
-
-both_true : (a b : Bool) → a && b ≡ true → (a ≡ true) × (b ≡ true)
-both_true true b e = (refl, e)
-both_true false b e = absurd (cc)
 
 pub place_is : (text : Text) (at k : ℕ) → place_at text at ≡ Some k → place text at ≡ k
 place_is text at k e = ap (λ o. unwrap_or o 0) e
@@ -42,9 +40,6 @@ take-slice xs a b l = let e : b ≡ a + (b - a) = omega arith in ap (λ n. take 
 choose : (b : Bool) (to : ℕ) → b ≡ true → cond b (Some to) None ≡ Some to
 choose b to e = ap (λ (t : Bool). cond t (Some to) None) e
 
-and_true : (a b : Bool) → a ≡ true → b ≡ true → (a && b) ≡ true
-and_true a b e f = ap (λ (t : Bool). t && b) e ∙ f
-
 -- the units stand behind the offset
 pub record StandBehind (us ys : List ℕ) (at to : ℕ) : Type 0 where
   pub to_is : to ≡ at + length ys
@@ -60,24 +55,24 @@ pub record StandBefore (us ys : List ℕ) (at to : ℕ) : Type 0 where
 pub past_bytes-right : (us ys : List ℕ) (at to : ℕ) → past_bytes us ys rightwards at ≡ Some to → StandBehind us ys at to
 past_bytes-right us ys at to e =
     let made = chosen (nat_le (at + length ys) (length us) && pointwise nat_eq (slice_range us at (at + length ys)) ys) (at + length ys) to e in
-    let tests = both_true (nat_le (at + length ys) (length us)) (pointwise nat_eq (slice_range us at (at + length ys)) ys) made.0 in
+    let tests = and_parts (nat_le (at + length ys) (length us)) (pointwise nat_eq (slice_range us at (at + length ys)) ys) made.0 in
     record { to_is = made.1; fits = leb-true _ _ tests.0; are = (bytes_decides (slice_range us at (at + length ys)) ys).0 tests.1 }
 
 pub right-past_bytes : (us ys : List ℕ) (at to : ℕ) → StandBehind us ys at to → past_bytes us ys rightwards at ≡ Some to
 right-past_bytes us ys at to h =
     choose (nat_le (at + length ys) (length us) && pointwise nat_eq (slice_range us at (at + length ys)) ys) (at + length ys)
-    (and_true _ _ (le-leb _ _ h.fits) ((bytes_decides (slice_range us at (at + length ys)) ys).1 h.are)) ∙ ap Some (sym h.to_is)
+    (and_from _ _ (le-leb _ _ h.fits) ((bytes_decides (slice_range us at (at + length ys)) ys).1 h.are)) ∙ ap Some (sym h.to_is)
 
 pub past_bytes-left : (us ys : List ℕ) (at to : ℕ) → past_bytes us ys leftwards at ≡ Some to → StandBefore us ys at to
 past_bytes-left us ys at to e =
     let made = chosen (nat_le (length ys) at && pointwise nat_eq (slice_range us (at - length ys) at) ys) (at - length ys) to e in
-    let tests = both_true (nat_le (length ys) at) (pointwise nat_eq (slice_range us (at - length ys) at) ys) made.0 in
+    let tests = and_parts (nat_le (length ys) at) (pointwise nat_eq (slice_range us (at - length ys) at) ys) made.0 in
     record { to_is = made.1; fits = leb-true _ _ tests.0; are = (bytes_decides (slice_range us (at - length ys) at) ys).0 tests.1 }
 
 pub left-past_bytes : (us ys : List ℕ) (at to : ℕ) → StandBefore us ys at to → past_bytes us ys leftwards at ≡ Some to
 left-past_bytes us ys at to h =
     choose (nat_le (length ys) at && pointwise nat_eq (slice_range us (at - length ys) at) ys) (at - length ys)
-    (and_true _ _ (le-leb _ _ h.fits) ((bytes_decides (slice_range us (at - length ys) at) ys).1 h.are)) ∙ ap Some (sym h.to_is)
+    (and_from _ _ (le-leb _ _ h.fits) ((bytes_decides (slice_range us (at - length ys) at) ys).1 h.are)) ∙ ap Some (sym h.to_is)
 
 -- ---- The same of characters, from a place
 
@@ -97,13 +92,13 @@ record Spelt (text : Text) (xs : List ℕ) (d : Direction) (k to : ℕ) : Type 0
 past_place-spelt : (text : Text) (xs : List ℕ) (d : Direction) (k to : ℕ) → past_place text xs d k ≡ Some to → Spelt text xs d k to
 past_place-spelt text xs d k to e =
     let made = chosen (nat_le (length xs) (characters_left text d k) && pointwise nat_eq xs (characters_beside text d (length xs) k)) (offset text (moved text d (length xs) k)) to e in
-    let tests = both_true (nat_le (length xs) (characters_left text d k)) (pointwise nat_eq xs (characters_beside text d (length xs) k)) made.0 in
+    let tests = and_parts (nat_le (length xs) (characters_left text d k)) (pointwise nat_eq xs (characters_beside text d (length xs) k)) made.0 in
     record { to_is = made.1; fits = leb-true _ _ tests.0; are = (bytes_decides xs (characters_beside text d (length xs) k)).0 tests.1 }
 
 spelt-past_place : (text : Text) (xs : List ℕ) (d : Direction) (k to : ℕ) → Spelt text xs d k to → past_place text xs d k ≡ Some to
 spelt-past_place text xs d k to h =
     choose (nat_le (length xs) (characters_left text d k) && pointwise nat_eq xs (characters_beside text d (length xs) k)) (offset text (moved text d (length xs) k))
-    (and_true _ _ (le-leb _ _ h.fits) ((bytes_decides xs (characters_beside text d (length xs) k)).1 h.are)) ∙ ap Some (sym h.to_is)
+    (and_from _ _ (le-leb _ _ h.fits) ((bytes_decides xs (characters_beside text d (length xs) k)).1 h.are)) ∙ ap Some (sym h.to_is)
 
 -- ---- Ranges of units and of characters
 

@@ -4,6 +4,7 @@ use Rattle.std.proofs.lemmas.List.Concat.{flat_map-append}
 use Rattle.regex_meaning.specs.Text.{Text, rightwards, leftwards, offsets_from}
 use Rattle.regex_meaning.specs.Offsets.{IsText, offset, IsBoundary, read}
 use Rattle.regex_meaning.proofs.TextLemmas.{offsets-rise, length-offsets, first-offset}
+use Rattle.regress_input.proofs.Lists.{get-cons}
 use Rattle.regress_input.proofs.Places.{HasPlace, place_of_boundary, read-place}
 
 -- characters with these widths
@@ -41,11 +42,6 @@ module _ (spell : ℕ → List ℕ) (width : ℕ → ℕ) (sized : (c : ℕ) →
         behind = ap (drop at) (sym whole) ∙ drop_at (spelling (take k cs)) (spelling (drop k cs)) at (sym l);
       }
 
-  get-first : (cs : List ℕ) (k c : ℕ) → slice_get cs k ≡ Some c → drop k cs ≡ c ∷ drop (suc k) cs
-  get-first [] k c e = absurd (cc)
-  get-first (d ∷ cs) zero c e = let same : d ≡ c = cc in ap (λ x. x ∷ cs) same
-  get-first (d ∷ cs) (suc k) c e = get-first cs k c e
-
   get-none : (cs : List ℕ) (k : ℕ) → slice_get cs k ≡ None → take k cs ≡ cs
   get-none [] zero e = refl
   get-none [] (suc k) e = refl
@@ -57,7 +53,7 @@ module _ (spell : ℕ → List ℕ) (width : ℕ → ℕ) (sized : (c : ℕ) →
   slice_get_past_is (d ∷ cs) zero e = absurd (cc)
   slice_get_past_is (d ∷ cs) (suc k) e = omega (arith, slice_get_past_is cs k e)
 
-  offset-behind : (a : ℕ) (cs : List ℕ) (k c : ℕ) → slice_get cs k ≡ Some c → get_or (offsets_from a (map width cs)) (suc k) 0 ≡ get_or (offsets_from a (map width cs)) k 0 + width c
+  pub offset-behind : (a : ℕ) (cs : List ℕ) (k c : ℕ) → slice_get cs k ≡ Some c → get_or (offsets_from a (map width cs)) (suc k) 0 ≡ get_or (offsets_from a (map width cs)) k 0 + width c
   offset-behind a [] k c e = absurd (cc)
   offset-behind a (d ∷ []) zero c e = let same : d ≡ c = cc in ap (λ x. a + width x) same
   offset-behind a (d ∷ f ∷ cs) zero c e = let same : d ≡ c = cc in ap (λ x. a + width x) same
@@ -103,7 +99,7 @@ module _ (spell : ℕ → List ℕ) (width : ℕ → ℕ) (sized : (c : ℕ) →
                 (read-place this rightwards at k p.found ∙ ap (option_map (λ c. (c, offset this (k + 1)))) e)
             by (Some c) e =
                 let next : offset this (k + 1) ≡ at + width c = ap (λ n. offset this n) (add-one k) ∙ offset-behind 0 cs k c e ∙ ap (λ n. n + width c) p.offset_is in
-                let units_behind : drop at us ≡ spell c ++ spelling (drop (suc k) cs) = here.behind ∙ ap spelling (get-first cs k c e) in
+                let units_behind : drop at us ≡ spell c ++ spelling (drop (suc k) cs) = here.behind ∙ ap spelling (get-cons cs k c e) in
                 let inside : at ≤ length us = omega (arith, here.length_is, ap length here.before, length-take at us) in
                 before_character k c (spelling (drop (suc k) cs)) e units_behind (behind_fits at 0 c _ inside units_behind)
                 (read-place this rightwards at k p.found ∙ ap (option_map (λ c. (c, offset this (k + 1)))) e ∙ ap (λ n. Some (c, n)) next)
@@ -124,5 +120,5 @@ module _ (spell : ℕ → List ℕ) (width : ℕ → ℕ) (sized : (c : ℕ) →
                 let same : start + width c ≡ at = sym (offset-behind 0 cs j c e) ∙ p.offset_is in
                 let inside : at ≤ length us = omega (arith, here.length_is, ap length here.before, length-take at us) in
                 let back : suc j - 1 ≡ j = omega arith in
-                behind_character j c start (spelling (drop (suc j) cs)) e (there.behind ∙ ap spelling (get-first cs j c e)) same inside
+                behind_character j c start (spelling (drop (suc j) cs)) e (there.behind ∙ ap spelling (get-cons cs j c e)) same inside
                 (read-place this leftwards at (suc j) p.found ∙ ap (option_map (λ c. (c, offset this (suc j - 1)))) e ∙ ap (λ n. Some (c, offset this n)) back)

@@ -1,15 +1,17 @@
 -- Characters in UTF-16, read from their units.
-use Rattle.std.proofs.Common.{◌≡◌, ◌≢◌, ℕ, zero, suc, ◌+◌, ◌-◌, ◌/◌, ◌%◌, ◌<◌, ◌≤◌, ◌⊎◌, inl, inr, Bool, true, false, cond, if◌then◌else◌, not, ◌&&◌, List, [], ◌∷◌, ◌++◌, length, get_or, take, drop, flat_map, slice_get, slice_index, nat_le, nat_eq, Some, None, option_map, refl, sym, ◌∙◌, ap, ap₂, subst, arith, add-one, eq-eqb, ne_eqb, le-leb, leb-true, get_or-drop}
-use Rattle.std.proofs.lemmas.Bool.{and_parts, lt-leb}
+use Rattle.std.proofs.Common.{◌≡◌, ◌≢◌, ℕ, zero, suc, ◌+◌, ◌-◌, ◌/◌, ◌%◌, ◌<◌, ◌≤◌, ◌⊎◌, inl, inr, Bool, true, false, cond, if◌then◌else◌, not, ◌&&◌, List, [], ◌∷◌, ◌++◌, length, get_or, take, drop, flat_map, slice_get, slice_index, nat_le, nat_eq, Some, None, option_map, refl, sym, ◌∙◌, ap, ap₂, subst, arith, add-one, eq-eqb, ne_eqb, le-leb, leb-true, lt-ltb, le-ltb, get_or-drop}
+use Rattle.std.proofs.Math.Bool.{and-true, and-false}
+use Rattle.std.proofs.lemmas.Bool.{and_parts, lt-leb, and_from, false_from_ne_true, cases_lt}
 use Rattle.regex_meaning.specs.Text.{Text, rightwards, leftwards, is_high_surrogate, is_low_surrogate, character_of_pair, utf16_width, utf16_characters, utf16_text, is_unit_boundary, fold_code_point}
 use Rattle.regex_meaning.specs.Offsets.{IsBoundary, units, read}
+use Rattle.regex_meaning.specs.Units.{utf16, spelled_in}
 use Rattle.regex_meaning.specs.Laws.{is_within_pair}
 use Rattle.regex_meaning.proofs.TextLemmas.{utf16_text-IsText}
 use Rattle.regex_meaning.proofs.UnitLemmas.{unit_boundary-place_at, unit_boundary-between, units-utf16}
+use Rattle.regress_input.specs.Spellings.{sized_utf16}
 use Rattle.regress_input.specs.Utf16.{AreUnits, is_pair_at, pair_at, character_behind, character_before}
 use Rattle.regress_input.proofs.Places.{pair, right_boundary, left_boundary, boundary_inside}
 use Rattle.regress_input.proofs.Spelled.{ReadsRight, ReadsLeft, reads_right, reads_left, at_end, before_character, at_start, behind_character}
-use Rattle.regress_input.proofs.Utf8Reads.{order}
 
 -- ---- The units of a character
 
@@ -20,15 +22,15 @@ abbrev low_of : ℕ → ℕ
 low_of c = 0xDC00 + (c - 0x1_0000) % 0x400
 
 unfoldable pub spell : ℕ → List ℕ
-spell c = if nat_le 0x1_0000 c then high_of c ∷ low_of c ∷ [] else c ∷ []
+spell c = spelled_in utf16 c
 
 pub spell-one : (c : ℕ) → c < 0x1_0000 → spell c ≡ c ∷ []
 unfolding spell
-spell-one c l = ap (λ (b : Bool). cond b (high_of c ∷ low_of c ∷ []) (c ∷ [])) (lt-leb 0x1_0000 c l)
+spell-one c l = ap (λ (b : Bool). cond b (c ∷ []) (high_of c ∷ low_of c ∷ [])) (lt-ltb c 0x1_0000 l)
 
 pub spell-two : (c : ℕ) → 0x1_0000 ≤ c → spell c ≡ high_of c ∷ low_of c ∷ []
 unfolding spell
-spell-two c l = ap (λ (b : Bool). cond b (high_of c ∷ low_of c ∷ []) (c ∷ [])) (le-leb 0x1_0000 c l)
+spell-two c l = ap (λ (b : Bool). cond b (c ∷ []) (high_of c ∷ low_of c ∷ [])) (le-ltb c 0x1_0000 l)
 
 width-one : (c : ℕ) → c < 0x1_0000 → utf16_width c ≡ 1
 width-one c l = ap (λ (b : Bool). cond b 2 1) (lt-leb 0x1_0000 c l)
@@ -37,14 +39,11 @@ width-two : (c : ℕ) → 0x1_0000 ≤ c → utf16_width c ≡ 2
 width-two c l = ap (λ (b : Bool). cond b 2 1) (le-leb 0x1_0000 c l)
 
 pub sized : (c : ℕ) → length (spell c) ≡ utf16_width c
-sized c = by (order c 0x1_0000)
-  where
-    by : (c < 0x1_0000) ⊎ (0x1_0000 ≤ c) → length (spell c) ≡ utf16_width c
-    by (inl l) = ap length (spell-one c l) ∙ sym (width-one c l)
-    by (inr l) = ap length (spell-two c l) ∙ sym (width-two c l)
+unfolding spell
+sized c = sized_utf16 c
 
 pub positive : (c : ℕ) → 0 < utf16_width c
-positive c = by (order c 0x1_0000)
+positive c = by (cases_lt c 0x1_0000)
   where
     by : (c < 0x1_0000) ⊎ (0x1_0000 ≤ c) → 0 < utf16_width c
     by (inl l) = omega (arith, width-one c l)
@@ -61,15 +60,8 @@ high_range u e = let both = and_parts (nat_le 0xD800 u) (nat_le u 0xDBFF) e in (
 low_range : (u : ℕ) → is_low_surrogate u ≡ true → (0xDC00 ≤ u) × (u ≤ 0xDFFF)
 low_range u e = let both = and_parts (nat_le 0xDC00 u) (nat_le u 0xDFFF) e in (leb-true 0xDC00 u both.0, leb-true u 0xDFFF both.1)
 
-false_of : (b : Bool) → (b ≡ true → ⊥) → b ≡ false
-false_of false h = refl
-false_of true h = absurd (h refl)
-
 true_not_false : (b : Bool) → b ≡ true → b ≡ false → ⊥
 true_not_false b e f = cc
-
-and_true : (a b : Bool) → a ≡ true → b ≡ true → (a && b) ≡ true
-and_true a b e f = ap (λ (t : Bool). t && b) e ∙ f
 
 pub pair_parts : (u v : ℕ) → is_pair u v ≡ true → (0xD800 ≤ u) × (u ≤ 0xDBFF) × (0xDC00 ≤ v) × (v ≤ 0xDFFF)
 pair_parts u v e =
@@ -79,18 +71,18 @@ pair_parts u v e =
 
 pair_of : (u v : ℕ) → 0xD800 ≤ u → u ≤ 0xDBFF → 0xDC00 ≤ v → v ≤ 0xDFFF → is_pair u v ≡ true
 pair_of u v a b c d =
-    and_true _ _ (and_true _ _ (le-leb 0xD800 u a) (le-leb u 0xDBFF b)) (and_true _ _ (le-leb 0xDC00 v c) (le-leb v 0xDFFF d))
+    and_from _ _ (and_from _ _ (le-leb 0xD800 u a) (le-leb u 0xDBFF b)) (and_from _ _ (le-leb 0xDC00 v c) (le-leb v 0xDFFF d))
 
 -- what is no high surrogate begins no pair, and what is no low one ends none
 pub high_apart : (u v : ℕ) → (u < 0xD800) ⊎ (0xDC00 ≤ u) → is_pair u v ≡ false
-high_apart u v h = false_of (is_pair u v) (λ e. let r = pair_parts u v e in by r.0 r.1 h)
+high_apart u v h = false_from_ne_true (is_pair u v) (λ e. let r = pair_parts u v e in by r.0 r.1 h)
   where
     by : 0xD800 ≤ u → u ≤ 0xDBFF → (u < 0xD800) ⊎ (0xDC00 ≤ u) → ⊥
     by a b (inl l) = absurd (omega arith)
     by a b (inr l) = absurd (omega arith)
 
 pub low_apart : (u v : ℕ) → (v < 0xDC00) ⊎ (0xE000 ≤ v) → is_pair u v ≡ false
-low_apart u v h = false_of (is_pair u v) (λ e. let r = pair_parts u v e in by r.2 r.3 h)
+low_apart u v h = false_from_ne_true (is_pair u v) (λ e. let r = pair_parts u v e in by r.2 r.3 h)
   where
     by : 0xDC00 ≤ v → v ≤ 0xDFFF → (v < 0xDC00) ⊎ (0xE000 ≤ v) → ⊥
     by a b (inl l) = absurd (omega arith)
@@ -198,11 +190,11 @@ decoded-get (x ∷ cs) (suc k) c d e = decoded-get cs k c d.2 e
 -- the characters of the units of such characters are these
 pub decode : (cs : List ℕ) → Decoded cs → utf16_characters (flat_map spell cs) ≡ cs
 decode [] d = refl
-decode (c ∷ cs) d = by (order c 0x1_0000) (decode cs d.2)
+decode (c ∷ cs) d = by (cases_lt c 0x1_0000) (decode cs d.2)
   where
     one : (cs : List ℕ) → Apart c cs → Decoded cs → c < 0x1_0000 → utf16_characters (flat_map spell cs) ≡ cs → utf16_characters (c ∷ flat_map spell cs) ≡ c ∷ cs
     one [] a d' l e = refl
-    one (x ∷ cs) a d' l e = next (order x 0x1_0000)
+    one (x ∷ cs) a d' l e = next (cases_lt x 0x1_0000)
       where
         next : (x < 0x1_0000) ⊎ (0x1_0000 ≤ x) → utf16_characters (c ∷ flat_map spell (x ∷ cs)) ≡ c ∷ x ∷ cs
         next (inl m) =
@@ -232,7 +224,7 @@ module _ (us : List ℕ) (small : AreUnits us) where
   boundary-start i e = ap (is_unit_boundary us) e ∙ unit_boundary-between us 0 small ∙ ap (λ (b : Bool). b && true) (le-leb 0 (length us) (omega arith))
 
   pub boundary-end : (i : ℕ) → length us ≤ i → is_unit_boundary us i ≡ nat_eq i (length us)
-  boundary-end i l = unit_boundary-between us i small ∙ ap (λ (b : Bool). nat_le i (length us) && not b) (outside i l) ∙ alone (nat_le i (length us)) ∙ same (order (length us) i)
+  boundary-end i l = unit_boundary-between us i small ∙ ap (λ (b : Bool). nat_le i (length us) && not b) (outside i l) ∙ and-true (nat_le i (length us)) ∙ same (cases_lt (length us) i)
     where
       past : (k : ℕ) → length us ≤ k → slice_index us k ≡ 0
       past k m = none us k m
@@ -245,10 +237,6 @@ module _ (us : List ℕ) (small : AreUnits us) where
       outside : (i : ℕ) → length us ≤ i → is_within_pair us i ≡ false
       outside zero m = refl
       outside (suc j) m = low_apart (slice_index us j) (slice_index us (suc j)) (inl (omega (arith, past (suc j) m)))
-
-      alone : (b : Bool) → (b && true) ≡ b
-      alone true = refl
-      alone false = refl
 
       same : (length us < i) ⊎ (i ≤ length us) → nat_le i (length us) ≡ nat_eq i (length us)
       same (inl m) = lt-leb i (length us) m ∙ sym (ne_eqb i (length us) (λ e. absurd (omega arith)))
@@ -279,13 +267,9 @@ module _ (us : List ℕ) (small : AreUnits us) where
 
     -- no pair stands around a boundary
     none_around : (at : ℕ) → IsBoundary text (at + 1) → is_pair_at us at ≡ false
-    none_around at b = false_of (is_pair_at us at) (λ e.
+    none_around at b = false_from_ne_true (is_pair_at us at) (λ e.
         true_not_false (is_unit_boundary us (at + 1)) (unit_boundary (at + 1) b)
-        (unit_boundary-between us (at + 1) small ∙ ap (λ (t : Bool). nat_le (at + 1) (length us) && not t) (within-pair us at ∙ e) ∙ nothing (nat_le (at + 1) (length us))))
-      where
-        nothing : (b : Bool) → (b && false) ≡ false
-        nothing true = refl
-        nothing false = refl
+        (unit_boundary-between us (at + 1) small ∙ ap (λ (t : Bool). nat_le (at + 1) (length us) && not t) (within-pair us at ∙ e) ∙ and-false (nat_le (at + 1) (length us))))
 
     -- ---- Reads
 
@@ -331,7 +315,7 @@ module _ (us : List ℕ) (small : AreUnits us) where
     pub read-right : (at : ℕ) → IsBoundary text at → at ≢ length us → read text rightwards at ≡ Some (character_behind us at)
     read-right at b n = elim (right at b) [
       | at_end z r ↦ absurd (n z)
-      | before_character k c rest g s l r ↦ by k c rest g s r (order c 0x1_0000)
+      | before_character k c rest g s l r ↦ by k c rest g s r (cases_lt c 0x1_0000)
     ]
       where
         by : (k c : ℕ) (rest : List ℕ) → slice_get (utf16_characters us) k ≡ Some c → drop at us ≡ spell c ++ rest
@@ -356,7 +340,7 @@ module _ (us : List ℕ) (small : AreUnits us) where
     pub read-left : (at : ℕ) → IsBoundary text at → at ≢ 0 → read text leftwards at ≡ Some (character_before us at)
     read-left at b n = elim (left at b) [
       | at_start z r ↦ absurd (n z)
-      | behind_character k c start rest g s m l r ↦ by k c start rest g s m r (order c 0x1_0000)
+      | behind_character k c start rest g s m l r ↦ by k c start rest g s m r (cases_lt c 0x1_0000)
     ]
       where
         by : (k c start : ℕ) (rest : List ℕ) → slice_get (utf16_characters us) k ≡ Some c → drop start us ≡ spell c ++ rest → start + utf16_width c ≡ at
@@ -366,7 +350,7 @@ module _ (us : List ℕ) (small : AreUnits us) where
             let there : IsBoundary text start = left_boundary text (utf16_text-IsText us unicode) at c start r in
             let value : c ≡ slice_index us (at - 1) = sym (is_one start c rest l s) ∙ ap (slice_index us) from in
             r ∙ ap₂ (λ x y. Some (pair x y)) value from
-            ∙ ap Some (sym (choice (nat_le 2 at && is_pair_at us (at - 2)) false (pair_at us (at - 2), at - 2) (slice_index us (at - 1), at - 1) (none there from (order at 2))))
+            ∙ ap Some (sym (choice (nat_le 2 at && is_pair_at us (at - 2)) false (pair_at us (at - 2), at - 2) (slice_index us (at - 1), at - 1) (none there from (cases_lt at 2))))
           where
             none : IsBoundary text start → start ≡ at - 1 → (at < 2) ⊎ (2 ≤ at) → (nat_le 2 at && is_pair_at us (at - 2)) ≡ false
             none there from (inl o) = ap (λ (t : Bool). t && is_pair_at us (at - 2)) (lt-leb 2 at o)
@@ -380,7 +364,7 @@ module _ (us : List ℕ) (small : AreUnits us) where
             let value : c ≡ pair_at us (at - 2) = sym two.1 ∙ ap (pair_at us) from in
             let far : 2 ≤ at = omega (arith, m, width-two c l) in
             r ∙ ap₂ (λ x y. Some (pair x y)) value from
-            ∙ ap Some (sym (choice (nat_le 2 at && is_pair_at us (at - 2)) true (pair_at us (at - 2), at - 2) (slice_index us (at - 1), at - 1) (and_true _ _ (le-leb 2 at far) stands)))
+            ∙ ap Some (sym (choice (nat_le 2 at && is_pair_at us (at - 2)) true (pair_at us (at - 2), at - 2) (slice_index us (at - 1), at - 1) (and_from _ _ (le-leb 2 at far) stands)))
 
     -- ---- As what readers answer
 

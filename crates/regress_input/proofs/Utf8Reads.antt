@@ -1,5 +1,6 @@
 -- Characters in UTF-8, read from their bytes.
 use Rattle.std.proofs.Common.{◌≡◌, ℕ, zero, suc, ◌+◌, ◌-◌, ◌*◌, ◌<◌, ◌≤◌, ◌≢◌, ◌/◌, ◌⊎◌, inl, inr, ⊎_elim, ltb, lt-ltb, le-ltb, ltb-true, ltb-false, List, [], ◌∷◌, ◌++◌, ◌&&◌, Some, None, length, get_or, flat_map, slice_get, Bool, true, false, IsUtf8, chars, refl, sym, ◌∙◌, ap, ap₂, subst, option_map, arith, length-append, length-drop, get_or-drop}
+use Rattle.std.proofs.lemmas.Bool.{cases_lt}
 use Rattle.std.specs.Char.{IsScalar, len_utf8}
 use Rattle.std.proofs.lemmas.Str.{encodes-chars, scalars-chars, IsUtf8-had, length-encode, len_utf8_bounds}
 use lib.Utf8.{scalar, scalars, encode, encodes, next, scalar_cases}
@@ -9,6 +10,8 @@ use Rattle.regress_input.specs.Utf8.{StandsAt, EndsAt}
 use Rattle.regress_input.specs.Reading.{bytes_of}
 use Rattle.regress_input.proofs.Spelled.{ReadsRight, ReadsLeft, reads_right, reads_left, at_end, before_character, at_start, behind_character}
 use Rattle.regex_meaning.proofs.UnitLengths.{utf8_text-units}
+use Rattle.regex_meaning.proofs.FirstBytes.{encode-1}
+use Rattle.regex_meaning.proofs.TextLemmas.{len_utf8-positive}
 
 -- a byte that continues a character
 abbrev pub Follows : ℕ → Type 0
@@ -29,24 +32,20 @@ pub data Bytes (bytes : List ℕ) (at c : ℕ) : Type 0 where
       → Follows (get_or bytes (at + 1) 0) → Follows (get_or bytes (at + 2) 0) → Follows (get_or bytes (at + 3) 0)
       → c + 63447168 ≡ get_or bytes at 0 * 262144 + get_or bytes (at + 1) 0 * 4096 + get_or bytes (at + 2) 0 * 64 + get_or bytes (at + 3) 0 → Bytes bytes at c
 
-encode_one : (c : ℕ) → c < 128 → encode c ≡ c ∷ []
-unfolding encode
-encode_one c h = let a : ltb c 128 ≡ true = lt-ltb _ _ h in rw a refl
-
-encode_two : (c : ℕ) → 128 ≤ c → c < 2048 → encode c ≡ (192 + c / 64) ∷ next c ∷ []
+pub encode_two : (c : ℕ) → 128 ≤ c → c < 2048 → encode c ≡ (192 + c / 64) ∷ next c ∷ []
 unfolding encode
 encode_two c l h =
     let a : ltb c 128 ≡ false = le-ltb _ _ l in
     let b : ltb c 2048 ≡ true = lt-ltb _ _ h in rw (a, b) refl
 
-encode_three : (c : ℕ) → 2048 ≤ c → c < 65536 → encode c ≡ (224 + c / 4096) ∷ next (c / 64) ∷ next c ∷ []
+pub encode_three : (c : ℕ) → 2048 ≤ c → c < 65536 → encode c ≡ (224 + c / 4096) ∷ next (c / 64) ∷ next c ∷ []
 unfolding encode
 encode_three c l h =
     let a : ltb c 128 ≡ false = le-ltb _ _ (omega arith) in
     let b : ltb c 2048 ≡ false = le-ltb _ _ l in
     let d : ltb c 65536 ≡ true = lt-ltb _ _ h in rw (a, b, d) refl
 
-encode_four : (c : ℕ) → 65536 ≤ c → encode c ≡ (240 + c / 262144) ∷ next (c / 4096) ∷ next (c / 64) ∷ next c ∷ []
+pub encode_four : (c : ℕ) → 65536 ≤ c → encode c ≡ (240 + c / 262144) ∷ next (c / 4096) ∷ next (c / 64) ∷ next c ∷ []
 unfolding encode
 encode_four c l =
     let a : ltb c 128 ≡ false = le-ltb _ _ (omega arith) in
@@ -56,15 +55,8 @@ encode_four c l =
 below_top : (c : ℕ) → IsScalar c → c < 1114112
 below_top c s = ⊎_elim (λ h. omega arith) (λ h. h.1) (scalar_cases c s)
 
-pub order : (m n : ℕ) → (m < n) ⊎ (n ≤ m)
-order m n = by (ltb m n) refl
-  where
-    by : (b : Bool) → ltb m n ≡ b → (m < n) ⊎ (n ≤ m)
-    by true e = inl (ltb-true m n e)
-    by false e = inr (ltb-false m n e)
-
 pub bytes_at : (bytes : List ℕ) (at c : ℕ) → StandsAt bytes at c → Bytes bytes at c
-bytes_at bytes at c s = by (order c 128) (order c 2048) (order c 65536)
+bytes_at bytes at c s = by (cases_lt c 128) (cases_lt c 2048) (cases_lt c 65536)
   where
     -- a byte behind the offset, where these are the character's
     seen : (p : List ℕ) (i : ℕ) → encode c ≡ p → get_or bytes (at + i) 0 ≡ get_or (p ++ s.rest) i 0
@@ -84,7 +76,7 @@ bytes_at bytes at c s = by (order c 128) (order c 2048) (order c 65536)
 
     by : (c < 128) ⊎ (128 ≤ c) → (c < 2048) ⊎ (2048 ≤ c) → (c < 65536) ⊎ (65536 ≤ c) → Bytes bytes at c
     by (inl h) _ _ =
-        let e = encode_one c h in
+        let e = encode-1 c h in
         one (fits _ e (omega arith)) (long _ e) (omega (arith, h, seen0 _ e)) (seen0 _ e)
     by (inr l) (inl h) _ =
         let e = encode_two c l h in
@@ -298,9 +290,6 @@ pub scalar_among : (cs : List ℕ) (k c : ℕ) → scalars cs ≡ true → slice
 scalar_among [] k c s e = absurd (cc)
 scalar_among (d ∷ cs) zero c s e = let same : d ≡ c = cc in ap scalar (sym same) ∙ (scalar_first d (scalars cs) s).0
 scalar_among (d ∷ cs) (suc k) c s e = scalar_among cs k c (scalar_first d (scalars cs) s).1 e
-
-pub len_utf8-positive : (c : ℕ) → 0 < len_utf8 c
-len_utf8-positive c = omega (arith, (len_utf8_bounds c).0)
 
 pub spelled_by : (bytes : List ℕ) → IsUtf8 bytes → flat_map encode (chars bytes) ≡ bytes
 spelled_by bytes u = sym (encodes-flat_map (chars bytes)) ∙ encodes-chars bytes u

@@ -11,7 +11,7 @@ utf8_text-IsInUtf8 bytes unicode h =
     let u : IsUtf8 bytes = IsUtf8-had bytes h in
     record { bytes = subst IsUtf8 (sym (encodes-chars bytes u)) u; offsets = refl }
 
-ascii_widths : (bytes : List ℕ) → IsAscii bytes → map one_unit bytes ≡ map len_utf8 bytes
+pub ascii_widths : (bytes : List ℕ) → IsAscii bytes → map one_unit bytes ≡ map len_utf8 bytes
 ascii_widths [] h = refl
 ascii_widths (b ∷ bytes) h = ap₂ (λ w ws. w ∷ ws) (sym (len_utf8_ascii b (h 0))) (ascii_widths bytes (λ i. h (suc i)))
 

@@ -6,6 +6,7 @@ use Rattle.std.specs.Char.{len_utf8}
 use Rattle.regex_pattern_front.specs.Searching.{FindsFirst}
 use Rattle.regex_meaning.specs.Text.{Text, Direction, rightwards, leftwards, offsets_from, characters_left, characters_beside, moved}
 use Rattle.regex_meaning.specs.Offsets.{offset, place_at, read}
+use Rattle.regex_meaning.specs.Units.{Encoding, utf8, utf16, ucs2}
 
 -- the way of a direction
 abbrev pub way : (forward : Bool) → Direction
@@ -52,6 +53,14 @@ module _ (text : Text) where
       if nat_le n (characters_left text direction (place at)) && pointwise same cs (characters_beside text direction n (place at))
       then Some (offset text (moved text direction n (place at))) else None
 
+  -- the offset behind the characters between two boundaries, if they stand there once more
+  abbrev pub past_range : (from to : ℕ) → Direction → (at : ℕ) → Option ℕ
+  past_range from to = past_spelled nat_eq (characters_between from to)
+
+  -- the same, where characters also count as equal whose folds are
+  abbrev pub past_range_icase : (from to : ℕ) → Direction → (at : ℕ) → Option ℕ
+  past_range_icase from to = past_spelled (same_fold text.fold) (characters_between from to)
+
   -- the text between two boundaries, with offsets from 0
   abbrev pub part : (from to : ℕ) → Text
   part from to = record {
@@ -66,6 +75,16 @@ module _ (text : Text) where
   -- the bytes of the text in UTF-8
   abbrev pub bytes_of : List ℕ
   bytes_of = encode_utf8_all text.characters
+
+-- in these encodings the units are bytes
+abbrev pub is_of_bytes : Encoding → Bool
+is_of_bytes utf8 = true
+is_of_bytes utf16 = false
+is_of_bytes ucs2 = false
+
+-- the bytes of the text, where its units are bytes
+abbrev pub bytes_if : (are_bytes : Bool) → Text → Option (List ℕ)
+bytes_if are_bytes text = if are_bytes then Some (bytes_of text) else None
 
 -- Offsets are those of the characters' bytes.
 pub record IsInUtf8 (text : Text) : Type 0 where
@@ -87,14 +106,18 @@ abbrev pub units_on : (all : ℕ) → Direction → (n at : ℕ) → Option ℕ
 units_on all rightwards n at = if nat_le (at + n) all then Some (at + n) else None
 units_on all leftwards n at = if nat_le n at then Some (at - n) else None
 
--- the offset behind these units on the direction's side, if they stand there
+-- the offset behind these units on the direction's side, if the same stand there
+abbrev pub past_units : {Unit : Type 0} → (same : Unit → Unit → Bool) → (all : List Unit) → (these : List Unit) → Direction → (at : ℕ) → Option ℕ
+past_units same all these rightwards at =
+    let to = at + length these in
+    if nat_le to (length all) && pointwise same (slice_range all at to) these then Some to else None
+past_units same all these leftwards at =
+    let to = at - length these in
+    if nat_le (length these) at && pointwise same (slice_range all to at) these then Some to else None
+
+-- the same of units as numbers
 abbrev pub past_bytes : (all : List ℕ) → (bytes : List ℕ) → Direction → (at : ℕ) → Option ℕ
-past_bytes all bytes rightwards at =
-    let to = at + length bytes in
-    if nat_le to (length all) && pointwise nat_eq (slice_range all at to) bytes then Some to else None
-past_bytes all bytes leftwards at =
-    let to = at - length bytes in
-    if nat_le (length bytes) at && pointwise nat_eq (slice_range all to at) bytes then Some to else None
+past_bytes = past_units nat_eq
 
 -- what is read in bytes, where units are bytes; nothing where they are not
 abbrev pub where_bytes : (are_bytes : Bool) → Option ℕ → Option ℕ

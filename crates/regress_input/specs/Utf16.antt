@@ -1,9 +1,6 @@
 -- Characters in UTF-16.
-use Rattle.std.specs.Prelude.{ℕ, ◌+◌, ◌-◌, ◌<◌, ◌^◌, Bool, ◌&&◌, List, length, slice_index, nat_le, if◌then◌else◌, Option, Some, None, option_and_then}
-use Rattle.std.proofs.Common.{subst, sym}
-use Rattle.regex_meaning.specs.Text.{is_high_surrogate, is_low_surrogate, character_of_pair, is_unit_boundary, utf16_text}
-use Rattle.regex_meaning.specs.Offsets.{units}
-use Rattle.regex_meaning.proofs.UnitLemmas.{units-utf16}
+use Rattle.std.specs.Prelude.{ℕ, ◌+◌, ◌-◌, ◌<◌, Bool, ◌&&◌, List, length, slice_index, nat_le, if◌then◌else◌, Option, Some, None, option_and_then}
+use Rattle.regex_meaning.specs.Text.{is_high_surrogate, is_low_surrogate, character_of_pair, is_unit_boundary}
 
 -- each is a number of 16 bits
 abbrev pub AreUnits : List ℕ → Type 0
@@ -28,6 +25,3 @@ character_before units at =
 -- the offset, if it is a boundary
 abbrev pub if_boundary : List ℕ → Option ℕ → Option ℕ
 if_boundary units at = option_and_then (λ to. if is_unit_boundary units to then Some to else None) at
-
-pub utf16_text-fits : (us : List ℕ) (unicode : Bool) → AreUnits us → length us < 2 ^ 64 → units (utf16_text us unicode) < 2 ^ 64
-utf16_text-fits us unicode small l = subst (λ n. n < 2 ^ 64) (sym (units-utf16 us unicode small)) l

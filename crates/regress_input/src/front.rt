@@ -1,4 +1,4 @@
-//! The names of the front that this crate and those above it use. No other module here names that crate.
+//! The names of the front that this crate and those that stand on it use. No other module of theirs names that crate.
 
 pub use regex_pattern_front::bytesearch::{
     AsciiBitmap, ByteArraySet, ByteBitmap, ByteSearcher, ByteSet, SmallArraySet,
@@ -8,5 +8,9 @@ pub use regex_pattern_front::folding::{
     add_utf8_first_bytes_to_bitmap, expand_code_point, fold_code_point,
     nonascii_folds_to_ascii_word_char, utf8_first_byte,
 };
-pub use regex_pattern_front::types::{BracketContents, CaptureGroupID, LoopID, MAX_CAPTURE_GROUPS};
+pub use regex_pattern_front::optimizer::optimize;
+pub use regex_pattern_front::parse::{ParseError, try_parse};
+pub use regex_pattern_front::types::{
+    BracketContents, CaptureGroupID, LoopID, MAX_CAPTURE_GROUPS, MAX_CHAR_SET_LENGTH,
+};
 pub use regex_pattern_front::{flags, ir};

@@ -1,7 +1,9 @@
 //! Texts that are read a character at a time, in two directions.
 #![tactic(auto)]
 
+mod code_units;
 pub mod cursor;
+mod elements;
 pub mod front;
 pub mod indexing;
 pub mod matchers;
@@ -10,4 +12,3 @@ pub mod scm;
 mod units;
 mod utf16;
 mod utf8;
-mod wide_units;

@@ -1,8 +1,8 @@
 //! What depends on the encoding, and backreferences.
 
-ghost use Rattle.std.specs.Prelude.{◌≡◌, ◌≤◌, nat_eq};
+ghost use Rattle.std.specs.Prelude.{◌≡◌, ◌≤◌};
 ghost use Rattle.regex_meaning.specs.Offsets.{IsBoundary};
-ghost use Rattle.regress_input.specs.Reading.{way, led_to, same_fold, characters_between, past_spelled};
+ghost use Rattle.regress_input.specs.Reading.{way, led_to, past_range, past_range_icase};
 
 use crate::cursor::{self, Direction};
 use crate::indexing::InputIndexer;
@@ -24,7 +24,7 @@ pub fn backref<Input: InputIndexer, Dir: Direction>(
     requires from { IsBoundary (Input.text input.now) (Input.Position.offset orig_range.start) }
     requires to { IsBoundary (Input.text input.now) (Input.Position.offset orig_range.end) }
     requires in_order { Input.Position.offset orig_range.start ≤ Input.Position.offset orig_range.end }
-    ensures { led_to result (Input.Position.offset pos.new) ≡ past_spelled (Input.text input.now) nat_eq (characters_between (Input.text input.now) (Input.Position.offset orig_range.start) (Input.Position.offset orig_range.end)) (way Dir.FORWARD) (Input.Position.offset pos.old) }
+    ensures { let at = Input.Position.offset in led_to result (at pos.new) ≡ past_range (Input.text input.now) (at orig_range.start) (at orig_range.end) (way Dir.FORWARD) (at pos.old) }
 {
     input.subrange_eq(dir, pos, orig_range)
 }
@@ -42,7 +42,7 @@ pub fn backref_icase<Input: InputIndexer, Dir: Direction>(
     requires from { IsBoundary (Input.text input.now) (Input.Position.offset orig_range.start) }
     requires to { IsBoundary (Input.text input.now) (Input.Position.offset orig_range.end) }
     requires in_order { Input.Position.offset orig_range.start ≤ Input.Position.offset orig_range.end }
-    ensures { led_to result (Input.Position.offset pos.new) ≡ past_spelled (Input.text input.now) (same_fold (Input.text input.now).fold) (characters_between (Input.text input.now) (Input.Position.offset orig_range.start) (Input.Position.offset orig_range.end)) (way Dir.FORWARD) (Input.Position.offset pos.old) }
+    ensures { let at = Input.Position.offset in led_to result (at pos.new) ≡ past_range_icase (Input.text input.now) (at orig_range.start) (at orig_range.end) (way Dir.FORWARD) (at pos.old) }
 {
     let start = orig_range.start;
     let end = orig_range.end;

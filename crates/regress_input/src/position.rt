@@ -20,6 +20,18 @@ pub trait PositionType: Copy
     + SubAssign<usize> {
     ghost offset: { Self → ℕ };
 
+    /// The position at an offset.
+    fn from_offset(units: usize) -> Self
+        ensures { offset result ≡ units };
+
+    /// The offset of the position.
+    fn to_offset(self) -> usize
+        ensures { result ≡ offset self };
+
+    /// The position that stands for none: its offset is the greatest of all, which no text has.
+    fn none() -> Self
+        ensures { offset result ≡ 2 ^ 64 - 1 };
+
     // Positions are equal, and stand in order, as their offsets do.
     ghost equal: { (p q : Self) → Self.eq p q ≡ (offset p == offset q) };
 
@@ -186,6 +198,21 @@ impl SubAssign<usize> for IndexPosition<'_> {
 
 impl<'a> PositionType for IndexPosition<'a> {
     ghost offset = { λ p. p.offset };
+
+    #[inline(always)]
+    fn from_offset(units: usize) -> Self {
+        IndexPosition::new(units)
+    }
+
+    #[inline(always)]
+    fn to_offset(self) -> usize {
+        self.offset
+    }
+
+    #[inline(always)]
+    fn none() -> Self {
+        IndexPosition::new(usize::MAX)
+    }
 
     ghost equal = { Prim.search rules };
 

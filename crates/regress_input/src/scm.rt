@@ -11,12 +11,11 @@ ghost use Rattle.regex_pattern_front.specs.TreeOf.{contents_of};
 ghost use Rattle.regress_input.specs.Reading.{way, led_to, past_if};
 
 use crate::cursor::{self, Direction};
-use crate::front::{BracketContents, ByteArraySet, ByteSet, SmallArraySet};
+use crate::front::{
+    BracketContents, ByteArraySet, ByteSet, MAX_CHAR_SET_LENGTH, SmallArraySet,
+};
 use crate::indexing::{CharProperties, CodeUnits, ElementType, InputIndexer};
 use crate::utf8;
-
-/// How many members a character set has.
-const MAX_CHAR_SET_LENGTH: usize = 4;
 
 /// A matcher of one character. Contracts see which characters it accepts, and what it asks of its input and of itself.
 pub trait SingleCharMatcher<Input: InputIndexer, Dir: Direction> {

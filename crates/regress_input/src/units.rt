@@ -2,10 +2,10 @@
 
 ghost use Rattle.std.specs.Prelude.{◌≡◌, ◌≤◌, ℕ, true, length, drop, option_map};
 ghost use Rattle.regex_meaning.specs.Text.{rightwards, leftwards};
-ghost use Rattle.regress_input.specs.Reading.{way, led_to, byte_beside, units_on, past_bytes, IsFoundFrom};
+ghost use Rattle.regress_input.specs.Reading.{way, led_to, byte_beside, units_on, past_units as past_units_of, IsFoundFrom};
 
 use crate::front::ByteSearcher;
-use crate::position::{IndexPosition, PositionType};
+use crate::position::PositionType;
 
 /// The byte to the right of an offset.
 #[inline(always)]
@@ -29,29 +29,34 @@ pub(crate) fn unit_left(bytes: &[u8], at: usize) -> Option<u8>
     if at == 0 { None } else { Some(bytes[at - 1]) }
 }
 
-/// The offset behind these bytes on the side that is read, if they stand there.
+/// The offset behind these units on the side that is read, if they stand there.
 #[inline(always)]
-pub(crate) fn past_units(all: &[u8], forward: bool, at: usize, bytes: &[u8]) -> Option<usize>
+pub(crate) fn past_units<Unit: PartialEq>(
+    all: &[Unit],
+    forward: bool,
+    at: usize,
+    these: &[Unit],
+) -> Option<usize>
     requires { at ≤ length all.now }
-    ensures { result ≡ past_bytes all.now bytes.now (way forward) at }
+    ensures { result ≡ past_units_of Unit.eq all.now these.now (way forward) at }
 {
     if forward {
-        past_right(all, at, bytes)
+        past_right(all, at, these)
     } else {
-        past_left(all, at, bytes)
+        past_left(all, at, these)
     }
 }
 
 #[inline(always)]
-fn past_right(all: &[u8], at: usize, bytes: &[u8]) -> Option<usize>
+fn past_right<Unit: PartialEq>(all: &[Unit], at: usize, these: &[Unit]) -> Option<usize>
     requires { at ≤ length all.now }
-    ensures { result ≡ past_bytes all.now bytes.now rightwards at }
+    ensures { result ≡ past_units_of Unit.eq all.now these.now rightwards at }
 {
-    if all.len() - at < bytes.len() {
+    if all.len() - at < these.len() {
         return None;
     }
-    let end = at + bytes.len();
-    if &all[at..end] == bytes {
+    let end = at + these.len();
+    if &all[at..end] == these {
         Some(end)
     } else {
         None
@@ -59,15 +64,15 @@ fn past_right(all: &[u8], at: usize, bytes: &[u8]) -> Option<usize>
 }
 
 #[inline(always)]
-fn past_left(all: &[u8], at: usize, bytes: &[u8]) -> Option<usize>
+fn past_left<Unit: PartialEq>(all: &[Unit], at: usize, these: &[Unit]) -> Option<usize>
     requires { at ≤ length all.now }
-    ensures { result ≡ past_bytes all.now bytes.now leftwards at }
+    ensures { result ≡ past_units_of Unit.eq all.now these.now leftwards at }
 {
-    if at < bytes.len() {
+    if at < these.len() {
         return None;
     }
-    let start = at - bytes.len();
-    if &all[start..at] == bytes {
+    let start = at - these.len();
+    if &all[start..at] == these {
         Some(start)
     } else {
         None
@@ -96,14 +101,14 @@ fn rest_from(all: &[u8], at: usize) -> &[u8]
     &all[at..]
 }
 
-/// Moves the position to the offset, and says whether there is one.
+/// Moves the position, if there is one to move to, and says whether there is.
 #[inline(always)]
-pub(crate) fn leave_at<'a>(pos: &mut IndexPosition<'a>, to: Option<usize>) -> bool
-    ensures { led_to result (⟦<IndexPosition<'a> as PositionType>⟧.offset pos.new) ≡ to }
+pub(crate) fn leave_at<Position: PositionType>(pos: &mut Position, to: Option<Position>) -> bool
+    ensures { led_to result (Position.offset pos.new) ≡ option_map (λ p. Position.offset p) to }
 {
     match to {
-        Some(offset) => {
-            pos.offset = offset;
+        Some(there) => {
+            *pos = there;
             true
         }
         None => false,
@@ -112,11 +117,11 @@ pub(crate) fn leave_at<'a>(pos: &mut IndexPosition<'a>, to: Option<usize>) -> bo
 
 /// The position with this offset, if there is one.
 #[inline(always)]
-pub(crate) fn position_at<'a>(offset: Option<usize>) -> Option<IndexPosition<'a>>
-    ensures { option_map (λ p. ⟦<IndexPosition<'a> as PositionType>⟧.offset p) result ≡ offset }
+pub(crate) fn position_at<Position: PositionType>(offset: Option<usize>) -> Option<Position>
+    ensures { option_map (λ p. Position.offset p) result ≡ offset }
 {
     match offset {
-        Some(offset) => Some(IndexPosition::new(offset)),
+        Some(offset) => Some(Position::from_offset(offset)),
         None => None,
     }
 }

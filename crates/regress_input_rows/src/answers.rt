@@ -61,11 +61,43 @@ pub(crate) fn seen_left<Input: InputIndexer>(input: &Input, place: usize) -> Opt
     Some((c.as_u32(), input.pos_to_offset(past)))
 }
 
+// The same by the calls that ask for a character: its number to the right, and the offset on either side.
+pub(crate) fn here<Input: InputIndexer, Dir: Direction>(
+    input: &Input,
+    _dir: Dir,
+    place: usize,
+) -> Option<(u32, usize)> {
+    let pos = position(input, place);
+    let at = input.pos_to_offset(pos);
+    if Dir::FORWARD && at < input.unit_count() {
+        Some((input.code(pos), input.pos_to_offset(input.past(pos))))
+    } else if !Dir::FORWARD && at > 0 {
+        Some((0, input.pos_to_offset(input.before(pos))))
+    } else {
+        None
+    }
+}
+
 // The position of an offset in units.
 fn unit_position<Input: InputIndexer>(input: &Input, offset: usize) -> Option<Input::Position>
     ensures { IfSome result (λ p. Input.Position.offset p ≤ units (Input.text input.now)) }
 {
     input.try_move_right(input.left_end(), offset)
+}
+
+// The unit at an offset.
+pub(crate) fn unit<Input: InputIndexer>(input: &Input, offset: usize) -> Option<u32> {
+    let pos = unit_position(input, offset)?;
+    if input.pos_to_offset(pos) < input.unit_count() {
+        Some(input.unit(pos))
+    } else {
+        None
+    }
+}
+
+// How many bytes there are.
+pub(crate) fn byte_count<Input: InputIndexer>(input: &Input) -> Option<usize> {
+    Some(input.as_bytes()?.len())
 }
 
 // The offset so many units before the right end.

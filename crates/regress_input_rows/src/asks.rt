@@ -1,8 +1,8 @@
 //! What is asked of an input, and its answers.
 
 use crate::answers::{
-    before_the_end, byte, character, classes, folded, folded_alone, found, number, part,
-    past_bytes, past_range, seen_left, seen_right,
+    before_the_end, byte, byte_count, character, classes, folded, folded_alone, found, here,
+    number, part, past_bytes, past_range, seen_left, seen_right, unit,
 };
 use crate::matches::{matching, past_char};
 use regress_input::cursor::{Backward, Direction, Forward};
@@ -43,6 +43,7 @@ fn beside<Input: InputIndexer, Dir: Direction>(input: &Input, dir: Dir, ask: &As
     let place = a as usize;
     match ask.name {
         "character" => character(input, dir, place),
+        "here" => here(input, dir, place),
         "byte" => byte(input, dir, place),
         "literal" => at(past_bytes(input, dir, place, &[low_byte(b)])),
         "literal2" => at(past_bytes(input, dir, place, &[low_byte(b), low_byte(c)])),
@@ -60,6 +61,8 @@ fn of_text<Input: InputIndexer>(input: &Input, ask: &Ask<'_>) -> Answer {
         "part" => part(input, place, b as usize).0,
         "part_end" => Some((0, part(input, place, b as usize).1)),
         "before_end" => at(before_the_end(input, place)),
+        "unit" => numbered(unit(input, place)),
+        "bytes" => at(byte_count(input)),
         "find" => at(found(input, place, &[low_byte(b)])),
         "find2" => at(found(input, place, &[low_byte(b), low_byte(c)])),
         "find3" => at(found(input, place, &[low_byte(b), low_byte(c), low_byte(d)])),

@@ -20,6 +20,15 @@ fn compared<P: PositionType>(p: P, q: P) -> (bool, bool) {
     (p < q, p == q)
 }
 
+// A position is not the one that stands for none, which is itself.
+fn told_from_none<P: PositionType>(units: usize) -> (bool, bool) {
+    (P::from_offset(units) == P::none(), P::none() == P::none())
+}
+
+fn offset_again<P: PositionType>(units: usize) -> usize {
+    P::from_offset(units).to_offset()
+}
+
 fn offset_of<'a>(p: IndexPosition<'a>) -> usize {
     p - IndexPosition::new(0)
 }
@@ -70,6 +79,12 @@ fn positions_are_compared_by_offsets(rt: HostRuntime) {
         compared_in_order(IndexPosition::new(3), IndexPosition::new(4)),
     ];
     assert!(rt; answers == [(false, true), (true, false)]);
+}
+
+#[test]
+fn a_position_stands_for_none(rt: HostRuntime) {
+    let answers = told_from_none::<IndexPosition<'_>>(5);
+    assert!(rt; answers == (false, true) && offset_again::<IndexPosition<'_>>(5) == 5);
 }
 
 #[test]

@@ -13,9 +13,9 @@ use Rattle.regex_meaning.specs.Text.{Text, Direction, rightwards, leftwards, las
 use Rattle.regex_meaning.specs.Offsets.{IsText, offset}
 use Rattle.regex_meaning.specs.Outcomes.{Groups, Outcome, is_some_and, spelled, outcomes}
 use Rattle.regex_meaning.specs.WellFormed.{has_text_in_sequence, fits_instructions}
-use Rattle.regex_meaning.specs.Ticks.{Item, tick, pair, ticks, and_then, nearest_first, chunks, chunk_tries, byte_tries, ticked}
-use Rattle.regex_meaning.specs.Layout.{Program, Mark, next, HasAll, IsCode, ByteSeq, ordered}
-use Rattle.regex_meaning.proofs.FirstBytes.{and-left, and-right, and-both, true-lt, encode-1}
+use Rattle.regex_meaning.specs.Ticks.{Item, tick, pair, ticks, and_then, nearest_first, chunk_tries, byte_tries, ticked}
+use Rattle.regex_meaning.specs.Layout.{Program, Mark, next, HasAll, IsCode, ByteSeq, ordered, chunks}
+use Rattle.regex_meaning.proofs.FirstBytes.{encode-1}
 use Rattle.regress_machine.specs.Machine.{LoopData, State, running, go_if, has_bytes, moved_by, act}
 use Rattle.regress_machine.specs.Bytes.{ReadsBytes}
 use Rattle.regress_machine.proofs.Yields.{Ending, Yields, yields_none, yields_same, yields_turn}
@@ -25,10 +25,13 @@ use Rattle.regress_machine.proofs.Sets.{one_items, none_finds, byte_pair_finds, 
 use Rattle.regress_machine.proofs.Beside.{Beside, nothing_left, one_more, beside, length-nearest}
 use Rattle.regress_machine.proofs.OneTests.{low_scalar, scalar_of, utf8_text_of}
 use Rattle.regress_machine.proofs.OneCharacter.{reached_behind}
-use Rattle.regress_machine.proofs.Stands.{and_true, stands, stands-length, in_reading_order, length-reading, beside-stands}
+use Rattle.regress_machine.proofs.Stands.{stands, stands-length, in_reading_order, length-reading, beside-stands}
 use Rattle.regress_machine.proofs.Strings.{items_if, items_if-pair, tried_more, same_number}
 use Rattle.regress_machine.proofs.Chunks.{chunks_stand, chunks_stand-concat, total, in_code_order, chunks_read, chunks_read-cons, concat-chunks, total-chunks}
 use Rattle.regress_machine.proofs.Utf8.{starts-stands, scalars_of, bytes-stand, side, nearest-side, scalars-side, bytes, bytes_near, bytes_near-side, offset-inside, offset-moved}
+use Rattle.std.proofs.Math.Bool.{and-true}
+use Rattle.std.proofs.lemmas.Bool.{and_from, ltb-true}
+use Rattle.regex_meaning.proofs.Booleans.{and-left, and-right}
 
 -- ---- Lists
 
@@ -110,7 +113,7 @@ module _ (text : Text) where
       go : Beside text d p → stands nat_eq (b ∷ []) (nearest_first text d p) ≡ is_some_and (next_character text d p) (contains (b ∷ []))
       go (nothing_left none nothing left) = ap (stands nat_eq (b ∷ [])) nothing ∙ sym (ap (λ o. is_some_and o (contains (b ∷ []))) none)
       go (one_more c is rest left within) =
-          ap (stands nat_eq (b ∷ [])) rest ∙ and_true (nat_eq b c) ∙ same_number b c ∙ sym (ap (λ o. is_some_and o (contains (b ∷ []))) is)
+          ap (stands nat_eq (b ∷ [])) rest ∙ and-true (nat_eq b c) ∙ same_number b c ∙ sym (ap (λ o. is_some_and o (contains (b ∷ []))) is)
 
 module _ (program : Program) (text : Text) (is_text : IsText text) where
   module _ (d : Direction) (E : Ending) (g : Groups) (s : List ℕ) (ls : List LoopData) where
@@ -245,7 +248,7 @@ module _ (program : Program) (text : Text) (is_text : IsText text) where
         chunk_turn (b ∷ []) m.insn at has.0
         ∙ ap (λ c. go_if c (at_offset (m.insn + 1) (moved_by d 1 at)))
         (ap (λ (l : List ℕ). stands nat_eq (in_reading_order text d l) (bytes_near text d at)) (sym is)
-        ∙ near-stands text reads d (b ∷ []) p inside (and-both (scalar b) true (scalar_of b (low_scalar b low)) refl) ∙ stand) in
+        ∙ near-stands text reads d (b ∷ []) p inside (and_from (scalar b) true (scalar_of b (low_scalar b low)) refl) ∙ stand) in
         leaf_yields program text is_text d E (at_offset m.insn at) (at_offset (m.insn + 1) (moved_by d 1 at)) passes o k turn
         (λ passed.
         let h = stand ∙ passed in
@@ -289,7 +292,7 @@ module _ (program : Program) (text : Text) (is_text : IsText text) where
   unfolding IsCode ticked outcomes
   byte_set_finds d behind [] reads fits E m n p g s ls k code enters on = none_finds program text is_text d E m n p g s ls k code
   byte_set_finds d behind (b ∷ []) reads fits E m n p g s ls k code enters on =
-      byte_yields d E g s ls reads b m n p k (true-lt b 128 (and-left (nat_lt b 128) true (and-right (nat_le (length (b ∷ [])) 4) (nat_lt b 128 && true) fits))) enters.inside code
+      byte_yields d E g s ls reads b m n p k (ltb-true b 128 (and-left (nat_lt b 128) true (and-right (nat_le (length (b ∷ [])) 4) (nat_lt b 128 && true) fits))) enters.inside code
       (λ q onward within.
       on.at (record { end = q; groups = g }) s ls (record { onward = onward; inside = within; same_groups = refl; fit = enters.fit })
       (kept_itself [] m.loop n.loop s ls))

@@ -5,7 +5,7 @@ use Rattle.std.specs.List.{concat}
 use Rattle.std.proofs.lemmas.List.{reverse-append, length-reverse, take-append-drop}
 use Rattle.std.proofs.lemmas.List.Folds.{concat-append}
 use Rattle.regex_meaning.specs.Text.{Text, Direction, rightwards, leftwards}
-use Rattle.regex_meaning.specs.Ticks.{chunks, chunks_of}
+use Rattle.regex_meaning.specs.Layout.{chunks, chunks_of}
 use Rattle.regress_machine.proofs.Stands.{and_assoc, stands, in_reading_order, length-reading}
 
 -- the chunks stand one after another
@@ -50,10 +50,6 @@ concat-reversed (c ∷ cs) =
     map-append : (xs ys : List (List ℕ)) → map reverse (xs ++ ys) ≡ map reverse xs ++ map reverse ys
     map-append [] ys = refl
     map-append (x ∷ xs) ys = ap (λ (l : List (List ℕ)). reverse x ∷ l) (map-append xs ys)
-
-map-itself : (cs : List (List ℕ)) → map (λ c. c) cs ≡ cs
-map-itself [] = refl
-map-itself (c ∷ cs) = ap (λ (l : List (List ℕ)). c ∷ l) (map-itself cs)
 
 -- the last chunk first, where bytes are read backwards
 abbrev pub in_code_order : Direction → List (List ℕ) → List (List ℕ)

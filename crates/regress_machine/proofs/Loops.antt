@@ -2,21 +2,22 @@
 use Rattle.std.proofs.Common.{◌≡◌, ℕ, zero, suc, ◌+◌, ◌-◌, ◌<◌, ◌≤◌, List, [], ◌∷◌, ◌++◌, length, map, Option, Some, None, Bool, true, false, refl, ap, ◌∙◌, sym, subst, arith, append-nil, slice_get, slice_set, length-set, lt-ltb, nat_eq, nat_lt, nat_le, eq-eqb, ne_eqb, eqb-true, nltb→le}
 use Rattle.std.proofs.lemmas.List.{length-map}
 use Rattle.std.proofs.lemmas.Bool.{eqb-false}
-use Rattle.std.specs.Prelude.{option_map, if◌then◌else◌, ◌&&◌, ◌==◌}
+use Rattle.std.specs.Prelude.{option_map, not, if◌then◌else◌, ◌&&◌, ◌==◌}
 use Rattle.regex_meaning.specs.Lists.{numbers_from}
 use Rattle.regex_meaning.specs.Laws.{IsOnward}
 use Rattle.regex_meaning.specs.Tree.{Quantifier, Node, loop, group_ids}
 use Rattle.regex_meaning.specs.Text.{Text, Direction, rightwards, leftwards, last_place, characters_left}
 use Rattle.regex_meaning.specs.Offsets.{IsText, offset}
-use Rattle.regex_meaning.specs.Outcomes.{Groups, Outcome, cleared, most_of}
-use Rattle.regex_meaning.specs.Ticks.{Item, tick, pair, ticks, and_then, ways, TickedRepetition, ticked_repetition, ticked_rounds, ticked}
+use Rattle.regex_meaning.specs.Outcomes.{Groups, Outcome, cleared, most_of, Repetition, repetition}
+use Rattle.regex_meaning.specs.Ticks.{Item, tick, pair, ticks, and_then, ways, ticked_rounds, ticked}
 use Rattle.regex_meaning.specs.Layout.{Program, LoopFields, Insn, Mark, next, HasAll, IsCode, ResetCaptureGroup, EnterLoop, LoopAgain}
 use Rattle.regex_meaning.proofs.TextLemmas.{offset-injective}
 use Rattle.regress_machine.specs.Machine.{LoopData, State, Thread, running, waiting, goes, go, with_some, only_if, in_turn, preferring, loop_turn, again_with, again_at, act}
 use Rattle.regress_machine.proofs.Yields.{Ending, Yields, yields_none, yields_append, yields_same, yields_turn, yields_wait}
 use Rattle.regress_machine.proofs.Frames.{Kept, kept_itself, kept_more, kept_both, inside_itself, slice_get-set_same, slice_get-set_other}
 use Rattle.regress_machine.proofs.Nodes.{over, state_at, RangeFits, Fit, Reached, GoesOn, Enters, here, reached_both, act_at, Finds, at_mark, Rising, and_then-append, and_then-and_then, and_then-ticks}
-use Rattle.regress_machine.proofs.Groups.{map-set, Each-set}
+use Rattle.regress_machine.proofs.Groups.{map-set}
+use Rattle.regex_meaning.proofs.Each.{Each-set}
 
 -- ---- Items
 
@@ -120,8 +121,8 @@ module _ (program : Program) (text : Text) (is_text : IsText text) where
     abbrev pub fields : LoopFields
     fields = record { loop_id = m.loop; min_iters = q.min; max_iters = most_of q; greedy = q.greedy; exit = n.insn }
 
-    abbrev pub rounds : TickedRepetition
-    rounds = ticked_repetition q (λ p g. ticks (end - first) ++ ticked text loopee d p (cleared first (end - first) g))
+    abbrev pub rounds : Repetition Item
+    rounds = repetition q (λ p g. ticks (end - first) ++ ticked text loopee d p (cleared first (end - first) g))
 
     abbrev pub data_at : ℕ → ℕ → LoopData
     data_at i p = record { iters = i; entry = offset text p }
@@ -214,7 +215,7 @@ module _ (program : Program) (text : Text) (is_text : IsText text) where
 
     -- the end of an iteration
     round_yields : (t : State) (ts : List Thread) (c : Bool) (items : List Item) → act program text d t ≡ (if c then goes [] else goes ts)
-        → (c ≡ false → Yields program text d E ts (and_then items k)) → Yields program text d E (running t ∷ []) (tick ∷ and_then (if c then [] else items) k)
+        → (c ≡ false → Yields program text d E ts (and_then items k)) → Yields program text d E (running t ∷ []) (tick ∷ and_then (if not c then items else []) k)
     round_yields t ts true items e y = yields_turn program text d E t [] [] e (yields_none program text d E)
     round_yields t ts false items e y = yields_turn program text d E t ts (and_then items k) e (y refl)
 
@@ -242,11 +243,11 @@ module _ (program : Program) (text : Text) (is_text : IsText text) where
         let items = ticked text loopee d p (cleared first count g) in
         let further = λ (o : Outcome). ticked_rounds rounds turns (i + 1) o.end o.groups in
         let dropped = λ (o : Outcome). nat_eq o.end p && nat_lt q.min (i + 1) in
-        let again = and_then (ticks count ++ items) (λ o. tick ∷ (if dropped o then [] else further o)) in
+        let again = and_then (ticks count ++ items) (λ o. tick ∷ (if not (dropped o) then further o else [])) in
         let leave : List Item = pair (record { end = p; groups = g }) ∷ [] in
-        let k' = λ (o : Outcome). tick ∷ and_then (if dropped o then [] else further o) k in
+        let k' = λ (o : Outcome). tick ∷ and_then (if not (dropped o) then further o else []) k in
         let again_items : ticks count ++ and_then items k' ≡ and_then again k =
-        sym (and_then-and_then (ticks count ++ items) (λ o. tick ∷ (if dropped o then [] else further o)) k ∙ and_then-ticks count items k') in
+        sym (and_then-and_then (ticks count ++ items) (λ o. tick ∷ (if not (dropped o) then further o else [])) k ∙ and_then-ticks count items k') in
         yields_same program text d E _ _ _ (sym (and_then-ways (nat_lt i (most_of q)) (nat_le q.min i) q.greedy again leave k))
         (ways_yield d E (nat_lt i (most_of q)) (nat_le q.min i) q.greedy (again_state i p g s ls) (leave_state p g s ls) (and_then again k) (and_then leave k)
         (λ few. yields_same program text d E _ _ _ again_items

@@ -1,8 +1,7 @@
 -- What a loop over one character finds.
-use Rattle.std.proofs.Common.{◌≡◌, ℕ, zero, suc, ◌+◌, ◌-◌, ◌<◌, ◌≤◌, min, List, [], ◌∷◌, ◌++◌, map, take, drop, Bool, true, false, refl, ap, ◌∙◌, sym, subst, arith, append-nil, reverse, cond}
+use Rattle.std.proofs.Common.{◌≡◌, ℕ, ◌+◌, ◌-◌, ◌<◌, ◌≤◌, min, List, [], ◌∷◌, ◌++◌, map, take, Bool, true, false, refl, ap, ◌∙◌, sym, subst, arith, append-nil, cond}
 use Rattle.std.specs.Prelude.{if◌then◌else◌, nat_le, nat_eq, ◌&&◌, chars}
 use Rattle.std.specs.List.{prefix_len}
-use Rattle.std.proofs.lemmas.List.{reverse-append}
 use Rattle.std.proofs.lemmas.List.Sums.{prefix_len-le-length}
 use lib.Pointwise.{pointwise}
 use Rattle.regex_meaning.specs.Lists.{numbers_from}
@@ -14,8 +13,7 @@ use Rattle.regex_meaning.specs.Outcomes.{Groups, Outcome, accepts, is_some_and, 
 use Rattle.regex_meaning.specs.WellFormed.{is_one_character, has_text_in_sequence, fits_instructions}
 use Rattle.regex_meaning.specs.Ticks.{Item, tick, ticks, and_then, with_ticks_between, nearest_first, body_tries, ticked}
 use Rattle.regex_meaning.specs.Layout.{Program, Mark, next, Has, IsCode, Loop1CharBody}
-use Rattle.regex_meaning.proofs.Each.{Each-append, Each-map}
-use Rattle.regex_meaning.proofs.FirstBytes.{le-true}
+use Rattle.regex_meaning.proofs.Each.{Each-map, Each-drop, Each-take, Each-reverse}
 use Rattle.regex_meaning.proofs.TextLemmas.{place_at-offset}
 use Rattle.regress_machine.specs.Machine.{LoopData, State, running, waiting, in_turn, with_some, run_states, scan, scans, act}
 use Rattle.regress_machine.specs.Bytes.{ReadsBytes, reads_bytes}
@@ -25,6 +23,7 @@ use Rattle.regress_machine.proofs.Nodes.{and_then-ticks, state_at, Enters, GoesO
 use Rattle.regress_machine.proofs.Beside.{Beside, nothing_left, one_more, beside, length-nearest, in_text_order, characters_beside-nearest}
 use Rattle.regress_machine.proofs.Run.{in_turns, numbers_between, outcome_at, run, repeat_run}
 use Rattle.regress_machine.proofs.OneTests.{one_of_length, ReadsOne, reads_one}
+use Rattle.std.proofs.lemmas.Bool.{le-leb}
 
 -- ---- Lists
 
@@ -32,23 +31,9 @@ prefix_len-same : (f g : ℕ → Bool) (xs : List ℕ) → Each (λ c. f c ≡ g
 prefix_len-same f g [] h = refl
 prefix_len-same f g (x ∷ xs) h = ap (λ b. cond b (1 + prefix_len f xs) 0) h.0 ∙ ap (λ n. cond (g x) (1 + n) 0) (prefix_len-same f g xs h.1)
 
-each_drop : (P : ℕ → Type 0) (n : ℕ) (xs : List ℕ) → Each P xs → Each P (drop n xs)
-each_drop P zero xs h = h
-each_drop P (suc n) [] h = h
-each_drop P (suc n) (x ∷ xs) h = each_drop P n xs h.1
-
-each_take : (P : ℕ → Type 0) (n : ℕ) (xs : List ℕ) → Each P xs → Each P (take n xs)
-each_take P zero xs h = tt
-each_take P (suc n) [] h = h
-each_take P (suc n) (x ∷ xs) h = (h.0, each_take P n xs h.1)
-
-pub each_reverse : (P : ℕ → Type 0) (xs : List ℕ) → Each P xs → Each P (reverse xs)
-each_reverse P [] h = tt
-each_reverse P (x ∷ xs) h = subst (Each P) (sym (reverse-append (x ∷ []) xs)) (Each-append P (reverse xs) (x ∷ []) (each_reverse P xs h.1) (h.0, tt))
-
 pub each_nearest : (P : ℕ → Type 0) (text : Text) (d : Direction) (p : ℕ) → Each P text.characters → Each P (nearest_first text d p)
-each_nearest P text rightwards p h = each_drop P p text.characters h
-each_nearest P text leftwards p h = each_reverse P (take p text.characters) (each_take P p text.characters h)
+each_nearest P text rightwards p h = Each-drop P p text.characters h
+each_nearest P text leftwards p h = Each-reverse P (take p text.characters) (Each-take P p text.characters h)
 
 -- ---- A sequence of one character
 
@@ -66,7 +51,7 @@ spelled_one text c d p g inside = ap (λ b. if b then record { end = moved text 
         ap (λ n. nat_le 1 n && pointwise nat_eq (c ∷ []) (characters_beside text d 1 p)) left
         ∙ sym (ap (λ o. is_some_and o (λ e. pointwise nat_eq (c ∷ []) (e ∷ []))) none)
     go (one_more e is rest left within) =
-        ap (λ b. b && pointwise nat_eq (c ∷ []) (characters_beside text d 1 p)) (le-true 1 (characters_left text d p) (omega arith))
+        ap (λ b. b && pointwise nat_eq (c ∷ []) (characters_beside text d 1 p)) (le-leb 1 (characters_left text d p) (omega arith))
         ∙ ap (pointwise nat_eq (c ∷ []))
         (characters_beside-nearest text d 1 p inside (omega arith) ∙ ap (λ (l : List ℕ). in_text_order text d (take 1 l)) rest ∙ in_order d e)
         ∙ sym (ap (λ o. is_some_and o (λ e. pointwise nat_eq (c ∷ []) (e ∷ []))) is)
@@ -84,7 +69,7 @@ module _ (program : Program) (text : Text) (is_text : IsText text) where
       (yields_wait program text d E (st m) (map waiting (map st ns)) items (turns_yield d E st out k (m ∷ ns) h.1))
 
   each_in_turns : (P : ℕ → Type 0) (greedy : Bool) (ns : List ℕ) → Each P ns → Each P (in_turns greedy ns)
-  each_in_turns P true ns h = each_reverse P ns h
+  each_in_turns P true ns h = Each-reverse P ns h
   each_in_turns P false ns h = h
 
   -- a place behind so many characters

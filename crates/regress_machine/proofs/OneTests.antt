@@ -17,27 +17,20 @@ use Rattle.regex_meaning.specs.Text.{Text, is_scalar}
 use Rattle.regex_meaning.specs.Outcomes.{accepts, differ, in_intervals}
 use Rattle.regex_meaning.specs.StartPredicate.{bytes_where}
 use Rattle.regex_meaning.specs.WellFormed.{is_one_character, has_text_in_sequence, fits_instructions}
-use Rattle.regex_meaning.specs.Ticks.{chunks, chunks_of}
-use Rattle.regex_meaning.specs.Layout.{Program, Insn, Mark, HasAll, IsCode, JustFail, Char, CharSet, ByteSet, ByteSeq, AsciiBracket, Bracket, MatchAny, MatchAnyExceptLineTerminator, padded, ordered, is_ascii_set}
-use Rattle.regex_meaning.proofs.FirstBytes.{and-left, and-right, and-both, or-left, true-eq, eq-true, true-lt, lt-true, lt-false, le-true, true-in_range, encode-1}
+use Rattle.regex_meaning.specs.Layout.{Program, Insn, Mark, HasAll, IsCode, JustFail, Char, CharSet, ByteSet, ByteSeq, AsciiBracket, Bracket, MatchAny, MatchAnyExceptLineTerminator, padded, ordered, is_ascii_set, chunks, chunks_of}
+use Rattle.regex_meaning.proofs.FirstBytes.{true-in_range, encode-1}
 use Rattle.regress_machine.specs.Machine.{test_of}
 use Rattle.regress_machine.specs.Bytes.{ReadsBytes, reads_bytes}
 use Rattle.regress_machine.proofs.Sets.{contains-padded, ascii_accepts}
+use Rattle.regex_meaning.proofs.Booleans.{same-truth, and-left, and-right}
+use Rattle.regex_meaning.proofs.Each.{Each-all}
+use Rattle.std.proofs.lemmas.Bool.{and_from, or_left, lt-ltb, le-leb, ltb-true, le-ltb, eq-eqb, eqb-true}
 
 -- ---- Tests
 
 pub or_false : (x : Bool) → (x || false) ≡ true → x ≡ true
 or_false true h = refl
 or_false false h = h
-
-pub same_tests : (a b : Bool) → (a ≡ true → b ≡ true) → (b ≡ true → a ≡ true) → a ≡ b
-same_tests true b h k = sym (h refl)
-same_tests false true h k = k refl
-same_tests false false h k = refl
-
-pub each_all : (P : ℕ → Type 0) → ((c : ℕ) → P c) → (cs : List ℕ) → Each P cs
-each_all P h [] = tt
-each_all P h (c ∷ cs) = (h c, each_all P h cs)
 
 pub each_scalar : (P : ℕ → Type 0) → ((c : ℕ) → is_scalar c ≡ true → P c) → (cs : List ℕ) → list_all is_scalar cs ≡ true → Each P cs
 each_scalar P h [] s = tt
@@ -49,13 +42,13 @@ pub scalar_of : (c : ℕ) → is_scalar c ≡ true → scalar c ≡ true
 scalar_of c h = go (is_in_range 0 0xD7FF c) refl
   where
     go : (b : Bool) → is_in_range 0 0xD7FF c ≡ b → scalar c ≡ true
-    go true e = let r = true-in_range 0 0xD7FF c e in rw (lt-true c 55296 (omega (arith, r.1))) refl
+    go true e = let r = true-in_range 0 0xD7FF c e in rw (lt-ltb c 55296 (omega (arith, r.1))) refl
     go false e =
         let r = true-in_range 0xE000 0x10_FFFF c (rw e at h) in
-        rw (lt-false c 55296 (omega (arith, r.0)), le-true 57344 c r.0, lt-true c 1114112 (omega (arith, r.1))) refl
+        rw (le-ltb c 55296 (omega (arith, r.0)), le-leb 57344 c r.0, lt-ltb c 1114112 (omega (arith, r.1))) refl
 
 pub chars_of_one : (c : ℕ) → is_scalar c ≡ true → chars (encode_utf8_all (c ∷ [])) ≡ c ∷ []
-chars_of_one c h = chars-encodes (c ∷ []) (and-both (scalar c) true (scalar_of c h) refl)
+chars_of_one c h = chars-encodes (c ∷ []) (and_from (scalar c) true (scalar_of c h) refl)
 
 pub utf8_text_of : (bytes : List ℕ) → is_utf8 bytes ≡ true → encode_utf8_all (chars bytes) ≡ bytes
 unfolding is_utf8
@@ -64,23 +57,23 @@ utf8_text_of bytes u = (bytes_eq-Decides (encode_utf8_all (chars bytes)) bytes).
 pub sequence_test : (bytes : List ℕ) → is_utf8 bytes ≡ true → (d : ℕ) → is_scalar d ≡ true
     → pointwise nat_eq (encode_utf8_all (d ∷ [])) bytes ≡ pointwise nat_eq (chars bytes) (d ∷ [])
 sequence_test bytes u d s =
-    same_tests (pointwise nat_eq (encode_utf8_all (d ∷ [])) bytes) (pointwise nat_eq (chars bytes) (d ∷ []))
+    same-truth (pointwise nat_eq (encode_utf8_all (d ∷ [])) bytes) (pointwise nat_eq (chars bytes) (d ∷ []))
     (λ h. let e = (bytes_eq-Decides (encode_utf8_all (d ∷ [])) bytes).0 h in
     (bytes_eq-Decides (chars bytes) (d ∷ [])).1 (ap chars (sym e) ∙ chars_of_one d s))
     (λ h. let e = (bytes_eq-Decides (chars bytes) (d ∷ [])).0 h in
     (bytes_eq-Decides (encode_utf8_all (d ∷ [])) bytes).1 (ap encode_utf8_all (sym e) ∙ utf8_text_of bytes u))
 
 pub low_scalar : (b : ℕ) → b < 128 → is_scalar b ≡ true
-low_scalar b h = or-left _ _ (and-both _ _ (le-true 0 b (omega arith)) (le-true b 0xD7FF (omega arith)))
+low_scalar b h = or_left _ _ (and_from _ _ (le-leb 0 b (omega arith)) (le-leb b 0xD7FF (omega arith)))
 
 pub byte_test : (b : ℕ) → b < 128 → (d : ℕ) → is_scalar d ≡ true → pointwise nat_eq (encode_utf8_all (d ∷ [])) (b ∷ []) ≡ contains (b ∷ []) d
 byte_test b low d s =
     let is : encode_utf8_all (b ∷ []) ≡ b ∷ [] = ap (λ (l : List ℕ). l ++ []) (encode-1 b low) in
-    same_tests (pointwise nat_eq (encode_utf8_all (d ∷ [])) (b ∷ [])) (contains (b ∷ []) d)
+    same-truth (pointwise nat_eq (encode_utf8_all (d ∷ [])) (b ∷ [])) (contains (b ∷ []) d)
     (λ h. let e = (bytes_eq-Decides (encode_utf8_all (d ∷ [])) (b ∷ [])).0 h in
     let f : d ∷ [] ≡ b ∷ [] = sym (chars_of_one d s) ∙ ap chars (e ∙ sym is) ∙ chars_of_one b (low_scalar b low) in
-    or-left _ _ (eq-true d b (cc)))
-    (λ h. let e : d ≡ b = true-eq d b (or_false (nat_eq d b) h) in
+    or_left _ _ (eq-eqb d b (cc)))
+    (λ h. let e : d ≡ b = eqb-true d b (or_false (nat_eq d b) h) in
     (bytes_eq-Decides (encode_utf8_all (d ∷ [])) (b ∷ [])).1 (ap (λ (c : ℕ). encode_utf8_all (c ∷ [])) e ∙ is))
 
 -- ---- Chunks
@@ -100,7 +93,7 @@ short_chunk (b ∷ bytes) h k =
 pub one_of_length : (cs : List ℕ) → (length cs == 1) ≡ true → (c : ℕ) × (cs ≡ c ∷ [])
 one_of_length [] h = cc
 one_of_length (c ∷ []) h = (c, refl)
-one_of_length (c ∷ d ∷ cs) h = absurd (let e = true-eq (length (c ∷ d ∷ cs)) 1 h in omega arith)
+one_of_length (c ∷ d ∷ cs) h = absurd (let e = eqb-true (length (c ∷ d ∷ cs)) 1 h in omega arith)
 
 -- one character takes one chunk
 pub one_chunk : (bytes : List ℕ) → is_utf8 bytes ≡ true → (length (chars bytes) == 1) ≡ true → chunks bytes ≡ bytes ∷ []
@@ -138,7 +131,7 @@ module _ (program : Program) (text : Text) where
   }
 
   exactly : (node : Node) → Each (λ c. accepts node c ≡ accepts node c) text.characters
-  exactly node = each_all (λ c. accepts node c ≡ accepts node c) (λ c. refl) text.characters
+  exactly node = Each-all (λ c. accepts node c ≡ accepts node c) (λ c. refl) text.characters
 
   sequence_reads : (behind : Bool) (bytes : List ℕ) (m n : Mark) → is_utf8 bytes ≡ true → (length (chars bytes) == 1) ≡ true → ReadsBytes text
       → HasAll program (map ByteSeq (ordered behind (chunks bytes))) m n → ReadsOne (byte_sequence bytes) m n
@@ -160,7 +153,7 @@ module _ (program : Program) (text : Text) where
   bracket_reads contents m n true e has =
       let members = bytes_where (in_intervals contents.intervals) in
       reads_by (bracket contents) (AsciiBracket members) (contains members) m n has refl
-      (each_all (λ c. contains members c ≡ accepts (bracket contents) c) (ascii_accepts contents e) text.characters)
+      (Each-all (λ c. contains members c ≡ accepts (bracket contents) c) (ascii_accepts contents e) text.characters)
   bracket_reads contents m n false e has = record {
     test = accepts (bracket contents);
     test_is = ap (test_of program) has.0.0
@@ -176,10 +169,10 @@ module _ (program : Program) (text : Text) where
   reads_one behind (char_set []) one spelt fits reads m n code = reads_by (char_set []) JustFail (λ d. false) m n code refl (exactly (char_set []))
   reads_one behind (char_set (c ∷ cs)) one spelt fits reads m n code =
       reads_by (char_set (c ∷ cs)) (CharSet (padded c cs)) (contains (padded c cs)) m n code refl
-      (each_all (λ d. contains (padded c cs) d ≡ contains (c ∷ cs) d) (contains-padded c cs) text.characters)
+      (Each-all (λ d. contains (padded c cs) d ≡ contains (c ∷ cs) d) (contains-padded c cs) text.characters)
   reads_one behind (byte_set []) one spelt fits reads m n code = reads_by (byte_set []) JustFail (λ d. false) m n code refl (exactly (byte_set []))
   reads_one behind (byte_set (b ∷ [])) one spelt fits reads m n code =
-      byte_reads b m n (true-lt b 128 (and-left (nat_lt b 128) true (and-right (nat_le (length (b ∷ [])) 4) (nat_lt b 128 && true) fits))) (reads refl) code
+      byte_reads b m n (ltb-true b 128 (and-left (nat_lt b 128) true (and-right (nat_le (length (b ∷ [])) 4) (nat_lt b 128 && true) fits))) (reads refl) code
   reads_one behind (byte_set (b ∷ c ∷ bytes)) one spelt fits reads m n code =
       reads_by (byte_set (b ∷ c ∷ bytes)) (ByteSet (b ∷ c ∷ bytes)) (contains (b ∷ c ∷ bytes)) m n code refl (exactly (byte_set (b ∷ c ∷ bytes)))
   reads_one behind (byte_sequence bytes) one spelt fits reads m n code =

@@ -1,6 +1,6 @@
 -- What a well-formed tree says of each node.
 use Rattle.std.proofs.Common.{◌≡◌, ℕ, zero, suc, ◌+◌, ◌-◌, ◌<◌, ◌≤◌, List, [], ◌∷◌, ◌++◌, length, Bool, true, false, cond, refl, ap, ◌∙◌, sym, subst, arith, nat_eq, nat_lt, nat_le, ltb→lt, nltb→le, eqb-true, eq-eqb}
-use Rattle.std.proofs.lemmas.Bool.{eqb-false, le-ltb}
+use Rattle.std.proofs.lemmas.Bool.{eqb-false, le-ltb, or_left, or_right, leb-true}
 use Rattle.std.proofs.lemmas.List.Sums.{sum_by-cons, count_by-le-length}
 use Rattle.std.proofs.lemmas.List.Folds.{list_any-append}
 use Rattle.std.specs.Prelude.{count_by, ◌&&◌, ◌||◌, ◌==◌, if◌then◌else◌, IsTrue}
@@ -9,10 +9,10 @@ use Rattle.regex_meaning.specs.Lists.{contains, numbers_from}
 use Rattle.regex_meaning.specs.Tree.{Node, empty, goal, char, char_set, byte_set, byte_sequence, cat, end_of_cat, alt, bracket, string_set, match_any, match_any_except_line_terminator, anchor, word_boundary, capture_group, back_ref, lookaround, loop, loop_1_char_body, group_ids, every}
 use Rattle.regex_meaning.specs.Text.{Text}
 use Rattle.regex_meaning.specs.WellFormed.{IsWellFormed, encloses, names_the_groups_inside, refers_to_a_group, is_one_character, has_one_character_body, has_text_in_sequence, fits_instructions}
-use Rattle.regex_meaning.proofs.FirstBytes.{and-left, and-right, or-left, or-right, true-le}
+use Rattle.regex_meaning.proofs.WellFormedLemmas.{clauses}
 use Rattle.regress_machine.specs.Bytes.{ReadsBytes, reads_bytes}
-use Rattle.regress_machine.proofs.Frames.{left_false, right_false}
 use Rattle.regress_machine.proofs.Loops.{AreBelow}
+use Rattle.regex_meaning.proofs.Booleans.{or-false-left, or-false-right, and-left, and-right}
 
 -- what the proofs of a node rest on, where there are n groups
 abbrev pub Ready : Text → (n : ℕ) → Node → Type 0
@@ -39,15 +39,15 @@ Distinct [] = Unit {0}
 Distinct (x ∷ xs) = (contains xs x ≡ false) × Distinct xs
 
 contains-left : (xs ys : List ℕ) (i : ℕ) → contains xs i ≡ true → contains (xs ++ ys) i ≡ true
-contains-left xs ys i h = list_any-append (nat_eq i) xs ys ∙ or-left (contains xs i) (contains ys i) h
+contains-left xs ys i h = list_any-append (nat_eq i) xs ys ∙ or_left (contains xs i) (contains ys i) h
 
 contains-right : (xs ys : List ℕ) (i : ℕ) → contains ys i ≡ true → contains (xs ++ ys) i ≡ true
-contains-right xs ys i h = list_any-append (nat_eq i) xs ys ∙ or-right (contains xs i) (contains ys i) h
+contains-right xs ys i h = list_any-append (nat_eq i) xs ys ∙ or_right (contains xs i) (contains ys i) h
 
 distinct-left : (xs ys : List ℕ) → Distinct (xs ++ ys) → Distinct xs
 distinct-left [] ys d = tt
 distinct-left (x ∷ xs) ys d =
-    (left_false (contains xs x) (contains ys x) (sym (list_any-append (nat_eq x) xs ys) ∙ d.0), distinct-left xs ys d.1)
+    (or-false-left (contains xs x) (contains ys x) (sym (list_any-append (nat_eq x) xs ys) ∙ d.0), distinct-left xs ys d.1)
 
 distinct-right : (xs ys : List ℕ) → Distinct (xs ++ ys) → Distinct ys
 distinct-right [] ys d = d
@@ -155,9 +155,9 @@ ids-distinct ids h = distinct-by ids few
         outside : (ys : List ℕ) → contains ys id ≡ false → count id ys ≡ 0
         outside [] e = refl
         outside (y ∷ ys) e =
-            let apart = left_false (nat_eq id y) (contains ys id) e in
+            let apart = or-false-left (nat_eq id y) (contains ys id) e in
             let c = count-one (nat_eq id) y ys in
-            omega (arith, c, ap one_if apart, outside ys (right_false (nat_eq id y) (contains ys id) e))
+            omega (arith, c, ap one_if apart, outside ys (or-false-right (nat_eq id y) (contains ys id) e))
 
         by_inside : (c : Bool) → contains ids id ≡ c → nat_lt id (length ids) ≡ false → count id ids ≤ 1
         by_inside true q r = let less = ids-below ids h id q in let le : length ids ≤ id = nltb→le id (length ids) (rw r tt) in absurd (omega arith)
@@ -201,7 +201,7 @@ sound_left text n node a b holds ids reads s = record {
   bodies = of_left has_one_character_body node a b holds s.bodies;
   sequences = of_left has_text_in_sequence node a b holds s.sequences;
   sets = of_left fits_instructions node a b holds s.sets;
-  bytes = λ h. s.bytes (reads ∙ or-left (reads_bytes a) (reads_bytes b) h);
+  bytes = λ h. s.bytes (reads ∙ or_left (reads_bytes a) (reads_bytes b) h);
   below = λ id h. s.below id (ap (λ (l : List ℕ). contains l id) ids ∙ contains-left (group_ids a) (group_ids b) id h);
   distinct = distinct-left (group_ids a) (group_ids b) (subst Distinct ids s.distinct);
 }
@@ -214,7 +214,7 @@ sound_right text n node a b holds ids reads s = record {
   bodies = of_right has_one_character_body node a b holds s.bodies;
   sequences = of_right has_text_in_sequence node a b holds s.sequences;
   sets = of_right fits_instructions node a b holds s.sets;
-  bytes = λ h. s.bytes (reads ∙ or-right (reads_bytes a) (reads_bytes b) h);
+  bytes = λ h. s.bytes (reads ∙ or_right (reads_bytes a) (reads_bytes b) h);
   below = λ id h. s.below id (ap (λ (l : List ℕ). contains l id) ids ∙ contains-right (group_ids a) (group_ids b) id h);
   distinct = distinct-right (group_ids a) (group_ids b) (subst Distinct ids s.distinct);
 }
@@ -242,8 +242,8 @@ below_named first end n contents h below i le less =
 
 back_ref-below : (n group : ℕ) → (nat_le 1 group && nat_le group n) ≡ true → group - 1 < n
 back_ref-below n group h =
-    let a : 1 ≤ group = true-le 1 group (and-left (nat_le 1 group) (nat_le group n) h) in
-    let b : group ≤ n = true-le group n (and-right (nat_le 1 group) (nat_le group n) h) in
+    let a : 1 ≤ group = leb-true 1 group (and-left (nat_le 1 group) (nat_le group n) h) in
+    let b : group ≤ n = leb-true group n (and-right (nat_le 1 group) (nat_le group n) h) in
     omega arith
 
 -- a test of a node of one character holds of the node itself
@@ -281,10 +281,10 @@ module _ (text : Text) (n : ℕ) where
   ready (anchor type multiline) s = tt
   ready (word_boundary invert unicode_icase) s = tt
   ready (capture_group id name contents) s = (
-    s.below id (or-left (nat_eq id id) (contains (group_ids contents) id) (eq-eqb id id refl)),
+    s.below id (or_left (nat_eq id id) (contains (group_ids contents) id) (eq-eqb id id refl)),
     s.distinct.0,
     ready contents (sound_inside text n (capture_group id name contents) contents (λ test. refl) refl
-        (λ i h. s.below i (or-right (nat_eq i id) (contains (group_ids contents) i) h)) s.distinct.1 s),
+        (λ i h. s.below i (or_right (nat_eq i id) (contains (group_ids contents) i) h)) s.distinct.1 s),
   )
   ready (back_ref group icase) s = back_ref-below n group s.refers
   ready (lookaround l contents) s = ready contents (sound_inside text n (lookaround l contents) contents (λ test. refl) refl s.below s.distinct s)
@@ -303,7 +303,8 @@ module _ (text : Text) (n : ℕ) where
       )
 
 pub root_ready : (text : Text) (root : Node) → IsWellFormed root → (IsTrue (reads_bytes root) → ReadsBytes text) → Ready text (length (group_ids root)) root
-root_ready text root w bytes =
+root_ready text root well_formed bytes =
+    let w = clauses root well_formed in
     let ids = group_ids root in
     let once = w.ids in
     ready text (length ids) root (record {

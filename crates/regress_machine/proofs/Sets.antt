@@ -12,10 +12,12 @@ use Rattle.regex_meaning.specs.Outcomes.{Groups, Outcome, accepts, differ, in_in
 use Rattle.regex_meaning.specs.StartPredicate.{bytes_where}
 use Rattle.regex_meaning.specs.Ticks.{Item, tick, pair, and_then, ticked}
 use Rattle.regex_meaning.specs.Layout.{Program, Insn, Mark, next, HasAll, IsCode, JustFail, Char, CharSet, ByteSet, AsciiBracket, Bracket, MatchAny, MatchAnyExceptLineTerminator, padded, char_set_insn, byte_set_insn, is_ascii_set}
-use Rattle.regex_meaning.proofs.FirstBytes.{and-left, and-right, true-eq, true-lt, true-in_range, contains-bytes_where}
+use Rattle.regex_meaning.proofs.FirstBytes.{true-in_range, contains-bytes_where}
 use Rattle.regress_machine.specs.Machine.{LoopData, State, running, with_some, read_one, act_on}
 use Rattle.regress_machine.proofs.Yields.{Ending, Yields, yields_none, yields_same, yields_turn}
 use Rattle.regress_machine.proofs.Nodes.{state_at, Enters, GoesOn, Finds, Rising, act_at, one_character_finds}
+use Rattle.std.proofs.lemmas.Bool.{false_from_ne_true, not-true, ltb-true, eqb-true}
+use Rattle.regex_meaning.proofs.Booleans.{and-left, and-right}
 
 -- ---- Tests
 
@@ -26,10 +28,6 @@ is_some_and-same (Some c) f g h = h c
 pub is_some_and-none : (o : Option ℕ) → is_some_and o (λ c. false) ≡ false
 is_some_and-none None = refl
 is_some_and-none (Some c) = refl
-
-true_or_false : (b : Bool) → (b ≡ true → ⊥) → b ≡ false
-true_or_false true h = absurd (h refl)
-true_or_false false h = refl
 
 -- members once more change nothing
 or_again : (a b z : Bool) → (z ≡ true → a ≡ true) → ((a || b) || z) ≡ (a || b)
@@ -59,7 +57,7 @@ contains-filter_none test c [] h = cc
 contains-filter_none test c (x ∷ xs) h = go (test x) refl h (contains-filter_none test c xs)
   where
     at_head : (b : Bool) → nat_eq c x ≡ b → test x ≡ true → (b || contains (filter test xs) c) ≡ true → (contains (filter test xs) c ≡ true → test c ≡ true) → test c ≡ true
-    at_head true e t h k = rw (true-eq c x e) t
+    at_head true e t h k = rw (eqb-true c x e) t
     at_head false e t h k = k h
 
     go : (b : Bool) → test x ≡ b → contains (if b then x ∷ filter test xs else filter test xs) c ≡ true → (contains (filter test xs) c ≡ true → test c ≡ true) → test c ≡ true
@@ -73,7 +71,7 @@ contains-bytes_same test low c = go (test c) refl
   where
     go : (b : Bool) → test c ≡ b → contains (bytes_where test) c ≡ b
     go true e = contains-bytes_where test c (low c e) e
-    go false e = true_or_false (contains (bytes_where test) c) (λ h. cc (contains-filter_none test c (numbers_from 0 256) h, e))
+    go false e = false_from_ne_true (contains (bytes_where test) c) (λ h. cc (contains-filter_none test c (numbers_from 0 256) h, e))
 
 low_intervals : (ivs : Intervals) (c : ℕ) → list_all (λ i. nat_lt i.1 128 || nat_lt i.1 i.0) ivs ≡ true → in_intervals ivs c ≡ true → c < 256
 low_intervals [] c h t = cc
@@ -81,21 +79,17 @@ low_intervals (i ∷ ivs) c h t =
     go (is_in_range i.0 i.1 c) refl t (λ later. low_intervals ivs c (and-right (nat_lt i.1 128 || nat_lt i.1 i.0) _ h) later)
   where
     low : (b : Bool) → nat_lt i.1 128 ≡ b → (b || nat_lt i.1 i.0) ≡ true → (i.0 ≤ c) × (c ≤ i.1) → c < 256
-    low true e h r = let l = true-lt i.1 128 e in omega (arith, r.0, r.1)
-    low false e h r = let l = true-lt i.1 i.0 h in absurd (omega (arith, r.0, r.1))
+    low true e h r = let l = ltb-true i.1 128 e in omega (arith, r.0, r.1)
+    low false e h r = let l = ltb-true i.1 i.0 h in absurd (omega (arith, r.0, r.1))
 
     go : (b : Bool) → is_in_range i.0 i.1 c ≡ b → (b || in_intervals ivs c) ≡ true → (in_intervals ivs c ≡ true → c < 256) → c < 256
     go true e t later = low (nat_lt i.1 128) refl (and-left (nat_lt i.1 128 || nat_lt i.1 i.0) _ h) (true-in_range i.0 i.1 c e)
     go false e t later = later t
 
-not_true_false : (b : Bool) → not b ≡ true → b ≡ false
-not_true_false true h = cc
-not_true_false false h = refl
-
 pub ascii_accepts : (contents : BracketContents) → is_ascii_set contents ≡ true → (c : ℕ)
     → contains (bytes_where (in_intervals contents.intervals)) c ≡ accepts (bracket contents) c
 ascii_accepts contents h c =
-    let plain = not_true_false contents.invert (and-left (not contents.invert) _ h) in
+    let plain = not-true contents.invert (and-left (not contents.invert) _ h) in
     let low = and-right (not contents.invert) (list_all (λ i. nat_lt i.1 128 || nat_lt i.1 i.0) contents.intervals) h in
     contains-bytes_same (in_intervals contents.intervals) (λ c t. low_intervals contents.intervals c low t) c
     ∙ ap (λ b. differ b (in_intervals contents.intervals c)) (sym plain)

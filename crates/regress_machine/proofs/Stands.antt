@@ -5,9 +5,10 @@ use Rattle.std.proofs.lemmas.List.{reverse-append, length-reverse, reverse-rever
 use lib.Pointwise.{pointwise}
 use Rattle.regex_meaning.specs.Text.{Text, Direction, rightwards, leftwards, last_place, characters_left, characters_beside}
 use Rattle.regex_meaning.specs.Ticks.{nearest_first}
-use Rattle.regex_meaning.proofs.FirstBytes.{and-right, true-le}
-use Rattle.std.proofs.lemmas.Bool.{leb-false}
+use Rattle.std.proofs.lemmas.Bool.{leb-false, leb-true}
 use Rattle.regress_machine.proofs.Beside.{length-nearest, in_text_order, characters_beside-nearest}
+use Rattle.std.proofs.Math.Bool.{and-true, and-false}
+use Rattle.regex_meaning.proofs.Booleans.{and-right}
 
 -- ---- Lists
 
@@ -25,11 +26,7 @@ stands-enough same (c ∷ cs) (d ∷ ds) le = ap (λ b. same c d && b) (stands-e
 stands-short : (same : ℕ → ℕ → Bool) (cs ds : List ℕ) → length ds < length cs → stands same cs ds ≡ false
 stands-short same [] ds less = absurd (omega arith)
 stands-short same (c ∷ cs) [] less = refl
-stands-short same (c ∷ cs) (d ∷ ds) less = ap (λ b. same c d && b) (stands-short same cs ds (omega arith)) ∙ never (same c d)
-  where
-    never : (b : Bool) → (b && false) ≡ false
-    never true = refl
-    never false = refl
+stands-short same (c ∷ cs) (d ∷ ds) less = ap (λ b. same c d && b) (stands-short same cs ds (omega arith)) ∙ and-false (same c d)
 
 pub stands-length : (same : ℕ → ℕ → Bool) (cs ds : List ℕ) → stands same cs ds ≡ true → length cs ≤ length ds
 stands-length same [] ds h = omega arith
@@ -39,10 +36,6 @@ stands-length same (c ∷ cs) (d ∷ ds) h = let l = stands-length same cs ds (a
 pub and_assoc : (a b c : Bool) → (a && (b && c)) ≡ ((a && b) && c)
 and_assoc true b c = refl
 and_assoc false b c = refl
-
-pub and_true : (a : Bool) → (a && true) ≡ a
-and_true true = refl
-and_true false = refl
 
 and_swap : (a b : Bool) → (a && b) ≡ (b && a)
 and_swap true true = refl
@@ -67,7 +60,7 @@ pointwise-reverse same (c ∷ cs) (d ∷ ds) e =
     ap (λ (l : List ℕ). pointwise same l (reverse (d ∷ ds))) (reverse-append (c ∷ []) cs)
     ∙ ap (pointwise same (reverse cs ++ (c ∷ []))) (reverse-append (d ∷ []) ds)
     ∙ pointwise-append same (reverse cs) (reverse ds) (c ∷ []) (d ∷ []) l
-    ∙ ap (λ b. pointwise same (reverse cs) (reverse ds) && b) (and_true (same c d))
+    ∙ ap (λ b. pointwise same (reverse cs) (reverse ds) && b) (and-true (same c d))
     ∙ and_swap (pointwise same (reverse cs) (reverse ds)) (same c d)
     ∙ ap (λ b. same c d && b) (pointwise-reverse same cs ds (omega arith))
 
@@ -105,7 +98,7 @@ module _ (text : Text) where
       by : (b : Bool) → nat_le (length cs) (characters_left text d p) ≡ b
           → (b && pointwise same cs (characters_beside text d (length cs) p)) ≡ stands same (in_reading_order d cs) (nearest_first text d p)
       by true e =
-          let le = true-le (length cs) (characters_left text d p) e in
+          let le = leb-true (length cs) (characters_left text d p) e in
           let n = length-reading d cs in
           let few : length cs ≤ length (nearest_first text d p) = omega (arith, all, le) in
           let l : length cs ≡ length (take (length cs) (nearest_first text d p)) = sym (length-take-le (length cs) (nearest_first text d p) few) in

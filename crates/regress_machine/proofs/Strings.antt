@@ -9,7 +9,6 @@ use Rattle.regex_meaning.specs.Offsets.{IsText}
 use Rattle.regex_meaning.specs.Outcomes.{Groups, Outcome, is_some_and, spells, spelled}
 use Rattle.regex_meaning.specs.Ticks.{Item, tick, pair, ticks, tries, and_then, ticked_pairs, nearest_first, string_tries, ticked_string, ticked_strings, ticked}
 use Rattle.regex_meaning.specs.Layout.{Program, Insn, Mark, next, Has, HasAll, IsCode, IsStringCode, AreStringsCode, JustFail, Char, CharSet, Alt, Jump, padded, ordered, spelling_insn}
-use Rattle.regex_meaning.proofs.FirstBytes.{eq-true, true-eq, or-left}
 use Rattle.regex_meaning.proofs.TextLemmas.{place_at-offset}
 use Rattle.regress_machine.specs.Machine.{LoopData, State, running, waiting, with_some, go_if, on_to, read_one, act_on, act}
 use Rattle.regress_machine.proofs.Yields.{Ending, Yields, yields_none, yields_append, yields_same, yields_turn, yields_wait}
@@ -17,9 +16,11 @@ use Rattle.regress_machine.proofs.Frames.{kept_itself}
 use Rattle.regress_machine.proofs.Nodes.{and_then-append, and_then-pairs, and_then-ticks, direction_at, state_at, Finds, Rising, act_at, inside_by}
 use Rattle.regress_machine.proofs.Sets.{contains-padded, is_some_and-same, is_some_and-none, fail_finds, insns_rising}
 use Rattle.regress_machine.proofs.Beside.{Beside, nothing_left, one_more, beside, length-nearest, moved-suc, moved-zero}
-use Rattle.regress_machine.proofs.OneTests.{or_false, same_tests}
+use Rattle.regress_machine.proofs.OneTests.{or_false}
 use Rattle.regress_machine.proofs.OneCharacter.{reached_behind}
 use Rattle.regress_machine.proofs.Stands.{stands, stands-length, in_reading_order, length-reading, beside-stands}
+use Rattle.regex_meaning.proofs.Booleans.{same-truth}
+use Rattle.std.proofs.lemmas.Bool.{or_left, eq-eqb, eqb-true}
 
 -- ---- Items
 
@@ -38,8 +39,8 @@ items_if-pair false o k = refl
 
 pub same_number : (c d : ℕ) → (c == d) ≡ contains (c ∷ []) d
 same_number c d =
-    same_tests (c == d) (contains (c ∷ []) d) (λ h. or-left (nat_eq d c) false (eq-true d c (sym (true-eq c d h))))
-    (λ h. eq-true c d (sym (true-eq d c (or_false (nat_eq d c) h))))
+    same-truth (c == d) (contains (c ∷ []) d) (λ h. or_left (nat_eq d c) false (eq-eqb d c (sym (eqb-true c d h))))
+    (λ h. eq-eqb c d (sym (eqb-true d c (or_false (nat_eq d c) h))))
 
 module _ (program : Program) (text : Text) (is_text : IsText text) where
   in_order : (behind : Bool) (cs : List ℕ) → in_reading_order text (direction_at behind) cs ≡ ordered behind cs

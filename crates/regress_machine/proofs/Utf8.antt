@@ -11,11 +11,12 @@ use lib.Utf8.{scalar, scalars}
 use Rattle.regex_meaning.specs.Text.{Text, Direction, rightwards, leftwards, last_place, moved, offsets_from, is_scalar}
 use Rattle.regex_meaning.specs.Offsets.{offset}
 use Rattle.regex_meaning.specs.Ticks.{nearest_first}
-use Rattle.regex_meaning.proofs.FirstBytes.{and-left, and-right, and-both, true-eq, eq-true}
 use Rattle.regress_machine.specs.Machine.{moved_by}
 use Rattle.regress_machine.specs.Bytes.{ReadsBytes}
-use Rattle.regress_machine.proofs.OneTests.{same_tests, scalar_of}
+use Rattle.regress_machine.proofs.OneTests.{scalar_of}
 use Rattle.regress_machine.proofs.Stands.{stands, in_reading_order}
+use Rattle.regex_meaning.proofs.Booleans.{same-truth, and-left, and-right}
+use Rattle.std.proofs.lemmas.Bool.{and_from, eq-eqb, eqb-true}
 
 -- ---- Fronts of lists
 
@@ -28,14 +29,14 @@ pub stands-front : (xs ys : List ℕ) → stands nat_eq xs ys ≡ true → ys �
 stands-front [] ys h = refl
 stands-front (x ∷ xs) [] h = cc
 stands-front (x ∷ xs) (y ∷ ys) h =
-    let e = true-eq x y (and-left (nat_eq x y) _ h) in
+    let e = eqb-true x y (and-left (nat_eq x y) _ h) in
     ap (λ (l : List ℕ). y ∷ l) (stands-front xs ys (and-right (nat_eq x y) _ h)) ∙ ap (λ (z : ℕ). z ∷ (xs ++ drop (length xs) ys)) (sym e)
 
 pub front-stands : (xs zs : List ℕ) → stands nat_eq xs (xs ++ zs) ≡ true
 front-stands [] zs = refl
-front-stands (x ∷ xs) zs = and-both (nat_eq x x) (stands nat_eq xs (xs ++ zs)) (eq-true x x refl) (front-stands xs zs)
+front-stands (x ∷ xs) zs = and_from (nat_eq x x) (stands nat_eq xs (xs ++ zs)) (eq-eqb x x refl) (front-stands xs zs)
 
-front-is : (xs ys zs : List ℕ) → ys ≡ xs ++ zs → stands nat_eq xs ys ≡ true
+pub front-is : (xs ys zs : List ℕ) → ys ≡ xs ++ zs → stands nat_eq xs ys ≡ true
 front-is xs ys zs e = ap (stands nat_eq xs) e ∙ front-stands xs zs
 
 -- ---- Fronts and ends of texts
@@ -66,13 +67,13 @@ last_characters xs ds rest s t e =
   where
     all_scalars : (zs xs : List ℕ) → scalars zs ≡ true → scalars xs ≡ true → scalars (zs ++ xs) ≡ true
     all_scalars [] xs s t = t
-    all_scalars (z ∷ zs) xs s t = and-both (scalar z) (scalars (zs ++ xs)) (and-left (scalar z) _ s) (all_scalars zs xs (and-right (scalar z) _ s) t)
+    all_scalars (z ∷ zs) xs s t = and_from (scalar z) (scalars (zs ++ xs)) (and-left (scalar z) _ s) (all_scalars zs xs (and-right (scalar z) _ s) t)
 
 pub scalars_of : (cs : List ℕ) → list_all is_scalar cs ≡ true → scalars cs ≡ true
 scalars_of [] h = refl
-scalars_of (c ∷ cs) h = and-both (scalar c) (scalars cs) (scalar_of c (and-left (is_scalar c) _ h)) (scalars_of cs (and-right (is_scalar c) _ h))
+scalars_of (c ∷ cs) h = and_from (scalar c) (scalars cs) (scalar_of c (and-left (is_scalar c) _ h)) (scalars_of cs (and-right (is_scalar c) _ h))
 
-last-of : (xs ds r : List ℕ) → reverse ds ≡ reverse xs ++ r → ds ≡ reverse r ++ xs
+pub last-of : (xs ds r : List ℕ) → reverse ds ≡ reverse xs ++ r → ds ≡ reverse r ++ xs
 last-of xs ds r e = sym (reverse-reverse ds) ∙ ap reverse e ∙ reverse-append (reverse xs) r ∙ ap (λ (l : List ℕ). reverse r ++ l) (reverse-reverse xs)
 
 reversed : (xs ds zs : List ℕ) → ds ≡ zs ++ xs → reverse ds ≡ reverse xs ++ reverse zs
@@ -84,7 +85,7 @@ module _ (text : Text) where
       → stands nat_eq (in_reading_order text d (encode_utf8_all xs)) (in_reading_order text d (encode_utf8_all ds))
       ≡ stands nat_eq (in_reading_order text d xs) (in_reading_order text d ds)
   bytes-stand rightwards xs ds s t =
-      same_tests (stands nat_eq (encode_utf8_all xs) (encode_utf8_all ds)) (stands nat_eq xs ds)
+      same-truth (stands nat_eq (encode_utf8_all xs) (encode_utf8_all ds)) (stands nat_eq xs ds)
       (λ h. let front = first_characters xs ds (drop (length (encode_utf8_all xs)) (encode_utf8_all ds)) (stands-front (encode_utf8_all xs) (encode_utf8_all ds) h) in
       front-is xs ds front.0 front.1)
       (λ h.
@@ -93,7 +94,7 @@ module _ (text : Text) where
   bytes-stand leftwards xs ds s t =
       let bs = encode_utf8_all xs in
       let es = encode_utf8_all ds in
-      same_tests (stands nat_eq (reverse bs) (reverse es)) (stands nat_eq (reverse xs) (reverse ds))
+      same-truth (stands nat_eq (reverse bs) (reverse es)) (stands nat_eq (reverse xs) (reverse ds))
       (λ h.
       let r = drop (length (reverse bs)) (reverse es) in
       let end = last_characters xs ds (reverse r) s t (last-of bs es r (stands-front (reverse bs) (reverse es) h)) in
@@ -127,7 +128,7 @@ module _ (text : Text) where
       before : (n : ℕ) (cs : List ℕ) → scalars cs ≡ true → scalars (take n cs) ≡ true
       before zero cs h = refl
       before (suc n) [] h = h
-      before (suc n) (c ∷ cs) h = and-both (scalar c) (scalars (take n cs)) (and-left (scalar c) _ h) (before n cs (and-right (scalar c) _ h))
+      before (suc n) (c ∷ cs) h = and_from (scalar c) (scalars (take n cs)) (and-left (scalar c) _ h) (before n cs (and-right (scalar c) _ h))
 
   offsets-are : (cs : List ℕ) (at p : ℕ) → p ≤ length cs → get_or (offsets_from at (map len_utf8 cs)) p 0 ≡ at + length (encode_utf8_all (take p cs))
   offsets-are [] at zero le = omega arith

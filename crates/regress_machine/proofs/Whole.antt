@@ -1,8 +1,7 @@
 -- What the code of a whole tree finds.
-use Rattle.std.proofs.Common.{◌≡◌, ℕ, zero, suc, ◌+◌, ◌-◌, ◌<◌, ◌≤◌, List, [], ◌∷◌, length, map, replicate, Option, Some, None, Bool, true, false, refl, ap, ◌∙◌, sym, subst, arith, eqb-true}
+use Rattle.std.proofs.Common.{◌≡◌, ℕ, ◌-◌, ◌<◌, ◌≤◌, List, [], ◌∷◌, length, replicate, Option, Some, None, Bool, true, false, refl, ap, ◌∙◌, sym, subst, arith, eqb-true}
 use Rattle.std.proofs.lemmas.List.{length-replicate}
 use Rattle.std.specs.Prelude.{option_map, if◌then◌else◌, ◌==◌}
-use Rattle.regex_meaning.specs.Laws.{Each}
 use Rattle.regex_meaning.specs.Tree.{Node, empty, goal, char, char_set, byte_set, byte_sequence, cat, end_of_cat, alt, bracket, string_set, match_any, match_any_except_line_terminator, anchor, word_boundary, capture_group, back_ref, lookaround, loop, loop_1_char_body, group_ids, Flags, Tree}
 use Rattle.regex_meaning.specs.Text.{Text, Direction, rightwards, last_place}
 use Rattle.regex_meaning.specs.Offsets.{IsText, offset}
@@ -11,7 +10,6 @@ use Rattle.regex_meaning.specs.Find.{no_groups}
 use Rattle.regex_meaning.specs.Ticks.{Item, tick, pair, and_then, ticked, items_at}
 use Rattle.regex_meaning.specs.WellFormed.{goal_count, is_end_of_cat, ends_in_goal}
 use Rattle.regex_meaning.specs.Layout.{Program, Mark, next, start, IsCode, Goal, anchor_insn, word_boundary_insn, BackRef}
-use Rattle.regex_meaning.proofs.FirstBytes.{and-left, and-right}
 use Rattle.regress_machine.specs.Machine.{LoopData, State, running, nothing, search}
 use Rattle.regress_machine.specs.Finds.{initial, end_in_offsets, end_of, first_pair, CanSearch, turns_at, FindsFirst}
 use Rattle.regress_machine.proofs.Search.{search_enough}
@@ -25,6 +23,10 @@ use Rattle.regress_machine.proofs.OneCharacter.{loop_1_char_body_finds, loop_1_c
 use Rattle.regress_machine.proofs.Strings.{string_set_finds, string_set_rising}
 use Rattle.regress_machine.proofs.Bytes.{byte_set_finds, byte_sequence_finds, byte_sequence_rising}
 use Rattle.regress_machine.proofs.Ready.{Ready, root_ready}
+use Rattle.regex_meaning.proofs.WellFormedLemmas.{clauses}
+use Rattle.regex_meaning.proofs.Lists.{map-replicate}
+use Rattle.regex_meaning.proofs.Each.{Each-replicate}
+use Rattle.regex_meaning.proofs.Booleans.{and-left, and-right}
 
 and_then-itself : (items : List Item) → and_then items (λ o. pair o ∷ []) ≡ items
 and_then-itself [] = refl
@@ -37,7 +39,7 @@ goal_inside goal h = omega arith
 goal_inside (cat first rest) h = by (is_end_of_cat rest) h (goal_inside first) (goal_inside rest)
   where
     by : (b : Bool) → (if b then ends_in_goal first else ends_in_goal rest) ≡ true → (ends_in_goal first ≡ true → 1 ≤ goal_count first)
-        → (ends_in_goal rest ≡ true → 1 ≤ goal_count rest) → 1 ≤ goal_count first + goal_count rest
+        → (ends_in_goal rest ≡ true → 1 ≤ goal_count rest) → 1 ≤ goal_count (cat first rest)
     by true h f r = let a = f h in omega arith
     by false h f r = let a = r h in omega arith
 goal_inside _ h = cc
@@ -106,14 +108,14 @@ module _ (program : Program) (text : Text) (is_text : IsText text) where
     tree_finds d behind ahead (word_boundary invert unicode_icase) r h E m n p g s ls k code enters on =
         word_boundary_finds program text is_text d behind invert unicode_icase E m n p g s ls k code enters on
     tree_finds d behind ahead (capture_group id name contents) r h E m n p g s ls k code enters on =
-        capture_group_finds program text is_text d behind id name contents (tree_finds d behind ahead contents r.2 h) E m n p g s ls k
+        capture_group_finds program text is_text d behind id name contents (tree_finds d behind ahead contents r.2 (omega arith)) E m n p g s ls k
         (subst (λ x. id < x) (sym enters.groups) r.0) r.1 code enters on
     tree_finds d behind ahead (back_ref group icase) r h E m n p g s ls k code enters on =
         back_ref_finds program text is_text d behind group icase E m n p g s ls k (subst (λ x. group - 1 < x) (sym enters.groups) r) code enters on
     tree_finds d behind ahead (lookaround l contents) r h E m n p g s ls k code enters on =
-        lookaround_finds program text is_text d behind l contents (tree_finds (direction_of l) l.backwards refl contents r h) E m n p g s ls k code enters on
+        lookaround_finds program text is_text d behind l contents (tree_finds (direction_of l) l.backwards refl contents r (omega arith)) E m n p g s ls k code enters on
     tree_finds d behind ahead (loop q first end loopee) r h E m n p g s ls k code enters on =
-        loop_finds program text is_text d behind q first end loopee (tree_finds d behind ahead loopee r.1 h) (tree_rising behind loopee r.1) E m n p g s ls k
+        loop_finds program text is_text d behind q first end loopee (tree_finds d behind ahead loopee r.1 (omega arith)) (tree_rising behind loopee r.1) E m n p g s ls k
         (λ i le less. subst (λ x. i < x) (sym enters.groups) (r.0 i le less)) code enters on
     tree_finds d behind ahead (loop_1_char_body q loopee) r h E m n p g s ls k code enters on =
         loop_1_char_body_finds program text is_text d behind q loopee r.0 r.1 r.2 r.3 E m n p g s ls k code enters on
@@ -149,14 +151,6 @@ module _ (program : Program) (text : Text) (is_text : IsText text) where
         })
     root_finds _ r h one m n p g s ls code enters = cc
 
-Each-replicate : {X : Type 0} (P : X → Type 0) (n : ℕ) (x : X) → P x → Each P (replicate n x)
-Each-replicate P zero x h = tt
-Each-replicate P (suc n) x h = (h, Each-replicate P n x h)
-
-map-replicate : {X Y : Type 0} (f : X → Y) (n : ℕ) (x : X) → map f (replicate n x) ≡ replicate n (f x)
-map-replicate f zero x = refl
-map-replicate f (suc n) x = ap (λ l. f x ∷ l) (map-replicate f n x)
-
 same_end : (text : Text) (first : Option Outcome) (e : Option State) → EndIs (λ o t. end_of t ≡ end_in_offsets text o) first e
     → option_map end_of e ≡ option_map (end_in_offsets text) first
 same_end text None e is = ap (option_map end_of) is
@@ -182,8 +176,8 @@ searches-find program tree text can place inside =
     let last : Mark = record { insn = length program.insns; loop = program.loops; bracket = length program.brackets } in
     let items = items_at tree text place in
     let unicode : text.unicode ≡ program.flags.unicode = can.unicode ∙ ap (λ (f : Flags). f.unicode) (sym can.code.flags) in
-    let y = root_finds program text can.is_text unicode root ready (and-right (goal_count root == 1) (ends_in_goal root) can.well_formed.goal_last)
-    (eqb-true (goal_count root) 1 (and-left (goal_count root == 1) (ends_in_goal root) can.well_formed.goal_last)) start last place g starts loops can.code.code
+    let y = root_finds program text can.is_text unicode root ready (and-right (goal_count root == 1) (ends_in_goal root) (clauses root can.well_formed).goal_last)
+    (eqb-true (goal_count root) 1 (and-left (goal_count root == 1) (ends_in_goal root) (clauses root can.well_formed).goal_last)) start last place g starts loops can.code.code
     (record { inside = inside; fit = Each-replicate (RangeFits program text can.is_text) n none tt; groups = len_g; starts = len_s ∙ sym len_g; loops = omega (arith, len_l) }) in
     let s0 = state_at program text can.is_text 0 place g starts loops in
     let begins : s0 ≡ initial program (offset text place) =

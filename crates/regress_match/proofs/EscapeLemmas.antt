@@ -6,18 +6,18 @@ use Rattle.std.specs.Char.{encode_utf8}
 use Rattle.std.proofs.lemmas.Grind.{flat_map-append}
 use Rattle.std.proofs.lemmas.Str.{encode_ascii}
 use Rattle.std.proofs.lemmas.List.{nil_from_length}
-use Rattle.std.proofs.lemmas.Bool.{cases_Bool}
+use Rattle.std.proofs.lemmas.Bool.{cases_Bool, ltb-true, le-ltb, ne_eqb}
 use Rattle.std.proofs.lemmas.Bool.Decides.{leb_tells}
 use Rattle.regex_meaning.specs.Lists.{contains}
 use Rattle.regex_meaning.specs.Flags.{special, escaped, escape}
-use Rattle.regex_meaning.proofs.FirstBytes.{and-left, and-right, true-lt, lt-false, eq-false}
+use Rattle.regex_meaning.proofs.Booleans.{and-left, and-right}
 
 -- a number that is larger than all members is none
 contains-beyond : (limit n : ℕ) (members : List ℕ) → limit ≤ n → list_all (λ x. nat_lt x limit) members ≡ true → contains members n ≡ false
 contains-beyond limit n [] le all = refl
 contains-beyond limit n (x ∷ xs) le all =
-    let less = true-lt x limit (and-left _ _ all) in
-    let other : nat_eq n x ≡ false = eq-false n x (λ e. omega arith) in
+    let less = ltb-true x limit (and-left _ _ all) in
+    let other : nat_eq n x ≡ false = ne_eqb n x (λ e. omega arith) in
     ap₂ (λ a b. a || b) other (contains-beyond limit n xs le (and-right _ _ all))
 
 -- a byte that is no character of ASCII stays
@@ -57,7 +57,7 @@ stays-by c false false = stays-cons _ _ (omega arith) (stays-cons _ _ (omega ari
 
 encode-stays : (c : ℕ) → 128 ≤ c → stays (encode_utf8 c)
 unfolding encode_utf8
-encode-stays c le = rw (lt-false c 128 le) (stays-by c (nat_lt c 2048) (nat_lt c 65536))
+encode-stays c le = rw (le-ltb c 128 le) (stays-by c (nat_lt c 2048) (nat_lt c 65536))
 
 -- an escaped character is itself behind its mark
 escaped-marked : (c : ℕ) → escaped c ≡ mark c ++ c ∷ []

@@ -1,16 +1,17 @@
 -- What nodes begin with.
-use Rattle.std.proofs.Common.{◌≡◌, ℕ, ◌+◌, ◌<◌, ◌≤◌, true, false, not, ◌&&◌, List, [], ◌∷◌, ◌++◌, length, take, drop, get_or, refl, sym, ap, ◌∙◌, arith, append-nil, drop-cons, Result, IfOk}
+use Rattle.std.proofs.Common.{◌≡◌, ℕ, ◌+◌, ◌<◌, ◌≤◌, Bool, true, false, not, ◌&&◌, ◌||◌, List, [], ◌∷◌, ◌++◌, length, take, drop, get_or, refl, sym, ap, ◌∙◌, arith, append-nil, drop-cons, Result, IfOk}
+use Rattle.std.specs.Prelude.{if◌then◌else◌, nat_lt}
 use Rattle.std.proofs.lemmas.List.{drop_all}
 use Rattle.std.proofs.lemmas.Result.{IfOk-weaker}
-use Rattle.std.proofs.lemmas.Bool.{ne_eqb}
-use Rattle.regex_meaning.specs.Tree.{Tree}
+use Rattle.std.proofs.lemmas.Bool.{ne_eqb, or_parts}
+use Rattle.regex_meaning.specs.Tree.{Node, byte_sequence, cat, alt, capture_group, loop, loop_1_char_body, Tree}
 use Rattle.regex_meaning.specs.WellFormed.{IsWellFormed}
-use Rattle.regex_meaning.specs.StartPredicate.{Beginning, beginning, one_of, sequence_or, shared_front, union, first_byte, is_anchored, StartPredicate, start_of, start_predicate, start_arbitrary, start_byte_set, start_anchored, IsSound}
-use Rattle.regex_meaning.proofs.Sound.{predicate-holds}
-use Rattle.regex_meaning.proofs.Clean.{predicate-on_characters}
-use Rattle.regress_program.specs.declared.insn.StartPredicate as declared
+use Rattle.regex_meaning.specs.StartPredicate.{Beginning, open_ended, arbitrary, sequence, one_of, then_of, join, beginning, sequence_or, shared_front, union, first_byte, is_anchored, StartPredicate, start_of, start_predicate, start_arbitrary, start_byte_set, start_anchored, IsSound}
+use Rattle.regex_meaning.proofs.Clean.{predicate-sound}
+use Rattle.regress_program.specs.declared.insn.predicates.StartPredicate as declared
 use Rattle.regress_program.specs.Insns.{start_of as predicate_of}
 use Rattle.regress_program.specs.Beginnings.{bytes_from}
+use Rattle.regress_program.specs.Predicates.{is_open, is_sequence, may_grow, may_take_memory}
 use Rattle.regress_program.proofs.ByteSetLemmas.{union-both}
 
 -- ---- Shared fronts
@@ -44,6 +45,62 @@ first_bytes_alone xs ys front one both e none f g =
     no_front (shared_front xs ys) both (sym (ap length e) ∙ none)
     ∙ ap (sequence_or (shared_front xs ys)) (g ∙ ap (λ zs. union zs (first_byte ys)) f ∙ union-both (first_byte xs) (first_byte ys))
 
+-- ---- Memory
+
+then-no_sequence : (a b : Beginning) (first rest : Bool) → (first || is_open a && rest) ≡ false
+    → (first ≡ false → is_sequence a ≡ false) → (rest ≡ false → is_sequence b ≡ false) → is_sequence (then_of a b) ≡ false
+then-no_sequence a b true rest e f g = cc
+then-no_sequence open_ended b false rest e f g = g e
+then-no_sequence arbitrary b false rest e f g = refl
+then-no_sequence (sequence xs) b false rest e f g = f refl
+then-no_sequence (one_of xs) b false rest e f g = refl
+
+join-no_sequence : (a b : Beginning) → is_sequence a ≡ false → is_sequence b ≡ false → is_sequence (join a b) ≡ false
+join-no_sequence open_ended b h k = refl
+join-no_sequence arbitrary b h k = refl
+join-no_sequence (sequence xs) b h k = cc
+join-no_sequence (one_of xs) open_ended h k = refl
+join-no_sequence (one_of xs) arbitrary h k = refl
+join-no_sequence (one_of xs) (sequence ys) h k = cc
+join-no_sequence (one_of xs) (one_of ys) h k = refl
+
+if-no_sequence : (test : Bool) (b : Beginning) (inside : Bool) → (test && inside) ≡ false → (inside ≡ false → is_sequence b ≡ false)
+    → is_sequence (if test then b else arbitrary) ≡ false
+if-no_sequence false b inside e f = refl
+if-no_sequence true b inside e f = f e
+
+-- where no byte sequence is met, none comes out
+pub no_sequence : (n : Node) → may_grow n ≡ false → is_sequence (beginning n) ≡ false
+unfolding may_grow beginning
+no_sequence (byte_sequence bytes) h = cc
+no_sequence (cat first rest) h = then-no_sequence (beginning first) (beginning rest) (may_grow first) (may_grow rest) h (no_sequence first) (no_sequence rest)
+no_sequence (alt left right) h =
+    let both = or_parts (may_grow left) (may_grow right) h in
+    join-no_sequence (beginning left) (beginning right) (no_sequence left both.0) (no_sequence right both.1)
+no_sequence (capture_group id name contents) h = no_sequence contents h
+no_sequence (loop q start_group end_group loopee) h = if-no_sequence (nat_lt 0 q.min) (beginning loopee) (may_grow loopee) h (no_sequence loopee)
+no_sequence (loop_1_char_body q loopee) h = if-no_sequence (nat_lt 0 q.min) (beginning loopee) (may_grow loopee) h (no_sequence loopee)
+no_sequence _ h = refl
+
+-- the first node of a row, and the rest where it is open
+pub quiet-first : (first rest : Node) → may_grow (cat first rest) ≡ false → may_grow first ≡ false
+unfolding may_grow
+quiet-first first rest h = (or_parts (may_grow first) (is_open (beginning first) && may_grow rest) h).0
+
+pub quiet-rest : (first rest : Node) → beginning first ≡ open_ended → may_grow (cat first rest) ≡ false → may_grow rest ≡ false
+unfolding may_grow
+quiet-rest first rest e h =
+    let behind = (or_parts (may_grow first) (is_open (beginning first) && may_grow rest) h).1 in
+    sym (ap (λ b. is_open b && may_grow rest) e) ∙ behind
+
+quiet-unless : (anchored grows : Bool) → anchored ≡ false → (not anchored && grows) ≡ false → grows ≡ false
+quiet-unless false grows e h = h
+quiet-unless true grows e h = cc
+
+-- the predicate that comes of a root for which no memory is taken
+pub quiet-root : (tree : Tree) → (not tree.flags.multiline && is_anchored tree.root) ≡ false → may_take_memory tree ≡ false → may_grow tree.root ≡ false
+quiet-root tree = quiet-unless (not tree.flags.multiline && is_anchored tree.root) (may_grow tree.root)
+
 -- ---- Members of a set
 
 pub predicate-none : (set : List ℕ) → bytes_from set 0 ≡ set → bytes_from set 0 ≡ [] → start_arbitrary ≡ start_of (one_of set)
@@ -56,6 +113,11 @@ predicate-members set a rest all e = ap (λ s. start_of (one_of s)) (sym e ∙ a
 pub predicate-bracket : (set : List ℕ) (a : ℕ) (rest : List ℕ) → bytes_from set 0 ≡ set → bytes_from set 0 ≡ a ∷ rest
     → start_byte_set set ≡ start_of (one_of set)
 predicate-bracket set a rest all e = ap start_byte_set (sym all ∙ e) ∙ predicate-members set a rest all e
+
+pub more_than_three : (set : List ℕ) (a b c d : ℕ) (rest : List ℕ) → bytes_from set 0 ≡ set → bytes_from set 0 ≡ a ∷ b ∷ c ∷ d ∷ rest → 3 < length set
+more_than_three set a b c d rest all e =
+    let four : length set ≡ length (a ∷ b ∷ c ∷ d ∷ rest) = ap length (sym all ∙ e) in
+    omega (arith, four)
 
 -- the members behind one
 pub members_behind : (set rest : List ℕ) (a n : ℕ) → n ≡ a → bytes_from set (n + 1) ≡ rest → bytes_from set (a + 1) ≡ rest
@@ -71,8 +133,8 @@ pub predicate-elsewhere : (tree : Tree) → (not tree.flags.multiline && is_anch
 unfolding start_predicate
 predicate-elsewhere tree h = rw h
 
-pub predicate-sound : (tree : Tree) (p : StartPredicate) → p ≡ start_predicate tree → IsWellFormed tree.root → IsSound p tree.root
-predicate-sound tree p e w = rw e (record { holds = predicate-holds tree w; on_characters = predicate-on_characters tree w })
+pub sound-as : (tree : Tree) (p : StartPredicate) → p ≡ start_predicate tree → IsWellFormed tree.root → IsSound p tree.root
+sound-as tree p e w = rw e (predicate-sound tree w)
 
 -- the predicate of what the root begins with
 pub predicate-begun : {E : Type 0} (r : Result declared.StartPredicate E) (b : Beginning) (tree : Tree) → (not tree.flags.multiline && is_anchored tree.root) ≡ false
@@ -83,4 +145,4 @@ predicate-begun r b tree h e =
 pub all-sound : {E : Type 0} (r : Result declared.StartPredicate E) (tree : Tree) → IfOk r (λ p. predicate_of p ≡ start_predicate tree)
     → IsWellFormed tree.root → IfOk r (λ p. IsSound (predicate_of p) tree.root)
 all-sound r tree h w =
-    IfOk-weaker r (λ p. predicate_of p ≡ start_predicate tree) (λ p. IsSound (predicate_of p) tree.root) (λ p e. predicate-sound tree (predicate_of p) e w) h
+    IfOk-weaker r (λ p. predicate_of p ≡ start_predicate tree) (λ p. IsSound (predicate_of p) tree.root) (λ p e. sound-as tree (predicate_of p) e w) h

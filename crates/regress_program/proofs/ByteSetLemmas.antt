@@ -8,14 +8,7 @@ use Rattle.regex_meaning.specs.Tree.{Intervals}
 use Rattle.regex_meaning.specs.StartPredicate.{bytes_where, begun_by, meet, union, first_byte}
 use Rattle.regex_pattern_front.proofs.ByteLemmas.{contains-bytes_where, bytes_where-same}
 use Rattle.regress_program.specs.Beginnings.{bytes_from}
-
-or-none : (t : Bool) → (t || false) ≡ t
-or-none true = refl
-or-none false = refl
-
-or-assoc : (s t u : Bool) → ((s || t) || u) ≡ (s || (t || u))
-or-assoc true t u = refl
-or-assoc false t u = refl
+use Rattle.std.proofs.Math.Bool.{or-false, or_assoc}
 
 or-comm : (s t : Bool) → (s || t) ≡ (t || s)
 or-comm true true = refl
@@ -26,13 +19,13 @@ or-comm false false = refl
 -- ---- Unions
 
 pub union-none : (p : ℕ → Bool) → union (bytes_where p) [] ≡ bytes_where p
-union-none p = bytes_where-same _ _ (λ b h. or-none (contains (bytes_where p) b) ∙ contains-bytes_where p b h)
+union-none p = bytes_where-same _ _ (λ b h. or-false (contains (bytes_where p) b) ∙ contains-bytes_where p b h)
 
 pub union-more : (old new rest : List ℕ) (byte : ℕ) → new ≡ bytes_where (λ b. b == byte || contains old b)
     → union new rest ≡ union old (byte ∷ rest)
 union-more old new rest byte e = bytes_where-same _ _ (λ b h.
     ap (λ t. t || contains rest b) (ap (λ s. contains s b) e ∙ contains-bytes_where (λ c. c == byte || contains old c) b h ∙ or-comm (b == byte) (contains old b))
-    ∙ or-assoc (contains old b) (b == byte) (contains rest b))
+    ∙ or_assoc (contains old b) (b == byte) (contains rest b))
 
 -- a byte of a list, where the rest is to come
 pub union-next : (old new bytes : List ℕ) (i : ℕ) → i < length bytes → new ≡ bytes_where (λ b. b == get_or bytes i 0 || contains old b)
@@ -52,7 +45,7 @@ pub union-first : (old new bytes : List ℕ) (byte : ℕ) → slice_get bytes 0 
 union-first old new [] byte h e = cc
 union-first old new (x ∷ xs) byte h e =
     let is : byte ≡ x = cc in
-    e ∙ bytes_where-same _ _ (λ b k. or-comm (b == byte) (contains old b) ∙ ap (λ t. contains old b || t) (ap (λ y. b == y) is ∙ sym (or-none (b == x))))
+    e ∙ bytes_where-same _ _ (λ b k. or-comm (b == byte) (contains old b) ∙ ap (λ t. contains old b || t) (ap (λ y. b == y) is ∙ sym (or-false (b == x))))
 
 pub union-comm : (xs ys : List ℕ) → union xs ys ≡ union ys xs
 union-comm xs ys = bytes_where-same _ _ (λ b h. or-comm (contains xs b) (contains ys b))
@@ -73,7 +66,7 @@ meet-none (x ∷ xs) = meet-none xs
 
 pub first_bytes-none : (p : ℕ → Bool) → with_first_bytes (bytes_where p) [] ≡ bytes_where p
 first_bytes-none p =
-    bytes_where-same _ _ (λ b h. ap (λ t. contains (bytes_where p) b || t) (meet-none (begun_by b)) ∙ or-none (contains (bytes_where p) b) ∙ contains-bytes_where p b h)
+    bytes_where-same _ _ (λ b h. ap (λ t. contains (bytes_where p) b || t) (meet-none (begun_by b)) ∙ or-false (contains (bytes_where p) b) ∙ contains-bytes_where p b h)
 
 four : (s t u v : Bool) → ((s || t) || (u || v)) ≡ (((s || false) || u) || (t || v))
 four true t u v = refl
@@ -95,7 +88,7 @@ pub first_bytes-more : (old new : List ℕ) (i : ℕ × ℕ) (rest : Intervals) 
     → with_first_bytes new rest ≡ with_first_bytes old (i ∷ rest)
 first_bytes-more old new i rest e = bytes_where-same _ _ (λ b h.
     ap (λ t. t || meet (begun_by b) rest) (ap (λ s. contains s b) e ∙ contains-bytes_where (λ c. contains old c || meet (begun_by c) (i ∷ [])) b h)
-    ∙ or-assoc (contains old b) (meet (begun_by b) (i ∷ [])) (meet (begun_by b) rest)
+    ∙ or_assoc (contains old b) (meet (begun_by b) (i ∷ [])) (meet (begun_by b) rest)
     ∙ ap (λ t. contains old b || t) (sym (meet-cons (begun_by b) i rest)))
 
 -- an item of a list, where the rest is to come

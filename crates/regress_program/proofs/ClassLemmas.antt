@@ -3,21 +3,17 @@ use Rattle.std.proofs.Common.{◌≡◌, ℕ, ◌+◌, ◌-◌, ◌<◌, ◌≤�
 use Rattle.std.specs.Prelude.{nat_lt, nat_le}
 use Rattle.std.specs.List.{list_any}
 use Rattle.std.specs.Int.{is_in_range}
-use Rattle.std.proofs.lemmas.Bool.{cases_lt, lt-ltb, le-ltb}
+use Rattle.std.proofs.lemmas.Bool.{cases_lt, lt-ltb, le-ltb, and_from, or_left, or_right, le-leb, leb-true}
 use Rattle.std.proofs.lemmas.Bool.Decides.{nat_tests}
 use Rattle.std.proofs.lemmas.List.Folds.{list_any-append}
 use Rattle.regex_meaning.specs.Tree.{Intervals}
 use Rattle.regex_meaning.specs.Outcomes.{in_intervals}
 use Rattle.regex_meaning.specs.StartPredicate.{begun_by, meet, first_bytes, outside, without}
-use Rattle.regex_meaning.proofs.FirstBytes.{and-left, and-right, and-both, or-left, or-right, le-true, true-le, in_range-true, true-in_range}
+use Rattle.regex_meaning.proofs.FirstBytes.{in_range-true, true-in_range}
 use Rattle.regex_pattern_front.proofs.ByteLemmas.{bytes_where-same}
+use Rattle.regex_meaning.proofs.Booleans.{and-left, and-right, same-truth}
 
 -- ---- Meeting
-
-same_truth : (a b : Bool) → (a ≡ true → b ≡ true) → (b ≡ true → a ≡ true) → a ≡ b
-same_truth true b f g = sym (f refl)
-same_truth false true f g = g refl
-same_truth false false f g = refl
 
 -- an element that passes
 record Passes {A : Type 0} (test : A → Bool) (xs : List A) : Type 0 where
@@ -30,10 +26,10 @@ some test [] h = cc
 some test (x ∷ xs) h = by (test x) refl (λ k. some test xs k)
   where
     by : (t : Bool) → test x ≡ t → (list_any test xs ≡ true → Passes test xs) → Passes test (x ∷ xs)
-    by true e next = record { this = x; passes = e; stands = λ other k. or-left _ _ k }
+    by true e next = record { this = x; passes = e; stands = λ other k. or_left _ _ k }
     by false e next =
         let later = next (rw e at h) in
-        record { this = later.this; passes = later.passes; stands = λ other k. or-right _ _ (later.stands other k) }
+        record { this = later.this; passes = later.passes; stands = λ other k. or_right _ _ (later.stands other k) }
 
 abbrev touches : ℕ × ℕ → ℕ × ℕ → Bool
 touches x y = nat_le x.0 x.1 && nat_le y.0 y.1 && nat_le x.0 y.1 && nat_le y.0 x.1
@@ -43,7 +39,7 @@ share : (x y : ℕ × ℕ) (c : ℕ) → is_in_range x.0 x.1 c ≡ true → is_i
 share x y c h k =
     let in_x = true-in_range x.0 x.1 c h in
     let in_y = true-in_range y.0 y.1 c k in
-    and-both _ _ (and-both _ _ (and-both _ _ (le-true x.0 x.1 (omega arith)) (le-true y.0 y.1 (omega arith))) (le-true x.0 y.1 (omega arith))) (le-true y.0 x.1 (omega arith))
+    and_from _ _ (and_from _ _ (and_from _ _ (le-leb x.0 x.1 (omega arith)) (le-leb y.0 y.1 (omega arith))) (le-leb x.0 y.1 (omega arith))) (le-leb y.0 x.1 (omega arith))
 
 at_greater : (x y : ℕ × ℕ) → x.0 ≤ x.1 → y.0 ≤ y.1 → x.0 ≤ y.1 → y.0 ≤ x.1
     → (is_in_range x.0 x.1 (max x.0 y.0) ≡ true) × (is_in_range y.0 y.1 (max x.0 y.0) ≡ true)
@@ -53,10 +49,10 @@ at_greater x y one two three four =
 shared : (x y : ℕ × ℕ) → touches x y ≡ true → (is_in_range x.0 x.1 (max x.0 y.0) ≡ true) × (is_in_range y.0 y.1 (max x.0 y.0) ≡ true)
 shared x y h =
     at_greater x y
-    (true-le x.0 x.1 (and-left _ _ (and-left _ _ (and-left _ _ h))))
-    (true-le y.0 y.1 (and-right _ _ (and-left _ _ (and-left _ _ h))))
-    (true-le x.0 y.1 (and-right _ _ (and-left _ _ h)))
-    (true-le y.0 x.1 (and-right _ _ h))
+    (leb-true x.0 x.1 (and-left _ _ (and-left _ _ (and-left _ _ h))))
+    (leb-true y.0 y.1 (and-right _ _ (and-left _ _ (and-left _ _ h))))
+    (leb-true x.0 y.1 (and-right _ _ (and-left _ _ h)))
+    (leb-true y.0 x.1 (and-right _ _ h))
 
 -- so do two sets
 meet_at : (xs ys : Intervals) (c : ℕ) → in_intervals xs c ≡ true → in_intervals ys c ≡ true → meet xs ys ≡ true
@@ -83,7 +79,7 @@ meet_same xs ys zs e h = let at = met xs ys h in meet_at xs zs at.number at.left
 
 pub first_bytes-same : (xs ys : Intervals) → ((c : ℕ) → in_intervals xs c ≡ in_intervals ys c) → first_bytes xs ≡ first_bytes ys
 first_bytes-same xs ys e =
-    bytes_where-same _ _ (λ b h. same_truth _ _ (meet_same (begun_by b) xs ys e) (meet_same (begun_by b) ys xs (λ c. sym (e c))))
+    bytes_where-same _ _ (λ b h. same-truth _ _ (meet_same (begun_by b) xs ys e) (meet_same (begun_by b) ys xs (λ c. sym (e c))))
 
 -- ---- Complements
 

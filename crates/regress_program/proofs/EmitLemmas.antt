@@ -6,10 +6,10 @@ use Rattle.regex_meaning.specs.Lists.{numbers_from}
 use Rattle.regex_meaning.specs.Tree.{BracketContents, Quantifier, Lookaround, Node, empty, goal, char, char_set, byte_set, byte_sequence, cat, end_of_cat, alt, bracket, string_set, match_any, match_any_except_line_terminator, anchor, word_boundary, capture_group, back_ref, lookaround, loop, loop_1_char_body}
 use Rattle.regex_meaning.specs.Outcomes.{most_of, in_intervals}
 use Rattle.regex_meaning.specs.StartPredicate.{bytes_where}
-use Rattle.regex_meaning.specs.Ticks.{chunks}
-use Rattle.regex_meaning.specs.Layout.{Insn, AsciiBracket, Bracket, is_ascii_set, Alt, Jump, EnterLoop, LoopAgain, Loop1CharBody, Goal, BeginCaptureGroup, lookaround_insn, EndCaptureGroup, ByteSeq, ResetCaptureGroup, ordered}
+use Rattle.regex_meaning.specs.Layout.{Insn, AsciiBracket, Bracket, is_ascii_set, Alt, Jump, EnterLoop, LoopAgain, Loop1CharBody, Goal, BeginCaptureGroup, lookaround_insn, EndCaptureGroup, ByteSeq, ResetCaptureGroup, ordered, chunks}
 use Rattle.regress_program.specs.Code.{size, strings_size, loop_count, brackets_of, string_code, strings_code, resets, code_of}
 use Rattle.regress_program.specs.Emitting.{State, HasRoom, with_code, with_insn, with_insns, with_insn_at, with_loop, with_bracket}
+use Rattle.regex_meaning.proofs.Lists.{length-numbers_from}
 
 -- ---- States
 
@@ -21,13 +21,9 @@ same_state s t ei el eb =
 
 -- ---- The length of code
 
-length-ordered : {A : Type 0} → (d : Bool) (xs : List A) → length (ordered d xs) ≡ length xs
+pub length-ordered : {A : Type 0} → (d : Bool) (xs : List A) → length (ordered d xs) ≡ length xs
 length-ordered true xs = length-reverse xs
 length-ordered false xs = refl
-
-length-numbers_from : (first n : ℕ) → length (numbers_from first n) ≡ n
-length-numbers_from first zero = refl
-length-numbers_from first (suc n) = ap suc (length-numbers_from (first + 1) n)
 
 pub length-resets : (g e : ℕ) → length (resets g e) ≡ e - g
 length-resets g e = length-map (numbers_from g (e - g)) ResetCaptureGroup ∙ length-numbers_from g (e - g)

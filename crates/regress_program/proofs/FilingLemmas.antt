@@ -11,7 +11,9 @@ use Rattle.regex_meaning.specs.WellFormed.{each_id_stands_once}
 use Rattle.regex_meaning.proofs.Sound.{all-contains}
 use Rattle.regex_pattern_front.proofs.ByteLemmas.{contains-numbers_from}
 use Rattle.regress_program.specs.Filing.{filed, is_unnamed}
-use Rattle.regress_program.proofs.IdLemmas.{same_truth, false_is_true, count_by-first}
+use Rattle.regress_program.proofs.IdLemmas.{false_is_true, count_by-first}
+use Rattle.regex_meaning.proofs.Booleans.{same-truth}
+use Rattle.regex_meaning.proofs.Lists.{length-numbers_from}
 
 -- ---- Two lots of names
 
@@ -68,7 +70,7 @@ filed-at (n ∷ named) names id h =
     filed-at named (set names n.0 n.1) id (omega (arith, h, length-set names n.0 n.1)) ∙ ap (last_name named id) (set-at names n.0 id n.1 h)
 
 same-test : (a b : ℕ) → nat_eq a b ≡ (b == a)
-same-test a b = same_truth (nat_eq a b) (b == a) (λ h. eq-eqb b a (sym (eqb-true a b h))) (λ h. eq-eqb a b (sym (eqb-true b a h)))
+same-test a b = same-truth (nat_eq a b) (b == a) (λ h. eq-eqb b a (sym (eqb-true a b h))) (λ h. eq-eqb a b (sym (eqb-true b a h)))
 
 counted : (id other : ℕ) (ids : List ℕ) (t : Bool) → t ≡ (other == id) → count_by (nat_eq id) (other ∷ ids) ≡ (if t then 1 else 0) + count_by (nat_eq id) ids
 counted id other ids t e = count_by-first id other ids ∙ ap (λ b. (if b then 1 else 0) + count_by (nat_eq id) ids) (same-test id other ∙ sym e)
@@ -107,10 +109,6 @@ named_ids-ids (loop q s e contents) = named_ids-ids contents
 named_ids-ids (loop_1_char_body q contents) = named_ids-ids contents
 named_ids-ids _ = refl
 
-length-numbers : (first count : ℕ) → length (numbers_from first count) ≡ count
-length-numbers first zero = refl
-length-numbers first (suc count) = ap suc (length-numbers (first + 1) count)
-
 at-number : (f : ℕ → List ℕ) (first count k : ℕ) → k < count → get_or (map f (numbers_from first count)) k [] ≡ f (first + k)
 at-number f first zero k h = absurd (omega (arith, h))
 at-number f first (suc count) zero h = ap f (omega arith)
@@ -143,6 +141,6 @@ names-filed root n once count named =
 
     same : filed (named_ids root) (replicate n []) ≡ map (name_of (named_ids root)) (numbers_from 0 (length (named_ids root)))
     same =
-        ext_get_or [] _ _ (long ∙ sym many ∙ sym (length-map (numbers_from 0 (length (named_ids root))) (name_of (named_ids root)) ∙ length-numbers 0 (length (named_ids root))))
+        ext_get_or [] _ _ (long ∙ sym many ∙ sym (length-map (numbers_from 0 (length (named_ids root))) (name_of (named_ids root)) ∙ length-numbers_from 0 (length (named_ids root))))
         (λ id h. let below : id < n = omega (arith, h, long) in
         at id below ∙ sym (at-number (name_of (named_ids root)) 0 (length (named_ids root)) id (omega (arith, below, many)) ∙ ap (name_of (named_ids root)) (omega arith)))

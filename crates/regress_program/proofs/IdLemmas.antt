@@ -2,64 +2,21 @@
 use Rattle.std.proofs.Common.{◌≡◌, ℕ, zero, suc, ◌+◌, ◌-◌, ◌*◌, ◌/◌, ◌%◌, ◌^◌, ◌<◌, ◌≤◌, min, max, Bool, true, false, not, ◌&&◌, ◌||◌, List, [], ◌∷◌, ◌++◌, length, get_or, set, replicate, refl, sym, ap, ◌∙◌, arith, inl, inr, ⊎_elim, length-append, bit_or, w64, get_or-set_same, get_or-set_other}
 use Rattle.std.specs.Prelude.{if◌then◌else◌, nat_eq, nat_lt, nat_le, ◌==◌, ◌⊎◌, count_by}
 use Rattle.std.specs.List.{list_all}
-use Rattle.std.proofs.lemmas.Bool.{cases_eq, cases_lt, ne_eqb, eq-eqb, eqb-true, lt-ltb, le-ltb, le-leb, leb-true}
+use Rattle.std.proofs.lemmas.Bool.{cases_eq, cases_lt, ne_eqb, eq-eqb, eqb-true, lt-ltb, le-ltb, le-leb, leb-true, and_from, or_right, or_left, or_cases, or_from, not-true, false_from_ne_true}
 use Rattle.std.proofs.lemmas.List.Sums.{sum_by-cons}
 use Rattle.std.proofs.lemmas.Nat.Bits.{bit_at_set_same, bit_at_set_other, bit_at-zero}
 use Rattle.regex_meaning.specs.Lists.{contains, numbers_from}
 use Rattle.regex_meaning.specs.Tree.{Node, cat, alt, capture_group, lookaround, loop, loop_1_char_body, group_ids, every}
 use Rattle.regex_meaning.specs.WellFormed.{encloses, each_id_stands_once, IsWellFormed, goal_is_last, names_the_groups_inside, refers_to_a_group, has_order_in_quantifier, has_one_character_body, has_text_in_sequence, fits_instructions}
+use Rattle.regex_meaning.proofs.WellFormedLemmas.{clauses, by_clauses}
 use Rattle.regex_meaning.proofs.Sound.{all-contains}
 use Rattle.regex_pattern_front.proofs.ByteLemmas.{contains-numbers_from}
 use Rattle.regress_program.specs.Ids.{is_seen, are_fresh, least, past, Span, span_of, joined, is_sound_by_itself}
-use Rattle.regress_program.proofs.NodeLemmas.{both_first, both_second, false_by_not}
+use Rattle.regex_meaning.proofs.Booleans.{or-false-left, or-false-right, same-truth, and-left, and-right}
+use Rattle.std.proofs.Math.Bool.{or-false, or_assoc, and-true, and_assoc}
+use Rattle.regex_meaning.proofs.Lists.{list_all-members}
 
 -- ---- Tests
-
-pub same_truth : (a b : Bool) → (a ≡ true → b ≡ true) → (b ≡ true → a ≡ true) → a ≡ b
-same_truth true b f g = sym (f refl)
-same_truth false true f g = g refl
-same_truth false false f g = refl
-
-pub both : (a b : Bool) → a ≡ true → b ≡ true → (a && b) ≡ true
-both a b e f = rw (e, f)
-
-or_left : (a b : Bool) → (a || b) ≡ false → a ≡ false
-or_left true b h = h
-or_left false b h = refl
-
-or_right : (a b : Bool) → (a || b) ≡ false → b ≡ false
-or_right true b h = cc
-or_right false b h = h
-
-pub or_either : (a b : Bool) → (a || b) ≡ true → (a ≡ true) ⊎ (b ≡ true)
-or_either true b h = inl refl
-or_either false b h = inr h
-
-or_here : (a b : Bool) → a ≡ true → (a || b) ≡ true
-or_here a b e = rw e
-
-or_there : (a b : Bool) → b ≡ true → (a || b) ≡ true
-or_there true b e = refl
-or_there false b e = e
-
-or_none : (a : Bool) → (a || false) ≡ a
-or_none true = refl
-or_none false = refl
-
-or_assoc : (a b c : Bool) → ((a || b) || c) ≡ (a || (b || c))
-or_assoc true b c = refl
-or_assoc false b c = refl
-
-and_assoc : (a b c : Bool) → ((a && b) && c) ≡ (a && (b && c))
-and_assoc true b c = refl
-and_assoc false b c = refl
-
-neither_of : (a b : Bool) → a ≡ false → b ≡ false → (a || b) ≡ false
-neither_of a b e f = rw (e, f)
-
-not_true : (a : Bool) → not a ≡ true → a ≡ false
-not_true true h = cc
-not_true false h = refl
 
 nat_eq-refl : (n : ℕ) → nat_eq n n ≡ true
 nat_eq-refl n = eq-eqb n n refl
@@ -100,14 +57,14 @@ seen-set bits id k sized h =
         let within : id / 64 < length bits = omega arith in
         rw (e, get_or-set_same)
         (⊎_elim (λ (f : k % 64 ≡ id % 64).
-        rw (f, bit_at_set_same w64 (get_or bits (id / 64) 0) (id % 64) (omega arith), eq-eqb k id (same_number k id e f)) (sym (or_there _ true refl)))
+        rw (f, bit_at_set_same w64 (get_or bits (id / 64) 0) (id % 64) (omega arith), eq-eqb k id (same_number k id e f)) (sym (or_right _ true refl)))
         (λ (ne : k % 64 ≡ id % 64 → ⊥).
-        rw (bit_at_set_other w64 (get_or bits (id / 64) 0) (id % 64) (omega arith) (k % 64) ne, ne_eqb k id (λ g. ne (ap (λ n. n % 64) g))) (sym (or_none _)))
+        rw (bit_at_set_other w64 (get_or bits (id / 64) 0) (id % 64) (omega arith) (k % 64) ne, ne_eqb k id (λ g. ne (ap (λ n. n % 64) g))) (sym (or-false _)))
         (cases_eq (k % 64) (id % 64)))
 
     other_word : (v : ℕ) → (k / 64 ≡ id / 64 → ⊥) → is_seen (set bits (id / 64) (bit_or (get_or bits (id / 64) 0) (1 * 2 ^ (id % 64) % 2 ^ 64))) k ≡ (is_seen bits k || k == id)
     other_word v ne =
-        rw (get_or-set_other, ne_eqb k id (λ g. ne (ap (λ n. n / 64) g))) (sym (or_none _))
+        rw (get_or-set_other, ne_eqb k id (λ g. ne (ap (λ n. n / 64) g))) (sym (or-false _))
 
 -- ---- Fresh ids
 
@@ -118,7 +75,7 @@ fresh-same f g (id ∷ ids) e = rw (e id, fresh-same (λ k. f k || k == id) (λ 
 
 pub fresh-append : (f : ℕ → Bool) (xs ys : List ℕ) → are_fresh f (xs ++ ys) ≡ (are_fresh f xs && are_fresh (λ k. f k || contains xs k) ys)
 unfolding are_fresh
-fresh-append f [] ys = fresh-same f (λ k. f k || false) ys (λ k. sym (or_none (f k)))
+fresh-append f [] ys = fresh-same f (λ k. f k || false) ys (λ k. sym (or-false (f k)))
 fresh-append f (x ∷ xs) ys =
     let g = λ (k : ℕ). f k || k == x in
     ap (λ b. not (f x) && b) (fresh-append g xs ys ∙ ap (λ b. are_fresh g xs && b)
@@ -133,19 +90,19 @@ fresh-unseen : (ids : List ℕ) (f : ℕ → Bool) (k : ℕ) → are_fresh f ids
 unfolding are_fresh
 fresh-unseen [] f k h c = cc
 fresh-unseen (id ∷ ids) f k h c =
-    let here = not_true (f id) (both_first (not (f id)) (are_fresh (λ j. f j || j == id) ids) h) in
+    let here = not-true (f id) (and-left (not (f id)) (are_fresh (λ j. f j || j == id) ids) h) in
     ⊎_elim (λ (e : nat_eq k id ≡ true). ap f (eqb-true k id e) ∙ here)
-    (λ (e : contains ids k ≡ true). or_left (f k) (k == id) (fresh-unseen ids (λ j. f j || j == id) k (both_second (not (f id)) (are_fresh (λ j. f j || j == id) ids) h) e))
-    (or_either (nat_eq k id) (contains ids k) c)
+    (λ (e : contains ids k ≡ true). or-false-left (f k) (k == id) (fresh-unseen ids (λ j. f j || j == id) k (and-right (not (f id)) (are_fresh (λ j. f j || j == id) ids) h) e))
+    (or_cases (nat_eq k id) (contains ids k) c)
 
 fresh-change : (ids : List ℕ) (f g : ℕ → Bool) → are_fresh f ids ≡ true → ((k : ℕ) → contains ids k ≡ true → g k ≡ false) → are_fresh g ids ≡ true
 unfolding are_fresh
 fresh-change [] f g h u = refl
 fresh-change (id ∷ ids) f g h u =
-    let rest = both_second (not (f id)) (are_fresh (λ j. f j || j == id) ids) h in
-    let here : g id ≡ false = u id (or_here (nat_eq id id) (contains ids id) (nat_eq-refl id)) in
+    let rest = and-right (not (f id)) (are_fresh (λ j. f j || j == id) ids) h in
+    let here : g id ≡ false = u id (or_left (nat_eq id id) (contains ids id) (nat_eq-refl id)) in
     let later = fresh-change ids (λ j. f j || j == id) (λ j. g j || j == id) rest
-    (λ k c. neither_of (g k) (k == id) (u k (or_there (nat_eq k id) (contains ids k) c)) (or_right (f k) (k == id) (fresh-unseen ids (λ j. f j || j == id) k rest c))) in
+    (λ k c. or_from (g k) (k == id) (u k (or_right (nat_eq k id) (contains ids k) c)) (or-false-right (f k) (k == id) (fresh-unseen ids (λ j. f j || j == id) k rest c))) in
     rw (here, later)
 
 -- ---- How many numbers below n are seen
@@ -170,13 +127,13 @@ count-same f g (suc n) e = rw (count-same f g n (λ k h. e k (omega arith)), e n
 
 -- one that is past n, or seen before, is no new one
 count-past : (f : ℕ → Bool) (id n : ℕ) → n ≤ id → seen_count (λ k. f k || k == id) n ≡ seen_count f n
-count-past f id n h = count-same (λ k. f k || k == id) f n (λ k b. ap (λ t. f k || t) (ne_eqb k id (λ e. absurd (omega arith))) ∙ or_none (f k))
+count-past f id n h = count-same (λ k. f k || k == id) f n (λ k b. ap (λ t. f k || t) (ne_eqb k id (λ e. absurd (omega arith))) ∙ or-false (f k))
 
 count-again : (f : ℕ → Bool) (id n : ℕ) → f id ≡ true → seen_count (λ k. f k || k == id) n ≡ seen_count f n
 count-again f id n h =
     count-same (λ k. f k || k == id) f n (λ k b.
-    ⊎_elim (λ (e : k ≡ id). let t : f k ≡ true = ap f e ∙ h in or_here (f k) (k == id) t ∙ sym t)
-    (λ (ne : k ≡ id → ⊥). ap (λ t. f k || t) (ne_eqb k id ne) ∙ or_none (f k)) (cases_eq k id))
+    ⊎_elim (λ (e : k ≡ id). let t : f k ≡ true = ap f e ∙ h in or_left (f k) (k == id) t ∙ sym t)
+    (λ (ne : k ≡ id → ⊥). ap (λ t. f k || t) (ne_eqb k id ne) ∙ or-false (f k)) (cases_eq k id))
 
 count-new : (f : ℕ → Bool) (id n : ℕ) → id < n → f id ≡ false → seen_count (λ k. f k || k == id) n ≡ seen_count f n + 1
 unfolding seen_count
@@ -184,12 +141,12 @@ count-new f id zero h u = absurd (omega arith)
 count-new f id (suc n) h u =
     ⊎_elim (λ (e : n ≡ id).
     let below : seen_count (λ k. f k || k == id) n ≡ seen_count f n = count-past f id n (omega arith) in
-    let top : (f n || n == id) ≡ true = or_there (f n) (n == id) (eq-eqb n id e) in
+    let top : (f n || n == id) ≡ true = or_right (f n) (n == id) (eq-eqb n id e) in
     let was : f n ≡ false = ap f e ∙ u in
     rw (below, top, was) (omega arith))
     (λ (ne : n ≡ id → ⊥).
     let below : seen_count (λ k. f k || k == id) n ≡ seen_count f n + 1 = count-new f id n (omega (arith, ne)) u in
-    let top : (f n || n == id) ≡ f n = ap (λ t. f n || t) (ne_eqb n id ne) ∙ or_none (f n) in
+    let top : (f n || n == id) ≡ f n = ap (λ t. f n || t) (ne_eqb n id ne) ∙ or-false (f n) in
     rw (below, top) (omega arith))
     (cases_eq n id)
 
@@ -206,8 +163,8 @@ fresh-length : (ids : List ℕ) (f : ℕ → Bool) (n : ℕ) → are_fresh f ids
 unfolding are_fresh past
 fresh-length [] f n h p = omega (arith, count-le f n)
 fresh-length (id ∷ ids) f n h p =
-    let new = not_true (f id) (both_first (not (f id)) (are_fresh (λ j. f j || j == id) ids) h) in
-    omega (arith, fresh-length ids (λ j. f j || j == id) n (both_second (not (f id)) (are_fresh (λ j. f j || j == id) ids) h) (omega arith), count-new f id n (omega arith) new)
+    let new = not-true (f id) (and-left (not (f id)) (are_fresh (λ j. f j || j == id) ids) h) in
+    omega (arith, fresh-length ids (λ j. f j || j == id) n (and-right (not (f id)) (are_fresh (λ j. f j || j == id) ids) h) (omega arith), count-new f id n (omega arith) new)
 
 all_seen : (g : ℕ → Bool) (m : ℕ) → ((q : ℕ) → q < m → g q ≡ true) → m ≤ seen_count g m
 unfolding seen_count
@@ -216,7 +173,7 @@ all_seen g (suc m) e = let top : g m ≡ true = e m (omega arith) in rw top (ome
 
 -- where each number below n is seen or stands among the ids, there are at least n of them
 covers : (ids : List ℕ) (f : ℕ → Bool) (n : ℕ) → ((q : ℕ) → q < n → (f q || contains ids q) ≡ true) → n ≤ seen_count f n + length ids
-covers [] f n c = omega (arith, all_seen f n (λ q h. sym (or_none (f q)) ∙ c q h))
+covers [] f n c = omega (arith, all_seen f n (λ q h. sym (or-false (f q)) ∙ c q h))
 covers (id ∷ ids) f n c =
     omega (arith, covers ids (λ j. f j || j == id) n (λ q h. or_assoc (f q) (q == id) (contains ids q) ∙ c q h), count-add f id n)
 
@@ -241,7 +198,7 @@ covers-fresh (id ∷ ids) f n c e =
     by_seen true s h go = absurd (omega (arith, rest_covers, count-again f id n (sym s)))
     by_seen false s h go =
         let later = go (omega (arith, count-new f id n h (sym s))) in
-        (both (not (f id)) (are_fresh (λ j. f j || j == id) ids) (ap not (sym s)) later.0, omega (arith, later.1))
+        (and_from (not (f id)) (are_fresh (λ j. f j || j == id) ids) (ap not (sym s)) later.0, omega (arith, later.1))
 
 count-below : (s n : ℕ) → seen_count (λ k. nat_lt k s) n ≡ min s n
 unfolding seen_count
@@ -283,25 +240,25 @@ least-le : (ids : List ℕ) (k : ℕ) → contains ids k ≡ true → least ids 
 unfolding least
 least-le [] k c = cc
 least-le (id ∷ ids) k c =
-    ⊎_elim (λ (e : nat_eq k id ≡ true). omega (arith, eqb-true k id e)) (λ (e : contains ids k ≡ true). omega (arith, least-le ids k e)) (or_either (nat_eq k id) (contains ids k) c)
+    ⊎_elim (λ (e : nat_eq k id ≡ true). omega (arith, eqb-true k id e)) (λ (e : contains ids k ≡ true). omega (arith, least-le ids k e)) (or_cases (nat_eq k id) (contains ids k) c)
 
 past-gt : (ids : List ℕ) (k : ℕ) → contains ids k ≡ true → k < past ids
 unfolding past
 past-gt [] k c = cc
 past-gt (id ∷ ids) k c =
-    ⊎_elim (λ (e : nat_eq k id ≡ true). omega (arith, eqb-true k id e)) (λ (e : contains ids k ≡ true). omega (arith, past-gt ids k e)) (or_either (nat_eq k id) (contains ids k) c)
+    ⊎_elim (λ (e : nat_eq k id ≡ true). omega (arith, eqb-true k id e)) (λ (e : contains ids k ≡ true). omega (arith, past-gt ids k e)) (or_cases (nat_eq k id) (contains ids k) c)
 
 le-least : (ids : List ℕ) (s : ℕ) → s ≤ 2 ^ 16 → ((k : ℕ) → contains ids k ≡ true → s ≤ k) → s ≤ least ids
 unfolding least
 le-least [] s b h = b
 le-least (id ∷ ids) s b h =
-    omega (arith, h id (or_here (nat_eq id id) (contains ids id) (nat_eq-refl id)), le-least ids s b (λ k c. h k (or_there (nat_eq k id) (contains ids k) c)))
+    omega (arith, h id (or_left (nat_eq id id) (contains ids id) (nat_eq-refl id)), le-least ids s b (λ k c. h k (or_right (nat_eq k id) (contains ids k) c)))
 
 past-le : (ids : List ℕ) (e : ℕ) → ((k : ℕ) → contains ids k ≡ true → k < e) → past ids ≤ e
 unfolding past
 past-le [] e h = omega arith
 past-le (id ∷ ids) e h =
-    omega (arith, h id (or_here (nat_eq id id) (contains ids id) (nat_eq-refl id)), past-le ids e (λ k c. h k (or_there (nat_eq k id) (contains ids k) c)))
+    omega (arith, h id (or_left (nat_eq id id) (contains ids id) (nat_eq-refl id)), past-le ids e (λ k c. h k (or_right (nat_eq k id) (contains ids k) c)))
 
 -- ---- Numbers in a row
 
@@ -310,13 +267,7 @@ numbers-contain first zero k c = cc
 numbers-contain first (suc count) k c =
     ⊎_elim (λ (e : nat_eq k first ≡ true). let same : k ≡ first = eqb-true k first e in (omega arith, omega arith))
     (λ (e : contains (numbers_from (first + 1) count) k ≡ true). let rest = numbers-contain (first + 1) count k e in (omega (arith, rest.0), omega (arith, rest.1)))
-    (or_either (nat_eq k first) (contains (numbers_from (first + 1) count) k) c)
-
-list_all-intro : (p : ℕ → Bool) (ids : List ℕ) → ((k : ℕ) → contains ids k ≡ true → p k ≡ true) → list_all p ids ≡ true
-list_all-intro p [] h = refl
-list_all-intro p (id ∷ ids) h =
-    both (p id) (list_all p ids) (h id (or_here (nat_eq id id) (contains ids id) (nat_eq-refl id)))
-    (list_all-intro p ids (λ k c. h k (or_there (nat_eq k id) (contains ids k) c)))
+    (or_cases (nat_eq k first) (contains (numbers_from (first + 1) count) k) c)
 
 -- ---- Distinct ids of a span
 
@@ -330,9 +281,9 @@ all_there ids f s e q fresh low high enough above below = by_test (contains ids 
     by_test false g =
         let seen = λ (k : ℕ). nat_lt k s in
         let unseen : (k : ℕ) → contains ids k ≡ true → (nat_lt k s || k == q) ≡ false =
-        λ k c. neither_of (nat_lt k s) (k == q) (le-ltb k s (omega (arith, least-le ids k c))) (ne_eqb k q (λ (same : k ≡ q). false_is_true (g ∙ ap (contains ids) (sym same) ∙ c))) in
+        λ k c. or_from (nat_lt k s) (k == q) (le-ltb k s (omega (arith, least-le ids k c))) (ne_eqb k q (λ (same : k ≡ q). false_is_true (g ∙ ap (contains ids) (sym same) ∙ c))) in
         let rest : are_fresh (λ k. nat_lt k s || k == q) ids ≡ true = fresh-change ids f (λ k. nat_lt k s || k == q) fresh unseen in
-        let whole : are_fresh seen (q ∷ ids) ≡ true = both (not (nat_lt q s)) (are_fresh (λ k. nat_lt k s || k == q) ids) (ap not (le-ltb q s above)) rest in
+        let whole : are_fresh seen (q ∷ ids) ≡ true = and_from (not (nat_lt q s)) (are_fresh (λ k. nat_lt k s || k == q) ids) (ap not (le-ltb q s above)) rest in
         absurd (omega (arith, fresh-length (q ∷ ids) seen e whole (omega arith), count-below s e))
 
 as_many : (ids : List ℕ) (f : ℕ → Bool) (s e : ℕ) → are_fresh f ids ≡ true → s ≤ e → ((k : ℕ) → contains ids k ≡ true → s ≤ k) → past ids ≤ e → length ids + s ≤ e
@@ -347,33 +298,33 @@ encloses-fills contents f s e bs be fresh =
     let ids = group_ids contents in
     let named = numbers_from s (e - s) in
     let count = min (length ids) (2 ^ 64 - 1) == (e - s) in
-    same_truth (nat_le s e && count && nat_le s (least ids) && nat_le (past ids) e) (encloses s e contents)
+    same-truth (nat_le s e && count && nat_le s (least ids) && nat_le (past ids) e) (encloses s e contents)
     (λ h.
-    let h3 = both_first (nat_le s e && count && nat_le s (least ids)) (nat_le (past ids) e) h in
-    let h2 = both_first (nat_le s e && count) (nat_le s (least ids)) h3 in
-    let order : s ≤ e = leb-true s e (both_first (nat_le s e) count h2) in
-    let many : min (length ids) (2 ^ 64 - 1) ≡ e - s = eqb-true _ _ (both_second (nat_le s e) count h2) in
-    let low : s ≤ least ids = leb-true s (least ids) (both_second (nat_le s e && count) (nat_le s (least ids)) h3) in
-    let high : past ids ≤ e = leb-true (past ids) e (both_second (nat_le s e && count && nat_le s (least ids)) (nat_le (past ids) e) h) in
-    both (nat_le s e && list_all (contains named) ids) (list_all (contains ids) named)
-    (both (nat_le s e) (list_all (contains named) ids) (le-leb s e order)
-    (list_all-intro (contains named) ids (λ k c. contains-numbers_from k s (e - s) (omega (arith, least-le ids k c)) (omega (arith, past-gt ids k c)))))
-    (list_all-intro (contains ids) named (λ q c. let within = numbers-contain s (e - s) q c in all_there ids f s e q fresh low high (omega arith) within.0 (omega (arith, within.1)))))
+    let h3 = and-left (nat_le s e && count && nat_le s (least ids)) (nat_le (past ids) e) h in
+    let h2 = and-left (nat_le s e && count) (nat_le s (least ids)) h3 in
+    let order : s ≤ e = leb-true s e (and-left (nat_le s e) count h2) in
+    let many : min (length ids) (2 ^ 64 - 1) ≡ e - s = eqb-true _ _ (and-right (nat_le s e) count h2) in
+    let low : s ≤ least ids = leb-true s (least ids) (and-right (nat_le s e && count) (nat_le s (least ids)) h3) in
+    let high : past ids ≤ e = leb-true (past ids) e (and-right (nat_le s e && count && nat_le s (least ids)) (nat_le (past ids) e) h) in
+    and_from (nat_le s e && list_all (contains named) ids) (list_all (contains ids) named)
+    (and_from (nat_le s e) (list_all (contains named) ids) (le-leb s e order)
+    (list_all-members (contains named) ids (λ k c. contains-numbers_from k s (e - s) (omega (arith, least-le ids k c)) (omega (arith, past-gt ids k c)))))
+    (list_all-members (contains ids) named (λ q c. let within = numbers-contain s (e - s) q c in all_there ids f s e q fresh low high (omega arith) within.0 (omega (arith, within.1)))))
     (λ h.
-    let h2 = both_first (nat_le s e && list_all (contains named) ids) (list_all (contains ids) named) h in
-    let order : s ≤ e = leb-true s e (both_first (nat_le s e) (list_all (contains named) ids) h2) in
-    let inside = λ (k : ℕ) (c : contains ids k ≡ true). numbers-contain s (e - s) k (all-contains (contains named) ids k (both_second (nat_le s e) (list_all (contains named) ids) h2) c) in
-    let there = λ (q : ℕ) (c : contains named q ≡ true). all-contains (contains ids) named q (both_second (nat_le s e && list_all (contains named) ids) (list_all (contains ids) named) h) c in
+    let h2 = and-left (nat_le s e && list_all (contains named) ids) (list_all (contains ids) named) h in
+    let order : s ≤ e = leb-true s e (and-left (nat_le s e) (list_all (contains named) ids) h2) in
+    let inside = λ (k : ℕ) (c : contains ids k ≡ true). numbers-contain s (e - s) k (all-contains (contains named) ids k (and-right (nat_le s e) (list_all (contains named) ids) h2) c) in
+    let there = λ (q : ℕ) (c : contains named q ≡ true). all-contains (contains ids) named q (and-right (nat_le s e && list_all (contains named) ids) (list_all (contains ids) named) h) c in
     let low : s ≤ least ids = le-least ids s bs (λ k c. (inside k c).0) in
     let high : past ids ≤ e = past-le ids e (λ k c. omega (arith, (inside k c).1)) in
     let most : length ids + s ≤ e = as_many ids f s e fresh order (λ k c. (inside k c).0) high in
     let seen = λ (k : ℕ). nat_lt k s in
     let fewest : e ≤ seen_count seen e + length ids =
-    covers ids seen e (λ q b. ⊎_elim (λ (g : q < s). or_here (nat_lt q s) (contains ids q) (lt-ltb q s g))
-    (λ (g : s ≤ q). or_there (nat_lt q s) (contains ids q) (there q (contains-numbers_from q s (e - s) g (omega arith)))) (cases_lt q s)) in
+    covers ids seen e (λ q b. ⊎_elim (λ (g : q < s). or_left (nat_lt q s) (contains ids q) (lt-ltb q s g))
+    (λ (g : s ≤ q). or_right (nat_lt q s) (contains ids q) (there q (contains-numbers_from q s (e - s) g (omega arith)))) (cases_lt q s)) in
     let many : min (length ids) (2 ^ 64 - 1) ≡ e - s = omega (arith, count-below s e) in
-    both (nat_le s e && count && nat_le s (least ids)) (nat_le (past ids) e)
-    (both (nat_le s e && count) (nat_le s (least ids)) (both (nat_le s e) count (le-leb s e order) (eq-eqb _ _ many)) (le-leb s (least ids) low))
+    and_from (nat_le s e && count && nat_le s (least ids)) (nat_le (past ids) e)
+    (and_from (nat_le s e && count) (nat_le s (least ids)) (and_from (nat_le s e) count (le-leb s e order) (eq-eqb _ _ many)) (le-leb s (least ids) low))
     (le-leb (past ids) e high))
 
 -- ---- Each id once
@@ -381,8 +332,8 @@ encloses-fills contents f s e bs be fresh =
 count-none : (q : ℕ) (ids : List ℕ) → contains ids q ≡ false → count_by (nat_eq q) ids ≡ 0
 count-none q [] h = refl
 count-none q (id ∷ ids) h =
-    let here : nat_eq q id ≡ false = or_left (nat_eq q id) (contains ids q) h in
-    rw here (count-none q ids (or_right (nat_eq q id) (contains ids q) h))
+    let here : nat_eq q id ≡ false = or-false-left (nat_eq q id) (contains ids q) h in
+    rw here (count-none q ids (or-false-right (nat_eq q id) (contains ids q) h))
 
 pub count_by-first : (q id : ℕ) (ids : List ℕ) → count_by (nat_eq q) (id ∷ ids) ≡ (if nat_eq q id then 1 else 0) + count_by (nat_eq q) ids
 count_by-first q id ids = sum_by-cons (λ x. if nat_eq q x then 1 else 0) id ids
@@ -391,12 +342,12 @@ count-one : (q : ℕ) (ids : List ℕ) (f : ℕ → Bool) → are_fresh f ids �
 unfolding are_fresh
 count-one q [] f h c = cc
 count-one q (id ∷ ids) f h c =
-    let later = both_second (not (f id)) (are_fresh (λ j. f j || j == id) ids) h in
+    let later = and-right (not (f id)) (are_fresh (λ j. f j || j == id) ids) h in
     by_test (nat_eq q id) refl (fresh-unseen ids (λ j. f j || j == id) q later) (count-one q ids (λ j. f j || j == id) later)
   where
     by_test : (t : Bool) → t ≡ nat_eq q id → (contains ids q ≡ true → (f q || q == id) ≡ false) → (contains ids q ≡ true → count_by (nat_eq q) ids ≡ 1) → count_by (nat_eq q) (id ∷ ids) ≡ 1
     by_test true e unseen go =
-        let gone : contains ids q ≡ false = false_by_not (contains ids q) (λ there. false_is_true (sym (unseen there) ∙ or_there (f q) (q == id) (sym e))) in
+        let gone : contains ids q ≡ false = false_from_ne_true (contains ids q) (λ there. false_is_true (sym (unseen there) ∙ or_right (f q) (q == id) (sym e))) in
         count_by-first q id ids ∙ rw (← e) (omega (arith, count-none q ids gone))
     by_test false e unseen go =
         let there : contains ids q ≡ true = ap (λ t. t || contains ids q) e ∙ c in
@@ -405,7 +356,7 @@ count-one q (id ∷ ids) f h c =
 pub each_once : (root : Node) (f : ℕ → Bool) → are_fresh f (group_ids root) ≡ true → past (group_ids root) ≤ length (group_ids root) → each_id_stands_once root ≡ true
 each_once root f fresh high =
     let ids = group_ids root in
-    list_all-intro (λ id. count_by (nat_eq id) ids == 1) (numbers_from 0 (length ids))
+    list_all-members (λ id. count_by (nat_eq id) ids == 1) (numbers_from 0 (length ids))
     (λ q c. let within = numbers-contain 0 (length ids) q c in
     eq-eqb _ 1 (count-one q ids f fresh (all_there ids f 0 (length ids) q fresh (omega arith) high (omega arith) (omega arith) (omega (arith, within.1)))))
 
@@ -491,17 +442,13 @@ pub fills-encloses : (contents : Node) (f : ℕ → Bool) (s e count low high : 
     → true ≡ (are_fresh f (group_ids contents) && p) → count ≡ min (length (group_ids contents)) (2 ^ 64 - 1) → low ≡ least (group_ids contents) → high ≡ past (group_ids contents)
     → t ≡ (nat_le s e && (count == (e - s)) && nat_le s low && nat_le high e) → t ≡ (are_fresh f (group_ids contents) && (encloses s e contents && p))
 fills-encloses contents f s e count low high t p bs be found ec el eh et =
-    let fresh = both_first (are_fresh f (group_ids contents)) p (sym found) in
-    let named = both_second (are_fresh f (group_ids contents)) p (sym found) in
+    let fresh = and-left (are_fresh f (group_ids contents)) p (sym found) in
+    let named = and-right (are_fresh f (group_ids contents)) p (sym found) in
     let filled = encloses-fills contents f s e (omega arith) (omega arith) fresh in
     et ∙ ap (λ n. nat_le s e && (n == (e - s)) && nat_le s low && nat_le high e) ec
     ∙ ap (λ n. nat_le s e && (min (length (group_ids contents)) (2 ^ 64 - 1) == (e - s)) && nat_le s n && nat_le high e) el
     ∙ ap (λ n. nat_le s e && (min (length (group_ids contents)) (2 ^ 64 - 1) == (e - s)) && nat_le s (least (group_ids contents)) && nat_le n e) eh
-    ∙ filled ∙ sym (rw (fresh, named) (and_true (encloses s e contents)))
-  where
-    and_true : (b : Bool) → (b && true) ≡ b
-    and_true true = refl
-    and_true false = refl
+    ∙ filled ∙ sym (rw (fresh, named) (and-true (encloses s e contents)))
 
 -- ---- Tests of each node
 
@@ -529,49 +476,51 @@ every-sound m n =
 pub sound_is_well_formed : (root : Node) (f : ℕ → Bool) (count : ℕ) → goal_is_last root ≡ true → true ≡ (are_fresh f (group_ids root) && every names_the_groups_inside root)
     → count ≡ length (group_ids root) → past (group_ids root) ≤ count → every (is_sound_by_itself count) root ≡ true → IsWellFormed root
 sound_is_well_formed root f count last found many high sound =
-    let fresh = both_first (are_fresh f (group_ids root)) (every names_the_groups_inside root) (sym found) in
-    let named = both_second (are_fresh f (group_ids root)) (every names_the_groups_inside root) (sym found) in
+    let fresh = and-left (are_fresh f (group_ids root)) (every names_the_groups_inside root) (sym found) in
+    let named = and-right (are_fresh f (group_ids root)) (every names_the_groups_inside root) (sym found) in
     let r = every (refers_to_a_group count) root in
     let o = every has_order_in_quantifier root in
     let b = every has_one_character_body root in
     let t = every has_text_in_sequence root in
     let s = every fits_instructions root in
     let all : (r && o && b && t && s) ≡ true = sym (every-sound count root) ∙ sound in
-    let all4 = both_first (r && o && b && t) s all in
-    let all3 = both_first (r && o && b) t all4 in
-    let all2 = both_first (r && o) b all3 in
-    record {
+    let all4 = and-left (r && o && b && t) s all in
+    let all3 = and-left (r && o && b) t all4 in
+    let all2 = and-left (r && o) b all3 in
+    by_clauses root (record {
       goal_last = last;
       ids = each_once root f fresh (omega arith);
       enclosed = named;
-      references = sym (ap (λ n. every (refers_to_a_group n) root) many) ∙ both_first r o all2;
-      quantifiers = both_second r o all2;
-      bodies = both_second (r && o) b all3;
-      sequences = both_second (r && o && b) t all4;
-      sets = both_second (r && o && b && t) s all;
-    }
+      references = sym (ap (λ n. every (refers_to_a_group n) root) many) ∙ and-left r o all2;
+      quantifiers = and-right r o all2;
+      bodies = and-right (r && o) b all3;
+      sequences = and-right (r && o && b) t all4;
+      sets = and-right (r && o && b && t) s all;
+    })
 
 pub well_formed_is_sound : (root : Node) (count : ℕ) → count ≡ length (group_ids root) → IsWellFormed root → every (is_sound_by_itself count) root ≡ true
-well_formed_is_sound root count many w =
+well_formed_is_sound root count many well_formed =
+    let w = clauses root well_formed in
     let r = every (refers_to_a_group count) root in
     let o = every has_order_in_quantifier root in
     let b = every has_one_character_body root in
     let t = every has_text_in_sequence root in
     let s = every fits_instructions root in
     let refers : r ≡ true = ap (λ n. every (refers_to_a_group n) root) many ∙ w.references in
-    every-sound count root ∙ both (r && o && b && t) s (both (r && o && b) t (both (r && o) b (both r o refers w.quantifiers) w.bodies) w.sequences) w.sets
+    every-sound count root ∙ and_from (r && o && b && t) s (and_from (r && o && b) t (and_from (r && o) b (and_from r o refers w.quantifiers) w.bodies) w.sequences) w.sets
 
 pub well_formed_is_found : (root : Node) (f : ℕ → Bool) → ((k : ℕ) → f k ≡ false) → IsWellFormed root → (are_fresh f (group_ids root) && every names_the_groups_inside root) ≡ true
-well_formed_is_found root f none w =
-    both (are_fresh f (group_ids root)) (every names_the_groups_inside root) (fresh-same f (λ k. false) (group_ids root) none ∙ (once_each root w.ids).0) w.enclosed
+well_formed_is_found root f none well_formed =
+    let w = clauses root well_formed in
+    and_from (are_fresh f (group_ids root)) (every names_the_groups_inside root) (fresh-same f (λ k. false) (group_ids root) none ∙ (once_each root w.ids).0) w.enclosed
 
 pub well_formed_has_room : (root : Node) → IsWellFormed root → past (group_ids root) ≤ length (group_ids root)
-well_formed_has_room root w = (once_each root w.ids).1
+well_formed_has_room root w = (once_each root (clauses root w).ids).1
 
 -- so many ids can be counted
 pub few_ids : (root : Node) (f : ℕ → Bool) (p : Bool) → true ≡ (are_fresh f (group_ids root) && p) → past (group_ids root) ≤ 65536 → length (group_ids root) ≤ 65536
 few_ids root f p found high =
-    omega (arith, fresh-length (group_ids root) f 65536 (both_first (are_fresh f (group_ids root)) p (sym found)) high)
+    omega (arith, fresh-length (group_ids root) f 65536 (and-left (are_fresh f (group_ids root)) p (sym found)) high)
 
 pub joined-none : (ids : List ℕ) → joined (record { count = 0; low = 65536; high = 0 }) (span_of ids) ≡ span_of ids
 joined-none ids = same_span (joined (record { count = 0; low = 65536; high = 0 }) (span_of ids)) (span_of ids) (omega arith) (omega (arith, least-most ids)) (omega arith)
@@ -590,8 +539,4 @@ some_bytes [] b e = refl
 some_bytes (x ∷ bytes) b e =
     let some : nat_lt 0 (length (x ∷ bytes)) ≡ true = lt-ltb 0 (length (x ∷ bytes)) (omega arith) in
     let more : (length (x ∷ bytes) == 0) ≡ false = ne_eqb (length (x ∷ bytes)) 0 (λ h. absurd (omega arith)) in
-    ap not more ∙ sym (both (nat_lt 0 (length (x ∷ bytes))) b some e)
-
-pub and_false : (a b : Bool) → b ≡ false → (a && b) ≡ false
-and_false true b e = e
-and_false false b e = refl
+    ap not more ∙ sym (and_from (nat_lt 0 (length (x ∷ bytes))) b some e)

@@ -1,11 +1,12 @@
 -- The tree of a node with a list.
-use Rattle.std.proofs.Common.{◌≡◌, ℕ, ◌+◌, ◌<◌, ◌-◌, suc, Bool, true, false, ◌&&◌, IsTrue, List, [], ◌∷◌, length, slice_get, Some, None, get_or, drop, drop-cons, add-one, sym, ap, ◌∙◌, refl, arith, Vec, Global}
+use Rattle.std.proofs.Common.{◌≡◌, ℕ, ◌+◌, ◌<◌, ◌-◌, ◌^◌, min, suc, Bool, true, false, ◌&&◌, IsTrue, List, [], ◌∷◌, length, slice_get, Some, None, get_or, drop, drop-cons, add-one, sym, ap, ◌∙◌, refl, arith, Vec, Global}
 use Rattle.regex_meaning.specs.Tree as tree
 use Rattle.regex_pattern_front.specs.TreeOf.{node_of, nodes_of}
 use Rattle.regex_pattern_front.specs.declared.ir.Node.{Node, Cat, Cat', Row_of-Node, end_of-Node, more_of-Node, items-the_row-Node, items_hidden-the_row-Node-0}
 use Rattle.regex_meaning.specs.WellFormed.{ends_in_goal, is_one_character}
 use Rattle.regex_meaning.specs.StartPredicate.{is_anchored}
-use Rattle.regress_program.specs.Nodes.{cat_of}
+use Rattle.regress_program.specs.Nodes.{cat_of, is_leaf}
+use Rattle.regress_program.specs.Code.{own_size}
 
 row-is : (n : _) (row : Row_of-Node n) → nodes_of row ≡ cat_of (items-the_row-Node n row)
 unfolding nodes_of
@@ -47,17 +48,19 @@ ends_in_goal-last (n ∷ m ∷ rest) last h =
 
 -- ---- Both of two tests
 
-pub both_first : (a b : Bool) → IsTrue (a && b) → IsTrue a
-both_first true b h = refl
-both_first false b h = h
+-- a row is no leaf, and has no instructions but those of its nodes
+pub no_leaf : (nodes : List Node) → is_leaf (cat_of nodes) ≡ true → ⊥
+no_leaf [] h = cc
+no_leaf (n ∷ nodes) h = cc
 
-pub both_second : (a b : Bool) → IsTrue (a && b) → IsTrue b
-both_second true b h = h
-both_second false b h = cc
+pub own_size-cat_of : (nodes : List Node) → own_size (cat_of nodes) ≡ 0
+own_size-cat_of [] = refl
+own_size-cat_of (n ∷ nodes) = refl
 
-pub false_by_not : (b : Bool) → (b ≡ true → ⊥) → b ≡ false
-false_by_not true h = absurd (h refl)
-false_by_not false h = refl
+-- a count that nothing was added to before the rest was
+pub counted-none : (before none between after rest all : ℕ) → none ≡ min 0 (2 ^ 64 - 1) → between ≡ min (before + none) (2 ^ 64 - 1)
+    → min after (2 ^ 64 - 1) ≡ min (between + rest) (2 ^ 64 - 1) → all ≡ rest → min after (2 ^ 64 - 1) ≡ min (before + all) (2 ^ 64 - 1)
+counted-none before none between after rest all e f g h = omega (arith, e, f, g, h)
 
 -- a row is no one character
 pub is_one_character-cat_of : (nodes : List Node) → is_one_character (cat_of nodes) ≡ false

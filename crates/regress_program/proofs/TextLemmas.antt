@@ -1,7 +1,7 @@
 -- Byte sequences and strings.
 use Rattle.std.proofs.Common.{◌≡◌, ℕ, zero, suc, ◌+◌, ◌-◌, ◌*◌, ◌/◌, ◌%◌, ◌<◌, ◌≤◌, min, Bool, true, false, List, [], ◌∷◌, ◌++◌, map, length, take, drop, get_or, slice_get, Some, Vec, inl, inr, ⊎_elim, refl, sym, ap, ◌∙◌, arith, append_assoc, append-nil, length-append, length-drop, drop-cons, ◌==◌, if◌then◌else◌}
 use Rattle.std.proofs.Math.Seq.{drop-nil}
-use Rattle.std.proofs.lemmas.Bool.{cases_lt, lt-ltb, le-ltb, lt-leb}
+use Rattle.std.proofs.lemmas.Bool.{cases_lt, lt-ltb, le-ltb, lt-leb, or_cases}
 use borrow.Author.Tests.{ltb-true}
 use Rattle.std.specs.Prelude.{nat_lt, nat_le, ◌||◌, ◌&&◌, ◌⊎◌}
 use Rattle.std.specs.List.{list_all}
@@ -13,14 +13,13 @@ use Rattle.regex_pattern_front.proofs.ByteLemmas.{bytes_where-same, bytes_where-
 use Rattle.regex_pattern_front.proofs.AddedBytes.{with_bytes_below}
 use Rattle.std.proofs.lemmas.List.{length-map, length-reverse, get_or-reverse, drop-map, drop_all}
 use Rattle.std.proofs.lemmas.Option.{get_or_from_slice_get}
-use Rattle.regex_meaning.specs.Ticks.{chunks, chunks_of}
 use Rattle.regex_meaning.specs.Text.{expand_code_point, all_with_fold, nonascii_with_fold, fold_code_point, to_lowercase, to_uppercase}
-use Rattle.regex_meaning.specs.Layout.{Insn, Alt, Jump, ByteSeq, ResetCaptureGroup, ordered}
+use Rattle.regex_meaning.specs.Layout.{Insn, Alt, Jump, ByteSeq, ResetCaptureGroup, ordered, chunks, chunks_of}
 use Rattle.regex_meaning.specs.Tree.{byte_sequence, string_set}
 use Rattle.regress_program.specs.Code.{resets, string_code, strings_code, strings_size, code_of, loop_count, brackets_of}
 use Rattle.regress_program.specs.Emitting.{State, with_code, with_insn, with_insns, code_points_of}
-use Rattle.regress_program.proofs.NodeLemmas.{both_first, both_second}
-use Rattle.regress_program.proofs.EmitLemmas.{same_state, length-string_code}
+use Rattle.regress_program.proofs.EmitLemmas.{same_state, length-string_code, length-ordered}
+use Rattle.regex_meaning.proofs.Booleans.{and-left, and-right}
 
 -- ---- Chunks
 
@@ -66,10 +65,6 @@ chunk_at bytes k h = chunk_of_at (length bytes) bytes k (omega arith) h
 
 -- ---- Parts in order, or the last one first
 
-pub length-ordered : {A : Type 0} → (d : Bool) (xs : List A) → length (ordered d xs) ≡ length xs
-length-ordered true xs = length-reverse xs
-length-ordered false xs = refl
-
 get_or-ordered : {A : Type 0} → (d : Bool) (xs : List A) (at : ℕ) (x : A) → at < length xs
     → get_or (ordered d xs) at x ≡ get_or xs (if d then length xs - 1 - at else at) x
 get_or-ordered true xs at x h = get_or-reverse xs at x h
@@ -84,35 +79,6 @@ ordered-next d xs at k x h e g =
     drop-cons (ordered d xs) at x within ∙ ap (λ y. y ∷ drop (suc at) (ordered d xs)) here ∙ ap (λ (n : ℕ). x ∷ drop n (ordered d xs)) next
 
 -- ---- Strings
-
-one_or_two : (b : Bool) (x y z : ℕ) → length (if b then x ∷ [] else y ∷ z ∷ []) ≤ 2
-one_or_two true x y z = omega arith
-one_or_two false x y z = omega arith
-
-at_most_one : (a b : Bool) (x y : ℕ) → length (if a then x ∷ [] else if b then y ∷ [] else []) ≤ 1
-at_most_one true b x y = omega arith
-at_most_one false true x y = omega arith
-at_most_one false false x y = omega arith
-
-few_nonascii : (unicode : Bool) (folded : ℕ) → length (nonascii_with_fold unicode folded) ≤ 1
-few_nonascii false folded = omega arith
-few_nonascii true folded = at_most_one (folded == 115) (folded == 107) 0x017F 0x212A
-
-few_with_fold : (unicode : Bool) (folded : ℕ) → length (all_with_fold unicode folded) ≤ 4
-few_with_fold unicode folded =
-    let upper = to_uppercase folded in
-    let lower = to_lowercase folded in
-    omega (
-      arith,
-      one_or_two (upper == lower) folded upper lower,
-      few_nonascii unicode folded,
-      length-append (if upper == lower then folded ∷ [] else upper ∷ lower ∷ []) (nonascii_with_fold unicode folded),
-    )
-
-pub length-expansion : (c : ℕ) (icase unicode : Bool) → length (expand_code_point c icase unicode) ≤ 4
-unfolding expand_code_point
-length-expansion c false unicode = omega arith
-length-expansion c true unicode = few_with_fold unicode (fold_code_point unicode c)
 
 -- the sizes of all but the first
 unfoldable pub front_size : List (List ℕ) → ℕ
@@ -259,16 +225,12 @@ ne_zero (x ∷ xs) h = omega arith
 pub no_bytes_below : (test : ℕ → Bool) → with_bytes_below [] test 0 ≡ []
 no_bytes_below test = bytes_where-none _ (λ b h. rw (le-ltb b 0 (omega arith)))
 
-either : (a b : Bool) → (a || b) ≡ true → (a ≡ true) ⊎ (b ≡ true)
-either true b h = inl refl
-either false b h = inr h
-
 -- no interval that is empty or below 128 holds a number from 128 on
 not_inside : (first last b : ℕ) → 128 ≤ b → (nat_lt last 128 || nat_lt last first) ≡ true → is_in_range first last b ≡ false
 not_inside first last b h e =
     ⊎_elim (λ (below : nat_lt last 128 ≡ true). let lt : last < 128 = omega (arith, ltb-true last 128 below) in let past : last < b = omega arith in and_false (nat_le first b) (lt-leb b last past))
     (λ (none : nat_lt last first ≡ true). let lt : last < first = omega (arith, ltb-true last first none) in one_fails first last b lt)
-    (either (nat_lt last 128) (nat_lt last first) e)
+    (or_cases (nat_lt last 128) (nat_lt last first) e)
   where
     and_false : (a : Bool) → {c : Bool} → c ≡ false → (a && c) ≡ false
     and_false true e = e
@@ -283,8 +245,8 @@ not_inside first last b h e =
 outside_ascii : (intervals : List (ℕ × ℕ)) (b : ℕ) → 128 ≤ b → list_all (λ i. nat_lt i.1 128 || nat_lt i.1 i.0) intervals ≡ true → in_intervals intervals b ≡ false
 outside_ascii [] b h e = refl
 outside_ascii (i ∷ intervals) b h e =
-    let here : is_in_range i.0 i.1 b ≡ false = not_inside i.0 i.1 b h (both_first (nat_lt i.1 128 || nat_lt i.1 i.0) (list_all (λ j. nat_lt j.1 128 || nat_lt j.1 j.0) intervals) e) in
-    let later : in_intervals intervals b ≡ false = outside_ascii intervals b h (both_second (nat_lt i.1 128 || nat_lt i.1 i.0) (list_all (λ j. nat_lt j.1 128 || nat_lt j.1 j.0) intervals) e) in
+    let here : is_in_range i.0 i.1 b ≡ false = not_inside i.0 i.1 b h (and-left (nat_lt i.1 128 || nat_lt i.1 i.0) (list_all (λ j. nat_lt j.1 128 || nat_lt j.1 j.0) intervals) e) in
+    let later : in_intervals intervals b ≡ false = outside_ascii intervals b h (and-right (nat_lt i.1 128 || nat_lt i.1 i.0) (list_all (λ j. nat_lt j.1 128 || nat_lt j.1 j.0) intervals) e) in
     rw (here, later)
 
 pub ascii_bytes : (intervals : List (ℕ × ℕ)) → list_all (λ i. nat_lt i.1 128 || nat_lt i.1 i.0) intervals ≡ true

@@ -5,9 +5,8 @@ use Rattle.regex_meaning.specs.Tree.{BracketContents, Node, empty, goal, char, c
 use Rattle.regex_meaning.specs.Text.{expand_code_point}
 use Rattle.regex_meaning.specs.Outcomes.{most_of, in_intervals}
 use Rattle.regex_meaning.specs.StartPredicate.{start_predicate, bytes_where}
-use Rattle.regex_meaning.specs.Ticks.{chunks}
 use Rattle.regex_meaning.specs.Names.{names_by_id}
-use Rattle.regex_meaning.specs.Layout.{Insn, Goal, JustFail, Char, ByteSeq, AsciiBracket, Bracket, MatchAny, MatchAnyExceptLineTerminator, Alt, Jump, EnterLoop, LoopAgain, ResetCaptureGroup, Loop1CharBody, BeginCaptureGroup, EndCaptureGroup, BackRef, Program, char_set_insn, byte_set_insn, spelling_insn, anchor_insn, word_boundary_insn, lookaround_insn, ordered, is_ascii_set}
+use Rattle.regex_meaning.specs.Layout.{Insn, Goal, JustFail, Char, ByteSeq, AsciiBracket, Bracket, MatchAny, MatchAnyExceptLineTerminator, Alt, Jump, EnterLoop, LoopAgain, ResetCaptureGroup, Loop1CharBody, BeginCaptureGroup, EndCaptureGroup, BackRef, Program, char_set_insn, byte_set_insn, spelling_insn, anchor_insn, word_boundary_insn, lookaround_insn, ordered, is_ascii_set, chunks}
 
 -- ---- Counts
 
@@ -30,6 +29,19 @@ size (lookaround l contents) = size contents + 2
 size (loop q start_group end_group loopee) = (end_group - start_group) + size loopee + 2
 size (loop_1_char_body q loopee) = size loopee + 1
 size _ = 1
+
+-- besides those of the nodes that it holds
+abbrev pub own_size : Node → ℕ
+own_size empty = 0
+own_size end_of_cat = 0
+own_size (cat first rest) = 0
+own_size (byte_sequence bytes) = length (chunks bytes)
+own_size (alt left right) = 2
+own_size (string_set strings icase) = strings_size strings
+own_size (capture_group id name contents) = 2
+own_size (lookaround l contents) = 2
+own_size (loop q start_group end_group loopee) = (end_group - start_group) + 2
+own_size _ = 1
 
 -- how many loops
 unfoldable pub loop_count : Node → ℕ

@@ -1,8 +1,8 @@
 -- The ids of groups, as a test of trees reads them.
 use Rattle.std.specs.Prelude.{ℕ, ◌+◌, ◌-◌, ◌^◌, ◌/◌, ◌%◌, Bool, true, not, ◌&&◌, ◌||◌, List, [], ◌∷◌, length, min, max, ◌==◌, slice_index}
 use Rattle.std.specs.Int.{bit_at}
-use Rattle.regex_meaning.specs.Tree.{Node}
-use Rattle.regex_meaning.specs.WellFormed.{refers_to_a_group, has_order_in_quantifier, has_one_character_body, has_text_in_sequence, fits_instructions}
+use Rattle.regex_meaning.specs.Tree.{Node, group_ids, every}
+use Rattle.regex_meaning.specs.WellFormed.{names_the_groups_inside, encloses, refers_to_a_group, has_order_in_quantifier, has_one_character_body, has_text_in_sequence, fits_instructions}
 
 -- 64 ids to a word, the lowest bit first
 abbrev pub is_seen : List ℕ → ℕ → Bool
@@ -21,6 +21,14 @@ least (id ∷ ids) = min id (least ids)
 unfoldable pub past : List ℕ → ℕ
 past [] = 0
 past (id ∷ ids) = max (id + 1) (past ids)
+
+-- none of the ids inside is seen or stands twice, and loops and lookarounds name those inside them
+abbrev pub ids_stand : (seen : ℕ → Bool) → Node → Bool
+ids_stand seen node = are_fresh seen (group_ids node) && every names_the_groups_inside node
+
+-- the same of what a loop or a lookaround holds that names the groups from the start up to the end
+abbrev pub ids_stand_within : (seen : ℕ → Bool) (start end : ℕ) → Node → Bool
+ids_stand_within seen start end node = are_fresh seen (group_ids node) && (encloses start end node && every names_the_groups_inside node)
 
 pub record Span : Type 0 where
   pub count : ℕ

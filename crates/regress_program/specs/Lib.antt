@@ -1,4 +1,5 @@
 pub mod Insns
+pub mod Predicates
 pub mod Beginnings
 pub mod Code
 pub mod Programs

@@ -4,7 +4,7 @@ use Rattle.regex_meaning.specs.WellFormed.{is_well_formed}
 use Rattle.regex_pattern_front.specs.TreeOf.{tree_of, flags_of, contents_of}
 use Rattle.regress_program.specs.Insns.{insn_of}
 use Rattle.regress_program.specs.Code.{compiled}
-use Rattle.regress_program.specs.declared.insn.Program.TheInside.{Inside}
+use Rattle.regress_program.specs.declared.insn.programs.Program.TheInside.{Inside}
 
 -- the fields are those of the tree's code, and the tree is well formed
 pub record IsProgram (p : Inside) : Type 0 where

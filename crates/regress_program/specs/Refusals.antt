@@ -29,15 +29,15 @@ pub record HasTooManyInstructions (tree : Tree) : Type 0 where
   pub loops : loop_count tree.root < 2 ^ 16
   pub insns : 2 ^ 32 ≤ size tree.root
 
--- the cause of each refusal, where no earlier one is there; `bytes_in_units` says whether a node that reads bytes stands
--- in a tree for 16-bit units
+-- the cause of each refusal, where no earlier one is there: want of memory comes last, of a tree that is compiled;
+-- `bytes_in_units` says whether a node that reads bytes stands in a tree for 16-bit units
 abbrev pub IsRefusedWith : (bytes_in_units : Bool) → EmitError → Tree → Type 0
 IsRefusedWith bytes_in_units NotWellFormed tree = ¬ (IsWellFormed tree.root)
 IsRefusedWith bytes_in_units BytesInUnits tree = IsWellFormed tree.root × IsTrue bytes_in_units
 IsRefusedWith bytes_in_units TooManyGroups tree = (bytes_in_units ≡ false) × HasTooManyGroups tree
 IsRefusedWith bytes_in_units TooManyLoops tree = (bytes_in_units ≡ false) × HasTooManyLoops tree
 IsRefusedWith bytes_in_units TooManyInstructions tree = (bytes_in_units ≡ false) × HasTooManyInstructions tree
-IsRefusedWith bytes_in_units Memory tree = Unit {0}
+IsRefusedWith bytes_in_units Memory tree = (bytes_in_units ≡ false) × FitsLimits tree
 
 -- where a program for bytes is asked for
 abbrev pub IsRefused : EmitError → Tree → Type 0

@@ -5,7 +5,7 @@ ghost use Rattle.regex_meaning.specs.Tree.{group_ids};
 ghost use Rattle.regex_meaning.specs.Layout.{IsByteCodeOf, IsUnitCodeOf};
 ghost use Rattle.regex_pattern_front.specs.TreeOf.{tree_of};
 ghost use Rattle.regress_program.specs.Code.{compiled};
-ghost use Rattle.regress_program.specs.declared.emit.EmitError.TheVariants.{NotWellFormed, BytesInUnits, TooManyGroups, TooManyLoops, TooManyInstructions};
+ghost use Rattle.regress_program.specs.declared.emit.EmitError.TheVariants.{NotWellFormed, BytesInUnits, TooManyGroups, TooManyLoops, TooManyInstructions, Memory};
 ghost use Rattle.regress_program.specs.Refusals.{IsRefused, IsRefusedInUnits, IsRefusedWith, FitsLimits};
 
 mod brackets;
@@ -63,7 +63,7 @@ impl From<AllocError> for EmitError {
 /// # Errors
 ///
 /// In this order, each only where its cause holds: `NotWellFormed`, `TooManyGroups`, `TooManyLoops`,
-/// `TooManyInstructions`. `Memory` may stand in place of any answer.
+/// `TooManyInstructions`, `Memory`. A growth is refused only of a tree that is compiled.
 pub fn emit(alloc: Global, re: &ir::Regex) -> Result<CompiledRegex, EmitError>
     ensures tree { IfOk result (λ p. p ≡ re.now) }
     ensures code { OnOk result (IsByteCodeOf (compiled (tree_of re.now)) (tree_of re.now)) }
@@ -72,6 +72,7 @@ pub fn emit(alloc: Global, re: &ir::Regex) -> Result<CompiledRegex, EmitError>
     ensures too_many_groups { IsErrOf result EmitError.TooManyGroups → IsRefused TooManyGroups (tree_of re.now) }
     ensures too_many_loops { IsErrOf result EmitError.TooManyLoops → IsRefused TooManyLoops (tree_of re.now) }
     ensures too_many_instructions { IsErrOf result EmitError.TooManyInstructions → IsRefused TooManyInstructions (tree_of re.now) }
+    ensures memory { IsErrOf result EmitError.Memory → IsRefused Memory (tree_of re.now) }
     ensures no_units { ¬ (IsErrOf result EmitError.BytesInUnits) }
 {
     let program = compile(alloc, re, false)?;
@@ -87,7 +88,7 @@ pub fn emit(alloc: Global, re: &ir::Regex) -> Result<CompiledRegex, EmitError>
 /// # Errors
 ///
 /// In this order, each only where its cause holds: `NotWellFormed`, `BytesInUnits`, `TooManyGroups`, `TooManyLoops`,
-/// `TooManyInstructions`. `Memory` may stand in place of any answer.
+/// `TooManyInstructions`, `Memory`. A growth is refused only of a tree that is compiled.
 pub fn emit_units(alloc: Global, re: &ir::Regex) -> Result<CompiledUnits, EmitError>
     ensures tree { IfOk result (λ p. p ≡ re.now) }
     ensures code { OnOk result (IsUnitCodeOf (compiled (tree_of re.now)) (tree_of re.now)) }
@@ -97,6 +98,7 @@ pub fn emit_units(alloc: Global, re: &ir::Regex) -> Result<CompiledUnits, EmitEr
     ensures too_many_groups { IsErrOf result EmitError.TooManyGroups → IsRefusedInUnits TooManyGroups (tree_of re.now) }
     ensures too_many_loops { IsErrOf result EmitError.TooManyLoops → IsRefusedInUnits TooManyLoops (tree_of re.now) }
     ensures too_many_instructions { IsErrOf result EmitError.TooManyInstructions → IsRefusedInUnits TooManyInstructions (tree_of re.now) }
+    ensures memory { IsErrOf result EmitError.Memory → IsRefusedInUnits Memory (tree_of re.now) }
 {
     let program = compile(alloc, re, reads_bytes(&re.node))?;
     Ok(CompiledUnits { program })

@@ -1,13 +1,14 @@
 //! What a text has to start with where a pattern matches.
 #![tactic(auto, unfolding(regex_pattern_front::specs::TreeOf::node_of))]
 
-ghost use Rattle.std.specs.Prelude.{◌≡◌, ◌&&◌, not, IfOk};
+ghost use Rattle.std.specs.Prelude.{◌≡◌, ◌&&◌, not, false, IfOk, IsOk};
 ghost use Rattle.regex_meaning.specs.StartPredicate.{IsSound, is_anchored, start_predicate, start_of as predicate_of, sequence, one_of};
 ghost use Rattle.regex_meaning.specs.WellFormed.{IsWellFormed};
 ghost use Rattle.regex_pattern_front.specs.ByteSets.{byte_bitmap_bytes};
 ghost use Rattle.regex_pattern_front.specs.TreeOf.{node_of, tree_of};
 ghost use Rattle.regress_program.specs.Beginnings.{beginning_of};
 ghost use Rattle.regress_program.specs.Insns.{start_of};
+ghost use Rattle.regress_program.specs.Predicates.{IsShort, is_sequence, may_take_memory};
 
 mod beginnings;
 mod bytesets;
@@ -30,10 +31,13 @@ use std::alloc::{AllocError, Global};
 ///
 /// # Errors
 ///
-/// A growth was refused. Memory is taken for the bytes of a sequence and for an inverted class alone.
+/// A growth was refused. Memory is taken for the bytes of a sequence and for an inverted class alone: none where the
+/// tree is anchored, or where neither a byte sequence nor an inverted class is met before it is decided.
 pub fn predicate_for_re(alloc: Global, re: &ir::Regex) -> Result<StartPredicate, AllocError>
     ensures predicate { IfOk result (λ p. start_of p ≡ start_predicate (tree_of re.now)) }
     ensures sound { IsWellFormed (tree_of re.now).root → IfOk result (λ p. IsSound (start_of p) (tree_of re.now).root) }
+    ensures short { IfOk result IsShort }
+    ensures no_memory { may_take_memory (tree_of re.now) ≡ false → IsOk result }
 {
     if matches_at_left_end(re) {
         return Ok(StartPredicate::StartAnchored);
@@ -46,7 +50,9 @@ fn beginning_predicate(
     alloc: Global,
     beginning: Beginning<'_>,
 ) -> Result<StartPredicate, AllocError>
-    ensures { IfOk result (λ p. start_of p ≡ predicate_of (beginning_of beginning.entry)) }
+    ensures predicate { IfOk result (λ p. start_of p ≡ predicate_of (beginning_of beginning.entry)) }
+    ensures short { IfOk result IsShort }
+    ensures no_memory { is_sequence (beginning_of beginning.entry) ≡ false → IsOk result }
 {
     match beginning {
         Beginning::Open | Beginning::Anything => Ok(StartPredicate::Arbitrary),
@@ -57,7 +63,8 @@ fn beginning_predicate(
 
 // That a text starts with these bytes.
 fn bytes_predicate(alloc: Global, bytes: &[u8]) -> Result<StartPredicate, AllocError>
-    ensures { IfOk result (λ p. start_of p ≡ predicate_of (sequence bytes.now)) }
+    ensures predicate { IfOk result (λ p. start_of p ≡ predicate_of (sequence bytes.now)) }
+    ensures short { IfOk result IsShort }
 {
     match bytes {
         [] => Ok(StartPredicate::Arbitrary),
@@ -68,7 +75,8 @@ fn bytes_predicate(alloc: Global, bytes: &[u8]) -> Result<StartPredicate, AllocE
 
 // That a text starts with a member.
 fn set_predicate(set: ByteBitmap) -> StartPredicate
-    ensures { start_of result ≡ predicate_of (one_of (byte_bitmap_bytes set)) }
+    ensures predicate { start_of result ≡ predicate_of (one_of (byte_bitmap_bytes set)) }
+    ensures short { IsShort result }
 {
     let Some(a) = next_member(&set, 0) else {
         return StartPredicate::Arbitrary;

@@ -12,7 +12,7 @@ pub(crate) fn write_program(
     tree: &Regex,
 ) -> Result<(), AllocError> {
     match emit(alloc, tree) {
-        Ok(compiled) => write_insns(text, compiled.program().insns()),
+        Ok(compiled) => write_insns(text, compiled.insns()),
         Err(error) => text.push_str(named(error)),
     }
 }
@@ -24,7 +24,7 @@ pub(crate) fn write_units(
     tree: &Regex,
 ) -> Result<(), AllocError> {
     match emit_units(alloc, tree) {
-        Ok(compiled) => write_insns(text, compiled.program().insns()),
+        Ok(compiled) => write_insns(text, compiled.insns()),
         Err(error) => text.push_str(named(error)),
     }
 }

@@ -1,10 +1,11 @@
 //! The parts of programs and of their copies in words.
 
 use crate::listing::write_word;
+use crate::predicates::write_words;
 use regex_pattern_front::ir::Regex;
 use regex_pattern_front::types::BracketContents;
 use regress_program::emit::{emit, emit_units};
-use regress_program::insn::{CompiledRegex, CompiledUnits, StartPredicate};
+use regress_program::insn::{CompiledRegex, Program};
 use std::alloc::{AllocError, Global};
 
 // The parts of the program of a tree for texts in bytes, and those of its copy.
@@ -14,20 +15,38 @@ pub(crate) fn write_parts(
     tree: &Regex,
 ) -> Result<(), AllocError> {
     match emit(alloc, tree) {
-        Ok(program) => write_both(text, &program),
+        Ok(program) => {
+            write_compiled(text, &program)?;
+            write_compiled(text, &program.clone()?)
+        }
         Err(_) => Ok(()),
     }
 }
 
-fn write_both(text: &mut String, program: &CompiledRegex) -> Result<(), AllocError> {
-    write_one(text, program)?;
-    write_one(text, &program.clone()?)
+fn write_compiled(text: &mut String, program: &CompiledRegex) -> Result<(), AllocError> {
+    write_one(text, program.program())?;
+    text.push(' ')?;
+    write_words(text, program.start_pred())
 }
 
-// How many instructions, classes, loops, groups and names there are, whether U+E9 is in the only class and whether a
-// match may begin with anything; and the names of four groups.
-fn write_one(text: &mut String, program: &CompiledRegex) -> Result<(), AllocError> {
-    let anything = matches!(program.start_pred(), StartPredicate::Arbitrary);
+// The same for texts of 16-bit units.
+pub(crate) fn write_unit_parts(
+    alloc: Global,
+    text: &mut String,
+    tree: &Regex,
+) -> Result<(), AllocError> {
+    match emit_units(alloc, tree) {
+        Ok(program) => {
+            write_one(text, program.program())?;
+            write_one(text, program.clone()?.program())
+        }
+        Err(_) => Ok(()),
+    }
+}
+
+// How many instructions, classes, loops, groups and names there are, whether U+E9 is in the only class and whether the
+// flag `u` is set; and the names of four groups.
+fn write_one(text: &mut String, program: &Program) -> Result<(), AllocError> {
     let numbers = [
         program.insns().len(),
         program.brackets().len(),
@@ -35,7 +54,7 @@ fn write_one(text: &mut String, program: &CompiledRegex) -> Result<(), AllocErro
         program.groups() as usize,
         program.group_names().len(),
         has_letter(program.brackets()) as usize,
-        anything as usize,
+        program.flags().unicode as usize,
     ];
     write_word(text, "parts", &numbers)?;
     let names = [
@@ -60,42 +79,4 @@ fn write_names(text: &mut String, names: &[&str]) -> Result<(), AllocError> {
         write!(text, " {name}/")?;
     }
     Ok(())
-}
-
-// The same for texts of 16-bit units.
-pub(crate) fn write_unit_parts(
-    alloc: Global,
-    text: &mut String,
-    tree: &Regex,
-) -> Result<(), AllocError> {
-    match emit_units(alloc, tree) {
-        Ok(program) => write_both_of_units(text, &program),
-        Err(_) => Ok(()),
-    }
-}
-
-fn write_both_of_units(text: &mut String, program: &CompiledUnits) -> Result<(), AllocError> {
-    write_one_of_units(text, program)?;
-    write_one_of_units(text, &program.clone()?)
-}
-
-// How many instructions, classes, loops, groups and names there are, and whether the flag `u` is set; and the names of
-// four groups.
-fn write_one_of_units(text: &mut String, program: &CompiledUnits) -> Result<(), AllocError> {
-    let numbers = [
-        program.insns().len(),
-        program.brackets().len(),
-        program.loops() as usize,
-        program.groups() as usize,
-        program.group_names().len(),
-        program.flags().unicode as usize,
-    ];
-    write_word(text, "parts", &numbers)?;
-    let names = [
-        program.group_name(0),
-        program.group_name(1),
-        program.group_name(2),
-        program.group_name(usize::MAX),
-    ];
-    write_names(text, &names)
 }

@@ -15,7 +15,7 @@ pub(crate) fn write_predicate(
     write_words(text, &predicate_for_re(alloc, tree)?)
 }
 
-fn write_words(text: &mut String, predicate: &StartPredicate) -> Result<(), AllocError> {
+pub(crate) fn write_words(text: &mut String, predicate: &StartPredicate) -> Result<(), AllocError> {
     match predicate {
         StartPredicate::Arbitrary => write_bytes(text, "Arbitrary", &[]),
         StartPredicate::StartAnchored => write_bytes(text, "StartAnchored", &[]),

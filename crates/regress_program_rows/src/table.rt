@@ -2,7 +2,7 @@
 
 // The refused trees have goals that are not last, groups with wrong ids, groups that are not inside, references to no
 // group, minima above the maximum, bodies that are not one character, bytes that are no text, sets that fit no
-// instruction, and more groups than there may be. For 16-bit units a tree that is not well formed is refused as such,
+// instruction, and more groups or loops than there may be. For 16-bit units a tree that is not well formed is refused as such,
 // whatever stands in it. In the parts, the groups inside a lookbehind have the later one first.
 pub(crate) const ROWS: &str = "\
 program goal → Goal
@@ -45,6 +45,9 @@ program cat:3 any byteset:80 goal → NotWellFormed
 program cat:3 any set:1,2,3,4,5 goal → NotWellFormed
 program cat:3 any strings:1 set:110000 goal → NotWellFormed
 program cat:10001 groups goal → TooManyGroups
+program cat:10001 loops goal → TooManyLoops
+units cat:10001 groups goal → TooManyGroups
+units cat:10001 loops goal → TooManyLoops
 units bytes:61 → NotWellFormed
 units cat:2 bytes:61 goal → BytesInUnits
 units cat:2 behind:0,0 alt x byteset:61,62 goal → BytesInUnits
@@ -62,8 +65,14 @@ predicate cat:2 set:20AC,61,110000 goal → ByteSet2 [97, 226]
 predicate cat:2 class:7E,80 goal → ByteSet3 [126, 127, 194]
 predicate cat:2 not:0,60,63,FFFFF goal → ByteSet3 [97, 98, 244]
 predicate cat:2 not:0,60,64,FFFFF goal → ByteBracket 97 98 99 244
-parts cat:2 loop:0,1,0 group:0 class:E9,E9 goal → parts 7 1 1 1 0 1 1 / / / /parts 7 1 1 1 0 1 1 / / / /
-parts cat:3 behind:0,2 cat:2 named:1,62 y named:0,61 x z goal → parts 10 0 0 2 2 0 1 a/ b/ / /parts 10 0 0 2 2 0 1 a/ b/ / /
-parts cat:2 cat:2 group:0 x named:1,62 y goal → parts 7 0 0 2 2 0 1 / b/ / /parts 7 0 0 2 2 0 1 / b/ / /
-unit_parts cat:4 a group:0 not loop:1,2,0 named:1,62 b goal → parts 11 1 1 2 2 0 / b/ / /parts 11 1 1 2 2 0 / b/ / /
+parts cat:2 loop:0,1,0 group:0 class:E9,E9 goal → parts 7 1 1 1 0 1 0 / / / / Arbitrary []parts 7 1 1 1 0 1 0 / / / / Arbitrary []
+parts cat:3 behind:0,2 cat:2 named:1,62 y named:0,61 x z goal → parts 10 0 0 2 2 0 0 a/ b/ / / Arbitrary []parts 10 0 0 2 2 0 0 a/ b/ / / Arbitrary []
+parts cat:2 cat:2 group:0 x named:1,62 y goal → parts 7 0 0 2 2 0 0 / b/ / / Arbitrary []parts 7 0 0 2 2 0 0 / b/ / / Arbitrary []
+parts cat:2 cat:2 start bytes:61 goal → parts 3 0 0 0 0 0 0 / / / / StartAnchored []parts 3 0 0 0 0 0 0 / / / / StartAnchored []
+parts cat:2 bytes:61,62 goal → parts 2 0 0 0 0 0 0 / / / / ByteSeq [97, 98]parts 2 0 0 0 0 0 0 / / / / ByteSeq [97, 98]
+parts cat:2 bytes:61 goal → parts 2 0 0 0 0 0 0 / / / / ByteSet1 [97]parts 2 0 0 0 0 0 0 / / / / ByteSet1 [97]
+parts cat:2 byteset:61,62 goal → parts 2 0 0 0 0 0 0 / / / / ByteSet2 [97, 98]parts 2 0 0 0 0 0 0 / / / / ByteSet2 [97, 98]
+parts cat:2 byteset:61,62,63 goal → parts 2 0 0 0 0 0 0 / / / / ByteSet3 [97, 98, 99]parts 2 0 0 0 0 0 0 / / / / ByteSet3 [97, 98, 99]
+parts cat:2 byteset:61,62,63,64 goal → parts 2 0 0 0 0 0 0 / / / / ByteBracket 97 98 99 100parts 2 0 0 0 0 0 0 / / / / ByteBracket 97 98 99 100
+unit_parts cat:4 a group:0 not loop:1,2,0 named:1,62 b goal → parts 11 1 1 2 2 0 0 / b/ / /parts 11 1 1 2 2 0 0 / b/ / /
 ";

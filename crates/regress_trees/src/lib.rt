@@ -8,7 +8,7 @@
 //! - with one child `group:ID`, `named:ID,LETTER`, `ahead:FIRST,END`, `behind:FIRST,END`, `loop:FIRST,END,MIN`,
 //!   `loop:FIRST,END,MIN,MAX`, `loop1:MIN` and `loop1:MIN,MAX`, where `FFFFFFFF` is the greatest minimum there is;
 //! - with two children `alt`, with so many `cat:COUNT`, and `strings:COUNT` with so many sets for its strings;
-//! - `groups` for the empty groups of all ids.
+//! - `groups` for the empty groups of all ids, and `loops` for so many loops over nothing.
 #![tactic(auto)]
 
 use regex_pattern_front::codepointset::{CodePointSet, Interval};
@@ -60,8 +60,8 @@ fn node_of(alloc: Global, name: &str, numbers: &[u32], nodes: &mut Vec<Node>) ->
             let left = child_of(alloc, nodes)?;
             Some(Node::Alt(left, child_of(alloc, nodes)?))
         }
-        ("groups", []) => {
-            put_groups(alloc, nodes)?;
+        ("groups" | "loops", []) => {
+            put_many(alloc, name, nodes)?;
             nodes.pop()
         }
         ("group" | "named" | "ahead" | "behind" | "loop" | "loop1", _) => {
@@ -98,16 +98,16 @@ fn child_of(alloc: Global, nodes: &mut Vec<Node>) -> Option<Box<Node>> {
     Box::new(alloc, nodes.pop()?).ok()
 }
 
-// The groups of all ids, with nothing in them.
-fn put_groups(alloc: Global, nodes: &mut Vec<Node>) -> Option<()> {
+// The groups of all ids, or as many loops, with nothing in them.
+fn put_many(alloc: Global, name: &str, nodes: &mut Vec<Node>) -> Option<()> {
     for id in 0..=u16::MAX {
-        nodes.push(Node::Empty).ok()?;
-        let group = Node::CaptureGroup {
-            id: u16::MAX - id,
-            contents: child_of(alloc, nodes)?,
-            name: None,
+        let child = Box::new(alloc, Node::Empty).ok()?;
+        let node = if name == "groups" {
+            parent(alloc, "group", &[u32::from(u16::MAX - id)], child)?
+        } else {
+            parent(alloc, "loop", &[0, 0, 0], child)?
         };
-        nodes.push(group).ok()?;
+        nodes.push(node).ok()?;
     }
     Some(())
 }

@@ -4,7 +4,6 @@ use Rattle.std.proofs.Math.Seq.{take-append_seam, drop-append_seam, take-length,
 use Rattle.std.proofs.lemmas.List.{append-nil}
 use Rattle.std.specs.Prelude.{if◌then◌else◌}
 use Rattle.regex_meaning.specs.Text.{Text}
-use Rattle.regex_meaning.proofs.FirstBytes.{eq-true}
 use Rattle.regress_machine.specs.Machine.{Next, waiting}
 use Rattle.regress_undo.specs.declared.memory.Memory.{Memory}
 use Rattle.regress_undo.specs.declared.ways.Mark.{Mark}
@@ -15,6 +14,7 @@ use Rattle.regress_undo.specs.Memory.{undone}
 use Rattle.regress_undo.specs.Ways.{IsBehind, waits, state_in, offsets_of, from_to, IsRange, AreMade}
 use Rattle.regress_undo.specs.Turns.{Did, state_of, next_of}
 use Rattle.regress_undo.proofs.Undoing.{behind-itself}
+use Rattle.std.proofs.lemmas.Bool.{eq-eqb}
 
 module _ {P : Type 0} (position : P → ℕ) (text : Text) (m : Memory) (marks : List (Mark P)) (ip : ℕ) (pos : P) where
   -- no mark was made
@@ -39,7 +39,7 @@ module _ {P : Type 0} (position : P → ℕ) (text : Text) (m : Memory) (marks :
   waits-one groups slots log mark same =
       let then_held = undone slots (drop mark.log_len log) in
       let one : offsets_of text (position mark.next) (position mark.last) ≡ position mark.next ∷ [] =
-      ap (λ p. offsets_of text (position mark.next) (position p)) (sym same) ∙ ap (λ b. if b then position mark.next ∷ [] else from_to text (position mark.next) (position mark.next)) (eq-true (position mark.next) (position mark.next) refl) in
+      ap (λ p. offsets_of text (position mark.next) (position p)) (sym same) ∙ ap (λ b. if b then position mark.next ∷ [] else from_to text (position mark.next) (position mark.next)) (eq-eqb (position mark.next) (position mark.next) refl) in
       ap (λ l. map (λ at. waiting (state_in groups then_held mark.ip at)) l ++ []) one
 
   -- one mark was made

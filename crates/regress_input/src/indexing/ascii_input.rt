@@ -1,19 +1,15 @@
 //! Texts of ASCII, a character a byte.
 
-ghost use Rattle.std.specs.Prelude.{◌≡◌, ◌<◌, ◌≤◌, ◌^◌, nat_eq, nat_le, ℕ, length, IsAscii};
+ghost use Rattle.std.specs.Prelude.{◌≡◌, ◌<◌, ◌^◌, nat_le, ℕ, length, IsAscii};
 ghost use Rattle.std.proofs.Common.{rules};
 ghost use Rattle.regex_meaning.specs.Text.{ascii_text, fold_ascii};
-ghost use Rattle.regex_meaning.specs.Offsets.{IsBoundary};
 ghost use Rattle.regex_meaning.proofs.TextLemmas.{ascii_text-IsText};
-ghost use Rattle.regex_meaning.proofs.UnitLengths.{ascii_text-fits};
-ghost use Rattle.regress_input.specs.Reading.{way, led_to, characters_between, past_spelled, part};
 ghost use Rattle.regress_input.specs.InUtf8.{ascii_text-IsInUtf8};
+ghost use Rattle.regress_input.specs.Spellings.{ascii_text-IsSpelled, ascii_text-fits};
 
-use super::{ByteUnits, CharProperties, ElementType, InputIndexer};
-use crate::front::ByteSearcher;
-use crate::position::{DefPosition, Direction, IndexPosition, PositionType};
+use super::{ByteUnits, CharProperties, ElementType, HasUnits, InputIndexer};
+use crate::position::{DefPosition, Direction, IndexPosition};
 use crate::units;
-use std::ops::Range;
 
 impl ElementType for u8 {
     ghost number = { λ c. c };
@@ -59,7 +55,7 @@ pub struct AsciiInput<'a> {
     input: &'a [u8],
     unicode: bool,
     ghost is_ascii: { IsAscii input.now },
-    ghost fits: { length input.now < 2 ^ 64 },
+    ghost fits: { length input.now < 2 ^ 63 },
 }
 
 impl<'a> AsciiInput<'a> {
@@ -77,6 +73,10 @@ impl<'a> AsciiInput<'a> {
     }
 }
 
+impl<'a> HasUnits for AsciiInput<'a> {
+    type Units = ByteUnits;
+}
+
 impl<'a> InputIndexer for AsciiInput<'a> {
     type Element = u8;
 
@@ -84,13 +84,13 @@ impl<'a> InputIndexer for AsciiInput<'a> {
 
     type Position = DefPosition<'a>;
 
-    type Units = ByteUnits;
-
     ghost text = { λ it. ascii_text it.input.now it.unicode };
 
     ghost is_text = { λ it. ascii_text-IsText it.input.now it.unicode };
 
     ghost offsets_fit = { λ it. ascii_text-fits it.input.now it.unicode it.fits };
+
+    ghost spelled = { λ it. ascii_text-IsSpelled it.input.now it.unicode it.is_ascii };
 
     ghost in_utf8 = { λ it _. ascii_text-IsInUtf8 it.input.now it.unicode it.is_ascii };
 
@@ -105,29 +105,45 @@ impl<'a> InputIndexer for AsciiInput<'a> {
     }
 
     #[inline(always)]
-    fn left_end(&self) -> DefPosition<'a> {
-        IndexPosition::new(0)
+    fn unit_count(&self) -> usize {
+        self.input.len()
     }
 
     #[inline(always)]
-    fn right_end(&self) -> DefPosition<'a> {
-        IndexPosition::new(self.input.len())
+    fn as_bytes(&self) -> Option<&[u8]> {
+        Some(self.input)
     }
 
     #[inline(always)]
-    fn pos_to_offset(&self, pos: DefPosition<'a>) -> usize {
-        pos.offset
+    fn unit(&self, pos: DefPosition<'a>) -> u32 {
+        self.input[pos.offset] as u32
     }
 
     #[inline(always)]
-    fn subinput(&self, range: Range<DefPosition<'a>>) -> Self
-        requires from { IsBoundary (ascii_text self.now.input.now self.now.unicode) (⟦<IndexPosition<'a> as PositionType>⟧.offset range.start) }
-        requires to { IsBoundary (ascii_text self.now.input.now self.now.unicode) (⟦<IndexPosition<'a> as PositionType>⟧.offset range.end) }
-        requires in_order { ⟦<IndexPosition<'a> as PositionType>⟧.offset range.start ≤ ⟦<IndexPosition<'a> as PositionType>⟧.offset range.end }
-        ensures { ⟦<AsciiInput<'a> as InputIndexer>⟧.text result ≡ part (ascii_text self.now.input.now self.now.unicode) (⟦<IndexPosition<'a> as PositionType>⟧.offset range.entry.start) (⟦<IndexPosition<'a> as PositionType>⟧.offset range.entry.end) }
-    {
-        let start = range.start.offset;
-        let end = range.end.offset;
+    fn character_right(&self, pos: DefPosition<'a>) -> (u8, DefPosition<'a>) {
+        (self.input[pos.offset], IndexPosition::new(pos.offset + 1))
+    }
+
+    #[inline(always)]
+    fn character_left(&self, pos: DefPosition<'a>) -> (u8, DefPosition<'a>) {
+        let start = pos.offset - 1;
+        (self.input[start], IndexPosition::new(start))
+    }
+
+    #[inline(always)]
+    fn past(&self, pos: DefPosition<'a>) -> DefPosition<'a> {
+        IndexPosition::new(pos.offset + 1)
+    }
+
+    #[inline(always)]
+    fn before(&self, pos: DefPosition<'a>) -> DefPosition<'a> {
+        IndexPosition::new(pos.offset - 1)
+    }
+
+    #[inline(always)]
+    fn between(&self, start: DefPosition<'a>, end: DefPosition<'a>) -> Self {
+        let start = start.offset;
+        let end = end.offset;
         AsciiInput {
             input: &self.input[start..end],
             unicode: self.unicode,
@@ -135,111 +151,18 @@ impl<'a> InputIndexer for AsciiInput<'a> {
     }
 
     #[inline(always)]
-    fn next_right(&self, pos: &mut DefPosition<'a>) -> Option<u8> {
-        let at = pos.offset;
-        let len = self.input.len();
-        if at == len {
-            return None;
-        }
-        let unit = self.input[at];
-        pos.offset = at + 1;
-        Some(unit)
-    }
-
-    #[inline(always)]
-    fn next_left(&self, pos: &mut DefPosition<'a>) -> Option<u8> {
-        let at = pos.offset;
-        if at == 0 {
-            return None;
-        }
-        let unit = self.input[at - 1];
-        pos.offset = at - 1;
-        Some(unit)
-    }
-
-    #[inline(always)]
-    fn next_right_pos(&self, pos: DefPosition<'a>) -> Option<DefPosition<'a>> {
-        let at = pos.offset;
-        let len = self.input.len();
-        if at == len {
-            return None;
-        }
-        Some(IndexPosition::new(at + 1))
-    }
-
-    #[inline(always)]
-    fn next_left_pos(&self, pos: DefPosition<'a>) -> Option<DefPosition<'a>> {
-        let at = pos.offset;
-        if at == 0 {
-            return None;
-        }
-        Some(IndexPosition::new(at - 1))
-    }
-
-    #[inline(always)]
-    fn try_move_right(&self, pos: DefPosition<'a>, amt: usize) -> Option<DefPosition<'a>> {
-        let at = pos.offset;
-        let to = units::moved_right(self.input.len(), at, amt);
-        units::position_at(to)
-    }
-
-    #[inline(always)]
-    fn try_move_left(&self, pos: DefPosition<'a>, amt: usize) -> Option<DefPosition<'a>> {
-        let at = pos.offset;
-        units::position_at(units::moved_left(at, amt))
-    }
-
-    #[inline(always)]
-    fn subrange_eq<Dir: Direction>(
+    fn past_again<Dir: Direction>(
         &self,
         _dir: Dir,
-        pos: &mut DefPosition<'a>,
-        range: Range<DefPosition<'a>>,
-    ) -> bool
-        requires at { IsBoundary (ascii_text self.now.input.now self.now.unicode) (⟦<IndexPosition<'a> as PositionType>⟧.offset pos.old) }
-        requires from { IsBoundary (ascii_text self.now.input.now self.now.unicode) (⟦<IndexPosition<'a> as PositionType>⟧.offset range.start) }
-        requires to { IsBoundary (ascii_text self.now.input.now self.now.unicode) (⟦<IndexPosition<'a> as PositionType>⟧.offset range.end) }
-        requires in_order { ⟦<IndexPosition<'a> as PositionType>⟧.offset range.start ≤ ⟦<IndexPosition<'a> as PositionType>⟧.offset range.end }
-        ensures { led_to result (⟦<IndexPosition<'a> as PositionType>⟧.offset pos.new) ≡ past_spelled (ascii_text self.now.input.now self.now.unicode) nat_eq (characters_between (ascii_text self.now.input.now self.now.unicode) (⟦<IndexPosition<'a> as PositionType>⟧.offset range.entry.start) (⟦<IndexPosition<'a> as PositionType>⟧.offset range.entry.end)) (way Dir.FORWARD) (⟦<IndexPosition<'a> as PositionType>⟧.offset pos.old) }
-    {
-        let start = range.start.offset;
-        let end = range.end.offset;
-        let all = self.input;
-        let to = units::past_units(all, Dir::FORWARD, pos.offset, &all[start..end]);
-        units::leave_at(pos, to)
-    }
-
-    #[inline(always)]
-    fn peek_byte_right(&self, pos: DefPosition<'a>) -> Option<u8> {
-        let at = pos.offset;
-        units::unit_right(self.input, at)
-    }
-
-    #[inline(always)]
-    fn peek_byte_left(&self, pos: DefPosition<'a>) -> Option<u8> {
-        let at = pos.offset;
-        units::unit_left(self.input, at)
-    }
-
-    #[inline(always)]
-    fn find_bytes<Search: ByteSearcher>(
-        &self,
         pos: DefPosition<'a>,
-        search: &Search,
+        start: DefPosition<'a>,
+        end: DefPosition<'a>,
     ) -> Option<DefPosition<'a>> {
         let at = pos.offset;
-        let found = units::find_from(self.input, at, search);
-        units::position_at(found)
-    }
-
-    #[inline(always)]
-    fn match_bytes<Dir: Direction>(
-        &self,
-        _dir: Dir,
-        pos: &mut DefPosition<'a>,
-        bytes: &[u8],
-    ) -> bool {
-        let to = units::past_units(self.input, Dir::FORWARD, pos.offset, bytes);
-        units::leave_at(pos, to)
+        let start = start.offset;
+        let end = end.offset;
+        let all = self.input;
+        let to = units::past_units(all, Dir::FORWARD, at, &all[start..end]);
+        units::position_at(to)
     }
 }

@@ -1,18 +1,16 @@
 //! Texts of 16-bit units, a character a unit.
 
-ghost use Rattle.std.specs.Prelude.{◌≡◌, ◌<◌, ◌≤◌, ◌*◌, ◌^◌, nat_eq, ℕ, true, length};
+ghost use Rattle.std.specs.Prelude.{◌≡◌, ◌<◌, ◌*◌, ◌^◌, ℕ, true, length};
 ghost use Rattle.std.proofs.Common.{rules};
 ghost use Rattle.regex_meaning.specs.Text.{ucs2_text, fold_code_point};
-ghost use Rattle.regex_meaning.specs.Offsets.{IsBoundary};
 ghost use Rattle.regex_meaning.proofs.TextLemmas.{ucs2_text-IsText};
-ghost use Rattle.regex_meaning.proofs.UnitLengths.{ucs2_text-fits};
-ghost use Rattle.regress_input.specs.Reading.{way, led_to, characters_between, past_spelled, part, no_bytes};
+ghost use Rattle.regress_input.specs.Reading.{no_bytes};
+ghost use Rattle.regress_input.specs.Spellings.{ucs2_text-IsSpelled, ucs2_text-fits};
 
-use super::{CharProperties, ElementType, InputIndexer, WideUnits};
-use crate::front::{ByteSearcher, fold_code_point};
-use crate::position::{DefPosition, Direction, IndexPosition, PositionType};
-use crate::{units, wide_units};
-use std::ops::Range;
+use super::{CharProperties, ElementType, HasUnits, InputIndexer, Ucs2Units};
+use crate::front::fold_code_point;
+use crate::position::{DefPosition, Direction, IndexPosition};
+use crate::units;
 
 impl ElementType for u32 {
     ghost number = { λ c. c };
@@ -53,8 +51,8 @@ impl CharProperties for Utf16CharProperties {
 pub struct Ucs2Input<'a> {
     input: &'a [u16],
     unicode: bool,
-    ghost fits: { length input.now < 2 ^ 64 },
-    ghost sized: { length input.now * 2 < 2 ^ 64 },
+    ghost fits: { length input.now < 2 ^ 63 },
+    ghost sized: { length input.now * 2 < 2 ^ 63 },
 }
 
 impl<'a> Ucs2Input<'a> {
@@ -67,6 +65,10 @@ impl<'a> Ucs2Input<'a> {
     }
 }
 
+impl<'a> HasUnits for Ucs2Input<'a> {
+    type Units = Ucs2Units;
+}
+
 impl<'a> InputIndexer for Ucs2Input<'a> {
     type Element = u32;
 
@@ -74,13 +76,13 @@ impl<'a> InputIndexer for Ucs2Input<'a> {
 
     type Position = DefPosition<'a>;
 
-    type Units = WideUnits;
-
     ghost text = { λ it. ucs2_text it.input.now it.unicode };
 
     ghost is_text = { λ it. ucs2_text-IsText it.input.now it.unicode };
 
     ghost offsets_fit = { λ it. ucs2_text-fits it.input.now it.unicode it.fits };
+
+    ghost spelled = { λ it. ucs2_text-IsSpelled it.input.now it.unicode };
 
     ghost in_utf8 = { λ it bytes. no_bytes bytes };
 
@@ -95,29 +97,48 @@ impl<'a> InputIndexer for Ucs2Input<'a> {
     }
 
     #[inline(always)]
-    fn left_end(&self) -> DefPosition<'a> {
-        IndexPosition::new(0)
+    fn unit_count(&self) -> usize {
+        self.input.len()
     }
 
     #[inline(always)]
-    fn right_end(&self) -> DefPosition<'a> {
-        IndexPosition::new(self.input.len())
+    fn as_bytes(&self) -> Option<&[u8]> {
+        None
     }
 
     #[inline(always)]
-    fn pos_to_offset(&self, pos: DefPosition<'a>) -> usize {
-        pos.offset
+    fn unit(&self, pos: DefPosition<'a>) -> u32 {
+        self.input[pos.offset] as u32
     }
 
     #[inline(always)]
-    fn subinput(&self, range: Range<DefPosition<'a>>) -> Self
-        requires from { IsBoundary (ucs2_text self.now.input.now self.now.unicode) (⟦<IndexPosition<'a> as PositionType>⟧.offset range.start) }
-        requires to { IsBoundary (ucs2_text self.now.input.now self.now.unicode) (⟦<IndexPosition<'a> as PositionType>⟧.offset range.end) }
-        requires in_order { ⟦<IndexPosition<'a> as PositionType>⟧.offset range.start ≤ ⟦<IndexPosition<'a> as PositionType>⟧.offset range.end }
-        ensures { ⟦<Ucs2Input<'a> as InputIndexer>⟧.text result ≡ part (ucs2_text self.now.input.now self.now.unicode) (⟦<IndexPosition<'a> as PositionType>⟧.offset range.entry.start) (⟦<IndexPosition<'a> as PositionType>⟧.offset range.entry.end) }
-    {
-        let start = range.start.offset;
-        let end = range.end.offset;
+    fn character_right(&self, pos: DefPosition<'a>) -> (u32, DefPosition<'a>) {
+        (
+            self.input[pos.offset] as u32,
+            IndexPosition::new(pos.offset + 1),
+        )
+    }
+
+    #[inline(always)]
+    fn character_left(&self, pos: DefPosition<'a>) -> (u32, DefPosition<'a>) {
+        let start = pos.offset - 1;
+        (self.input[start] as u32, IndexPosition::new(start))
+    }
+
+    #[inline(always)]
+    fn past(&self, pos: DefPosition<'a>) -> DefPosition<'a> {
+        IndexPosition::new(pos.offset + 1)
+    }
+
+    #[inline(always)]
+    fn before(&self, pos: DefPosition<'a>) -> DefPosition<'a> {
+        IndexPosition::new(pos.offset - 1)
+    }
+
+    #[inline(always)]
+    fn between(&self, start: DefPosition<'a>, end: DefPosition<'a>) -> Self {
+        let start = start.offset;
+        let end = end.offset;
         Ucs2Input {
             input: &self.input[start..end],
             unicode: self.unicode,
@@ -125,106 +146,18 @@ impl<'a> InputIndexer for Ucs2Input<'a> {
     }
 
     #[inline(always)]
-    fn next_right(&self, pos: &mut DefPosition<'a>) -> Option<u32> {
-        let at = pos.offset;
-        let len = self.input.len();
-        if at == len {
-            return None;
-        }
-        let unit = self.input[at];
-        pos.offset = at + 1;
-        Some(unit as u32)
-    }
-
-    #[inline(always)]
-    fn next_left(&self, pos: &mut DefPosition<'a>) -> Option<u32> {
-        let at = pos.offset;
-        if at == 0 {
-            return None;
-        }
-        let unit = self.input[at - 1];
-        pos.offset = at - 1;
-        Some(unit as u32)
-    }
-
-    #[inline(always)]
-    fn next_right_pos(&self, pos: DefPosition<'a>) -> Option<DefPosition<'a>> {
-        let at = pos.offset;
-        let len = self.input.len();
-        if at == len {
-            return None;
-        }
-        Some(IndexPosition::new(at + 1))
-    }
-
-    #[inline(always)]
-    fn next_left_pos(&self, pos: DefPosition<'a>) -> Option<DefPosition<'a>> {
-        let at = pos.offset;
-        if at == 0 {
-            return None;
-        }
-        Some(IndexPosition::new(at - 1))
-    }
-
-    #[inline(always)]
-    fn try_move_right(&self, pos: DefPosition<'a>, amt: usize) -> Option<DefPosition<'a>> {
-        let at = pos.offset;
-        let to = units::moved_right(self.input.len(), at, amt);
-        units::position_at(to)
-    }
-
-    #[inline(always)]
-    fn try_move_left(&self, pos: DefPosition<'a>, amt: usize) -> Option<DefPosition<'a>> {
-        let at = pos.offset;
-        units::position_at(units::moved_left(at, amt))
-    }
-
-    #[inline(always)]
-    fn subrange_eq<Dir: Direction>(
+    fn past_again<Dir: Direction>(
         &self,
         _dir: Dir,
-        pos: &mut DefPosition<'a>,
-        range: Range<DefPosition<'a>>,
-    ) -> bool
-        requires at { IsBoundary (ucs2_text self.now.input.now self.now.unicode) (⟦<IndexPosition<'a> as PositionType>⟧.offset pos.old) }
-        requires from { IsBoundary (ucs2_text self.now.input.now self.now.unicode) (⟦<IndexPosition<'a> as PositionType>⟧.offset range.start) }
-        requires to { IsBoundary (ucs2_text self.now.input.now self.now.unicode) (⟦<IndexPosition<'a> as PositionType>⟧.offset range.end) }
-        requires in_order { ⟦<IndexPosition<'a> as PositionType>⟧.offset range.start ≤ ⟦<IndexPosition<'a> as PositionType>⟧.offset range.end }
-        ensures { led_to result (⟦<IndexPosition<'a> as PositionType>⟧.offset pos.new) ≡ past_spelled (ucs2_text self.now.input.now self.now.unicode) nat_eq (characters_between (ucs2_text self.now.input.now self.now.unicode) (⟦<IndexPosition<'a> as PositionType>⟧.offset range.entry.start) (⟦<IndexPosition<'a> as PositionType>⟧.offset range.entry.end)) (way Dir.FORWARD) (⟦<IndexPosition<'a> as PositionType>⟧.offset pos.old) }
-    {
-        let start = range.start.offset;
-        let end = range.end.offset;
-        let all = self.input;
-        let to = wide_units::past_units(all, Dir::FORWARD, pos.offset, &all[start..end]);
-        units::leave_at(pos, to)
-    }
-
-    #[inline(always)]
-    fn peek_byte_right(&self, _pos: DefPosition<'a>) -> Option<u8> {
-        None
-    }
-
-    #[inline(always)]
-    fn peek_byte_left(&self, _pos: DefPosition<'a>) -> Option<u8> {
-        None
-    }
-
-    #[inline(always)]
-    fn find_bytes<Search: ByteSearcher>(
-        &self,
-        _pos: DefPosition<'a>,
-        _search: &Search,
+        pos: DefPosition<'a>,
+        start: DefPosition<'a>,
+        end: DefPosition<'a>,
     ) -> Option<DefPosition<'a>> {
-        None
-    }
-
-    #[inline(always)]
-    fn match_bytes<Dir: Direction>(
-        &self,
-        _dir: Dir,
-        _pos: &mut DefPosition<'a>,
-        _bytes: &[u8],
-    ) -> bool {
-        false
+        let at = pos.offset;
+        let start = start.offset;
+        let end = end.offset;
+        let all = self.input;
+        let to = units::past_units(all, Dir::FORWARD, at, &all[start..end]);
+        units::position_at(to)
     }
 }

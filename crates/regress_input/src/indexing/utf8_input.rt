@@ -1,19 +1,16 @@
 //! Texts in UTF-8.
 
-ghost use Rattle.std.specs.Prelude.{◌≡◌, ◌<◌, ◌≤◌, ◌^◌, ◌==◌, nat_eq, ℕ, length, IsUtf8};
+ghost use Rattle.std.specs.Prelude.{◌≡◌, ◌<◌, ◌^◌, ◌==◌, ℕ, length, IsUtf8};
 ghost use Rattle.regex_meaning.specs.Text.{utf8_text, is_scalar, fold_char};
 ghost use Rattle.regex_meaning.proofs.TextLemmas.{utf8_text-IsText};
-ghost use Rattle.regex_meaning.proofs.UnitLengths.{utf8_text-fits};
 ghost use Rattle.std.proofs.Common.{rules};
-ghost use Rattle.regex_meaning.specs.Offsets.{IsBoundary};
-ghost use Rattle.regress_input.specs.Reading.{way, led_to, characters_between, past_spelled, part};
 ghost use Rattle.regress_input.specs.InUtf8.{utf8_text-IsInUtf8};
+ghost use Rattle.regress_input.specs.Spellings.{utf8_text-IsSpelled, utf8_text-fits};
 
-use super::{ByteUnits, CharProperties, ElementType, InputIndexer};
-use crate::front::{ByteSearcher, fold_code_point};
-use crate::position::{DefPosition, Direction, IndexPosition, PositionType};
+use super::{ByteUnits, CharProperties, ElementType, HasUnits, InputIndexer};
+use crate::front::fold_code_point;
+use crate::position::{DefPosition, Direction, IndexPosition};
 use crate::{units, utf8};
-use std::ops::Range;
 
 impl ElementType for char {
     ghost number = { λ c. c };
@@ -55,7 +52,7 @@ pub struct Utf8Input<'a> {
     input: &'a str,
     unicode: bool,
     ghost is_utf8: { ∥ IsUtf8 input.now ∥₁ },
-    ghost fits: { length input.now < 2 ^ 64 },
+    ghost fits: { length input.now < 2 ^ 63 },
 }
 
 impl<'a> Utf8Input<'a> {
@@ -68,6 +65,10 @@ impl<'a> Utf8Input<'a> {
     }
 }
 
+impl<'a> HasUnits for Utf8Input<'a> {
+    type Units = ByteUnits;
+}
+
 impl<'a> InputIndexer for Utf8Input<'a> {
     type Element = char;
 
@@ -75,13 +76,13 @@ impl<'a> InputIndexer for Utf8Input<'a> {
 
     type Position = DefPosition<'a>;
 
-    type Units = ByteUnits;
-
     ghost text = { λ it. utf8_text it.input.now it.unicode };
 
     ghost is_text = { λ it. utf8_text-IsText it.input.now it.unicode };
 
     ghost offsets_fit = { λ it. utf8_text-fits it.input.now it.unicode it.is_utf8 it.fits };
+
+    ghost spelled = { λ it. utf8_text-IsSpelled it.input.now it.unicode };
 
     ghost in_utf8 = { λ it _. utf8_text-IsInUtf8 it.input.now it.unicode it.is_utf8 };
 
@@ -96,29 +97,52 @@ impl<'a> InputIndexer for Utf8Input<'a> {
     }
 
     #[inline(always)]
-    fn left_end(&self) -> DefPosition<'a> {
-        IndexPosition::new(0)
+    fn unit_count(&self) -> usize {
+        self.input.len()
     }
 
     #[inline(always)]
-    fn right_end(&self) -> DefPosition<'a> {
-        IndexPosition::new(self.input.len())
+    fn as_bytes(&self) -> Option<&[u8]> {
+        Some(self.input.as_bytes())
     }
 
     #[inline(always)]
-    fn pos_to_offset(&self, pos: DefPosition<'a>) -> usize {
-        pos.offset
+    fn unit(&self, pos: DefPosition<'a>) -> u32 {
+        self.input.as_bytes()[pos.offset] as u32
     }
 
     #[inline(always)]
-    fn subinput(&self, range: Range<DefPosition<'a>>) -> Self
-        requires from { IsBoundary (utf8_text self.now.input.now self.now.unicode) (⟦<IndexPosition<'a> as PositionType>⟧.offset range.start) }
-        requires to { IsBoundary (utf8_text self.now.input.now self.now.unicode) (⟦<IndexPosition<'a> as PositionType>⟧.offset range.end) }
-        requires in_order { ⟦<IndexPosition<'a> as PositionType>⟧.offset range.start ≤ ⟦<IndexPosition<'a> as PositionType>⟧.offset range.end }
-        ensures { ⟦<Utf8Input<'a> as InputIndexer>⟧.text result ≡ part (utf8_text self.now.input.now self.now.unicode) (⟦<IndexPosition<'a> as PositionType>⟧.offset range.entry.start) (⟦<IndexPosition<'a> as PositionType>⟧.offset range.entry.end) }
-    {
-        let start = range.start.offset;
-        let end = range.end.offset;
+    fn character_right(&self, pos: DefPosition<'a>) -> (char, DefPosition<'a>) {
+        let at = pos.offset;
+        let (c, end) = utf8::character_at(self.input.as_bytes(), at);
+        (c, IndexPosition::new(end))
+    }
+
+    #[inline(always)]
+    fn character_left(&self, pos: DefPosition<'a>) -> (char, DefPosition<'a>) {
+        let at = pos.offset;
+        let (c, start) = utf8::character_before(self.input.as_bytes(), at);
+        (c, IndexPosition::new(start))
+    }
+
+    #[inline(always)]
+    fn past(&self, pos: DefPosition<'a>) -> DefPosition<'a> {
+        let at = pos.offset;
+        let end = utf8::end_of_character(self.input.as_bytes(), at);
+        IndexPosition::new(end)
+    }
+
+    #[inline(always)]
+    fn before(&self, pos: DefPosition<'a>) -> DefPosition<'a> {
+        let at = pos.offset;
+        let start = utf8::start_of_character(self.input.as_bytes(), at);
+        IndexPosition::new(start)
+    }
+
+    #[inline(always)]
+    fn between(&self, start: DefPosition<'a>, end: DefPosition<'a>) -> Self {
+        let start = start.offset;
+        let end = end.offset;
         Utf8Input {
             input: &self.input[start..end],
             unicode: self.unicode,
@@ -126,111 +150,18 @@ impl<'a> InputIndexer for Utf8Input<'a> {
     }
 
     #[inline(always)]
-    fn next_right(&self, pos: &mut DefPosition<'a>) -> Option<char> {
-        let bytes = self.input.as_bytes();
-        if pos.offset == bytes.len() {
-            return None;
-        }
-        let (c, end) = utf8::character_at(bytes, pos.offset);
-        pos.offset = end;
-        Some(c)
-    }
-
-    #[inline(always)]
-    fn next_left(&self, pos: &mut DefPosition<'a>) -> Option<char> {
-        if pos.offset == 0 {
-            return None;
-        }
-        let (c, start) = utf8::character_before(self.input.as_bytes(), pos.offset);
-        pos.offset = start;
-        Some(c)
-    }
-
-    #[inline(always)]
-    fn next_right_pos(&self, pos: DefPosition<'a>) -> Option<DefPosition<'a>> {
-        let at = pos.offset;
-        let bytes = self.input.as_bytes();
-        if at == bytes.len() {
-            return None;
-        }
-        let end = utf8::end_of_character(bytes, at);
-        Some(IndexPosition::new(end))
-    }
-
-    #[inline(always)]
-    fn next_left_pos(&self, pos: DefPosition<'a>) -> Option<DefPosition<'a>> {
-        let at = pos.offset;
-        if at == 0 {
-            return None;
-        }
-        let start = utf8::start_of_character(self.input.as_bytes(), at);
-        Some(IndexPosition::new(start))
-    }
-
-    #[inline(always)]
-    fn peek_byte_right(&self, pos: DefPosition<'a>) -> Option<u8> {
-        let at = pos.offset;
-        units::unit_right(self.input.as_bytes(), at)
-    }
-
-    #[inline(always)]
-    fn peek_byte_left(&self, pos: DefPosition<'a>) -> Option<u8> {
-        let at = pos.offset;
-        units::unit_left(self.input.as_bytes(), at)
-    }
-
-    #[inline(always)]
-    fn try_move_right(&self, pos: DefPosition<'a>, amt: usize) -> Option<DefPosition<'a>> {
-        let at = pos.offset;
-        let to = units::moved_right(self.input.len(), at, amt);
-        units::position_at(to)
-    }
-
-    #[inline(always)]
-    fn try_move_left(&self, pos: DefPosition<'a>, amt: usize) -> Option<DefPosition<'a>> {
-        let at = pos.offset;
-        units::position_at(units::moved_left(at, amt))
-    }
-
-    #[inline(always)]
-    fn find_bytes<Search: ByteSearcher>(
+    fn past_again<Dir: Direction>(
         &self,
+        _dir: Dir,
         pos: DefPosition<'a>,
-        search: &Search,
+        start: DefPosition<'a>,
+        end: DefPosition<'a>,
     ) -> Option<DefPosition<'a>> {
         let at = pos.offset;
-        let found = units::find_from(self.input.as_bytes(), at, search);
-        units::position_at(found)
-    }
-
-    #[inline(always)]
-    fn subrange_eq<Dir: Direction>(
-        &self,
-        _dir: Dir,
-        pos: &mut DefPosition<'a>,
-        range: Range<DefPosition<'a>>,
-    ) -> bool
-        requires at { IsBoundary (utf8_text self.now.input.now self.now.unicode) (⟦<IndexPosition<'a> as PositionType>⟧.offset pos.old) }
-        requires from { IsBoundary (utf8_text self.now.input.now self.now.unicode) (⟦<IndexPosition<'a> as PositionType>⟧.offset range.start) }
-        requires to { IsBoundary (utf8_text self.now.input.now self.now.unicode) (⟦<IndexPosition<'a> as PositionType>⟧.offset range.end) }
-        requires in_order { ⟦<IndexPosition<'a> as PositionType>⟧.offset range.start ≤ ⟦<IndexPosition<'a> as PositionType>⟧.offset range.end }
-        ensures { led_to result (⟦<IndexPosition<'a> as PositionType>⟧.offset pos.new) ≡ past_spelled (utf8_text self.now.input.now self.now.unicode) nat_eq (characters_between (utf8_text self.now.input.now self.now.unicode) (⟦<IndexPosition<'a> as PositionType>⟧.offset range.entry.start) (⟦<IndexPosition<'a> as PositionType>⟧.offset range.entry.end)) (way Dir.FORWARD) (⟦<IndexPosition<'a> as PositionType>⟧.offset pos.old) }
-    {
-        let start = range.start.offset;
-        let end = range.end.offset;
-        let bytes = self.input.as_bytes();
-        let to = units::past_units(bytes, Dir::FORWARD, pos.offset, &bytes[start..end]);
-        units::leave_at(pos, to)
-    }
-
-    #[inline(always)]
-    fn match_bytes<Dir: Direction>(
-        &self,
-        _dir: Dir,
-        pos: &mut DefPosition<'a>,
-        bytes: &[u8],
-    ) -> bool {
-        let to = units::past_units(self.input.as_bytes(), Dir::FORWARD, pos.offset, bytes);
-        units::leave_at(pos, to)
+        let start = start.offset;
+        let end = end.offset;
+        let all = self.input.as_bytes();
+        let to = units::past_units(all, Dir::FORWARD, at, &all[start..end]);
+        units::position_at(to)
     }
 }

@@ -1,6 +1,6 @@
 //! The code of brackets.
 
-ghost use Rattle.std.specs.Prelude.{◌≡◌, ◌||◌, nat_lt, OnOk, MatchOption, IsTrue};
+ghost use Rattle.std.specs.Prelude.{◌≡◌, ◌||◌, nat_lt, is_some, OnOk, IfSome};
 ghost use Rattle.std.specs.List.{list_all};
 ghost use Rattle.regex_meaning.specs.Tree.{bracket};
 ghost use Rattle.regex_meaning.specs.Layout.{is_ascii_set};
@@ -11,10 +11,10 @@ ghost use Rattle.regex_pattern_front.specs.ByteSets.{ascii_bitmap_bytes};
 ghost use Rattle.regress_program.specs.Emitting.{state_of, with_code, with_bracket};
 
 use crate::emit::emitter::{Emitter, Mode};
-use crate::insn::Insn;
 use regex_pattern_front::bytesearch::AsciiBitmap;
 use regex_pattern_front::codepointset::Interval;
 use regex_pattern_front::types::BracketContents;
+use regress_insn::insn::Insn;
 use std::alloc::AllocError;
 
 impl Emitter {
@@ -51,7 +51,8 @@ impl Emitter {
 
 // The set as one of bytes below 128, if it is one.
 fn ascii_bitmap(contents: &BracketContents) -> Option<AsciiBitmap>
-    ensures { MatchOption result (¬ (IsTrue (is_ascii_set (contents_of contents.now)))) (λ bitmap. IsTrue (is_ascii_set (contents_of contents.now)) × (ascii_bitmap_bytes bitmap ≡ bytes_where (in_intervals (contents_of contents.now).intervals))) }
+    ensures found { is_some result ≡ is_ascii_set (contents_of contents.now) }
+    ensures members { IfSome result (λ b. ascii_bitmap_bytes b ≡ bytes_where (in_intervals (contents_of contents.now).intervals)) }
 {
     if !is_ascii(contents) {
         return None;

@@ -1,5 +1,5 @@
 //! The trees that read bytes.
-#![tactic(auto, unfolding(regex_pattern_front::specs::TreeOf::node_of))]
+#![tactic(auto, unfolding(regex_pattern_front::specs::TreeOf::node_of, crate::proofs::Weights::weight))]
 
 ghost use Rattle.std.specs.Prelude.{◌≡◌};
 ghost use Rattle.regex_meaning.specs.Layout.{reads_bytes as node_reads_bytes};
@@ -13,10 +13,17 @@ use regex_pattern_front::ir::Node;
 pub(crate) fn reads_bytes(node: &Node) -> bool
     ensures { result ≡ node_reads_bytes (node_of node.now) }
 {
-    match node {
+    let mut rest = node;
+    while let Node::Alt(left, right) = rest {
+        if reads_bytes(left) {
+            return true;
+        }
+        rest = right;
+    }
+    match rest {
+        Node::Alt(..) => unreachable!(),
         Node::ByteSet(_) | Node::ByteSequence(_) => true,
         Node::Cat(nodes) => any_reads_bytes(nodes),
-        Node::Alt(left, right) => reads_bytes(left) || reads_bytes(right),
         Node::CaptureGroup { contents, .. } | Node::LookaroundAssertion { contents, .. } => {
             reads_bytes(contents)
         }

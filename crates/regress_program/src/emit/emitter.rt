@@ -1,20 +1,20 @@
 //! The code of a node, put behind the code so far.
 #![tactic(auto, using(std::proofs::lemmas::Grind::common_steps), unfolding(regex_pattern_front::specs::TreeOf::node_of, crate::specs::Code::code_of, crate::specs::Code::loop_count, crate::specs::Code::brackets_of, crate::specs::Code::size))]
 
-ghost use Rattle.std.specs.Prelude.{◌≡◌, ◌+◌, ◌-◌, ◌<◌, ◌^◌, [], length, OnOk, IsTrue, if◌then◌else◌};
+ghost use Rattle.std.specs.Prelude.{◌≡◌, ◌+◌, ◌-◌, ◌<◌, ◌^◌, [], true, length, OnOk, IsTrue, if◌then◌else◌};
 ghost use Rattle.regex_meaning.specs.Tree.{alt, capture_group, lookaround, loop as loop_of, loop_1_char_body, every};
 ghost use Rattle.regex_meaning.specs.WellFormed.{fits_instructions};
 ghost use Rattle.regex_meaning.specs.Layout.{lookaround_insn};
 ghost use Rattle.regex_pattern_front.specs.TreeOf.{node_of, quantifier_of};
 ghost use Rattle.regress_program.specs.Insns.{insn_of};
 ghost use Rattle.regress_program.specs.Code.{resets};
-ghost use Rattle.regress_program.specs.Nodes.{cat_of};
+ghost use Rattle.regress_program.specs.Nodes.{cat_of, is_leaf};
 ghost use Rattle.regress_program.specs.Emitting.{HasRoom, state_of, with_code, with_insn, with_insns, with_insn_at, with_loop, nothing, lookaround_of};
 
 use crate::emit::leaves::{anchor_insn, byte_set_insn, char_set_insn, word_boundary_insn};
-use crate::insn::{Insn, LoopFields};
 use regex_pattern_front::ir::{Node, Quantifier};
 use regex_pattern_front::types::{BracketContents, CaptureGroupID, LoopID};
+use regress_insn::insn::{Insn, LoopFields};
 use std::alloc::{AllocError, Global};
 use std::ops::Range;
 
@@ -46,6 +46,18 @@ pub(crate) struct Lookaround {
 }
 
 impl Lookaround {
+    // The one over these groups.
+    fn new(negate: bool, backwards: bool, groups: Range<CaptureGroupID>) -> Lookaround
+        ensures { result ≡ record { negate = negate; backwards = backwards; start_group = groups.start; end_group = groups.end } }
+    {
+        Lookaround {
+            negate,
+            backwards,
+            start_group: groups.start,
+            end_group: groups.end,
+        }
+    }
+
     fn insn(self, continuation: u32) -> Insn
         ensures { insn_of result ≡ lookaround_insn (lookaround_of self) continuation }
     {
@@ -100,14 +112,55 @@ impl Emitter {
         ensures { OnOk result (state_of self.new ≡ with_code mode.unicode mode.behind (node_of node.now) (state_of self.old)) }
     {
         match node {
+            Node::Cat(nodes) => self.emit_all(mode, nodes),
+            Node::Alt(left, right) => self.emit_alt(mode, left, right),
+            Node::CaptureGroup { id, contents, .. } => self.emit_group(mode, *id, contents),
+            Node::LookaroundAssertion {
+                negate,
+                backwards,
+                start_group,
+                end_group,
+                contents,
+            } => {
+                let look = Lookaround::new(*negate, *backwards, *start_group..*end_group);
+                self.emit_lookaround(mode, look, contents)
+            }
+            Node::Loop {
+                loopee,
+                quant,
+                enclosed_groups,
+            } => self.emit_loop(mode, quant, enclosed_groups, loopee),
+            Node::Loop1CharBody { loopee, quant } => self.emit_loop_1_char(mode, quant, loopee),
+            Node::Empty
+            | Node::Goal
+            | Node::Char { .. }
+            | Node::CharSet(_)
+            | Node::ByteSet(_)
+            | Node::ByteSequence(_)
+            | Node::Bracket(_)
+            | Node::StringSet { .. }
+            | Node::MatchAny
+            | Node::MatchAnyExceptLineTerminator
+            | Node::Anchor { .. }
+            | Node::WordBoundary { .. }
+            | Node::BackRef { .. } => self.emit_leaf(mode, node),
+        }
+    }
+
+    // The code of a node that holds no other.
+    fn emit_leaf(&mut self, mode: Mode, node: &Node) -> Result<(), AllocError>
+        requires leaf { is_leaf (node_of node.now) ≡ true }
+        requires sets { IsTrue (every fits_instructions (node_of node.now)) }
+        requires room { HasRoom (state_of self.old) (node_of node.now) }
+        ensures { OnOk result (state_of self.new ≡ with_code mode.unicode mode.behind (node_of node.now) (state_of self.old)) }
+    {
+        match node {
             Node::Empty => Ok(()),
             Node::Goal => self.put(Insn::Goal),
             Node::Char { c } => self.put(Insn::Char(*c)),
             Node::CharSet(members) => self.put(char_set_insn(members)),
             Node::ByteSet(members) => self.put(byte_set_insn(members)),
             Node::ByteSequence(bytes) => self.emit_bytes(mode, bytes),
-            Node::Cat(nodes) => self.emit_all(mode, nodes),
-            Node::Alt(left, right) => self.emit_alt(mode, left, right),
             Node::Bracket(contents) => self.emit_bracket(mode, contents),
             Node::StringSet {
                 alternatives,
@@ -123,32 +176,16 @@ impl Emitter {
                 invert,
                 unicode_icase,
             } => self.put(word_boundary_insn(*invert, *unicode_icase)),
-            Node::CaptureGroup { id, contents, .. } => self.emit_group(mode, *id, contents),
             Node::BackRef { group, icase } => self.put(Insn::BackRef {
                 group: group.saturating_sub(1),
                 icase: *icase,
             }),
-            Node::LookaroundAssertion {
-                negate,
-                backwards,
-                start_group,
-                end_group,
-                contents,
-            } => {
-                let look = Lookaround {
-                    negate: *negate,
-                    backwards: *backwards,
-                    start_group: *start_group,
-                    end_group: *end_group,
-                };
-                self.emit_lookaround(mode, look, contents)
-            }
-            Node::Loop {
-                loopee,
-                quant,
-                enclosed_groups,
-            } => self.emit_loop(mode, quant, enclosed_groups, loopee),
-            Node::Loop1CharBody { loopee, quant } => self.emit_loop_1_char(mode, quant, loopee),
+            Node::Cat(_) => unreachable!(),
+            Node::Alt(..) => unreachable!(),
+            Node::CaptureGroup { .. } => unreachable!(),
+            Node::LookaroundAssertion { .. } => unreachable!(),
+            Node::Loop { .. } => unreachable!(),
+            Node::Loop1CharBody { .. } => unreachable!(),
         }
     }
 

@@ -4,10 +4,10 @@
 ghost use Rattle.std.specs.Prelude.{◌≡◌, ◌≤◌, ◌&&◌, ◌||◌, ◌+◌, ◌-◌, ◌∷◌, not, ◌==◌, ℕ, false, length, is_some, IfSome, OnSome, nat_le};
 ghost use Rattle.regex_meaning.specs.Lists.{contains};
 ghost use Rattle.regex_meaning.specs.Tree.{group_ids, every};
-ghost use Rattle.regex_meaning.specs.WellFormed.{names_the_groups_inside, encloses};
+ghost use Rattle.regex_meaning.specs.WellFormed.{names_the_groups_inside};
 ghost use Rattle.regex_pattern_front.specs.TreeOf.{node_of};
 ghost use Rattle.regress_program.specs.Nodes.{cat_of};
-ghost use Rattle.regress_program.specs.Ids.{is_seen, are_fresh, span_of, joined as joined_spans, Span as SpanOfIds};
+ghost use Rattle.regress_program.specs.Ids.{is_seen, are_fresh, ids_stand, ids_stand_within, span_of, joined as joined_spans, Span as SpanOfIds};
 ghost use Rattle.regress_program.specs.Spans.{as_span};
 
 use regex_pattern_front::ir::Node;
@@ -94,7 +94,7 @@ impl Ids {
     // names those inside it.
     #[cycle(gather)]
     pub(crate) fn gather(&mut self, node: &Node) -> Option<Span>
-        ensures found { is_some result ≡ (are_fresh (is_seen self.old.bits) (group_ids (node_of node.now)) && every names_the_groups_inside (node_of node.now)) }
+        ensures found { is_some result ≡ ids_stand (is_seen self.old.bits) (node_of node.now) }
         ensures span { IfSome result (λ s. as_span s ≡ span_of (group_ids (node_of node.now))) }
         ensures bounded { IfSome result (λ s. s.high ≤ 65536) }
         ensures seen { OnSome result ((k : ℕ) → is_seen self.new.bits k ≡ (is_seen self.old.bits k || contains (group_ids (node_of node.now)) k)) }
@@ -137,7 +137,7 @@ impl Ids {
 
     #[cycle(gather)]
     fn gather_all(&mut self, nodes: &[Node]) -> Option<Span>
-        ensures found { is_some result ≡ (are_fresh (is_seen self.old.bits) (group_ids (cat_of nodes.now)) && every names_the_groups_inside (cat_of nodes.now)) }
+        ensures found { is_some result ≡ ids_stand (is_seen self.old.bits) (cat_of nodes.now) }
         ensures span { IfSome result (λ s. as_span s ≡ span_of (group_ids (cat_of nodes.now))) }
         ensures bounded { IfSome result (λ s. s.high ≤ 65536) }
         ensures seen { OnSome result ((k : ℕ) → is_seen self.new.bits k ≡ (is_seen self.old.bits k || contains (group_ids (cat_of nodes.now)) k)) }
@@ -171,7 +171,7 @@ impl Ids {
         end: CaptureGroupID,
         contents: &Node,
     ) -> Option<Span>
-        ensures found { is_some result ≡ (are_fresh (is_seen self.old.bits) (group_ids (node_of contents.now)) && (encloses start end (node_of contents.now) && every names_the_groups_inside (node_of contents.now))) }
+        ensures found { is_some result ≡ ids_stand_within (is_seen self.old.bits) start end (node_of contents.now) }
         ensures span { IfSome result (λ s. as_span s ≡ span_of (group_ids (node_of contents.now))) }
         ensures bounded { IfSome result (λ s. s.high ≤ 65536) }
         ensures seen { OnSome result ((k : ℕ) → is_seen self.new.bits k ≡ (is_seen self.old.bits k || contains (group_ids (node_of contents.now)) k)) }

@@ -5,9 +5,9 @@ ghost use Rattle.regex_meaning.specs.Layout as layout;
 ghost use Rattle.regex_pattern_front.specs.TreeOf.{anchor_of};
 ghost use Rattle.regress_program.specs.Insns.{insn_of};
 
-use crate::insn::Insn;
 use regex_pattern_front::bytesearch::ByteArraySet;
 use regex_pattern_front::ir::AnchorType;
+use regress_insn::insn::Insn;
 
 // One character of a set: its members, the first one again where there are fewer than four.
 pub(crate) fn char_set_insn(members: &[u32]) -> Insn

@@ -4,7 +4,7 @@
 ghost use Rattle.std.specs.Prelude.{◌≡◌, ◌+◌, ◌-◌, ◌^◌, length, min};
 ghost use Rattle.regex_meaning.specs.Tree.{group_ids};
 ghost use Rattle.regex_pattern_front.specs.TreeOf.{node_of};
-ghost use Rattle.regress_program.specs.Code.{size, loop_count};
+ghost use Rattle.regress_program.specs.Code.{size, own_size as own_size_of, loop_count};
 ghost use Rattle.regress_program.specs.Nodes.{cat_of};
 
 use crate::emit::texts::{chunk_count, strings_size};
@@ -38,49 +38,36 @@ impl Tally {
         ensures loops { min self.new.loops (2 ^ 64 - 1) ≡ min (self.old.loops + loop_count (node_of node.now)) (2 ^ 64 - 1) }
         ensures insns { min self.new.insns (2 ^ 64 - 1) ≡ min (self.old.insns + size (node_of node.now)) (2 ^ 64 - 1) }
     {
+        self.add_insns(own_size(node));
         match node {
-            Node::Empty => {}
-            Node::Goal
-            | Node::Char { .. }
-            | Node::CharSet(_)
-            | Node::ByteSet(_)
-            | Node::Bracket(_)
-            | Node::MatchAny
-            | Node::MatchAnyExceptLineTerminator
-            | Node::Anchor { .. }
-            | Node::WordBoundary { .. }
-            | Node::BackRef { .. } => self.add_insns(1),
-            Node::ByteSequence(bytes) => self.add_insns(chunk_count(bytes)),
-            Node::StringSet { alternatives, .. } => self.add_insns(strings_size(alternatives)),
             Node::Cat(nodes) => self.add_all(nodes),
             Node::Alt(left, right) => {
-                self.add_insns(2);
                 self.add(left);
                 self.add(right);
             }
             Node::CaptureGroup { contents, .. } => {
                 self.groups = self.groups.saturating_add(1);
-                self.add_insns(2);
                 self.add(contents);
             }
-            Node::LookaroundAssertion { contents, .. } => {
-                self.add_insns(2);
-                self.add(contents);
-            }
-            Node::Loop {
-                loopee,
-                enclosed_groups,
-                ..
-            } => {
+            Node::Loop { loopee, .. } => {
                 self.loops = self.loops.saturating_add(1);
-                let resets = enclosed_groups.end.saturating_sub(enclosed_groups.start);
-                self.add_insns(usize::from(resets) + 2);
                 self.add(loopee);
             }
-            Node::Loop1CharBody { loopee, .. } => {
-                self.add_insns(1);
-                self.add(loopee);
-            }
+            Node::LookaroundAssertion { contents, .. } => self.add(contents),
+            Node::Loop1CharBody { loopee, .. } => self.add(loopee),
+            Node::Empty
+            | Node::Goal
+            | Node::Char { .. }
+            | Node::CharSet(_)
+            | Node::ByteSet(_)
+            | Node::ByteSequence(_)
+            | Node::Bracket(_)
+            | Node::StringSet { .. }
+            | Node::MatchAny
+            | Node::MatchAnyExceptLineTerminator
+            | Node::Anchor { .. }
+            | Node::WordBoundary { .. }
+            | Node::BackRef { .. } => {}
         }
     }
 
@@ -101,5 +88,36 @@ impl Tally {
         ensures insns { self.new.insns ≡ min (self.old.insns + count) (2 ^ 64 - 1) }
     {
         self.insns = self.insns.saturating_add(count);
+    }
+}
+
+// How many instructions a node has besides those of the nodes that it holds; the count stops at `usize::MAX`.
+fn own_size(node: &Node) -> usize
+    ensures { result ≡ min (own_size_of (node_of node.now)) (2 ^ 64 - 1) }
+{
+    match node {
+        Node::Empty => 0,
+        Node::Cat(_) => 0,
+        Node::Goal
+        | Node::Char { .. }
+        | Node::CharSet(_)
+        | Node::ByteSet(_)
+        | Node::Bracket(_)
+        | Node::MatchAny
+        | Node::MatchAnyExceptLineTerminator
+        | Node::Anchor { .. }
+        | Node::WordBoundary { .. }
+        | Node::BackRef { .. }
+        | Node::Loop1CharBody { .. } => 1,
+        Node::Alt(..) | Node::CaptureGroup { .. } | Node::LookaroundAssertion { .. } => 2,
+        Node::ByteSequence(bytes) => chunk_count(bytes),
+        Node::StringSet { alternatives, .. } => strings_size(alternatives),
+        Node::Loop {
+            enclosed_groups,
+            ..
+        } => {
+            let resets = enclosed_groups.end.saturating_sub(enclosed_groups.start);
+            usize::from(resets) + 2
+        }
     }
 }

@@ -3,15 +3,15 @@
 ghost use Rattle.std.specs.Prelude.{◌≡◌, ◌+◌, ◌-◌, ◌*◌, ◌<◌, ◌^◌, length, min, take, drop, OnOk};
 ghost use Rattle.regex_meaning.specs.Tree.{byte_sequence, string_set};
 ghost use Rattle.regex_meaning.specs.Text.{expand_code_point as expansion};
-ghost use Rattle.regex_meaning.specs.Ticks.{chunks};
+ghost use Rattle.regex_meaning.specs.Layout.{chunks};
 ghost use Rattle.regex_meaning.specs.Layout as layout;
 ghost use Rattle.regress_program.specs.Code.{string_code, strings_size as size_of_strings};
 ghost use Rattle.regress_program.specs.Emitting.{state_of, with_code, with_insn, with_insns, code_points_of};
 
 use crate::emit::emitter::{Emitter, Mode};
 use crate::emit::leaves::{byte_seq_insn, spelling_insn};
-use crate::insn::{Insn, MAX_BYTE_SEQ_LENGTH};
 use regex_pattern_front::folding::expand_code_point;
+use regress_insn::insn::{Insn, MAX_BYTE_SEQ_LENGTH};
 use std::alloc::AllocError;
 
 // How many chunks a byte sequence has.

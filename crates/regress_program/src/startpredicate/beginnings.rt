@@ -1,11 +1,12 @@
 //! What the nodes of a tree begin with.
-#![tactic(auto, unfolding(regex_pattern_front::specs::TreeOf::node_of, regex_meaning::specs::StartPredicate::beginning))]
+#![tactic(auto, unfolding(regex_pattern_front::specs::TreeOf::node_of, regex_meaning::specs::StartPredicate::beginning, crate::specs::Predicates::may_grow))]
 
-ghost use Rattle.std.specs.Prelude.{◌≡◌, IfOk};
+ghost use Rattle.std.specs.Prelude.{◌≡◌, false, IfOk, IsOk};
 ghost use Rattle.regex_meaning.specs.StartPredicate.{beginning, join, sequence_of, sequence_or, union, first_byte, shared_front};
 ghost use Rattle.regex_pattern_front.specs.TreeOf.{node_of};
 ghost use Rattle.regress_program.specs.Beginnings.{beginning_of};
 ghost use Rattle.regress_program.specs.Nodes.{cat_of};
+ghost use Rattle.regress_program.specs.Predicates.{may_grow};
 
 use crate::startpredicate::bytesets::{
     add_all, add_first_byte, first_bytes_of_class, first_bytes_of_members, set_of,
@@ -29,7 +30,8 @@ pub(crate) enum Beginning<'a> {
 // What the node begins with.
 #[cycle(begins)]
 pub(crate) fn begins(node: &Node) -> Result<Beginning<'_>, AllocError>
-    ensures { IfOk result (λ b. beginning_of b ≡ beginning (node_of node.now)) }
+    ensures beginning { IfOk result (λ b. beginning_of b ≡ beginning (node_of node.now)) }
+    ensures no_memory { may_grow (node_of node.now) ≡ false → IsOk result }
 {
     match node {
         Node::ByteSequence(bytes) => Ok(begins_with(bytes)),
@@ -62,7 +64,8 @@ pub(crate) fn begins(node: &Node) -> Result<Beginning<'_>, AllocError>
 // What the nodes one after another begin with: the first that reads something decides.
 #[cycle(begins)]
 fn row_begins(nodes: &[Node]) -> Result<Beginning<'_>, AllocError>
-    ensures { IfOk result (λ b. beginning_of b ≡ beginning (cat_of nodes.now)) }
+    ensures beginning { IfOk result (λ b. beginning_of b ≡ beginning (cat_of nodes.now)) }
+    ensures no_memory { may_grow (cat_of nodes.now) ≡ false → IsOk result }
 {
     for node in nodes {
         let first = begins(node)?;

@@ -1,6 +1,6 @@
 //! Sets of the bytes that texts begin with.
 
-ghost use Rattle.std.specs.Prelude.{◌≡◌, ◌+◌, ◌≤◌, [], ◌∷◌, map, IfOk, MatchOption};
+ghost use Rattle.std.specs.Prelude.{◌≡◌, ◌+◌, ◌≤◌, [], ◌∷◌, false, map, IfOk, IsOk, MatchOption};
 ghost use Rattle.regex_meaning.specs.Lists.{contains};
 ghost use Rattle.regex_meaning.specs.StartPredicate.{bytes_where, union, first_byte, first_bytes, code_points};
 ghost use Rattle.regex_pattern_front.specs.ByteSets.{byte_bitmap_bytes};
@@ -59,7 +59,8 @@ pub(crate) fn first_bytes_of_members(members: &[u32]) -> ByteBitmap
 
 // The first bytes of the code points that the class accepts.
 pub(crate) fn first_bytes_of_class(contents: &BracketContents) -> Result<ByteBitmap, AllocError>
-    ensures { IfOk result (λ s. byte_bitmap_bytes s ≡ first_bytes (code_points (contents_of contents.now))) }
+    ensures bytes { IfOk result (λ s. byte_bitmap_bytes s ≡ first_bytes (code_points (contents_of contents.now))) }
+    ensures no_memory { contents.now.invert ≡ false → IsOk result }
 {
     if contents.invert {
         let outside = contents.cps.inverted()?;

@@ -12,9 +12,9 @@ ghost use Rattle.regress_machine.specs.Turns.{opened, closed, reset, entered_at,
 ghost use Rattle.regress_exec.specs.Passing.{IsInBytes};
 
 use super::states::{LoopData, State, Turn, copy_of};
-use regex_pattern_front::types::{CaptureGroupID, LoopID};
 use regress_exec::reading::{self, stands_again};
 use regress_exec::searched::Searched;
+use regress_input::front::{CaptureGroupID, LoopID};
 use regress_input::cursor::Direction;
 use regress_input::indexing::InputIndexer;
 use regress_input::position::PositionType;

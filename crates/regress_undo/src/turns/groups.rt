@@ -11,7 +11,7 @@ ghost use Rattle.regress_undo.specs.Turns.{Did};
 use super::Turn;
 use crate::memory::Memory;
 use crate::ways::Mark;
-use regex_pattern_front::types::CaptureGroupID;
+use regress_input::front::CaptureGroupID;
 use regress_input::cursor::Direction;
 use regress_input::indexing::InputIndexer;
 use regress_exec::reading;

@@ -10,7 +10,7 @@ ghost use Rattle.regress_undo.specs.Turns.{Did};
 use super::Turn;
 use crate::memory::{Memory, Slot};
 use crate::ways::Mark;
-use regex_pattern_front::types::LoopID;
+use regress_input::front::LoopID;
 use regress_input::indexing::InputIndexer;
 use regress_program::insn::{Insn, LoopFields};
 use std::alloc::AllocError;

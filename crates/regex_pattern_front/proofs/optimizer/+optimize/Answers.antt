@@ -1,43 +1,71 @@
-use Rattle.std.proofs.Common.{arith}
-use Rattle.regex_pattern_front.specs.TreeOf.{node_of}
-use Rattle.regex_pattern_front.specs.Optimized.{optimized}
+use Rattle.std.proofs.Common.{◌≡◌, ◌<◌, ◌∙◌, true, false, refl, ap, arith, rules, Box, Vec, Global}
+use Rattle.regex_pattern_front.specs.TreeOf.{cat_of, node_of}
+use Rattle.regex_pattern_front.specs.declared.ir.Node.{Node, size-Node}
+use Rattle.regex_pattern_front.specs.declared.ir.Node.TheViews.{out-Node}
+use Rattle.regex_pattern_front.specs.declared.ir.Node.TheBlock.{hidden-the_row-Node-0, the_depth}
+use denote.Hole.Carrier.{fold, out}
+use denote.Hole.Rolled.{depth}
+use Rattle.regex_pattern_front.specs.Optimized.{optimized, reads_one_character}
 use Rattle.regex_pattern_front.proofs.NodeLemmas.{optimized-children, optimized-leaf, node_of-Cat}
 use Rattle.regex_pattern_front.proofs.optimizer.+optimize.Goals as goal
 
-pub optimized-returns-then-reads_one_character : goal.optimized-returns-then-reads_one_character
-unfolding node_of optimized
-optimized-returns-then-reads_one_character t c =
-    rw (c.in-Loop.is, ← c.deref.ensures, ← c.reads_one_character.ensures, c.if-reads_one_character.true)
+pub optimize_all-returns : goal.optimize_all-returns
+optimize_all-returns t c =
+    let i = c.loop-i.invariant in
+    optimized-children c.loop-i.nodes.items c.args.nodes.now.items i.0.0 (λ k d h. i.1 k d (omega (arith, c.len-i-end.ensures, c.args.nodes.now.ok.0, h)))
 
-pub optimized-returns-else-reads_one_character : goal.optimized-returns-else-reads_one_character
-unfolding node_of optimized
-optimized-returns-else-reads_one_character t c =
-    rw (c.in-Loop.is, c.optimize_node-in-Loop.ensures, c.deref_mut-in-Loop.ensures.value, ← c.deref.ensures, ← c.reads_one_character.ensures, c.if-reads_one_character.false)
+pub optimize_node-returns-in-Cat : goal.optimize_node-returns-in-Cat
+unfolding node_of optimized out-Node hidden-the_row-Node-0 out
+optimize_node-returns-in-Cat t c =
+    let nodes : cat_of c.optimize_all.new.nodes.items ≡ optimized (cat_of c.in-Cat.children.items) =
+    c.optimize_all.ensures ∙ ap (λ (v : Vec Node Global). optimized (cat_of v.items)) c.in-Cat.children-is in
+    rw c.in-Cat.is (rw (node_of-Cat c.optimize_all.new.nodes, node_of-Cat c.in-Cat.children) nodes)
 
-pub optimized-returns-in-Alt : goal.optimized-returns-in-Alt
+pub optimize_node-returns-in-Alt : goal.optimize_node-returns-in-Alt
 unfolding node_of optimized
-optimized-returns-in-Alt t c =
-    rw (c.in-Alt.is, c.optimize_node-in-Alt.ensures, c.optimize_node-in-Alt-2.ensures, c.deref_mut.ensures.value, c.deref_mut-in-Alt.ensures.value)
+optimize_node-returns-in-Alt t c =
+    let left : c.deref_mut.result.now ≡ c.in-Alt.left.value = c.deref_mut.ensures.value ∙ ap (λ (b : Box Node Global). b.value) c.in-Alt.left-is in
+    let right : c.deref_mut-in-Alt.result.now ≡ c.in-Alt.right.value = c.deref_mut-in-Alt.ensures.value ∙ ap (λ (b : Box Node Global). b.value) c.in-Alt.right-is in
+    rw (c.in-Alt.is, c.optimize_node.ensures, c.optimize_row.ensures, left, right)
 
-pub optimized-returns-in-CaptureGroup : goal.optimized-returns-in-CaptureGroup
-unfolding node_of optimized
-optimized-returns-in-CaptureGroup t c =
-    rw (c.in-CaptureGroup.is, c.optimize_node-in-CaptureGroup.ensures, c.deref_mut-in-CaptureGroup.ensures.value)
+pub optimize_node-returns-in-CaptureGroup : goal.optimize_node-returns-in-CaptureGroup
+unfolding node_of optimized out-Node out
+optimize_node-returns-in-CaptureGroup t c =
+    let inside : c.deref_mut-in-CaptureGroup.result.now ≡ c.in-CaptureGroup.contents.value = c.deref_mut-in-CaptureGroup.ensures.value ∙ ap (λ (b : Box Node Global). b.value) c.in-CaptureGroup.contents-is in
+    rw (c.in-CaptureGroup.is, c.optimize_node-in-CaptureGroup.ensures, inside)
 
-pub optimized-returns-in-LookaroundAssertion : goal.optimized-returns-in-LookaroundAssertion
-unfolding node_of optimized
-optimized-returns-in-LookaroundAssertion t c =
-    rw (c.in-LookaroundAssertion.is, c.optimize_node-in-LookaroundAssertion.ensures, c.deref_mut-in-LookaroundAssertion.ensures.value)
+pub optimize_node-returns-in-LookaroundAssertion : goal.optimize_node-returns-in-LookaroundAssertion
+unfolding node_of optimized out-Node out
+optimize_node-returns-in-LookaroundAssertion t c =
+    let inside : c.deref_mut-in-LookaroundAssertion.result.now ≡ c.in-LookaroundAssertion.contents.value = c.deref_mut-in-LookaroundAssertion.ensures.value ∙ ap (λ (b : Box Node Global). b.value) c.in-LookaroundAssertion.contents-is in
+    rw (c.in-LookaroundAssertion.is, c.optimize_node-in-LookaroundAssertion.ensures, inside)
 
-pub optimized-returns-in-Loop1CharBody : goal.optimized-returns-in-Loop1CharBody
-unfolding node_of optimized
-optimized-returns-in-Loop1CharBody t c =
-    rw (c.in-Loop1CharBody.is, c.optimize_node-in-Loop1CharBody.ensures, c.deref_mut-in-Loop1CharBody.ensures.value)
+pub optimize_node-returns-in-Loop1CharBody : goal.optimize_node-returns-in-Loop1CharBody
+unfolding node_of optimized out-Node out
+optimize_node-returns-in-Loop1CharBody t c =
+    let inside : c.deref_mut-in-Loop1CharBody.result.now ≡ c.in-Loop1CharBody.loopee.value = c.deref_mut-in-Loop1CharBody.ensures.value ∙ ap (λ (b : Box Node Global). b.value) c.in-Loop1CharBody.loopee-is in
+    rw (c.in-Loop1CharBody.is, c.optimize_node-in-Loop1CharBody.ensures, inside)
 
-pub optimized-returns-in_default : goal.optimized-returns-in_default
-optimized-returns-in_default t c =
+pub optimize_node-returns-then-reads_one_character : goal.optimize_node-returns-then-reads_one_character
+unfolding node_of optimized out-Node out
+optimize_node-returns-then-reads_one_character t c =
+    let read : c.deref.result.now ≡ c.in-Loop.loopee.value = c.deref.ensures ∙ ap (λ (b : Box Node Global). b.value) c.in-Loop.loopee-is in
+    let test : reads_one_character (node_of c.in-Loop.loopee.value) ≡ true = rw (← read, ← c.reads_one_character.ensures) c.if-reads_one_character.true in
+    rw (c.narrow.ensures, c.in-Loop.is, test)
+
+pub optimize_node-returns-else-reads_one_character : goal.optimize_node-returns-else-reads_one_character
+unfolding node_of optimized out-Node out
+optimize_node-returns-else-reads_one_character t c =
+    let read : c.deref.result.now ≡ c.in-Loop.loopee.value = c.deref.ensures ∙ ap (λ (b : Box Node Global). b.value) c.in-Loop.loopee-is in
+    let test : reads_one_character (node_of c.in-Loop.loopee.value) ≡ false = rw (← read, ← c.reads_one_character.ensures) c.if-reads_one_character.false in
+    let inside : c.deref_mut-else-reads_one_character.result.now ≡ c.in-Loop.loopee.value =
+    c.deref_mut-else-reads_one_character.ensures.value ∙ ap (λ (b : Box Node Global). b.value) c.in-Loop.loopee-is in
+    rw (c.in-Loop.is, test, c.optimize_node-else-reads_one_character.ensures, inside)
+
+pub optimize_node-returns-in_default : goal.optimize_node-returns-in_default
+optimize_node-returns-in_default t c =
     let d = c.in_default in
-    optimized-leaf c.args.node (record {
+    optimized-leaf c.args.node.now (record {
       not_Cat = d.not-Cat;
       not_Alt = d.not-Alt;
       not_CaptureGroup = d.not-CaptureGroup;
@@ -46,9 +74,24 @@ optimized-returns-in_default t c =
       not_Loop1CharBody = d.not-Loop1CharBody;
     })
 
-pub optimized-returns-after-loop-i : goal.optimized-returns-after-loop-i
-optimized-returns-after-loop-i t c =
-    let i = c.loop-i.invariant in
-    rw (c.in-Cat.is, node_of-Cat c.loop-i.children, node_of-Cat c.in-Cat.children)
-    (optimized-children c.loop-i.children.items c.in-Cat.children.items i.0.0
-    (λ k d h. i.1 k d (omega (arith, c.len-i-end.ensures, c.in-Cat.children.ok.0, h))))
+pub optimize_row-loop-rest-init : goal.optimize_row-loop-rest-init
+unfolding node_of
+optimize_row-loop-rest-init t c =
+    let same : c.replace-rest.result ≡ c.args.row.now = c.replace-rest.ensures.value in
+    record { deep = rw same (omega arith); turned = rw same refl }
+
+pub optimize_row-loop-rest-preserved : goal.optimize_row-loop-rest-preserved
+unfolding node_of optimized the_depth depth fold
+optimize_row-loop-rest-preserved t c =
+    let left : c.deref_mut.result.now ≡ c.in-Alt.left.value = c.deref_mut.ensures.value ∙ ap (λ (b : Box Node Global). b.value) c.in-Alt.left-is in
+    let right : c.deref_mut-in-Alt.result.now ≡ c.in-Alt.right.value = c.deref_mut-in-Alt.ensures.value ∙ ap (λ (b : Box Node Global). b.value) c.in-Alt.right-is in
+    let smaller : size-Node c.in-Alt.right.value < size-Node c.loop-rest.rest = rw c.in-Alt.is (search rules) in
+    record {
+      deep = rw (c.swap-in-Alt.ensures.x_after, c.swap.ensures.y_after, right) (omega (arith, smaller, c.loop-rest.invariant.deep));
+      turned =
+          rw (c.swap-in-Alt.ensures.x_after, c.swap-in-Alt.ensures.y_after, c.swap.ensures.y_after, c.swap.ensures.x_after, c.optimize_node.ensures, left, right)
+          (rw c.in-Alt.is at c.loop-rest.invariant.turned);
+    }
+
+pub optimize_row-optimize_node-requires-2 : goal.optimize_row-optimize_node-requires-2
+optimize_row-optimize_node-requires-2 t c = (omega (arith, c.decreases, c.loop-rest.invariant.deep), tt)

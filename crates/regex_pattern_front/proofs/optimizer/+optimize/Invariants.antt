@@ -1,16 +1,28 @@
-use Rattle.std.proofs.Common.{◌≡◌, ℕ, ◌+◌, ◌*◌, ◌<◌, get_or}
+use Rattle.std.proofs.Common.{◌≡◌, ℕ, ◌+◌, ◌*◌, ◌<◌, ◌≤◌, get_or}
 use Rattle.regex_pattern_front.specs.TreeOf.{node_of}
-use Rattle.regex_pattern_front.specs.Optimized.{optimized}
-use Rattle.regex_pattern_front.specs.declared.ir.Node.{Node}
+use Rattle.regex_pattern_front.specs.Optimized.{optimized, turned_back}
+use Rattle.regex_pattern_front.specs.declared.ir.Node.{size-Node}
 use Rattle.regex_pattern_front.proofs.optimizer.+optimize.Given as goal
 
 abbrev pub decreases-optimize_node : goal.decreases-optimize_node
-decreases-optimize_node l = 2 * goal.size-optimize_node l + 1
+decreases-optimize_node l = 2 * goal.size-optimize_node l
 
-abbrev pub decreases-optimized : goal.decreases-optimized
-decreases-optimized l = 2 * goal.size-optimized l
+abbrev pub decreases-optimize_all : goal.decreases-optimize_all
+decreases-optimize_all l = 2 * goal.size-optimize_all l + 1
 
-abbrev pub invariant-optimized-loop-i : goal.invariant-optimized-loop-i
-invariant-optimized-loop-i l =
-    goal.unvisited-optimized-loop-i l
-    × ((k : ℕ) (d : Node) → k < l.i → node_of (get_or l.children.items k d) ≡ optimized (node_of (get_or l.initial.children.items k d)))
+abbrev pub decreases-optimize_row : goal.decreases-optimize_row
+decreases-optimize_row l = 2 * goal.size-optimize_row l + 1
+
+abbrev pub invariant-optimize_all-loop-i : goal.invariant-optimize_all-loop-i
+invariant-optimize_all-loop-i l =
+    goal.unvisited-optimize_all-loop-i l
+    × ((k : ℕ) (d : _) → k < l.i → node_of (get_or l.nodes.items k d) ≡ optimized (node_of (get_or l.initial.nodes.items k d)))
+
+abbrev pub invariant-optimize_row-loop-rest : goal.invariant-optimize_row-loop-rest
+invariant-optimize_row-loop-rest l = record {
+  deep : size-Node l.rest ≤ size-Node l.fn.row;
+  turned : turned_back (node_of l.done) (optimized (node_of l.rest)) ≡ optimized (node_of l.fn.row);
+}
+
+abbrev pub decreases-optimize_row-loop-rest : goal.decreases-optimize_row-loop-rest
+decreases-optimize_row-loop-rest l = size-Node l.rest

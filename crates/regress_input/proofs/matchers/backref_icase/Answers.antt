@@ -2,7 +2,8 @@ use Rattle.std.proofs.Common.{◌≡◌, ◌≢◌, inl, inr, sym, ◌∙◌, ap
 use Rattle.regex_meaning.specs.Offsets.{read}
 use Rattle.regress_input.specs.Reading.{way, same_fold}
 use Rattle.regress_input.proofs.Places.{pair}
-use Rattle.regress_input.proofs.Compare.{starts, stopped, none_at, none_there, differs, goes_on, nearer, unequal, equal}
+use Rattle.regress_input.proofs.Compare.{starts, stopped, none_at, none_there, differs, goes_on, nearer}
+use Rattle.regress_input.proofs.Lists.{unequal, equal}
 use Rattle.regress_input.proofs.matchers.backref_icase.Goals as goal
 use Rattle.regress_input.proofs.matchers.backref_icase.Goals.{then-FORWARD, else-FORWARD}
 

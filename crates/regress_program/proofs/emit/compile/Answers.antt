@@ -1,12 +1,12 @@
 use Rattle.std.proofs.Common.{◌≡◌, ◌∙◌, ap, false, arith, length, refl}
-use Rattle.regex_meaning.proofs.WellFormedLemmas.{well_formed-iff}
+use Rattle.regex_meaning.proofs.WellFormedLemmas.{clauses}
 use Rattle.regex_pattern_front.specs.TreeOf.{node_of}
 use Rattle.regress_program.specs.Code.{compiled}
 use Rattle.regress_program.specs.Emitting.{state_of, nothing, with_code}
 use Rattle.regress_program.proofs.emit.compile.Goals as goal
 
 pub emit-requires-clause-sets : goal.emit-requires-clause-sets
-emit-requires-clause-sets c = c.in_ok-groups.ensures.fits.well_formed.sets
+emit-requires-clause-sets c = (clauses (node_of c.args.re.now.node) c.in_ok-groups.ensures.fits.well_formed).sets
 
 pub emit-requires-clause-room : goal.emit-requires-clause-room
 emit-requires-clause-room c =
@@ -31,5 +31,5 @@ invariant_of-result c =
       groups = rw of c.in_ok-groups.ensures.groups;
       flags = rw of refl;
       group_names = rw of c.in_ok-group_names.ensures;
-      well_formed = rw of ((well_formed-iff root).1 fits.well_formed);
+      well_formed = rw of fits.well_formed;
     }

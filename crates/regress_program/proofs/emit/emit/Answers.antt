@@ -5,7 +5,10 @@ use Rattle.regress_program.proofs.emit.emit.Goals as goal
 
 pub invariant_of-result : goal.invariant_of-result
 unfolding compiled
-invariant_of-result c = rw c.in_ok-program.ensures.tree c.in_ok-start_pred.ensures.predicate
+invariant_of-result c = record {
+  predicate = rw c.in_ok-program.ensures.tree c.in_ok-start_pred.ensures.predicate;
+  short = c.in_ok-start_pred.ensures.short;
+}
 
 pub returns-clause-code : goal.returns-clause-code
 returns-clause-code c = compiled-is_code (tree_of c.args.re.now) c.in_ok-program.ensures.fits.well_formed

@@ -1,5 +1,3 @@
-use Rattle.std.specs.Prelude.{IsTrue}
-use Rattle.regex_meaning.specs.WellFormed.{is_well_formed}
 use Rattle.regress_program.specs.Code.{compiled}
 use Rattle.std.proofs.Common.{Some, ap, sym, subst, ◌∙◌, refl}
 use Rattle.regress_machine.specs.Bytes.{ReadsBytes}
@@ -13,15 +11,13 @@ use Rattle.regress_exec.proofs.searched.Searched+AsciiInput.in_ascii.Goals as go
 
 pub invariant_of-result : goal.invariant_of-result
 invariant_of-result c =
-    let same = c.program.ensures in
     let reads = subst ReadsBytes (sym c.new.ensures) (ascii_text-ReadsBytes c.args.text.now c.flags-flags.result.unicode (all-ascii c.args.text.now c.requires)) in
     record {
       unicode =
           ap (λ (t : Text). t.unicode) c.new.ensures
-          ∙ ap (λ (f : Flags). f.unicode) (c.flags-flags.ensures ∙ flags-compiled (tree_of c.args.re.now))
-          ∙ ap (λ t. (tree_of t).flags.unicode) (sym same);
-      well_formed = subst (λ t. IsTrue (is_well_formed (tree_of t).root)) (sym same) c.insns-well_formed.ensures.well_formed;
+          ∙ ap (λ (f : Flags). f.unicode) (c.flags-flags.ensures ∙ flags-compiled (tree_of c.program-program.result.now));
+      well_formed = c.insns-well_formed.ensures.well_formed;
       bytes = λ _. record { reads = reads; units = refl };
-      predicted = ap Some (c.start_pred.ensures ∙ ap (λ t. (compiled (tree_of t)).start_pred) (sym same));
+      predicted = ap Some (c.start_pred.ensures.predicate ∙ ap (λ t. (compiled (tree_of t)).start_pred) (sym c.program-program.ensures));
       scalars = λ _. reads;
     }

@@ -2,10 +2,10 @@ use Rattle.std.proofs.Common.{◌≡◌, ◌∙◌, ap, sym, [], arith}
 use Rattle.regex_meaning.specs.Outcomes.{in_intervals}
 use Rattle.regex_pattern_front.specs.ByteSets.{ascii_bitmap_bytes}
 use Rattle.regex_pattern_front.proofs.AddedBytes.{with_bytes_below, with_bytes-more, with_bytes-same}
-use Rattle.regress_program.proofs.NodeLemmas.{both_second}
 use Rattle.regress_program.proofs.TextLemmas.{no_bytes_below, ascii_bytes}
 use Rattle.regress_program.proofs.emit.brackets.ascii_bitmap.Goals as goal
 use Rattle.regress_program.proofs.emit.brackets.ascii_bitmap.Goals.{then-contains, else-contains}
+use Rattle.regex_meaning.proofs.Booleans.{and-right}
 
 pub loop-byte-init : goal.loop-byte-init
 loop-byte-init c = c.default-bitmap.ensures ∙ sym (no_bytes_below (in_intervals c.args.contents.now.cps))
@@ -25,8 +25,8 @@ loop-byte-preserved c =
           (sym (ap test c.from.ensures) ∙ sym c.contains.ensures ∙ w.if-contains.false) c.loop-byte.invariant)
     ]
 
-pub returns : goal.returns
-returns c =
+pub returns-clause-members : goal.returns-clause-members
+returns-clause-members c =
     let ascii = sym c.if-not-is_ascii.ensures in
     let end : c.loop-byte.byte ≡ 128 = omega arith in
-    (ascii, c.loop-byte.invariant ∙ ap (with_bytes_below [] (in_intervals c.args.contents.now.cps)) end ∙ ascii_bytes c.args.contents.now.cps (both_second _ _ ascii))
+    c.loop-byte.invariant ∙ ap (with_bytes_below [] (in_intervals c.args.contents.now.cps)) end ∙ ascii_bytes c.args.contents.now.cps (and-right _ _ ascii)

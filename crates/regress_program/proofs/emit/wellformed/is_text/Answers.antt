@@ -2,9 +2,9 @@ use Rattle.std.proofs.Common.{◌≡◌, true, false, not, ◌∙◌, ap, sym, l
 use Rattle.std.specs.Prelude.{nat_lt}
 use Rattle.std.specs.Str.{is_utf8}
 use Rattle.std.proofs.lemmas.Str.{IsUtf8-from_is_utf8, is_utf8-from_IsUtf8}
-use Rattle.regress_program.proofs.NodeLemmas.{false_by_not}
-use Rattle.regress_program.proofs.IdLemmas.{some_bytes, and_false}
+use Rattle.regress_program.proofs.IdLemmas.{some_bytes}
 use Rattle.regress_program.proofs.emit.wellformed.is_text.Goals as goal
+use Rattle.std.proofs.lemmas.Bool.{and_right, false_from_ne_true}
 
 pub returns-in-Ok : goal.returns-in-Ok
 returns-in-Ok c =
@@ -13,5 +13,5 @@ returns-in-Ok c =
 
 pub returns-in-Err : goal.returns-in-Err
 returns-in-Err c =
-    let none : is_utf8 c.args.bytes.now ≡ false = false_by_not (is_utf8 c.args.bytes.now) (λ e. c.in-Err.ensures.cases.0 (IsUtf8-from_is_utf8 c.args.bytes.now e)) in
-    sym (and_false (nat_lt 0 (length c.args.bytes.now)) (is_utf8 c.args.bytes.now) none)
+    let none : is_utf8 c.args.bytes.now ≡ false = false_from_ne_true (is_utf8 c.args.bytes.now) (λ e. c.in-Err.ensures.cases.0 (IsUtf8-from_is_utf8 c.args.bytes.now e)) in
+    sym (and_right (nat_lt 0 (length c.args.bytes.now)) (is_utf8 c.args.bytes.now) none)

@@ -7,20 +7,21 @@ use Rattle.regress_program.specs.Insns.{insn_of}
 use Rattle.regress_program.specs.Nodes.{cat_of}
 use Rattle.regex_meaning.specs.WellFormed.{fits_instructions}
 use Rattle.regress_program.specs.Emitting.{HasRoom, state_of, with_code, lookaround_of}
-use Rattle.regress_program.proofs.NodeLemmas.{node_of-Cat, cat_of-drop, both_first, both_second}
+use Rattle.regress_program.proofs.NodeLemmas.{node_of-Cat, cat_of-drop}
 use Rattle.regress_program.proofs.Weights.{weight, weight-child}
 use Rattle.regress_program.proofs.EmitLemmas.{with_code-cat, with_code-alt, room-first, room-rest, room-right, second_fits, end_fits, with_code-capture_group, with_code-loop_1_char_body, with_code-lookaround, with_code-loop, room-group, room-loop_1_char_body, room-lookaround, room-loop, room-unnamed, end_of_lookaround_fits, end_of_loop_fits}
 use Rattle.regress_program.proofs.emit.emitter.Emitter.+emit.Goals as goal
+use Rattle.regex_meaning.proofs.Booleans.{and-left, and-right}
 
 pub emit-returns-in-Cat : goal.emit-returns-in-Cat
-emit-returns-in-Cat t c = rw (c.in-Cat.is, node_of-Cat c.in-Cat.nodes, ← c.deref-in-Cat.ensures.value) c.emit_all.ensures
+emit-returns-in-Cat t c = rw (c.in-Cat.is, node_of-Cat c.in-Cat.nodes, ← c.deref.ensures.value) c.emit_all.ensures
 
 pub emit-emit_all-requires : goal.emit-emit_all-requires
 emit-emit_all-requires t c =
-    let is : node_of c.args.node.now ≡ cat_of c.deref-in-Cat.result.now = ap node_of c.in-Cat.is ∙ node_of-Cat c.in-Cat.nodes ∙ ap cat_of (sym c.deref-in-Cat.ensures.value) in
-    let same : weight (node_of c.args.node.now) ≡ weight (cat_of c.deref-in-Cat.result.now) = ap weight is in
-    let sets : IsTrue (every fits_instructions (cat_of c.deref-in-Cat.result.now)) = rw is at c.requires.sets in
-    let room : HasRoom (state_of c.args.self.now) (cat_of c.deref-in-Cat.result.now) = rw is at c.requires.room in
+    let is : node_of c.args.node.now ≡ cat_of c.deref.result.now = ap node_of c.in-Cat.is ∙ node_of-Cat c.in-Cat.nodes ∙ ap cat_of (sym c.deref.ensures.value) in
+    let same : weight (node_of c.args.node.now) ≡ weight (cat_of c.deref.result.now) = ap weight is in
+    let sets : IsTrue (every fits_instructions (cat_of c.deref.result.now)) = rw is at c.requires.sets in
+    let room : HasRoom (state_of c.args.self.now) (cat_of c.deref.result.now) = rw is at c.requires.room in
     (search rules, (sets, room))
 
 pub emit-emit_alt-requires : goal.emit-emit_alt-requires
@@ -36,7 +37,7 @@ emit_all-emit-requires t c =
     let smaller : weight (node_of n) < weight (cat_of nodes) = weight-child nodes i n c.loop-node-test.true c.node-item.is in
     let room : HasRoom (state_of c.loop-node.self) (node_of n) = room-first _ _ _ (rw next at c.loop-node.invariant.room) in
     let both : IsTrue (every fits_instructions (cat (node_of n) (cat_of (drop (i + 1) nodes)))) = rw next at c.loop-node.invariant.sets in
-    (search rules, (both_first _ _ both, room))
+    (search rules, (and-left _ _ both, room))
 
 pub emit_all-loop-node-preserved : goal.emit_all-loop-node-preserved
 emit_all-loop-node-preserved t c =
@@ -50,7 +51,7 @@ emit_all-loop-node-preserved t c =
     let both : IsTrue (every fits_instructions (cat (node_of n) rest)) = rw next at c.loop-node.invariant.sets in
     let code : with_code u d (cat (node_of n) rest) (state_of c.loop-node.self) ≡ with_code u d (cat_of nodes) (state_of c.args.self.now) = rw next at c.loop-node.invariant.code in
     record {
-      sets = both_second _ _ both;
+      sets = and-right _ _ both;
       room = room-rest u d (state_of c.loop-node.self) (state_of c.emit.new.self) (node_of n) rest (rw next at c.loop-node.invariant.room) c.in_ok-emit.ensures;
       code = ap (with_code u d rest) c.in_ok-emit.ensures ∙ sym (with_code-cat u d (node_of n) rest (state_of c.loop-node.self)) ∙ code;
     }
@@ -182,7 +183,7 @@ emit-emit_lookaround-requires t c =
     let sets : IsTrue (every fits_instructions inside) = rw is at c.requires.sets in
     let room = rw is at c.requires.room in
     let smaller : weight (node_of c.args.node.now) ≡ weight inside + 1 = ap weight is in
-    (search rules, (rw c.deref-in-LookaroundAssertion.ensures sets, rw c.deref-in-LookaroundAssertion.ensures room))
+    (search rules, (rw c.deref-in-LookaroundAssertion.ensures sets, rw (c.deref-in-LookaroundAssertion.ensures, c.new-look.ensures) room))
 
 pub emit-emit_loop-requires : goal.emit-emit_loop-requires
 unfolding node_of weight

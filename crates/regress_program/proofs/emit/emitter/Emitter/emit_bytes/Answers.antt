@@ -1,9 +1,9 @@
 use Rattle.std.proofs.Common.{◌*◌, ◌<◌, ◌∙◌, sym, arith, length, take, drop}
-use Rattle.regex_meaning.specs.Ticks.{chunks}
-use Rattle.regex_meaning.specs.Layout.{ByteSeq, ordered}
+use Rattle.regex_meaning.specs.Layout.{ByteSeq, ordered, chunks}
 use Rattle.regress_program.specs.Emitting.{state_of}
-use Rattle.regress_program.proofs.TextLemmas.{chunk_begins, chunk_at, ordered-next, length-ordered, parts_step, parts_end, with_code-byte_sequence}
+use Rattle.regress_program.proofs.TextLemmas.{chunk_begins, chunk_at, ordered-next, parts_step, parts_end, with_code-byte_sequence}
 use Rattle.regress_program.proofs.emit.emitter.Emitter.emit_bytes.Goals as goal
+use Rattle.regress_program.proofs.EmitLemmas.{length-ordered}
 
 pub put_chunk-requires : goal.put_chunk-requires
 put_chunk-requires c =

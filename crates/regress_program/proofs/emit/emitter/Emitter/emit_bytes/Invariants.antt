@@ -1,6 +1,5 @@
 use Rattle.std.proofs.Common.{◌≡◌, map, drop}
-use Rattle.regex_meaning.specs.Ticks.{chunks}
-use Rattle.regex_meaning.specs.Layout.{ByteSeq, ordered}
+use Rattle.regex_meaning.specs.Layout.{ByteSeq, ordered, chunks}
 use Rattle.regress_program.specs.Emitting.{state_of, with_insns}
 use Rattle.regress_program.proofs.emit.emitter.Emitter.emit_bytes.Given as goal
 

@@ -1,0 +1,7 @@
+use Rattle.std.proofs.Common.{arith}
+use Rattle.regex_pattern_front.proofs.LeafLemmas.{leaf-BackRef}
+use Rattle.regex_pattern_front.proofs.leaves.LeafReader.reference.Goals as goal
+
+pub returns-clause-leaf : goal.returns-clause-leaf
+returns-clause-leaf c =
+    rw c.atom.ensures (leaf-BackRef c.max-self.result c.args.group _ c.requires (omega (arith, c.max-self.ensures)))

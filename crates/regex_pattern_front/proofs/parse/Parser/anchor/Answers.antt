@@ -1,5 +1,0 @@
-use Rattle.regex_pattern_front.proofs.LeafLemmas.{leaf-Anchor}
-use Rattle.regex_pattern_front.proofs.parse.Parser.anchor.Goals as goal
-
-pub returns : goal.returns
-returns c = λ greatest. leaf-Anchor greatest _ _

@@ -1,7 +1,0 @@
-use Rattle.std.proofs.Common.{arith}
-use Rattle.regex_pattern_front.proofs.LeafLemmas.{leaf-BackRef}
-use Rattle.regex_pattern_front.proofs.parse.Parser.reference.Goals as goal
-
-pub returns-clause-leaf : goal.returns-clause-leaf
-returns-clause-leaf c =
-    rw c.atom.ensures (leaf-BackRef c.max-self.result c.args.group _ c.requires (omega (arith, c.max-self.ensures)))

@@ -1,0 +1,21 @@
+use Rattle.std.proofs.Common.{slice_get, ◌∙◌, ap, arith}
+use Rattle.std.proofs.lemmas.Option.{slice_get-get_or}
+use Rattle.regex_meaning.specs.Text.{fold_code_point}
+use Rattle.regress_input.proofs.OneUnit.{units-length}
+use Rattle.regress_input.proofs.UnitsIn.{ucs2_text-units_in}
+use Rattle.regress_input.proofs.indexing.ucs2_input.Ucs2InputInputIndexer.unit.Goals as goal
+
+pub offset_bounds-self-pos : goal.offset_bounds-self-pos
+offset_bounds-self-pos c =
+    let it = c.args.self.now in
+    omega (arith, c.requires, units-length it.input.now it.unicode (fold_code_point it.unicode), it.sized)
+
+pub bounds-self-pos : goal.bounds-self-pos
+bounds-self-pos c =
+    let it = c.args.self.now in
+    omega (arith, c.requires, units-length it.input.now it.unicode (fold_code_point it.unicode))
+
+pub returns : goal.returns
+returns c =
+    let it = c.args.self.now in
+    ap (λ l. slice_get l c.args.pos.offset) (ucs2_text-units_in it.input.now it.unicode) ∙ slice_get-get_or it.input.now c.args.pos.offset 0 (omega (arith, c.requires, units-length it.input.now it.unicode (fold_code_point it.unicode)))

@@ -1,0 +1,29 @@
+use Rattle.std.proofs.Common.{◌∙◌, ap, slice_range, arith}
+use Rattle.regress_input.specs.Reading.{way, past_bytes}
+use Rattle.regress_input.specs.Utf16.{if_boundary}
+use Rattle.regress_input.proofs.Utf16Reads.{inside}
+use Rattle.regress_input.proofs.Utf16Slices.{literal}
+use Rattle.regress_input.proofs.indexing.utf16_input.Utf16InputInputIndexer.past_again.Goals as goal
+
+pub offset_bounds-all-start : goal.offset_bounds-all-start
+offset_bounds-all-start g c =
+    let it = c.args.self.now in
+    omega (arith, inside it.input.now it.small it.unicode _ c.requires.to, it.sized, c.requires.in_order)
+
+pub slice_bounds-past_units-end : goal.slice_bounds-past_units-end
+slice_bounds-past_units-end g c =
+    let it = c.args.self.now in
+    inside it.input.now it.small it.unicode _ c.requires.to
+
+pub past_units-to-requires : goal.past_units-to-requires
+past_units-to-requires g c =
+    let it = c.args.self.now in
+    inside it.input.now it.small it.unicode _ c.requires.at
+
+pub returns : goal.returns
+returns g c =
+    let it = c.args.self.now in
+    let us = it.input.now in
+    c.position_at.ensures ∙ c.at_boundary.ensures ∙ ap (if_boundary us) c.past_units-to.ensures
+    ∙ ap (λ forward. if_boundary us (past_bytes us (slice_range us c.args.start.offset c.args.end.offset) (way forward) c.args.pos.offset)) c.FORWARD.ensures
+    ∙ literal us it.small it.unicode (way g.Dir.Direction.FORWARD) _ _ _ c.requires.at c.requires.from c.requires.to c.requires.in_order

@@ -1,6 +1,0 @@
-use Rattle.regex_meaning.proofs.TextLemmas.{utf8_text-IsText}
-use Rattle.regress_input.proofs.Places.{start_boundary}
-use Rattle.regress_input.proofs.indexing.utf8_input.Utf8InputInputIndexer.left_end.Goals as goal
-
-pub returns-clause-boundary : goal.returns-clause-boundary
-returns-clause-boundary c = let it = c.args.self.now in start_boundary _ (utf8_text-IsText it.input.now it.unicode) _ c.new.ensures

@@ -1,5 +1,0 @@
-use Rattle.std.proofs.Common.{◌∙◌}
-use Rattle.regress_input.proofs.indexing.utf8_input.Utf8InputInputIndexer.try_move_left.Goals as goal
-
-pub returns : goal.returns
-returns c = c.position_at.ensures ∙ c.moved_left.ensures 0

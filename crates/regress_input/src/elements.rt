@@ -1,0 +1,76 @@
+//! The characters of inputs, and what an encoding says of them.
+
+ghost use Rattle.std.specs.Prelude.{◌≡◌, ◌==◌, ℕ, Bool, true, false, option_map, if◌then◌else◌, Some, None};
+ghost use Rattle.regex_meaning.specs.Text.{is_word_char, is_line_terminator};
+ghost use Rattle.regex_meaning.specs.Tree.{bracket};
+ghost use Rattle.regex_meaning.specs.Outcomes.{accepts};
+ghost use Rattle.regex_pattern_front.specs.TreeOf.{contents_of};
+
+use crate::front::{BracketContents, nonascii_folds_to_ascii_word_char};
+use std::fmt::Debug;
+
+/// A character of an input. Contracts see its number.
+pub trait ElementType: Copy + Debug + Ord {
+    ghost number: { Self → ℕ };
+
+    // Whether a number is that of an element.
+    ghost is_number: { ℕ → Bool };
+
+    /// The element with this number; none where the number is that of none.
+    fn try_from(code: u32) -> Option<Self>
+        ensures { option_map (λ e. number e) result ≡ (if is_number code then Some code else None) };
+
+    /// The number of the character.
+    fn as_u32(self) -> u32
+        ensures { result ≡ number self };
+
+    ghost equal: { (a b : Self) → Self.eq a b ≡ (number a == number b) };
+
+    ghost same: { (a b : Self) → number a ≡ number b → a ≡ b };
+}
+
+/// What an encoding says of its characters: their fold, and the classes that patterns name.
+pub trait CharProperties {
+    type Element: ElementType;
+
+    ghost folded: { (unicode : Bool) → ℕ → ℕ };
+
+    /// What stands for a character where case does not count (ECMA-262, 21.2.2.8.2).
+    fn fold(c: Self::Element, unicode: bool) -> Self::Element
+        ensures { Self.Element.number result ≡ folded unicode (Self.Element.number c) };
+
+    /// Whether it is a letter or a digit of ASCII, or `_` (ECMA-262, 21.2.2.6.2).
+    #[inline(always)]
+    fn is_word_char(c: Self::Element) -> bool
+        ensures { result ≡ is_word_char false (Self.Element.number c) }
+    {
+        let c = c.as_u32();
+        0x61 <= c && c <= 0x7A || 0x41 <= c && c <= 0x5A || 0x30 <= c && c <= 0x39 || c == 0x5F
+    }
+
+    /// The same where case does not count and folds are those of the flag `u`.
+    #[inline(always)]
+    fn is_word_char_unicode_icase(c: Self::Element) -> bool
+        ensures { result ≡ is_word_char true (Self.Element.number c) }
+    {
+        Self::is_word_char(c) || nonascii_folds_to_ascii_word_char(c.as_u32())
+    }
+
+    /// Whether it ends a line (ECMA-262, 11.3).
+    #[inline(always)]
+    fn is_line_terminator(c: Self::Element) -> bool
+        ensures { result ≡ is_line_terminator (Self.Element.number c) }
+    {
+        let c = c.as_u32();
+        c == 0x0A || c == 0x0D || c == 0x2028 || c == 0x2029
+    }
+
+    /// Whether it is in the set, or with `invert` in its complement.
+    #[inline(always)]
+    fn bracket(bc: &BracketContents, c: Self::Element) -> bool
+        ensures { result ≡ accepts (bracket (contents_of bc.now)) (Self.Element.number c) }
+    {
+        let inside = bc.cps.contains(c.as_u32());
+        if bc.invert { !inside } else { inside }
+    }
+}

@@ -1,0 +1,4 @@
+//! The instructions of programs.
+#![tactic(auto)]
+
+pub mod insn;

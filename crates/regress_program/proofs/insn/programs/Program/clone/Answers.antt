@@ -1,0 +1,19 @@
+use Rattle.std.proofs.Common.{◌∙◌, ap, map, string_bytes}
+use Rattle.regex_pattern_front.specs.TreeOf.{contents_of}
+use Rattle.regress_program.specs.Insns.{insn_of}
+use Rattle.regress_program.proofs.FilingLemmas.{same_texts}
+use Rattle.regress_program.proofs.insn.programs.Program.clone.Goals as goal
+
+pub invariant_of-result : goal.invariant_of-result
+invariant_of-result c =
+    let held = c.self.invariant in
+    let tree = c.again.ensures in
+    record {
+      insns = rw tree (ap (map insn_of) (c.in_ok-from_slice.ensures.items ∙ c.deref.ensures.value) ∙ held.insns);
+      brackets = rw tree (ap (map contents_of) (c.in_ok-copy_of_brackets.ensures ∙ c.deref-2.ensures.value) ∙ held.brackets);
+      loops = rw tree held.loops;
+      groups = rw tree held.groups;
+      flags = rw tree held.flags;
+      group_names = rw tree (same_texts string_bytes _ _ c.in_ok-from_clones.ensures.items ∙ ap (map string_bytes) c.deref-3.ensures.value ∙ held.group_names);
+      well_formed = rw tree held.well_formed;
+    }

@@ -1,0 +1,138 @@
+//! Programs for bytes, and programs for 16-bit units.
+
+ghost use Rattle.std.specs.Prelude.{◌≡◌, IfOk, false};
+ghost use Rattle.regex_pattern_front.specs.TreeOf.{tree_of};
+ghost use Rattle.regex_meaning.specs.Layout.{reads_bytes};
+ghost use Rattle.regress_program.specs.Insns.{start_of};
+ghost use Rattle.regress_program.specs.Predicates.{IsShort};
+ghost use Rattle.regress_program.specs.Code.{compiled};
+
+use crate::insn::predicates::StartPredicate;
+use crate::insn::programs::Program;
+use std::alloc::AllocError;
+use std::marker::Model;
+use std::ops::Deref;
+
+/// The program of a well-formed pattern tree, for texts in bytes: a `Program`, which it derefs to, and a start
+/// predicate. Only the compiler makes one. Contracts see the tree.
+#[derive(Drop)]
+pub struct CompiledRegex {
+    pub(crate) program: Program,
+    pub(crate) start_pred: StartPredicate,
+}
+
+impl Model for CompiledRegex {
+    ghost use Rattle.std.specs.Coded.{codes};
+    ghost use Rattle.regex_pattern_front.specs.contracts.ir.Node as node;
+    ghost use Rattle.regex_pattern_front.specs.declared.ir.Regex.{Regex};
+
+    ghost Value = { Regex };
+
+    ghost coded = { Prim.hlevel (codes, node.the_row.coded) };
+
+    ghost use Rattle.regress_program.specs.Predicates.{IsStartOf};
+
+    ghost view = { λ p. p.program };
+
+    ghost invariant = { λ p. IsStartOf p.start_pred p.program };
+}
+
+impl CompiledRegex {
+    /// What it has in common with programs for 16-bit units.
+    #[inline(always)]
+    pub fn program(&self) -> &Program
+        ensures { result.now ≡ self.now }
+    {
+        &self.program
+    }
+
+    /// What a text has to start with where the pattern matches.
+    #[inline(always)]
+    pub fn start_pred(&self) -> &StartPredicate
+        ensures predicate { start_of result.now ≡ (compiled (tree_of self.now)).start_pred }
+        ensures short { IsShort result.now }
+    {
+        &self.start_pred
+    }
+
+    /// The same program once more.
+    pub fn clone(&self) -> Result<Self, AllocError>
+        ensures { IfOk result (λ p. p ≡ self.now) }
+    {
+        Ok(CompiledRegex {
+            program: self.program.clone()?,
+            start_pred: self.start_pred.clone()?,
+        })
+    }
+}
+
+impl Deref for CompiledRegex {
+    type Target = Program;
+
+    ghost use Rattle.std.specs.Prelude.{◌≡◌};
+
+    ghost deref_gives = { λ p program. program ≡ p };
+
+    #[inline(always)]
+    fn deref(&self) -> &Program {
+        &self.program
+    }
+}
+
+/// The program of a well-formed pattern tree without byte sets and byte sequences, for texts of 16-bit units: a
+/// `Program`, which it derefs to. Only the compiler makes one. Contracts see the tree.
+#[derive(Drop)]
+pub struct CompiledUnits {
+    pub(crate) program: Program,
+}
+
+impl Model for CompiledUnits {
+    ghost use Rattle.std.specs.Coded.{codes};
+    ghost use Rattle.regex_pattern_front.specs.contracts.ir.Node as node;
+    ghost use Rattle.regex_pattern_front.specs.declared.ir.Regex.{Regex};
+
+    ghost Value = { Regex };
+
+    ghost coded = { Prim.hlevel (codes, node.the_row.coded) };
+
+    ghost use Rattle.std.specs.Prelude.{◌≡◌, false};
+    ghost use Rattle.regex_meaning.specs.Layout.{reads_bytes};
+    ghost use Rattle.regex_pattern_front.specs.TreeOf.{tree_of};
+
+    ghost view = { λ p. p.program };
+
+    ghost invariant = { λ p. reads_bytes (tree_of p.program).root ≡ false };
+}
+
+impl CompiledUnits {
+    /// What it has in common with programs for bytes.
+    #[inline(always)]
+    pub fn program(&self) -> &Program
+        ensures tree { result.now ≡ self.now }
+        ensures no_bytes { reads_bytes (tree_of self.now).root ≡ false }
+    {
+        &self.program
+    }
+
+    /// The same program once more.
+    pub fn clone(&self) -> Result<Self, AllocError>
+        ensures { IfOk result (λ p. p ≡ self.now) }
+    {
+        Ok(CompiledUnits {
+            program: self.program.clone()?,
+        })
+    }
+}
+
+impl Deref for CompiledUnits {
+    type Target = Program;
+
+    ghost use Rattle.std.specs.Prelude.{◌≡◌};
+
+    ghost deref_gives = { λ p program. program ≡ p };
+
+    #[inline(always)]
+    fn deref(&self) -> &Program {
+        &self.program
+    }
+}

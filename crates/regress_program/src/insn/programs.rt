@@ -1,0 +1,140 @@
+//! What programs for bytes and for 16-bit units have in common.
+
+ghost use Rattle.std.specs.Prelude.{◌≡◌, IsTrue, IfOk, [], get_or, map, string_bytes};
+ghost use Rattle.regex_pattern_front.specs.TreeOf.{tree_of, flags_of, contents_of};
+ghost use Rattle.regex_meaning.specs.WellFormed.{is_well_formed};
+ghost use Rattle.regress_program.specs.Insns.{insn_of};
+ghost use Rattle.regress_program.specs.Code.{compiled};
+
+use crate::carried::Carried;
+use regex_pattern_front::flags::Flags;
+use regex_pattern_front::types::BracketContents;
+use regress_insn::insn::Insn;
+use std::alloc::{AllocError, Global};
+use std::marker::Model;
+
+/// What programs for bytes and for 16-bit units have in common: the code of a well-formed pattern tree, and what
+/// stands beside it. Only the compiler makes one. Contracts see the tree.
+#[derive(Drop)]
+pub struct Program {
+    pub(crate) insns: Vec<Insn>,
+    pub(crate) brackets: Vec<BracketContents>,
+    pub(crate) loops: u32,
+    pub(crate) groups: u32,
+    pub(crate) group_names: Vec<String>,
+    pub(crate) flags: Flags,
+    pub(crate) tree: Carried,
+}
+
+impl Model for Program {
+    ghost use Rattle.std.specs.Coded.{codes};
+    ghost use Rattle.regex_pattern_front.specs.contracts.ir.Node as node;
+    ghost use Rattle.regex_pattern_front.specs.declared.ir.Regex.{Regex};
+
+    ghost Value = { Regex };
+
+    ghost coded = { Prim.hlevel (codes, node.the_row.coded) };
+
+    ghost use Rattle.regress_program.specs.Programs.{IsProgram};
+
+    ghost view = { λ p. p.tree.value };
+
+    ghost invariant = { IsProgram };
+}
+
+impl Program {
+    /// The instructions, of which the first one is run first.
+    #[inline(always)]
+    pub fn insns(&self) -> &[Insn]
+        ensures code { map insn_of result.now ≡ (compiled (tree_of self.now)).insns }
+        ensures well_formed { IsTrue (is_well_formed (tree_of self.now).root) }
+    {
+        &self.insns
+    }
+
+    /// The brackets, which instructions name by index.
+    #[inline(always)]
+    pub fn brackets(&self) -> &[BracketContents]
+        ensures { map contents_of result.now ≡ (compiled (tree_of self.now)).brackets }
+    {
+        &self.brackets
+    }
+
+    /// How many loops there are, whose numbers are those below it.
+    #[inline(always)]
+    pub fn loops(&self) -> u32
+        ensures { result ≡ (compiled (tree_of self.now)).loops }
+    {
+        self.loops
+    }
+
+    /// How many capturing groups there are.
+    #[inline(always)]
+    pub fn groups(&self) -> u32
+        ensures { result ≡ (compiled (tree_of self.now)).groups }
+    {
+        self.groups
+    }
+
+    /// The names of the groups by id, empty where there is none; no list where no group has a name.
+    #[inline(always)]
+    pub fn group_names(&self) -> &[String]
+        ensures { map string_bytes result.now ≡ (compiled (tree_of self.now)).group_names }
+    {
+        &self.group_names
+    }
+
+    /// The name of a group, empty where it has none and where there is no such group.
+    #[inline(always)]
+    pub fn group_name(&self, id: usize) -> &str
+        ensures { result.now ≡ get_or (compiled (tree_of self.now)).group_names id [] }
+    {
+        match self.group_names.get(id) {
+            Some(name) => name.as_str(),
+            None => "",
+        }
+    }
+
+    /// The same program once more.
+    pub fn clone(&self) -> Result<Self, AllocError>
+        ensures { IfOk result (λ p. p ≡ self.now) }
+    {
+        let alloc = self.allocator();
+        Ok(Program {
+            insns: Vec::from_slice(alloc, &self.insns)?,
+            brackets: copy_of_brackets(alloc, &self.brackets)?,
+            loops: self.loops,
+            groups: self.groups,
+            group_names: Vec::from_clones(alloc, &self.group_names)?,
+            flags: self.flags,
+            tree: self.tree.again(),
+        })
+    }
+
+    /// The allocator that the program's parts are made with.
+    #[inline(always)]
+    pub fn allocator(&self) -> Global {
+        *self.insns.allocator()
+    }
+
+    /// The flags of the pattern.
+    #[inline(always)]
+    pub fn flags(&self) -> Flags
+        ensures { flags_of result ≡ (compiled (tree_of self.now)).flags }
+    {
+        self.flags
+    }
+}
+
+fn copy_of_brackets(
+    alloc: Global,
+    brackets: &[BracketContents],
+) -> Result<Vec<BracketContents>, AllocError>
+    ensures { IfOk result (λ copy. copy.items ≡ brackets.now) }
+{
+    let mut copy = Vec::with_capacity(alloc, brackets.len())?;
+    for contents in brackets {
+        copy.push(contents.clone()?)?;
+    }
+    Ok(copy)
+}

@@ -1,0 +1,15 @@
+pub mod Serves
+pub mod Left
+pub mod Kept
+pub mod Below
+pub mod Barred
+pub mod Units
+pub mod Tables
+pub mod Starts
+pub mod Rows
+pub mod Runs
+pub mod Loops
+pub mod Looks
+pub mod Ends
+pub mod Texts
+pub mod Checks

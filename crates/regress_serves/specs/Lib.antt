@@ -1,0 +1,6 @@
+pub mod Serves
+pub mod Left
+pub mod Barred
+pub mod Tables
+pub mod Starts
+pub mod Runs

@@ -3,7 +3,7 @@ use Rattle.std.proofs.Common.{◌≡◌, ℕ, zero, suc, ◌+◌, ◌-◌, ◌*�
 use Rattle.std.proofs.Math.Seq.{drop-nil}
 use Rattle.std.proofs.lemmas.Bool.{cases_lt, lt-ltb, le-ltb, lt-leb, or_cases}
 use borrow.Author.Tests.{ltb-true}
-use Rattle.std.specs.Prelude.{nat_lt, nat_le, ◌||◌, ◌&&◌, ◌⊎◌}
+use Rattle.std.specs.Prelude.{nat_lt, nat_le, ◌||◌, ◌&&◌}
 use Rattle.std.specs.List.{list_all}
 use Rattle.std.specs.Int.{is_in_range}
 use Rattle.regex_meaning.specs.Lists.{numbers_from}
@@ -11,9 +11,8 @@ use Rattle.regex_meaning.specs.Outcomes.{in_intervals}
 use Rattle.regex_meaning.specs.StartPredicate.{bytes_where}
 use Rattle.regex_pattern_front.proofs.ByteLemmas.{bytes_where-same, bytes_where-none}
 use Rattle.regex_pattern_front.proofs.AddedBytes.{with_bytes_below}
-use Rattle.std.proofs.lemmas.List.{length-map, length-reverse, get_or-reverse, drop-map, drop_all}
+use Rattle.std.proofs.lemmas.List.{length-map, get_or-reverse, drop-map, drop_all}
 use Rattle.std.proofs.lemmas.Option.{get_or_from_slice_get}
-use Rattle.regex_meaning.specs.Text.{expand_code_point, all_with_fold, nonascii_with_fold, fold_code_point, to_lowercase, to_uppercase}
 use Rattle.regex_meaning.specs.Layout.{Insn, Alt, Jump, ByteSeq, ResetCaptureGroup, ordered, chunks, chunks_of}
 use Rattle.regex_meaning.specs.Tree.{byte_sequence, string_set}
 use Rattle.regress_program.specs.Code.{resets, string_code, strings_code, strings_size, code_of, loop_count, brackets_of}

@@ -5,6 +5,9 @@ use Rattle.regress_program.specs.Code.{compiled}
 use Rattle.regress_program.specs.Emitting.{state_of, nothing, with_code}
 use Rattle.regress_program.proofs.emit.compile.Goals as goal
 
+pub names_by_id-requires-clause-once : goal.names_by_id-requires-clause-once
+names_by_id-requires-clause-once c = (clauses (node_of c.args.re.now.node) c.in_ok-groups.ensures.fits.well_formed).ids
+
 pub emit-requires-clause-sets : goal.emit-requires-clause-sets
 emit-requires-clause-sets c = (clauses (node_of c.args.re.now.node) c.in_ok-groups.ensures.fits.well_formed).sets
 

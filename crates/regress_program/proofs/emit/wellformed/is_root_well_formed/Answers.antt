@@ -1,9 +1,16 @@
 use Rattle.std.proofs.Common.{◌≡◌, ◌≤◌, length, ◌∙◌, ap, sym, arith}
 use Rattle.regex_meaning.specs.Tree.{group_ids}
+use Rattle.regex_meaning.proofs.WellFormedLemmas.{clauses}
 use Rattle.regex_pattern_front.specs.TreeOf.{node_of}
 use Rattle.regress_program.specs.Ids.{is_seen, past}
 use Rattle.regress_program.proofs.IdLemmas.{sound_is_well_formed, well_formed_is_sound, well_formed_is_found, well_formed_has_room, few_ids, false_is_true}
 use Rattle.regress_program.proofs.emit.wellformed.is_root_well_formed.Goals as goal
+
+pub returns-then-not-is_goal_last : goal.returns-then-not-is_goal_last
+returns-then-not-is_goal_last c = (
+  λ h. absurd (false_is_true h),
+  λ w. sym c.if-not-is_goal_last.true ∙ c.is_goal_last.ensures ∙ (clauses (node_of c.args.root.now) w).goal_last,
+)
 
 pub returns-in-None : goal.returns-in-None
 returns-in-None c =

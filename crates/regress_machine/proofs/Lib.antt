@@ -20,3 +20,7 @@ pub mod ByteTexts
 pub mod Ready
 pub mod Whole
 pub mod Follows
+pub mod CanRun
+pub mod Fetched
+pub mod Inside
+pub mod Remains

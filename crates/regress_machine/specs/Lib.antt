@@ -1,3 +1,4 @@
 pub mod Machine
 pub mod Bytes
 pub mod Finds
+pub mod Turns

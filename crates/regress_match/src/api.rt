@@ -6,7 +6,7 @@ ghost use Rattle.std.specs.Iterator.Runs.{WholeRun};
 ghost use Rattle.regex_meaning.specs.Flags.{escape as escaped_text, flags_of_text, flags_text, special};
 ghost use Rattle.regex_meaning.specs.Lists.{contains};
 ghost use Rattle.regex_pattern_front.specs.TreeOf.{tree_of};
-ghost use Rattle.regress_search.specs.Answers.{answer_of};
+ghost use Rattle.regress_exec.specs.Answers.{answer_of};
 ghost use Rattle.regress_match.specs.Trees.{tree_to_run};
 
 use regex_pattern_front::optimizer::optimize;

@@ -1,13 +1,2 @@
-pub mod Coming
 pub mod Remains
-pub mod Searchable
-pub mod FirstMatch
-pub mod Anchored
-pub mod Inside
-pub mod Readers
-pub mod Reach
-pub mod Passing
-pub mod Fetched
-pub mod Literals
-pub mod Groups
-pub mod InTurn
+pub mod Turns

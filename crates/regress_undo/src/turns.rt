@@ -7,8 +7,8 @@ ghost use Rattle.regex_pattern_front.specs.TreeOf.{tree_of};
 ghost use Rattle.regress_program.specs.Code.{compiled};
 ghost use Rattle.regress_program.specs.Insns.{insn_of};
 ghost use Rattle.regress_input.specs.Reading.{way};
-ghost use Rattle.regress_search.specs.States.{CanTake};
-ghost use Rattle.regress_search.specs.Passing.{IsInBytes, is_literal, is_reader};
+ghost use Rattle.regress_machine.specs.Turns.{CanTake, is_literal, is_reader};
+ghost use Rattle.regress_exec.specs.Passing.{IsInBytes};
 ghost use Rattle.regress_undo.specs.Ways.{state_in};
 ghost use Rattle.regress_undo.specs.Turns.{Did};
 
@@ -24,8 +24,8 @@ use crate::ways::Mark;
 use regress_input::cursor::Direction;
 use regress_input::indexing::InputIndexer;
 use regress_program::insn::Insn;
-use regress_search::reading;
-use regress_search::searched::Searched;
+use regress_exec::reading;
+use regress_exec::searched::Searched;
 use std::alloc::AllocError;
 
 /// What comes next.

@@ -4,7 +4,7 @@ ghost use Rattle.std.specs.Prelude.{◌≡◌, ◌<◌, ◌^◌, ◌+◌, IfOk, 
 ghost use Rattle.regress_machine.specs.Machine.{with_some, read_group, span};
 ghost use Rattle.regex_meaning.specs.Offsets.{offset};
 ghost use Rattle.regress_input.specs.Reading.{way};
-ghost use Rattle.regress_search.specs.States.{CanTake, opened, closed, reset};
+ghost use Rattle.regress_machine.specs.Turns.{CanTake, opened, closed, reset};
 ghost use Rattle.regress_undo.specs.Ways.{state_in};
 ghost use Rattle.regress_undo.specs.Turns.{Did};
 
@@ -14,8 +14,8 @@ use crate::ways::Mark;
 use regress_input::front::CaptureGroupID;
 use regress_input::cursor::Direction;
 use regress_input::indexing::InputIndexer;
-use regress_search::reading;
-use regress_search::searched::Searched;
+use regress_exec::reading;
+use regress_exec::searched::Searched;
 use std::alloc::AllocError;
 
 // The group opens here, and has no range any more.

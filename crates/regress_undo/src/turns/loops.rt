@@ -3,7 +3,7 @@
 ghost use Rattle.std.specs.Prelude.{◌<◌, ◌^◌, ◌+◌, IfOk, Some, [], ◌∷◌, length};
 ghost use Rattle.regress_machine.specs.Machine.{running, waiting, goes, at_ip, loop_turn, again_at, again_with};
 ghost use Rattle.regress_program.specs.Insns.{insn_of, loop_fields_of};
-ghost use Rattle.regress_search.specs.States.{CanTake, entered_at};
+ghost use Rattle.regress_machine.specs.Turns.{CanTake, entered_at};
 ghost use Rattle.regress_undo.specs.Ways.{state_in, loop_in};
 ghost use Rattle.regress_undo.specs.Turns.{Did};
 

@@ -4,9 +4,11 @@ use Rattle.regress_input.specs.Reading.{way}
 use Rattle.regress_program.specs.Code.{compiled}
 use Rattle.regress_machine.specs.Machine.{running, waiting, in_turn, resumed}
 use Rattle.regress_search.specs.States.{state_of, next_of, running_of, waiting_of, preferred_last}
-use Rattle.regress_search.specs.Attempts.{turns_from, search_from, end_of_search}
-use Rattle.regress_search.proofs.Remains.{Remains, Left, steps_of, less-by, remains-begin, waiting-push, turn-can, turn-inside, turn-goes, turn-scans, turn-ends, turn-asks, turn-none}
-use Rattle.regress_search.proofs.Literals.{literal-reads}
+use Rattle.regress_exec.specs.Attempts.{turns_from, search_from}
+use Rattle.regress_machine.specs.Turns.{end_of_search}
+use Rattle.regress_machine.proofs.Remains.{Remains, Left, steps_of, remains-begin}
+use Rattle.regress_search.proofs.Remains.{less-by, waiting-push, turn-can, turn-inside, turn-goes, turn-scans, turn-ends, turn-asks, turn-none}
+use Rattle.regress_exec.proofs.Literals.{literal-reads}
 use Rattle.regress_search.proofs.pikevm.+run.Goals as goal
 
 pub search-init : goal.search-init

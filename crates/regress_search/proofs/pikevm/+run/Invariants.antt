@@ -3,8 +3,9 @@ use Rattle.regex_pattern_front.specs.TreeOf.{tree_of}
 use Rattle.regress_input.specs.Reading.{way}
 use Rattle.regress_program.specs.Code.{compiled}
 use Rattle.regress_search.specs.States.{state_of, running_of, waiting_of}
-use Rattle.regress_search.specs.Attempts.{turns_from, search_from, end_of_search}
-use Rattle.regress_search.proofs.Remains.{Remains, steps_left, steps_of}
+use Rattle.regress_exec.specs.Attempts.{turns_from, search_from}
+use Rattle.regress_machine.specs.Turns.{end_of_search}
+use Rattle.regress_machine.proofs.Remains.{Remains, steps_left, steps_of}
 use Rattle.regress_search.proofs.pikevm.+run.Given as goal
 
 abbrev pub decreases-run : goal.decreases-run

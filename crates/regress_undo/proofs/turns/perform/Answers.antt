@@ -6,9 +6,9 @@ use Rattle.regress_input.specs.Reading.{way}
 use Rattle.regress_program.specs.Code.{compiled}
 use Rattle.regress_program.specs.Insns.{insn_of}
 use Rattle.regress_machine.specs.Machine.{act_on, again_at, with_some, test_of, scan}
-use Rattle.regress_search.specs.States.{CanTake}
-use Rattle.regress_search.proofs.Literals.{literal-reads}
-use Rattle.regress_search.proofs.Fetched.{again-some, test-some, fetched-some, fetched-below}
+use Rattle.regress_machine.specs.Turns.{CanTake}
+use Rattle.regress_exec.proofs.Literals.{literal-reads}
+use Rattle.regress_machine.proofs.Fetched.{again-some, test-some, fetched-some, fetched-below}
 use Rattle.regress_undo.specs.Ways.{state_in}
 use Rattle.regress_undo.specs.Turns.{Did}
 use Rattle.regress_undo.proofs.turns.perform.Goals as goal

@@ -3,7 +3,7 @@ use Rattle.regex_pattern_front.specs.TreeOf.{tree_of}
 use Rattle.regress_input.specs.Reading.{led_to, way}
 use Rattle.regress_program.specs.Code.{compiled}
 use Rattle.regress_program.specs.Insns.{insn_of}
-use Rattle.regress_search.proofs.Passing.{turn-passes}
+use Rattle.regress_exec.proofs.Passing.{turn-passes}
 use Rattle.regress_undo.specs.Ways.{state_in}
 use Rattle.regress_undo.proofs.Did.{unchanged}
 use Rattle.regress_undo.proofs.turns.read.Goals as goal

@@ -1,5 +1,5 @@
 use Rattle.regress_input.specs.Reading.{way}
-use Rattle.regress_search.proofs.Readers.{closes}
+use Rattle.regress_search.proofs.Turns.{closes}
 use Rattle.regress_search.proofs.pikevm.actions.close_group.Goals as goal
 
 pub returns : goal.returns

@@ -1,4 +1,4 @@
-use Rattle.regress_search.proofs.Readers.{enters}
+use Rattle.regress_search.proofs.Turns.{enters}
 use Rattle.regress_search.proofs.pikevm.actions.entered.Goals as goal
 
 pub returns : goal.returns

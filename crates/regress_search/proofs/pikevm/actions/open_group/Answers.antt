@@ -1,4 +1,4 @@
-use Rattle.regress_search.proofs.Readers.{opens}
+use Rattle.regress_search.proofs.Turns.{opens}
 use Rattle.regress_search.proofs.pikevm.actions.open_group.Goals as goal
 
 pub returns : goal.returns

@@ -4,7 +4,7 @@ use Rattle.regress_input.specs.Reading.{led_to, way}
 use Rattle.regress_program.specs.Code.{compiled}
 use Rattle.regress_program.specs.Insns.{insn_of}
 use Rattle.regress_search.specs.States.{state_of}
-use Rattle.regress_search.proofs.Passing.{turn-leads, turn-passes}
+use Rattle.regress_exec.proofs.Passing.{turn-leads, turn-passes}
 use Rattle.regress_search.proofs.pikevm.actions.read.Goals as goal
 
 pub passes-requires-clause-can : goal.passes-requires-clause-can

@@ -1,8 +1,9 @@
 use Rattle.std.proofs.Common.{ap, sym, subst, ◌∙◌, true, false}
 use Rattle.regress_input.specs.Reading.{led_to, way}
 use Rattle.regress_machine.specs.Machine.{read_group}
-use Rattle.regress_search.specs.States.{range_of, state_of, CanTake}
-use Rattle.regress_search.proofs.Readers.{nothing-read, group-read}
+use Rattle.regress_search.specs.States.{range_of, state_of}
+use Rattle.regress_machine.specs.Turns.{CanTake}
+use Rattle.regress_exec.proofs.Readers.{nothing-read, group-read}
 use Rattle.regress_search.proofs.pikevm.actions.read_again.Goals as goal
 
 pub returns-in_default : goal.returns-in_default

@@ -1,7 +1,7 @@
 use Rattle.regress_input.specs.Reading.{way}
 use Rattle.regress_machine.specs.Machine.{read_group}
 use Rattle.regress_search.specs.States.{range_of, state_of}
-use Rattle.regress_search.proofs.Readers.{by-index}
+use Rattle.regress_search.proofs.Turns.{by-index}
 use Rattle.regress_search.proofs.pikevm.actions.read_back.Goals as goal
 
 pub returns : goal.returns

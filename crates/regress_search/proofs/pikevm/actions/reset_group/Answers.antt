@@ -1,4 +1,4 @@
-use Rattle.regress_search.proofs.Readers.{resets}
+use Rattle.regress_search.proofs.Turns.{resets}
 use Rattle.regress_search.proofs.pikevm.actions.reset_group.Goals as goal
 
 pub returns : goal.returns

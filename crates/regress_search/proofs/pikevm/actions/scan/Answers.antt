@@ -5,7 +5,7 @@ use Rattle.regress_program.specs.Code.{compiled}
 use Rattle.regress_program.specs.Insns.{insn_of}
 use Rattle.regress_machine.specs.Machine.{test_of}
 use Rattle.regress_search.specs.States.{state_of}
-use Rattle.regress_search.proofs.Readers.{scanned}
+use Rattle.regress_search.proofs.Turns.{scanned}
 use Rattle.regress_search.proofs.pikevm.actions.scan.Goals as goal
 
 pub returns : goal.returns

@@ -5,9 +5,10 @@ use Rattle.regress_input.specs.Reading.{way}
 use Rattle.regress_program.specs.Code.{compiled}
 use Rattle.regress_program.specs.Insns.{insn_of}
 use Rattle.regress_machine.specs.Machine.{act_on}
-use Rattle.regress_search.specs.States.{state_of, next_of, CanTake}
-use Rattle.regress_search.proofs.Literals.{literal-reads}
-use Rattle.regress_search.proofs.Fetched.{act-some, fetched-some, fetched-below}
+use Rattle.regress_search.specs.States.{state_of, next_of}
+use Rattle.regress_machine.specs.Turns.{CanTake}
+use Rattle.regress_exec.proofs.Literals.{literal-reads}
+use Rattle.regress_machine.proofs.Fetched.{act-some, fetched-some, fetched-below}
 use Rattle.regress_search.proofs.pikevm.actions.take_turn.Goals as goal
 
 pub perform-requires-clause-can : goal.perform-requires-clause-can

@@ -1,7 +1,7 @@
 use Rattle.std.proofs.Common.{◌≡◌, ℕ, ap, sym, ◌∙◌, ◌+◌, [], ◌∷◌, Some, slice_set}
 use Rattle.regress_input.specs.Reading.{way}
 use Rattle.regress_machine.specs.Machine.{running, goes, go, span, with_some, Next}
-use Rattle.regress_search.proofs.Readers.{by-only}
+use Rattle.regress_machine.proofs.CanRun.{by-only}
 use Rattle.regress_undo.specs.Ways.{state_in}
 use Rattle.regress_undo.proofs.Did.{unmarked}
 use Rattle.regress_undo.proofs.turns.groups.close_group.Goals as goal

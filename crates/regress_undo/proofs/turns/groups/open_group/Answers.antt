@@ -1,6 +1,6 @@
 use Rattle.std.proofs.Common.{ap, ◌∙◌, ◌+◌, [], ◌∷◌, None, slice_set}
 use Rattle.regress_machine.specs.Machine.{running, goes}
-use Rattle.regress_search.proofs.Readers.{by-only}
+use Rattle.regress_machine.proofs.CanRun.{by-only}
 use Rattle.regress_undo.specs.Ways.{state_in}
 use Rattle.regress_undo.proofs.Did.{unmarked}
 use Rattle.regress_undo.proofs.turns.groups.open_group.Goals as goal

@@ -1,9 +1,9 @@
 use Rattle.std.proofs.Common.{ap, ap₂, sym, subst, ◌∙◌, true, false}
 use Rattle.regress_input.specs.Reading.{led_to, way, past_spelled, characters_between}
 use Rattle.regress_machine.specs.Machine.{read_group}
-use Rattle.regress_search.specs.Passing.{same_as}
-use Rattle.regress_search.specs.States.{CanTake}
-use Rattle.regress_search.proofs.Readers.{nothing-read, group-read}
+use Rattle.regress_exec.specs.Passing.{same_as}
+use Rattle.regress_machine.specs.Turns.{CanTake}
+use Rattle.regress_exec.proofs.Readers.{nothing-read, group-read}
 use Rattle.regress_undo.specs.Ways.{state_in}
 use Rattle.regress_undo.proofs.Did.{unchanged}
 use Rattle.regress_undo.proofs.turns.groups.read_again.Goals as goal

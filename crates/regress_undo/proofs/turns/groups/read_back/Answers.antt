@@ -1,7 +1,7 @@
 use Rattle.std.proofs.Common.{ap, sym, subst, slice_get}
 use Rattle.regress_input.specs.Reading.{way}
 use Rattle.regress_machine.specs.Machine.{with_some, read_group}
-use Rattle.regress_search.proofs.Readers.{can-then}
+use Rattle.regress_machine.proofs.CanRun.{can-then}
 use Rattle.regress_undo.specs.Ways.{state_in}
 use Rattle.regress_undo.specs.Turns.{Did}
 use Rattle.regress_undo.proofs.Slots.{range-below}

@@ -1,6 +1,6 @@
 use Rattle.std.proofs.Common.{ap, ◌∙◌, ◌+◌, [], ◌∷◌}
 use Rattle.regress_machine.specs.Machine.{running, goes}
-use Rattle.regress_search.proofs.Readers.{by-only}
+use Rattle.regress_machine.proofs.CanRun.{by-only}
 use Rattle.regress_undo.proofs.Slots.{group-below}
 use Rattle.regress_undo.proofs.Did.{unmarked}
 use Rattle.regress_undo.proofs.turns.groups.reset_group.Goals as goal

@@ -2,8 +2,8 @@ use Rattle.std.proofs.Common.{◌≡◌, ap, sym, subst, ◌∙◌, Some, slice_
 use Rattle.std.specs.Prelude.{IfOk}
 use Rattle.regress_program.specs.Insns.{insn_of, loop_fields_of}
 use Rattle.regress_machine.specs.Machine.{with_some, again_at, again_with}
-use Rattle.regress_search.specs.States.{CanTake}
-use Rattle.regress_search.proofs.Readers.{can-then}
+use Rattle.regress_machine.specs.Turns.{CanTake}
+use Rattle.regress_machine.proofs.CanRun.{can-then}
 use Rattle.regress_undo.specs.Ways.{state_in, loop_in}
 use Rattle.regress_undo.specs.Turns.{Did}
 use Rattle.regress_undo.proofs.turns.loops.end_body.Goals as goal

@@ -1,6 +1,6 @@
 use Rattle.std.proofs.Common.{ap, ◌∙◌, ◌+◌, [], ◌∷◌, slice_set}
 use Rattle.regress_machine.specs.Machine.{running, goes}
-use Rattle.regress_search.specs.States.{entered_at}
+use Rattle.regress_machine.specs.Turns.{entered_at}
 use Rattle.regress_undo.specs.Ways.{state_in}
 use Rattle.regress_undo.proofs.Did.{unmarked}
 use Rattle.regress_undo.proofs.turns.loops.enter.Goals as goal

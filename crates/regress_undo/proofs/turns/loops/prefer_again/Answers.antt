@@ -1,6 +1,6 @@
 use Rattle.std.proofs.Common.{◌≡◌, ◌≤◌, ap, ap₂, ◌∙◌, ◌+◌, [], ◌∷◌, length, drop, slice_set, refl, arith}
 use Rattle.regress_machine.specs.Machine.{running, waiting, goes, at_ip}
-use Rattle.regress_search.specs.States.{entered_at}
+use Rattle.regress_machine.specs.Turns.{entered_at}
 use Rattle.regress_undo.specs.Memory.{undone}
 use Rattle.regress_undo.specs.Ways.{state_in}
 use Rattle.regress_undo.proofs.Undoing.{behind-longer}

@@ -6,7 +6,7 @@ use Rattle.regress_input.specs.Reading.{led_to, way}
 use Rattle.regress_program.specs.Code.{compiled}
 use Rattle.regress_program.specs.Insns.{insn_of}
 use Rattle.regress_machine.specs.Machine.{test_of}
-use Rattle.regress_search.proofs.Reach.{some-of}
+use Rattle.regress_exec.proofs.Reach.{some-of}
 use Rattle.regress_undo.proofs.Advancing.{advance-none, advance-more, advance-end, advance-most, advance-boundary, Advancing}
 use Rattle.regress_undo.proofs.turns.runs.advance.Goals as goal
 

@@ -1,0 +1,116 @@
+use Rattle.std.proofs.Common.{◌≡◌, ◌+◌, ◌<◌, Some, None, ap, ap₂, sym, refl, subst, ◌∙◌, option_map}
+use Rattle.regex_meaning.specs.Offsets.{IsBoundary}
+use Rattle.regex_meaning.specs.Tree.{Tree}
+use Rattle.regex_meaning.specs.Names.{names_by_id}
+use Rattle.regress_exec.specs.Answers.{answer_by}
+use Rattle.regress_exec.specs.Attempts.{IsNextTry, IsVain, ends_with, end_from, offset_behind}
+use Rattle.regress_exec.proofs.FirstMatch.{GoesFrom, found-first}
+use Rattle.regress_exec.proofs.Skips.{Walks, untried, walk-begins, walk-goes}
+use Rattle.regress_exec.proofs.places.AnyMatchProducer.next_match.Goals as goal
+
+pub places-init : goal.places-init
+places-init g c = record {
+  walks = walk-begins _ _ (g.met.A.Attempts.is_text c.args.self.now) _ _ c.requires c.place_from-next.ensures;
+  same_tree = refl;
+  same_text = refl;
+  next_start = refl;
+}
+
+pub position_behind-requires : goal.position_behind-requires
+position_behind-requires g c =
+    let a = g.A.Attempts in
+    let offset = g.A.Input.Position.PositionType.offset in
+    let tree = a.tree c.args.self.now in
+    let text = a.text c.args.self.now in
+    let is = g.met.A.Attempts.is_text c.args.self.now in
+    let first = offset c.args.pos in
+    let start = offset c.in-Some.start in
+    let walk : GoesFrom tree text first start = subst (λ o. Walks tree text first (option_map offset o)) c.in-Some.is c.places.invariant.walks in
+    let attempted : ends_with offset c.in_ok-end.field-0 (a.groups c.attempt.new.self) ≡ end_from tree text start =
+    c.in_ok-end.ensures.found ∙ ap₂ (λ t x. end_from t x start) c.places.invariant.same_tree c.places.invariant.same_text in
+    let same_tree : a.tree c.attempt.new.self ≡ tree = c.in_ok-end.ensures.same_tree ∙ c.places.invariant.same_tree in
+    let same_text : a.text c.attempt.new.self ≡ text = c.in_ok-end.ensures.same_text ∙ c.places.invariant.same_text in
+    let end = offset c.in-Some-2.end in
+    let groups = a.groups c.attempt.new.self in
+    let found = found-first tree text is first start end groups walk (sym attempted ∙ ap (λ o. ends_with offset o groups) c.in-Some-2.is) in
+    subst (λ x. IsBoundary x end) (sym (c.input.ensures ∙ same_text)) found.2
+
+pub returns-in-Some-2-clause-found : goal.returns-in-Some-2-clause-found
+returns-in-Some-2-clause-found g c =
+    let a = g.A.Attempts in
+    let offset = g.A.Input.Position.PositionType.offset in
+    let tree = a.tree c.args.self.now in
+    let text = a.text c.args.self.now in
+    let is = g.met.A.Attempts.is_text c.args.self.now in
+    let first = offset c.args.pos in
+    let start = offset c.in-Some.start in
+    let walk : GoesFrom tree text first start = subst (λ o. Walks tree text first (option_map offset o)) c.in-Some.is c.places.invariant.walks in
+    let attempted : ends_with offset c.in_ok-end.field-0 (a.groups c.attempt.new.self) ≡ end_from tree text start =
+    c.in_ok-end.ensures.found ∙ ap₂ (λ t x. end_from t x start) c.places.invariant.same_tree c.places.invariant.same_text in
+    let same_tree : a.tree c.attempt.new.self ≡ tree = c.in_ok-end.ensures.same_tree ∙ c.places.invariant.same_tree in
+    let same_text : a.text c.attempt.new.self ≡ text = c.in_ok-end.ensures.same_text ∙ c.places.invariant.same_text in
+    let end = offset c.in-Some-2.end in
+    let groups = a.groups c.attempt.new.self in
+    let found = found-first tree text is first start end groups walk (sym attempted ∙ ap (λ o. ends_with offset o groups) c.in-Some-2.is) in
+    ap Some (c.in_ok-found.ensures ∙ ap (λ (t : Tree). answer_by start end groups (names_by_id t.root)) same_tree) ∙ found.0
+
+pub returns-in-Some-2-clause-goes_on : goal.returns-in-Some-2-clause-goes_on
+returns-in-Some-2-clause-goes_on g c =
+    let a = g.A.Attempts in
+    let offset = g.A.Input.Position.PositionType.offset in
+    let tree = a.tree c.args.self.now in
+    let text = a.text c.args.self.now in
+    let is = g.met.A.Attempts.is_text c.args.self.now in
+    let first = offset c.args.pos in
+    let start = offset c.in-Some.start in
+    let walk : GoesFrom tree text first start = subst (λ o. Walks tree text first (option_map offset o)) c.in-Some.is c.places.invariant.walks in
+    let attempted : ends_with offset c.in_ok-end.field-0 (a.groups c.attempt.new.self) ≡ end_from tree text start =
+    c.in_ok-end.ensures.found ∙ ap₂ (λ t x. end_from t x start) c.places.invariant.same_tree c.places.invariant.same_text in
+    let same_tree : a.tree c.attempt.new.self ≡ tree = c.in_ok-end.ensures.same_tree ∙ c.places.invariant.same_tree in
+    let same_text : a.text c.attempt.new.self ≡ text = c.in_ok-end.ensures.same_text ∙ c.places.invariant.same_text in
+    let end = offset c.in-Some-2.end in
+    let groups = a.groups c.attempt.new.self in
+    let found = found-first tree text is first start end groups walk (sym attempted ∙ ap (λ o. ends_with offset o groups) c.in-Some-2.is) in
+    c.position_behind.ensures ∙ ap (λ x. offset_behind x start end) (c.input.ensures ∙ same_text) ∙ found.1
+
+pub places-smaller : goal.places-smaller
+places-smaller g c =
+    let a = g.A.Attempts in
+    let offset = g.A.Input.Position.PositionType.offset in
+    let tree = a.tree c.args.self.now in
+    let text = a.text c.args.self.now in
+    let is = g.met.A.Attempts.is_text c.args.self.now in
+    let first = offset c.args.pos in
+    let start = offset c.in-Some.start in
+    let walk : GoesFrom tree text first start = subst (λ o. Walks tree text first (option_map offset o)) c.in-Some.is c.places.invariant.walks in
+    let attempted : ends_with offset c.in_ok-end.field-0 (a.groups c.attempt.new.self) ≡ end_from tree text start =
+    c.in_ok-end.ensures.found ∙ ap₂ (λ t x. end_from t x start) c.places.invariant.same_tree c.places.invariant.same_text in
+    let same_tree : a.tree c.attempt.new.self ≡ tree = c.in_ok-end.ensures.same_tree ∙ c.places.invariant.same_tree in
+    let same_text : a.text c.attempt.new.self ≡ text = c.in_ok-end.ensures.same_text ∙ c.places.invariant.same_text in
+    let vain : IsVain tree text start = sym attempted ∙ ap (λ o. ends_with offset o (a.groups c.attempt.new.self)) c.in_default-2.is in
+    let next : IsNextTry tree text (start + 1) (option_map offset c.place_behind-next.result) =
+    subst (λ t. IsNextTry t text (start + 1) (option_map offset c.place_behind-next.result)) same_tree
+    (subst (λ x. IsNextTry (a.tree c.attempt.new.self) x (start + 1) (option_map offset c.place_behind-next.result)) same_text c.place_behind-next.ensures) in
+    let goes = walk-goes tree text is first start (option_map offset c.place_behind-next.result) walk vain next in
+    subst (λ o. untried text (option_map offset c.place_behind-next.result) < untried text (option_map offset o)) (sym c.in-Some.is) goes.1
+
+pub places-preserved : goal.places-preserved
+places-preserved g c =
+    let a = g.A.Attempts in
+    let offset = g.A.Input.Position.PositionType.offset in
+    let tree = a.tree c.args.self.now in
+    let text = a.text c.args.self.now in
+    let is = g.met.A.Attempts.is_text c.args.self.now in
+    let first = offset c.args.pos in
+    let start = offset c.in-Some.start in
+    let walk : GoesFrom tree text first start = subst (λ o. Walks tree text first (option_map offset o)) c.in-Some.is c.places.invariant.walks in
+    let attempted : ends_with offset c.in_ok-end.field-0 (a.groups c.attempt.new.self) ≡ end_from tree text start =
+    c.in_ok-end.ensures.found ∙ ap₂ (λ t x. end_from t x start) c.places.invariant.same_tree c.places.invariant.same_text in
+    let same_tree : a.tree c.attempt.new.self ≡ tree = c.in_ok-end.ensures.same_tree ∙ c.places.invariant.same_tree in
+    let same_text : a.text c.attempt.new.self ≡ text = c.in_ok-end.ensures.same_text ∙ c.places.invariant.same_text in
+    let vain : IsVain tree text start = sym attempted ∙ ap (λ o. ends_with offset o (a.groups c.attempt.new.self)) c.in_default-2.is in
+    let next : IsNextTry tree text (start + 1) (option_map offset c.place_behind-next.result) =
+    subst (λ t. IsNextTry t text (start + 1) (option_map offset c.place_behind-next.result)) same_tree
+    (subst (λ x. IsNextTry (a.tree c.attempt.new.self) x (start + 1) (option_map offset c.place_behind-next.result)) same_text c.place_behind-next.ensures) in
+    let goes = walk-goes tree text is first start (option_map offset c.place_behind-next.result) walk vain next in
+    record { walks = goes.0; same_tree = same_tree; same_text = same_text; next_start = c.places.invariant.next_start }

@@ -1,0 +1,17 @@
+use Rattle.std.proofs.Common.{◌≡◌, option_map}
+use Rattle.regress_exec.proofs.Skips.{Walks, untried}
+use Rattle.regress_exec.proofs.places.AnyMatchProducer.next_match.Given as goal
+
+abbrev pub invariant-places : goal.invariant-places
+invariant-places g l =
+    let a = g.A.Attempts in
+    let offset = g.A.Input.Position.PositionType.offset in
+    record {
+      walks : Walks (a.tree l.initial.self) (a.text l.initial.self) (offset l.fn.pos) (option_map offset l.next);
+      same_tree : a.tree l.self ≡ a.tree l.initial.self;
+      same_text : a.text l.self ≡ a.text l.initial.self;
+      next_start : l.next_start ≡ l.initial.next_start;
+    }
+
+abbrev pub decreases-places : goal.decreases-places
+decreases-places g l = untried (g.A.Attempts.text l.initial.self) (option_map g.A.Input.Position.PositionType.offset l.next)

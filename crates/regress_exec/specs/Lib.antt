@@ -1,0 +1,6 @@
+pub mod Answers
+pub mod ToCome
+pub mod Passing
+pub mod Attempts
+pub mod InTurn
+pub mod Positions

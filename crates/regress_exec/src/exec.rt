@@ -1,0 +1,176 @@
+//! Finding matches in turn.
+
+ghost use Rattle.std.specs.Prelude.{◌≡◌, ◌<◌, ◌≤◌, ◌⊎◌, ℕ, Bool, map, option_map, IfOk, OnErr, OnSome, IfNone, if◌then◌else◌, nat_le, not, Some, None, string_bytes};
+ghost use Rattle.std.specs.Iterator.{at_most};
+ghost use Rattle.std.specs.Option.{ForSome};
+ghost use Rattle.regex_meaning.specs.Tree.{Node};
+ghost use Rattle.regex_meaning.specs.Text.{Text};
+ghost use Rattle.regex_meaning.specs.Offsets.{IsText, IsBoundary, units};
+ghost use Rattle.regex_meaning.specs.Answers.{first_answer, next_start as start_behind};
+ghost use Rattle.regex_meaning.specs.Names.{answers_from};
+ghost use Rattle.regex_pattern_front.specs.TreeOf.{tree_of};
+ghost use Rattle.regress_exec.specs.ToCome.{ToCome, coming, Gives, items_left};
+
+use regress_input::position::PositionType;
+use regress_program::insn::CompiledRegex;
+use std::alloc::AllocError;
+use std::marker::Model;
+use std::ops::Range;
+
+pub mod groups;
+pub mod in_turn;
+
+/// Why a search was refused.
+#[derive(Clone, Copy, Debug, PartialEq, Eq)]
+pub enum SearchError {
+    /// There was no memory.
+    Memory,
+}
+
+impl From<AllocError> for SearchError {
+    ghost use Rattle.regress_exec.specs.declared.exec.SearchError.TheVariants.{Memory};
+
+    ghost from_gives = { λ _ e. e ≡ Memory };
+
+    fn from(_: AllocError) -> SearchError {
+        SearchError::Memory
+    }
+}
+
+/// A match: a range of the text in units, and those of its groups.
+#[derive(Drop)]
+pub struct Match {
+    /// The whole match.
+    pub range: Range<usize>,
+    /// The ranges of the groups by id, `None` where a group did not match.
+    pub captures: Vec<Option<Range<usize>>>,
+    names: Vec<String>,
+}
+
+impl Match {
+    ghost use Rattle.regress_exec.specs.Answers.{answer_of, range_of};
+
+    /// The match with this range and these groups, and the names by id, as they are given.
+    pub fn from_parts(
+        range: Range<usize>,
+        captures: Vec<Option<Range<usize>>>,
+        names: Vec<String>,
+    ) -> Self
+        ensures { answer_of result ≡ record { range = range_of range; captures = map (option_map range_of) captures.items; names = map string_bytes names.items } }
+    {
+        Match {
+            range,
+            captures,
+            names,
+        }
+    }
+}
+
+/// What finds the matches of a pattern in a text, one at a time. Contracts see the pattern's tree and the text.
+pub trait MatchProducer {
+    ghost use Rattle.regress_exec.specs.Answers.{answer_of};
+
+    type Position: PositionType;
+
+    ghost root: { Self → Node };
+
+    ghost text: { Self → Text };
+
+    /// The position of an offset in units, which is a boundary or past the end; none where it is past the end.
+    fn initial_position(&self, offset: usize) -> Option<Self::Position>
+        requires { IsBoundary (text self.now) offset ⊎ (units (text self.now) < offset) }
+        ensures { option_map Self.Position.offset result ≡ (if nat_le offset (units (text self.now)) then Some offset else None) };
+
+    /// The first match from a position on. `next_start` becomes the position from which the list of matches
+    /// goes on, none where it does not; without a match, and on a refusal, it stays as it was.
+    fn next_match(
+        &mut self,
+        pos: Self::Position,
+        next_start: &mut Option<Self::Position>,
+    ) -> Result<Option<Match>, SearchError>
+        requires { IsBoundary (text self.old) (Self.Position.offset pos) }
+        ensures found { IfOk result (λ m. option_map answer_of m ≡ first_answer (root self.old) (text self.old) (Self.Position.offset pos)) }
+        ensures goes_on { IfOk result (λ m. OnSome m (option_map Self.Position.offset next_start.new ≡ start_behind (root self.old) (text self.old) (Self.Position.offset pos))) }
+        ensures none { IfOk result (λ m. IfNone m (next_start.new ≡ next_start.old)) }
+        ensures refused { OnErr result (next_start.new ≡ next_start.old) }
+        ensures same_root { root self.new ≡ root self.old }
+        ensures same_text { text self.new ≡ text self.old };
+
+    ghost is_text: { (it : Self) → IsText (text it) };
+}
+
+/// A producer of matches that is made of a program and a text. `can_search` says which texts it takes, and `text_of`
+/// what characters it reads in one, by the flag `unicode`.
+pub trait Searcher<'r>: MatchProducer {
+    /// The text as it is given, with its lifetime.
+    type Text;
+
+    ghost can_search: { Self.Text → Type 0 };
+
+    ghost text_of: { Self.Text → (unicode : Bool) → Text };
+
+    /// Searches `text` with the program `re`.
+    fn new(re: &'r CompiledRegex, text: Self::Text) -> Result<Self, AllocError>
+    where
+        Self: Sized,
+        requires { can_search text }
+        ensures root { IfOk result (λ e. Self.root e ≡ (tree_of re.now).root) }
+        ensures text { IfOk result (λ e. Self.text e ≡ text_of text (tree_of re.now).flags.unicode) };
+}
+
+/// Runs a program for bytes over a `str`. What makes one is `new` of `Searcher`.
+pub trait Executor<'r, 't>: Searcher<'r, Text = &'t str> {
+    /// The executor of this kind over texts of ASCII. Where a function needs that it is one, its bounds say so.
+    type AsAscii;
+}
+
+/// The matches of a pattern in a text from a start on. Contracts see the answers still to come.
+#[derive(Drop)]
+pub struct Matches<P: MatchProducer> {
+    mp: P,
+    position: Option<P::Position>,
+}
+
+impl<P: MatchProducer> Model for Matches<P> {
+    ghost Value = { ToCome };
+
+    ghost view = { λ m. coming (P.root m.mp) (P.text m.mp) (option_map P.Position.offset m.position) };
+
+    ghost invariant = { λ m. ForSome m.position (λ p. IsBoundary (P.text m.mp) (P.Position.offset p)) };
+}
+
+impl<P: MatchProducer> Matches<P> {
+    /// The matches from an offset in units on, which is a boundary or past the end; past the end there are none.
+    pub fn new(mp: P, start: usize) -> Self
+        requires { IsBoundary (P.text mp) start ⊎ (units (P.text mp) < start) }
+        ensures answers { result.answers ≡ answers_from (P.root mp) (P.text mp) start }
+        ensures ended { result.ended ≡ not (nat_le start (units (P.text mp))) }
+    {
+        let position = mp.initial_position(start);
+        Matches { mp, position }
+    }
+}
+
+impl<P: MatchProducer + Drop> Iterator for Matches<P> {
+    type Item = Result<Match, SearchError>;
+
+    ghost next_gives = { Gives };
+
+    ghost remaining = { λ s. at_most (items_left s) };
+
+    /// The next match; none for good once there is no other, or after a refusal.
+    fn next(&mut self) -> Option<Result<Match, SearchError>> {
+        let pos = self.position?;
+        match self.mp.next_match(pos, &mut self.position) {
+            Ok(Some(found)) => Some(Ok(found)),
+            Ok(None) => {
+                self.position = None;
+                None
+            }
+            Err(refused) => {
+                self.position = None;
+                Some(Err(refused))
+            }
+        }
+    }
+}

@@ -1,0 +1,187 @@
+//! The walk over the places of a text, once for all executors.
+
+ghost use Rattle.std.specs.Prelude.{◌≡◌, ◌+◌, ◌≤◌, IfOk, map, option_map, string_bytes, length};
+ghost use Rattle.regex_meaning.specs.Tree.{Tree};
+ghost use Rattle.regex_meaning.specs.Text.{Text};
+ghost use Rattle.regex_meaning.specs.Offsets.{IsText, IsBoundary};
+ghost use Rattle.regex_meaning.specs.Outcomes.{Groups, group_range};
+ghost use Rattle.regex_meaning.specs.Names.{names_by_id};
+ghost use Rattle.regex_pattern_front.specs.TreeOf.{tree_of};
+ghost use Rattle.regress_program.specs.Code.{compiled};
+ghost use Rattle.regress_exec.specs.Answers.{answer_by, answer_of, range_of};
+ghost use Rattle.regress_exec.specs.Attempts.{IsNextTry, IsVain, ends_with, end_from, offset_behind};
+ghost use Rattle.regress_exec.specs.Positions.{span_of};
+
+use crate::exec::{Match, MatchProducer, SearchError};
+use regress_input::indexing::InputIndexer;
+use regress_program::insn::Program;
+use std::alloc::AllocError;
+use std::ops::Range;
+
+/// An executor that tries one place at a time. Contracts see the tree whose program it runs, the text, and the groups
+/// of the last attempt that found an end.
+pub trait Attempts {
+    /// The text that is searched.
+    type Input: InputIndexer;
+
+    ghost tree: { Self → Tree };
+
+    ghost text: { Self → Text };
+
+    ghost groups: { Self → Groups };
+
+    /// The program that is run.
+    fn program(&self) -> &Program
+        ensures { tree_of result.now ≡ tree self.now };
+
+    /// The input that is read.
+    fn input(&self) -> &Self::Input
+        ensures { Self.Input.text result.now ≡ text self.now };
+
+    /// The end of the most preferred match that begins at a position, which leaves its groups to be asked for.
+    fn attempt(
+        &mut self,
+        pos: <Self::Input as InputIndexer>::Position,
+    ) -> Result<Option<<Self::Input as InputIndexer>::Position>, SearchError>
+        requires { IsBoundary (text self.old) (Self.Input.Position.offset pos) }
+        ensures found { IfOk result (λ end. ends_with Self.Input.Position.offset end (groups self.new) ≡ end_from (tree self.old) (text self.old) (Self.Input.Position.offset pos)) }
+        ensures same_tree { tree self.new ≡ tree self.old }
+        ensures same_text { text self.new ≡ text self.old };
+
+    /// How many groups the last attempt that found an end had.
+    fn group_count(&self) -> usize
+        ensures { result ≡ length (groups self.now) };
+
+    /// A group of the last attempt that found an end; none where it did not match.
+    fn group(
+        &self,
+        id: usize,
+    ) -> Option<
+        (
+            <Self::Input as InputIndexer>::Position,
+            <Self::Input as InputIndexer>::Position,
+        ),
+    >
+        ensures { option_map (span_of Self.Input.Position.offset) result ≡ group_range (groups self.now) id };
+
+    /// The first position to try from one on: no match begins before it. None where none begins from there on.
+    fn place_from(
+        &self,
+        pos: <Self::Input as InputIndexer>::Position,
+    ) -> Option<<Self::Input as InputIndexer>::Position>
+        requires { IsBoundary (text self.now) (Self.Input.Position.offset pos) }
+        ensures { IsNextTry (tree self.now) (text self.now) (Self.Input.Position.offset pos) (option_map Self.Input.Position.offset result) };
+
+    /// The first position to try behind one that was tried in vain: no match begins between them. None where none
+    /// begins behind it.
+    fn place_behind(
+        &self,
+        tried: <Self::Input as InputIndexer>::Position,
+    ) -> Option<<Self::Input as InputIndexer>::Position>
+        requires at { IsBoundary (text self.now) (Self.Input.Position.offset tried) }
+        requires vain { IsVain (tree self.now) (text self.now) (Self.Input.Position.offset tried) }
+        ensures { IsNextTry (tree self.now) (text self.now) (Self.Input.Position.offset tried + 1) (option_map Self.Input.Position.offset result) };
+
+    ghost is_text: { (it : Self) → IsText (text it) };
+}
+
+// A group's range in offsets.
+fn in_offsets<Input: InputIndexer>(
+    input: &Input,
+    range: Option<(Input::Position, Input::Position)>,
+) -> Option<Range<usize>>
+    ensures { option_map range_of result ≡ option_map (span_of Input.Position.offset) range }
+{
+    match range {
+        None => None,
+        Some((start, end)) => Some(input.pos_to_offset(start)..input.pos_to_offset(end)),
+    }
+}
+
+// The groups of the last attempt that found an end, in offsets.
+fn captures_of<A: Attempts>(executor: &A) -> Result<Vec<Option<Range<usize>>>, AllocError>
+    ensures { IfOk result (λ v. map (option_map range_of) v.items ≡ A.groups executor.now) }
+{
+    let input = executor.input();
+    let count = executor.group_count();
+    let mut captures = Vec::with_capacity(executor.program().allocator(), count)?;
+    for id in 0..count {
+        captures.push(in_offsets(input, executor.group(id)))?;
+    }
+    Ok(captures)
+}
+
+// The names of a program's groups once more.
+fn names_of(program: &Program) -> Result<Vec<String>, AllocError>
+    ensures { IfOk result (λ v. map string_bytes v.items ≡ (compiled (tree_of program.now)).group_names) }
+{
+    let alloc = program.allocator();
+    let mut names = Vec::new(alloc);
+    for name in program.group_names() {
+        names.push(String::from_str(alloc, name.as_str())?)?;
+    }
+    Ok(names)
+}
+
+// The match that begins at a position and ends at another, with the groups of the last attempt.
+fn successful_match<A: Attempts>(
+    executor: &A,
+    start: <A::Input as InputIndexer>::Position,
+    end: <A::Input as InputIndexer>::Position,
+) -> Result<Match, AllocError>
+    ensures { IfOk result (λ m. answer_of m ≡ answer_by (A.Input.Position.offset start) (A.Input.Position.offset end) (A.groups executor.now) (names_by_id (A.tree executor.now).root)) }
+{
+    let captures = captures_of(executor)?;
+    let names = names_of(executor.program())?;
+    let input = executor.input();
+    let range = input.pos_to_offset(start)..input.pos_to_offset(end);
+    Ok(Match::from_parts(range, captures, names))
+}
+
+// The position from which the list goes on behind a match: its end, or one character on where it is empty.
+fn position_behind<Input: InputIndexer>(
+    input: &Input,
+    start: Input::Position,
+    end: Input::Position,
+) -> Option<Input::Position>
+    requires { IsBoundary (Input.text input.now) (Input.Position.offset end) }
+    ensures { option_map Input.Position.offset result ≡ offset_behind (Input.text input.now) (Input.Position.offset start) (Input.Position.offset end) }
+{
+    if input.pos_to_offset(start) < input.pos_to_offset(end) {
+        Some(end)
+    } else {
+        input.next_right_pos(end)
+    }
+}
+
+impl<A: Attempts> MatchProducer for A {
+    type Position = <A::Input as InputIndexer>::Position;
+
+    ghost root = { λ e. (A.tree e).root };
+
+    ghost text = { A.text };
+
+    ghost is_text = { A.is_text };
+
+    fn initial_position(&self, offset: usize) -> Option<<A::Input as InputIndexer>::Position> {
+        let input = self.input();
+        input.try_move_right(input.left_end(), offset)
+    }
+
+    fn next_match(
+        &mut self,
+        pos: <A::Input as InputIndexer>::Position,
+        next_start: &mut Option<<A::Input as InputIndexer>::Position>,
+    ) -> Result<Option<Match>, SearchError> {
+        let mut next = self.place_from(pos);
+        'places: while let Some(start) = next {
+            if let Some(end) = self.attempt(start)? {
+                let found = successful_match(self, start, end)?;
+                *next_start = position_behind(self.input(), start, end);
+                return Ok(Some(found));
+            }
+            next = self.place_behind(start);
+        }
+        Ok(None)
+    }
+}

@@ -1,0 +1,75 @@
+//! What an executor searches, and with which program.
+
+ghost use Rattle.std.specs.Prelude.{◌≡◌, IsAscii, IsTrue, IsSome, false, option_map};
+ghost use Rattle.std.specs.Option.{option_map_or};
+ghost use Rattle.regex_meaning.specs.Text.{ascii_text, utf8_text};
+ghost use Rattle.regex_meaning.specs.WellFormed.{is_well_formed};
+ghost use Rattle.regex_pattern_front.specs.TreeOf.{tree_of};
+ghost use Rattle.regress_program.specs.Code.{compiled};
+ghost use Rattle.regress_program.specs.Insns.{start_of};
+ghost use Rattle.regress_machine.specs.Bytes.{ReadsBytes, reads_bytes};
+ghost use Rattle.regress_exec.specs.Attempts.{anchors};
+ghost use Rattle.regress_exec.specs.Passing.{IsInBytes};
+
+use regress_input::indexing::{AsciiInput, InputIndexer, Utf8Input};
+use regress_program::insn::{CompiledRegex, Program, StartPredicate};
+
+/// A program, and a text that it can search: characters are folded as the program's flags say, and where the program
+/// reads bytes the text is one of bytes. With a start predicate, which is one on bytes, it always is.
+#[derive(Drop)]
+pub struct Searched<'r, Input: InputIndexer> {
+    pub program: &'r Program,
+    /// What the text has to start with where the pattern matches, if that is known.
+    pub start_pred: Option<&'r StartPredicate>,
+    pub input: Input,
+    ghost unicode: { (Input.text input).unicode ≡ (tree_of program.now).flags.unicode },
+    ghost well_formed: { IsTrue (is_well_formed (tree_of program.now).root) },
+    ghost bytes: { IsTrue (reads_bytes (tree_of program.now).root) → IsInBytes (Input.text input) Input.Units.ARE_BYTES },
+    ghost predicted: { option_map (λ p. start_of p.now) start_pred ≡ option_map (λ _. (compiled (tree_of program.now)).start_pred) start_pred },
+    ghost scalars: { IsSome start_pred → ReadsBytes (Input.text input) },
+}
+
+impl<'r, Input: InputIndexer> Searched<'r, Input> {
+    /// Whether it is known that matches stand at the left end alone, so that behind a place without one there is none.
+    #[inline(always)]
+    pub fn is_anchored(&self) -> bool
+        ensures { result ≡ option_map_or (λ p. anchors (start_of p.now)) self.now.start_pred false }
+    {
+        matches!(self.start_pred, Some(StartPredicate::StartAnchored))
+    }
+}
+
+impl<'r, 't> Searched<'r, Utf8Input<'t>> {
+    /// A program over a text in UTF-8.
+    pub fn in_utf8(re: &'r CompiledRegex, text: &'t str) -> Self
+        ensures program { tree_of result.program.now ≡ tree_of re.now }
+        ensures text { ⟦<Utf8Input<'t> as InputIndexer>⟧.text result.input ≡ utf8_text text.now (tree_of re.now).flags.unicode }
+    {
+        let program = re.program();
+        let flags = program.flags();
+        let _well_formed = program.insns();
+        Searched {
+            program,
+            start_pred: Some(re.start_pred()),
+            input: Utf8Input::new(text, flags.unicode),
+        }
+    }
+}
+
+impl<'r, 't> Searched<'r, AsciiInput<'t>> {
+    /// A program over a text of ASCII (`is_ascii` is the test).
+    pub fn in_ascii(re: &'r CompiledRegex, text: &'t str) -> Self
+        requires { IsAscii text.now }
+        ensures program { tree_of result.program.now ≡ tree_of re.now }
+        ensures text { ⟦<AsciiInput<'t> as InputIndexer>⟧.text result.input ≡ ascii_text text.now (tree_of re.now).flags.unicode }
+    {
+        let program = re.program();
+        let flags = program.flags();
+        let _well_formed = program.insns();
+        Searched {
+            program,
+            start_pred: Some(re.start_pred()),
+            input: AsciiInput::new(text, flags.unicode),
+        }
+    }
+}

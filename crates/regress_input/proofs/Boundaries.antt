@@ -14,8 +14,9 @@ use Rattle.regress_input.specs.Spellings.{sized_utf8, sized_utf16}
 use Rattle.regress_input.proofs.Lists.{get-cons, get-front, get-behind}
 use Rattle.regress_input.proofs.Places.{step_right, step_left}
 use Rattle.regress_input.proofs.Spelled.{offset-spelling, offset-behind}
-use Rattle.regress_input.proofs.Utf8Reads.{encode_one, encode_two, encode_three, encode_four, len_utf8-positive}
-use Rattle.regress_input.proofs.Utf16Reads.{positive}
+use Rattle.regress_input.proofs.Utf8Reads.{encode_two, encode_three, encode_four}
+use Rattle.regex_meaning.proofs.FirstBytes.{encode-1}
+use Rattle.regex_meaning.proofs.TextLemmas.{len_utf8-positive, utf16_width-positive}
 
 -- ---- In every encoding
 
@@ -25,7 +26,7 @@ width e c = length (spelled_in e c)
 -- a character has a unit
 pub has-unit : (e : Encoding) (c : ℕ) → 0 < length (spelled_in e c)
 has-unit utf8 c = omega (arith, sized_utf8 c, len_utf8-positive c)
-has-unit utf16 c = omega (arith, sized_utf16 c, positive c)
+has-unit utf16 c = omega (arith, sized_utf16 c, utf16_width-positive c)
 has-unit ucs2 c = omega arith
 
 module _ (e : Encoding) (text : Text) (s : IsSpelledIn e text) where
@@ -131,7 +132,7 @@ byte-of c i b g = by (cases_lt c 128) (cases_lt c 2048) (cases_lt c 65536)
     four (suc (suc (suc (suc i)))) x y z v l e = absurd (cc)
 
     by : (c < 128) ⊎ (128 ≤ c) → (c < 2048) ⊎ (2048 ≤ c) → (c < 65536) ⊎ (65536 ≤ c) → continues b ≡ is_further i
-    by (inl l) _ _ = one i l (seen _ (encode_one c l))
+    by (inl l) _ _ = one i l (seen _ (encode-1 c l))
     by (inr l) (inl h) _ = two i _ c (omega arith) (seen _ (encode_two c l h))
     by (inr _) (inr l) (inl h) = three i _ (c / 64) c (omega arith) (seen _ (encode_three c l h))
     by (inr _) (inr _) (inr l) = four i _ (c / 4096) (c / 64) c (omega arith) (seen _ (encode_four c l))

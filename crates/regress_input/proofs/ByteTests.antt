@@ -19,7 +19,8 @@ use Rattle.regress_input.specs.Reading.{IsInUtf8, bytes_of, byte_beside, one_on,
 use Rattle.regress_input.specs.Utf8.{StandsAt, EndsAt}
 use Rattle.regress_input.proofs.Spelled.{ReadsRight, ReadsLeft, reads_right, reads_left, at_end, before_character, at_start, behind_character, text_of, length-units}
 use Rattle.regress_input.proofs.Slices.{same_option, StandBehind, StandBefore, past_bytes-right, right-past_bytes, past_bytes-left, left-past_bytes, chosen}
-use Rattle.regress_input.proofs.Utf8Reads.{Bytes, one, two, three, four, bytes_at, back_one, back_two, back_three, back_four, encodes-flat_map, len_utf8-positive, scalar_among}
+use Rattle.regress_input.proofs.Utf8Reads.{Bytes, one, two, three, four, bytes_at, back_one, back_two, back_three, back_four, encodes-flat_map, scalar_among}
+use Rattle.regex_meaning.proofs.TextLemmas.{len_utf8-positive}
 
 -- ---- Sets of ASCII bytes
 

@@ -6,7 +6,8 @@ use Rattle.regress_input.specs.Reading.{part, characters_between, past_spelled, 
 use Rattle.regress_input.specs.Utf16.{AreUnits, if_boundary}
 use Rattle.regress_input.proofs.Spelled.{text_of}
 use Rattle.regress_input.proofs.Slices.{range-units, part-is, found-right, found-left, IsInjective, past_bytes-right, right-past_bytes, past_bytes-left, left-past_bytes, chosen}
-use Rattle.regress_input.proofs.Utf16Reads.{spell, sized, positive, spelled, Decoded, decoded, decoded-take, decoded-drop, decode, unit_boundary, boundary_of_units}
+use Rattle.regress_input.proofs.Utf16Reads.{spell, sized, spelled, Decoded, decoded, decoded-take, decoded-drop, decode, unit_boundary, boundary_of_units}
+use Rattle.regex_meaning.proofs.TextLemmas.{utf16_width-positive}
 
 -- what a test of the boundary leaves
 kept : (us : List ℕ) (o : Option ℕ) (to : ℕ) → if_boundary us o ≡ Some to → (o ≡ Some to) × (is_unit_boundary us to ≡ true)
@@ -26,28 +27,28 @@ module _ (us : List ℕ) (small : AreUnits us) (unicode : Bool) where
   range_decoded : (p q : ℕ) → Decoded (slice_range cs p q)
   range_decoded p q = decoded-take (drop p cs) (q - p) (decoded-drop cs p (decoded us small))
 
-  injective : IsInjective spell utf16_width sized cs us unicode (fold_code_point unicode) (spelled us small) positive
+  injective : IsInjective spell utf16_width sized cs us unicode (fold_code_point unicode) (spelled us small) utf16_width-positive
   injective p q i j e =
       sym (decode (slice_range cs p q) (range_decoded p q)) ∙ ap utf16_characters e ∙ decode (slice_range cs i j) (range_decoded i j)
 
   -- a range of the units is the text of that range
   pub part-utf16 : (a b : ℕ) → IsBoundary text a → IsBoundary text b → a ≤ b → utf16_text (slice_range us a b) unicode ≡ part text a b
   part-utf16 a b f g l =
-      let units = range-units spell utf16_width sized cs us unicode (fold_code_point unicode) (spelled us small) positive a b f g l in
+      let units = range-units spell utf16_width sized cs us unicode (fold_code_point unicode) (spelled us small) utf16_width-positive a b f g l in
       let characters : utf16_characters (slice_range us a b) ≡ characters_between text a b = ap utf16_characters units ∙ decode (characters_between text a b) (range_decoded _ _) in
       ap (λ (cs : List ℕ). text_of utf16_width cs unicode (fold_code_point unicode)) characters
-      ∙ part-is spell utf16_width sized cs us unicode (fold_code_point unicode) (spelled us small) positive a b f g l
+      ∙ part-is spell utf16_width sized cs us unicode (fold_code_point unicode) (spelled us small) utf16_width-positive a b f g l
 
   -- the units of a range stand beside a boundary, up to another one, just where its characters do
   pub literal : (d : Direction) (at a b : ℕ) → IsBoundary text at → IsBoundary text a → IsBoundary text b → a ≤ b
       → if_boundary us (past_bytes us (slice_range us a b) d at) ≡ past_spelled text nat_eq (characters_between text a b) d at
   literal rightwards at a b at_b f g l =
       let found = past_bytes us (slice_range us a b) rightwards at in
-      found-right spell utf16_width sized cs us unicode (fold_code_point unicode) (spelled us small) positive injective at a b at_b f g l (if_boundary us found)
+      found-right spell utf16_width sized cs us unicode (fold_code_point unicode) (spelled us small) utf16_width-positive injective at a b at_b f g l (if_boundary us found)
       (λ to e. let h = kept us found to e in (past_bytes-right us (slice_range us a b) at to h.0, boundary_of_units us small unicode to h.1))
       (λ to h b'. keeps us found to (right-past_bytes us (slice_range us a b) at to h) (unit_boundary us small unicode to b'))
   literal leftwards at a b at_b f g l =
       let found = past_bytes us (slice_range us a b) leftwards at in
-      found-left spell utf16_width sized cs us unicode (fold_code_point unicode) (spelled us small) positive injective at a b at_b f g l (if_boundary us found)
+      found-left spell utf16_width sized cs us unicode (fold_code_point unicode) (spelled us small) utf16_width-positive injective at a b at_b f g l (if_boundary us found)
       (λ to e. let h = kept us found to e in (past_bytes-left us (slice_range us a b) at to h.0, boundary_of_units us small unicode to h.1))
       (λ to h b'. keeps us found to (left-past_bytes us (slice_range us a b) at to h) (unit_boundary us small unicode to b'))

@@ -6,12 +6,12 @@ use Rattle.std.proofs.lemmas.List.Folds.{drop_split}
 use lib.Utf8.{scalars, encode, encodes}
 use Rattle.regex_meaning.specs.Text.{Text, Direction, rightwards, leftwards, utf8_text, fold_char}
 use Rattle.regex_meaning.specs.Offsets.{IsBoundary, offset}
-use Rattle.regex_meaning.proofs.TextLemmas.{utf8_text-IsText, offset-IsBoundary}
+use Rattle.regex_meaning.proofs.TextLemmas.{utf8_text-IsText, offset-IsBoundary, len_utf8-positive}
 use Rattle.regress_input.specs.Reading.{part, characters_between, past_spelled, past_bytes}
 use Rattle.regress_input.proofs.Places.{HasPlace}
 use Rattle.regress_input.proofs.Spelled.{text_of, cut_at, offset-spelling, Cut}
 use Rattle.regress_input.proofs.Slices.{StandBehind, StandBefore, range-units, part-is, literal-right, literal-left, IsInjective, take-slice}
-use Rattle.regress_input.proofs.Utf8Reads.{encodes-flat_map, spelled_by, len_utf8-positive, scalar_first}
+use Rattle.regress_input.proofs.Utf8Reads.{encodes-flat_map, spelled_by, scalar_first}
 
 scalars-take : (cs : List ℕ) (n : ℕ) → scalars cs ≡ true → scalars (take n cs) ≡ true
 scalars-take [] zero s = refl

@@ -1,9 +1,12 @@
-pub mod Undoing
-pub mod Slots
-pub mod Did
-pub mod Advancing
+mod Undoing
+mod Slots
+pub mod LastMark
+pub mod Turning
+pub mod Arms
+pub mod Loops
 pub mod Ranges
 pub mod Runs
-pub mod Taken
+pub mod Nearer
+pub mod Going
+pub mod Advancing
 pub mod Scanning
-pub mod Back

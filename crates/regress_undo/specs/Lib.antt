@@ -1,4 +1,5 @@
 pub mod Memory
 pub mod Ways
+pub mod Steps
+pub mod Ranges
 pub mod Turns
-pub mod Runs

@@ -1,6 +1,7 @@
 //! The executor that keeps one state and undoes its changes.
 #![tactic(auto)]
 
+pub mod back;
+pub mod here;
 pub mod memory;
-pub mod turns;
-pub mod ways;
+pub mod steps;

@@ -1,16 +1,19 @@
-//! What a search remembers: a row of slots, and a log of the values that they had.
+//! What a search remembers: a row of slots, a log of the values that they had, and the ways still to try.
 
-ghost use Rattle.std.specs.Prelude.{◌≡◌, ◌<◌, ◌≤◌, ◌+◌, ◌-◌, ◌^◌, ◌++◌, ℕ, [], ◌∷◌, length, take, drop, slice_get, slice_set, slice_index_or, Some, None, OnOk, OnErr, IsTrue};
-ghost use Rattle.regress_undo.specs.Memory.{undone, are_within, change_of, first_slots};
-ghost use Rattle.regress_undo.specs.Ways.{state_in, loop_in, IsBehind};
+ghost use Rattle.std.specs.Prelude.{◌≡◌, ◌<◌, ◌≤◌, ◌+◌, ◌-◌, ◌^◌, ◌++◌, ℕ, [], ◌∷◌, length, take, slice_get, slice_set, Some, OnOk, OnErr, IfOk, IsTrue};
+ghost use Rattle.regress_undo.specs.Memory.{Held, undone, are_within, first_slots, state_of, loop_in, with_marks, IsUndone, IsSet, Becomes, with_open, without_range, with_range, with_iteration};
 
 use std::alloc::{AllocError, Global};
+use std::marker::Model;
 
-/// Two numbers of a search.
+/// Of a group: the offset at which it was opened last, and its range in offsets, if it has one. Of a loop: its finished
+/// iterations, and as `from` the offset at which the current one began.
 #[derive(Clone, Copy)]
 pub struct Slot {
-    pub first: usize,
-    pub second: usize,
+    pub number: usize,
+    pub from: usize,
+    pub to: usize,
+    pub has_range: bool,
 }
 
 /// What a slot held before a change.
@@ -20,57 +23,101 @@ pub struct Change {
     pub old: Slot,
 }
 
-/// The slots, and how to take their changes back. For each group there is the slot of where it was opened last and
-/// whether it has a range, then for each that of its range, and then for each loop that of its finished iterations and
-/// where the current one began.
+/// Which offsets a mark stands for.
+#[derive(Clone, Copy, PartialEq, Eq)]
+pub enum Kind {
+    /// `next` alone.
+    One,
+    /// Those of the characters from `next` to `last`, in this order.
+    Run,
+}
+
+/// A way still to try: an instruction and offsets from which to go on, and how long the log of changes was.
+#[derive(Clone, Copy)]
+pub struct Mark {
+    pub ip: u32,
+    pub kind: Kind,
+    pub next: usize,
+    pub last: usize,
+    pub log: usize,
+}
+
+/// The slots, how to take their changes back, and the marks. Contracts see their lists. Log and marks are the first so
+/// many of their vectors, which only grow.
 #[derive(Drop)]
 pub struct Memory {
-    pub groups: usize,
-    pub slots: Vec<Slot>,
-    pub log: Vec<Change>,
-    ghost laid_out: { groups + groups ≤ length slots.items },
-    ghost within: { IsTrue (are_within (length slots.items) log.items) },
+    groups: usize,
+    slots: Vec<Slot>,
+    log: Vec<Change>,
+    logged: usize,
+    marks: Vec<Mark>,
+    marked: usize,
+}
+
+impl Model for Memory {
+    ghost Value = { Held };
+
+    ghost view = { λ m. record { groups = m.groups; slots = m.slots.items; log = take m.logged m.log.items; marks = take m.marked m.marks.items } };
+
+    ghost invariant = { λ m. (m.groups ≤ length m.slots.items) × (m.logged ≤ length m.log.items) × (m.marked ≤ length m.marks.items) × IsTrue (are_within (length m.slots.items) (take m.logged m.log.items)) };
+}
+
+// Makes a row longer.
+#[cold]
+#[inline(never)]
+fn grow<T: Copy + Drop>(row: &mut Vec<T>, value: T) -> Result<(), AllocError>
+    ensures longer { OnOk result (length row.old.items < length row.new.items) }
+    ensures kept { OnOk result (take (length row.old.items) row.new.items ≡ row.old.items) }
+    ensures refused { OnErr result (row.new.items ≡ row.old.items) }
+{
+    let len = row.len();
+    if len < 0x4000_0000_0000_0000 {
+        row.resize(len * 2 + 8, value)
+    } else {
+        row.push(value)?;
+        Ok(())
+    }
 }
 
 impl Memory {
-    /// No slots.
+    /// No slots, of no groups.
     pub fn new(alloc: Global) -> Self
-        ensures groups { result.groups ≡ 0 }
-        ensures slots { result.slots.items ≡ [] }
-        ensures log { result.log.items ≡ [] }
+        ensures { result ≡ record { groups = 0; slots = []; log = []; marks = [] } }
     {
         Memory {
             groups: 0,
             slots: Vec::new(alloc),
             log: Vec::new(alloc),
+            logged: 0,
+            marks: Vec::new(alloc),
+            marked: 0,
         }
     }
 
-    /// The slots of so many groups and loops before a search from an offset, and an empty log.
+    /// The slots of so many groups and loops before a search from an offset, an empty log and no mark. It takes memory
+    /// only where there were fewer slots before.
     pub fn begin(&mut self, groups: usize, loops: usize, at: usize) -> Result<(), AllocError>
-        requires { groups + groups + loops < 2 ^ 64 }
-        ensures groups { OnOk result (self.new.groups ≡ groups) }
-        ensures slots { OnOk result (self.new.slots.items ≡ first_slots groups loops at) }
-        ensures log { OnOk result (self.new.log.items ≡ []) }
+        requires { groups + loops < 2 ^ 64 }
+        ensures { OnOk result (self.new ≡ record { groups = groups; slots = first_slots groups loops at; log = []; marks = [] }) }
     {
-        let opened = Slot {
-            first: at,
-            second: 0,
-        };
-        let range = Slot {
-            first: 0,
-            second: 0,
+        let closed = Slot {
+            number: at,
+            from: 0,
+            to: 0,
+            has_range: false,
         };
         let counted = Slot {
-            first: 0,
-            second: at,
+            number: 0,
+            from: at,
+            to: 0,
+            has_range: false,
         };
         self.groups = 0;
-        self.log.clear();
+        self.logged = 0;
+        self.marked = 0;
         self.slots.clear();
-        self.slots.resize(groups, opened)?;
-        self.slots.resize(groups + groups, range)?;
-        self.slots.resize(groups + groups + loops, counted)?;
+        self.slots.resize(groups, closed)?;
+        self.slots.resize(groups + loops, counted)?;
         self.groups = groups;
         Ok(())
     }
@@ -78,30 +125,100 @@ impl Memory {
     // Changes a slot, and notes what it held. Without memory nothing is changed.
     #[inline(always)]
     fn set(&mut self, slot: usize, value: Slot) -> Result<(), AllocError>
-        requires { slot < length self.old.slots.items }
-        ensures groups { self.new.groups ≡ self.old.groups }
-        ensures slots { OnOk result (self.new.slots.items ≡ slice_set self.old.slots.items slot value) }
-        ensures log { OnOk result (self.new.log.items ≡ self.old.log.items ++ change_of self.old.slots.items slot ∷ []) }
+        requires { slot < length self.old.slots }
+        ensures set { OnOk result (IsSet slot value self.old self.new) }
+        ensures refused { OnErr result (self.new ≡ self.old) }
     {
         let old = self.slots[slot];
-        self.log.push(Change { slot, old })?;
+        let change = Change { slot, old };
+        if self.logged >= self.log.len() {
+            grow(&mut self.log, change)?;
+        }
+        self.log[self.logged] = change;
+        self.logged += 1;
         self.slots[slot] = value;
         Ok(())
     }
 
-    /// Takes the changes back that are noted from this one on.
-    pub fn undo_to(&mut self, len: usize)
-        requires { len ≤ length self.old.log.items }
-        ensures groups { self.new.groups ≡ self.old.groups }
-        ensures slots { self.new.slots.items ≡ undone self.old.slots.items (drop len self.old.log.items) }
-        ensures log { self.new.log.items ≡ take len self.old.log.items }
+    /// How many changes are noted.
+    #[inline(always)]
+    pub fn logged(&self) -> usize
+        ensures { result ≡ length self.now.log }
     {
-        'changes: while self.log.len() > len {
-            let Some(change) = self.log.pop() else {
-                return;
-            };
-            self.slots[change.slot] = change.old;
+        self.logged
+    }
+
+    /// Takes the changes back that are noted from this one on.
+    #[inline(always)]
+    pub fn undo_to(&mut self, len: usize)
+        requires { len ≤ length self.old.log }
+        ensures { IsUndone len self.old self.new }
+    {
+        'changes: while self.logged() > len {
+            self.undo_last();
         }
+    }
+
+    // Takes the last change back.
+    #[inline(always)]
+    fn undo_last(&mut self)
+        requires { 0 < length self.old.log }
+        ensures { IsUndone (length self.old.log - 1) self.old self.new }
+    {
+        self.logged -= 1;
+        let change = self.log[self.logged];
+        self.slots[change.slot] = change.old;
+    }
+
+    // ---- Marks
+
+    /// How many ways are still to try.
+    #[inline(always)]
+    pub fn marked(&self) -> usize
+        ensures { result ≡ length self.now.marks }
+    {
+        self.marked
+    }
+
+    /// One way more, behind the others. Without memory nothing is changed.
+    #[inline(always)]
+    pub fn mark(&mut self, mark: Mark) -> Result<(), AllocError>
+        ensures marked { OnOk result (self.new ≡ with_marks (self.old.marks ++ mark ∷ []) self.old) }
+        ensures refused { OnErr result (self.new ≡ self.old) }
+    {
+        if self.marked >= self.marks.len() {
+            grow(&mut self.marks, mark)?;
+        }
+        self.marks[self.marked] = mark;
+        self.marked += 1;
+        Ok(())
+    }
+
+    /// The mark with this number.
+    #[inline(always)]
+    pub fn mark_at(&self, index: usize) -> Mark
+        requires { index < length self.now.marks }
+        ensures { slice_get self.now.marks index ≡ Some result }
+    {
+        self.marks[index]
+    }
+
+    /// Leaves so many marks.
+    #[inline(always)]
+    pub fn keep_marks(&mut self, len: usize)
+        requires { len ≤ length self.old.marks }
+        ensures { self.new ≡ with_marks (take len self.old.marks) self.old }
+    {
+        self.marked = len;
+    }
+
+    /// Puts a mark in the place of the one with this number.
+    #[inline(always)]
+    pub fn set_mark(&mut self, index: usize, mark: Mark)
+        requires { index < length self.old.marks }
+        ensures { self.new ≡ with_marks (slice_set self.old.marks index mark) self.old }
+    {
+        self.marks[index] = mark;
     }
 
     // ---- Groups
@@ -110,14 +227,16 @@ impl Memory {
     #[inline(always)]
     pub fn open_group(&mut self, id: usize, at: usize) -> Result<(), AllocError>
         requires { id < self.old.groups }
-        ensures groups { self.new.groups ≡ self.old.groups }
-        ensures behind { OnOk result (IsBehind self.old.slots.items self.old.log.items self.new.slots.items self.new.log.items) }
-        ensures opened { OnOk result ((ip pos : ℕ) → state_in self.new.groups self.new.slots.items ip pos ≡ record (state_in self.old.groups self.old.slots.items ip pos) { groups = slice_set (state_in self.old.groups self.old.slots.items ip pos).groups id None; starts = slice_set (state_in self.old.groups self.old.slots.items ip pos).starts id at }) }
+        ensures opened { OnOk result (Becomes (with_open id at) self.old self.new) }
+        ensures refused { OnErr result (self.new ≡ self.old) }
     {
         let opened = Slot {
-            first: at,
-            second: 0,
+            number: at,
+            from: 0,
+            to: 0,
+            has_range: false,
         };
+        let _laid_out = self.groups;
         self.set(id, opened)
     }
 
@@ -125,13 +244,12 @@ impl Memory {
     #[inline(always)]
     pub fn reset_group(&mut self, id: usize) -> Result<(), AllocError>
         requires { id < self.old.groups }
-        ensures groups { self.new.groups ≡ self.old.groups }
-        ensures behind { OnOk result (IsBehind self.old.slots.items self.old.log.items self.new.slots.items self.new.log.items) }
-        ensures reset { OnOk result ((ip pos : ℕ) → state_in self.new.groups self.new.slots.items ip pos ≡ record (state_in self.old.groups self.old.slots.items ip pos) { groups = slice_set (state_in self.old.groups self.old.slots.items ip pos).groups id None }) }
+        ensures reset { OnOk result (Becomes (without_range id) self.old self.new) }
+        ensures refused { OnErr result (self.new ≡ self.old) }
     {
         let reset = Slot {
-            first: self.slots[id].first,
-            second: 0,
+            has_range: false,
+            ..self.slots[id]
         };
         self.set(id, reset)
     }
@@ -140,19 +258,15 @@ impl Memory {
     #[inline(always)]
     pub fn close_group(&mut self, id: usize, from: usize, to: usize) -> Result<(), AllocError>
         requires { id < self.old.groups }
-        ensures groups { self.new.groups ≡ self.old.groups }
-        ensures behind { OnOk result (IsBehind self.old.slots.items self.old.log.items self.new.slots.items self.new.log.items) }
-        ensures closed { OnOk result ((ip pos : ℕ) → state_in self.new.groups self.new.slots.items ip pos ≡ record (state_in self.old.groups self.old.slots.items ip pos) { groups = slice_set (state_in self.old.groups self.old.slots.items ip pos).groups id (Some (from, to)) }) }
+        ensures closed { OnOk result (Becomes (with_range id from to) self.old self.new) }
+        ensures refused { OnErr result (self.new ≡ self.old) }
     {
-        let range = Slot {
-            first: from,
-            second: to,
-        };
         let closed = Slot {
-            first: self.slots[id].first,
-            second: 1,
+            from,
+            to,
+            has_range: true,
+            ..self.slots[id]
         };
-        self.set(self.groups + id, range)?;
         self.set(id, closed)
     }
 
@@ -160,22 +274,22 @@ impl Memory {
     #[inline(always)]
     pub fn start_of(&self, id: usize) -> usize
         requires { id < self.now.groups }
-        ensures { (ip pos : ℕ) → slice_get (state_in self.now.groups self.now.slots.items ip pos).starts id ≡ Some result }
+        ensures { slice_get (state_of self.now 0 0).starts id ≡ Some result }
     {
-        self.slots[id].first
+        self.slots[id].number
     }
 
     /// A group's range, if it has one.
     #[inline(always)]
     pub fn range_of(&self, id: usize) -> Option<(usize, usize)>
         requires { id < self.now.groups }
-        ensures { (ip pos : ℕ) → slice_get (state_in self.now.groups self.now.slots.items ip pos).groups id ≡ Some result }
+        ensures { slice_get (state_of self.now 0 0).groups id ≡ Some result }
     {
-        if self.slots[id].second == 0 {
-            None
+        let slot = self.slots[id];
+        if slot.has_range {
+            Some((slot.from, slot.to))
         } else {
-            let range = self.slots[self.groups + id];
-            Some((range.first, range.second))
+            None
         }
     }
 
@@ -184,24 +298,25 @@ impl Memory {
     /// Begins iteration `k` of a loop at an offset.
     #[inline(always)]
     pub fn enter_loop(&mut self, id: usize, k: usize, at: usize) -> Result<(), AllocError>
-        requires { self.old.groups + self.old.groups + id < length self.old.slots.items }
-        ensures groups { self.new.groups ≡ self.old.groups }
-        ensures behind { OnOk result (IsBehind self.old.slots.items self.old.log.items self.new.slots.items self.new.log.items) }
-        ensures entered { OnOk result ((ip pos : ℕ) → state_in self.new.groups self.new.slots.items ip pos ≡ record (state_in self.old.groups self.old.slots.items ip pos) { loops = slice_set (state_in self.old.groups self.old.slots.items ip pos).loops id (record { iters = k; entry = at }) }) }
+        requires { self.old.groups + id < length self.old.slots }
+        ensures entered { OnOk result (Becomes (with_iteration id k at) self.old self.new) }
+        ensures refused { OnErr result (self.new ≡ self.old) }
     {
         let entered = Slot {
-            first: k,
-            second: at,
+            number: k,
+            from: at,
+            to: 0,
+            has_range: false,
         };
-        self.set(self.groups + self.groups + id, entered)
+        self.set(self.groups + id, entered)
     }
 
     /// A loop's finished iterations, and where the current one began.
     #[inline(always)]
     pub fn loop_data(&self, id: usize) -> Slot
-        requires { self.now.groups + self.now.groups + id < length self.now.slots.items }
-        ensures { (ip pos : ℕ) → slice_get (state_in self.now.groups self.now.slots.items ip pos).loops id ≡ Some (loop_in result) }
+        requires { self.now.groups + id < length self.now.slots }
+        ensures { slice_get (state_of self.now 0 0).loops id ≡ Some (loop_in result) }
     {
-        self.slots[self.groups + self.groups + id]
+        self.slots[self.groups + id]
     }
 }

@@ -1,14 +1,13 @@
-use Rattle.std.proofs.Common.{ap₂, ◌∙◌}
-use Rattle.regress_undo.specs.Ways.{state_in}
-use Rattle.regress_undo.proofs.Undoing.{both-ok, set-behind}
-use Rattle.regress_undo.proofs.Slots.{enters}
+use Rattle.regress_undo.specs.Memory.{Held, IsSet, with_iteration}
+use Rattle.std.proofs.Common.{ap, subst}
+use Rattle.std.specs.Prelude.{◌+◌, OnOk, false}
+use Rattle.regress_undo.specs.declared.memory.Slot.{Slot}
+use Rattle.regress_undo.proofs.Slots.{ok-more, becomes, enters}
 use Rattle.regress_undo.proofs.memory.Memory.enter_loop.Goals as goal
-
-pub returns-clause-behind : goal.returns-clause-behind
-returns-clause-behind c = both-ok c.set.result (λ s l. set-behind c.args.self.now.slots.items c.args.self.now.log.items _ _ _ _ s l) c.set.ensures.slots c.set.ensures.log
 
 pub returns-clause-entered : goal.returns-clause-entered
 returns-clause-entered c =
-    let self = c.args.self.now in
-    both-ok c.set.result (λ s l ip pos. ap₂ (λ groups slots. state_in groups slots ip pos) c.set.ensures.groups s
-    ∙ enters self.groups self.slots.items self.laid_out ip pos c.args.id (record { first = c.args.k; second = c.args.at })) c.set.ensures.slots c.set.ensures.log
+    let h = c.args.self.now in
+    let entered : Slot = record { number = c.args.k; from = c.args.at; to = 0; has_range = false } in
+    ok-more c.set-2.result (becomes (with_iteration c.args.id c.args.k c.args.at) (h.groups + c.args.id) entered h c.set-2.new.self
+    (λ ip pos. enters h.groups h.slots ip pos c.args.id entered)) (subst (λ g. OnOk c.set-2.result (IsSet (g + c.args.id) entered h c.set-2.new.self)) (ap (λ (h : Held). h.groups) c.set.view_is) c.set-2.ensures.set)

@@ -1,14 +1,11 @@
-use Rattle.std.proofs.Common.{ap₂, refl, ◌∙◌}
-use Rattle.regress_undo.specs.Ways.{state_in}
-use Rattle.regress_undo.proofs.Undoing.{both-ok, set-behind}
-use Rattle.regress_undo.proofs.Slots.{opens}
+use Rattle.std.specs.Prelude.{false}
+use Rattle.regress_undo.specs.Memory.{with_open}
+use Rattle.regress_undo.specs.declared.memory.Slot.{Slot}
+use Rattle.regress_undo.proofs.Slots.{ok-more, becomes, opens}
 use Rattle.regress_undo.proofs.memory.Memory.open_group.Goals as goal
-
-pub returns-clause-behind : goal.returns-clause-behind
-returns-clause-behind c = both-ok c.set.result (λ s l. set-behind c.args.self.now.slots.items c.args.self.now.log.items _ _ _ _ s l) c.set.ensures.slots c.set.ensures.log
 
 pub returns-clause-opened : goal.returns-clause-opened
 returns-clause-opened c =
-    let self = c.args.self.now in
-    both-ok c.set.result (λ s l ip pos. ap₂ (λ groups slots. state_in groups slots ip pos) c.set.ensures.groups s
-    ∙ opens self.groups self.slots.items self.laid_out ip pos c.args.id c.requires (record { first = c.args.at; second = 0 }) refl) c.set.ensures.slots c.set.ensures.log
+    let h = c.args.self.now in
+    let opened : Slot = record { number = c.args.at; from = 0; to = 0; has_range = false } in
+    ok-more c.set.result (becomes (with_open c.args.id c.args.at) c.args.id opened h c.set.new.self (λ ip pos. opens h.groups h.slots ip pos c.args.id c.requires opened)) c.set.ensures.set

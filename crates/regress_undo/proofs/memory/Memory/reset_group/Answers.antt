@@ -1,15 +1,12 @@
-use Rattle.std.proofs.Common.{ap₂, refl, ◌∙◌}
-use Rattle.regress_undo.specs.Ways.{state_in}
-use Rattle.regress_undo.proofs.Undoing.{both-ok, set-behind}
-use Rattle.regress_undo.proofs.Slots.{resets}
+use Rattle.std.proofs.Common.{refl, sym}
+use Rattle.std.specs.Prelude.{slice_index_or, false}
+use Rattle.regress_undo.specs.Memory.{without_range, no_slot}
+use Rattle.regress_undo.proofs.Slots.{ok-more, becomes, keeps}
 use Rattle.regress_undo.proofs.memory.Memory.reset_group.Goals as goal
-
-pub returns-clause-behind : goal.returns-clause-behind
-returns-clause-behind c = both-ok c.set.result (λ s l. set-behind c.args.self.now.slots.items c.args.self.now.log.items _ _ _ _ s l) c.set.ensures.slots c.set.ensures.log
 
 pub returns-clause-reset : goal.returns-clause-reset
 returns-clause-reset c =
-    let self = c.args.self.now in
-    both-ok c.set.result (λ s l ip pos. ap₂ (λ groups slots. state_in groups slots ip pos) c.set.ensures.groups s
-    ∙ resets self.groups self.slots.items self.laid_out ip pos c.args.id c.requires (record { first = c.index.result.now.first; second = 0 }) c.index.result.now c.index.ensures refl refl)
-    c.set.ensures.slots c.set.ensures.log
+    let h = c.args.self.now in
+    let reset = record (c.index.result.now) { has_range = false } in
+    ok-more c.set.result (becomes (without_range c.args.id) c.args.id reset h c.set.new.self
+    (λ ip pos. keeps h.groups h.slots ip pos c.args.id c.requires reset c.index.result.now (rw (sym c.self.view_is) c.index.ensures) refl)) c.set.ensures.set

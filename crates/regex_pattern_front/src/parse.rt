@@ -1,6 +1,7 @@
 //! From the text of a pattern to its tree.
 
-ghost use Rattle.std.specs.Prelude.{◌≡◌, ℕ, ◌<◌, ◌≤◌, length, IfOk, OnOk, IsTrue};
+ghost use Rattle.std.specs.Prelude.{◌≡◌, ℕ, ◌<◌, ◌≤◌, false, length, IfOk, OnOk, IsTrue};
+ghost use Rattle.regex_meaning.specs.Layout.{reads_bytes};
 ghost use Rattle.regex_meaning.specs.WellFormed.{is_well_formed};
 ghost use Rattle.regex_pattern_front.specs.TreeOf.{node_of, tree_of};
 ghost use Rattle.regex_pattern_front.specs.Parts.{IsPart, AreParts, IsLeaf};
@@ -49,6 +50,7 @@ impl<T: Drop> From<AllocFailed<T>> for ParseError {
 pub fn try_parse(alloc: Global, pattern: &[u32], flags: Flags) -> Result<Regex, ParseError>
     ensures flags { IfOk result (λ re. re.flags ≡ flags) }
     ensures well_formed { IfOk result (λ re. IsTrue (is_well_formed (tree_of re).root)) }
+    ensures characters { IfOk result (λ re. reads_bytes (tree_of re).root ≡ false) }
 {
     let mut parser = Parser {
         alloc,

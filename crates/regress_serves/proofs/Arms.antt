@@ -7,13 +7,13 @@ use Rattle.regex_meaning.specs.Text.{Text, Direction}
 use Rattle.regex_meaning.specs.Offsets.{place_at}
 use Rattle.regex_meaning.specs.Ticks.{nearest_first}
 use Rattle.regex_meaning.specs.Layout.{Program, LoopFields, JustFail, Jump, Alt, EnterLoop, LoopAgain, ResetCaptureGroup, Loop1CharBody, BeginCaptureGroup, EndCaptureGroup}
-use Rattle.regex_meaning.proofs.FirstBytes.{true-lt}
 use Rattle.regress_machine.specs.Machine.{LoopData, State, Thread, running, waiting, goes, scans, at_ip, next_ip, go_if, with_some, only_if, in_turn, loop_turn, again_with, again_at, test_of, scan, act_on, act, span, go}
 use Rattle.regress_serves.specs.Serves.{Serves, FindsNothing}
 use Rattle.regress_serves.specs.Runs.{most_first, fewest_first}
 use Rattle.regress_serves.proofs.Rows.{both-ways, first-way, second-way, no-way, only-way, only-way-barred, dead-end}
 use Rattle.regress_serves.proofs.Loops.{only-serves, some-serves, again, leave, head-greedy, head-lazy, head-again, head-leave, head-dead}
 use Rattle.regress_serves.proofs.Runs.{run-turn}
+use Rattle.std.proofs.lemmas.Bool.{ltb-true}
 
 module _ (program : Program) (text : Text) (d : Direction) (s : State) where
   -- the state goes on as this one, where it goes on
@@ -85,7 +85,7 @@ module _ (program : Program) (text : Text) (d : Direction) (s : State) where
 
     with-slot : (exact : Bool) (n : ℕ) (us : List Thread) → (f.loop_id < length s.loops → Serves program text exact d n us (running s ∷ [])) → Serves program text exact d n us (running s ∷ [])
     with-slot exact n us h =
-        only-serves program text d exact n us s (nat_lt f.loop_id (length s.loops)) _ is (λ inside there. h (true-lt f.loop_id (length s.loops) inside))
+        only-serves program text d exact n us s (nat_lt f.loop_id (length s.loops)) _ is (λ inside there. h (ltb-true f.loop_id (length s.loops) inside))
 
     pub loop-again : (exact : Bool) → k < f.max_iters → k < f.min_iters → Serves program text exact d 1 (running on ∷ []) (running s ∷ [])
     loop-again exact more few = with-slot exact 1 (running on ∷ []) (λ inside. only-way program text d s on (is ∙ head-again f begin k s inside more few) exact)
@@ -133,7 +133,7 @@ module _ (program : Program) (text : Text) (d : Direction) (s : State) where
   arm-again exact n us begin f here there h =
       some-serves program text d exact n us s (slice_get s.loops f.loop_id) (λ e. again_with f begin e s)
       (ap (λ i. act_on program text d i s) here ∙ ap (λ i. again_at i begin s) there)
-      (λ e known is. only-serves program text d exact n us s (nat_lt e.iters f.max_iters) _ is (λ before there. h e known (true-lt e.iters f.max_iters before)))
+      (λ e known is. only-serves program text d exact n us s (nat_lt e.iters f.max_iters) _ is (λ before there. h e known (ltb-true e.iters f.max_iters before)))
 
   -- ---- A loop over one character
 

@@ -13,10 +13,11 @@ use Rattle.regex_meaning.specs.Lists.{contains, numbers_from}
 use Rattle.regex_meaning.specs.Tree as tree
 use Rattle.regex_meaning.specs.Tree.{group_ids, every, empty, goal, char, char_set, byte_set, byte_sequence, cat, end_of_cat, alt, bracket, string_set, match_any, match_any_except_line_terminator, anchor, word_boundary, capture_group, back_ref, lookaround, loop, loop_1_char_body, Lookaround, Quantifier}
 use Rattle.regex_meaning.specs.WellFormed.{goal_count, encloses, is_in_order, names_the_groups_inside, refers_to_a_group, has_order_in_quantifier, has_one_character_body, has_text_in_sequence, fits_instructions, is_well_formed}
+use Rattle.regex_meaning.specs.Layout.{reads_bytes}
 use Rattle.regex_meaning.proofs.WellFormedLemmas.{by_clauses}
 use Rattle.regex_pattern_front.specs.declared.ir.Node.{Node}
 use Rattle.regex_pattern_front.specs.TreeOf.{node_of, cat_of}
-use Rattle.regex_pattern_front.specs.Parts.{is_sound, times, once_within, IsPart, AreParts, IsMadeOf, KeepsParts, IsLeaf}
+use Rattle.regex_pattern_front.specs.Parts.{is_of_characters, is_sound, times, once_within, IsPart, AreParts, IsMadeOf, KeepsParts, IsLeaf}
 use Rattle.regex_pattern_front.proofs.ByteLemmas.{contains-numbers_from}
 use Rattle.regex_meaning.proofs.Booleans.{and-left, and-right}
 use Rattle.regex_meaning.proofs.Lists.{list_all-members}
@@ -57,7 +58,7 @@ pub record Sound (greatest : ℕ) (n : tree.Node) : Type 0 where
   pub refers : refers_to_a_group greatest n ≡ true
   pub order : has_order_in_quantifier n ≡ true
   pub body : has_one_character_body n ≡ true
-  pub text : has_text_in_sequence n ≡ true
+  pub characters : is_of_characters n ≡ true
   pub fits : fits_instructions n ≡ true
 
 six : (a b c d e f : Bool) → (a && b && c && d && e && f) ≡ true
@@ -72,10 +73,10 @@ six a b c d e f h =
 pub Sound-from : (greatest : ℕ) (n : tree.Node) → is_sound greatest n ≡ true → Sound greatest n
 Sound-from greatest n h =
     let p = six _ _ _ _ _ _ h in
-    record { names = p.0; refers = p.1; order = p.2; body = p.3; text = p.4; fits = p.5 }
+    record { names = p.0; refers = p.1; order = p.2; body = p.3; characters = p.4; fits = p.5 }
 
 pub sound-from : (greatest : ℕ) (n : tree.Node) → Sound greatest n → is_sound greatest n ≡ true
-sound-from greatest n s = and_from _ _ (and_from _ _ (and_from _ _ (and_from _ _ (and_from _ _ s.names s.refers) s.order) s.body) s.text) s.fits
+sound-from greatest n s = and_from _ _ (and_from _ _ (and_from _ _ (and_from _ _ (and_from _ _ s.names s.refers) s.order) s.body) s.characters) s.fits
 
 refers-more : (greatest more : ℕ) (n : tree.Node) → greatest ≤ more → refers_to_a_group greatest n ≡ true → refers_to_a_group more n ≡ true
 refers-more greatest more (back_ref group icase) h k =
@@ -87,7 +88,7 @@ refers-more greatest more _ h k = refl
 sound-more : (greatest more : ℕ) (n : tree.Node) → greatest ≤ more → is_sound greatest n ≡ true → is_sound more n ≡ true
 sound-more greatest more n h k =
     let s = Sound-from greatest n k in
-    sound-from more n (record { names = s.names; refers = refers-more greatest more n h s.refers; order = s.order; body = s.body; text = s.text; fits = s.fits })
+    sound-from more n (record { names = s.names; refers = refers-more greatest more n h s.refers; order = s.order; body = s.body; characters = s.characters; fits = s.fits })
 
 every-more : (greatest more : ℕ) (n : tree.Node) → greatest ≤ more → every (is_sound greatest) n ≡ true → every (is_sound more) n ≡ true
 every-more greatest more n h k = every-weaker (is_sound greatest) (is_sound more) (λ m. sound-more greatest more m h) n k
@@ -329,7 +330,7 @@ part-lookaround first end greatest negate backwards n p = record {
   goals = omega (arith, p.goals);
   count = p.count;
   ids = p.ids;
-  sound = and_from _ _ (sound-from greatest (lookaround (record { negate = negate; backwards = backwards; start_group = first; end_group = end }) n) (record { names = part-encloses first end greatest n p; refers = refl; order = refl; body = refl; text = refl; fits = refl })) p.sound;
+  sound = and_from _ _ (sound-from greatest (lookaround (record { negate = negate; backwards = backwards; start_group = first; end_group = end }) n) (record { names = part-encloses first end greatest n p; refers = refl; order = refl; body = refl; characters = refl; fits = refl })) p.sound;
 }
 
 pub part-loop : (first end greatest : ℕ) (q : Quantifier) (n : tree.Node) → is_in_order q ≡ true → IsPart first end greatest n
@@ -338,8 +339,28 @@ part-loop first end greatest q n order p = record {
   goals = omega (arith, p.goals);
   count = p.count;
   ids = p.ids;
-  sound = and_from _ _ (sound-from greatest (loop q first end n) (record { names = part-encloses first end greatest n p; refers = refl; order = order; body = refl; text = refl; fits = refl })) p.sound;
+  sound = and_from _ _ (sound-from greatest (loop q first end n) (record { names = part-encloses first end greatest n p; refers = refl; order = order; body = refl; characters = refl; fits = refl })) p.sound;
 }
+
+-- ---- Characters
+
+text-from : (n : tree.Node) → is_of_characters n ≡ true → has_text_in_sequence n ≡ true
+text-from (byte_sequence bytes) h = grind arith
+text-from _ h = refl
+
+neither : (a b : Bool) → a ≡ false → b ≡ false → (a || b) ≡ false
+neither a b h k = rw (h, k) refl
+
+reads-none : (n : tree.Node) → every is_of_characters n ≡ true → reads_bytes n ≡ false
+reads-none (byte_set members) h = grind arith
+reads-none (byte_sequence bytes) h = grind arith
+reads-none (cat first rest) h = neither _ _ (reads-none first (and-left _ (every is_of_characters rest) h)) (reads-none rest (and-right (every is_of_characters first) _ h))
+reads-none (alt first rest) h = neither _ _ (reads-none first (and-left _ (every is_of_characters rest) h)) (reads-none rest (and-right (every is_of_characters first) _ h))
+reads-none (capture_group id name contents) h = reads-none contents h
+reads-none (lookaround l contents) h = reads-none contents h
+reads-none (loop q s e loopee) h = reads-none loopee h
+reads-none (loop_1_char_body q loopee) h = reads-none loopee h
+reads-none _ h = refl
 
 -- ---- The whole pattern
 
@@ -350,6 +371,9 @@ whole-every : (greatest : ℕ) (n : tree.Node) (test : tree.Node → Bool) → (
     → every (is_sound greatest) n ≡ true → every test (cat n (cat goal end_of_cat)) ≡ true
 whole-every greatest n test weaker h =
     every-weaker (is_sound greatest) test weaker (cat n (cat goal end_of_cat)) (and_from _ _ (and_from _ _ refl h) refl)
+
+pub whole-reads_none : (greatest : ℕ) (n : tree.Node) → every (is_sound greatest) n ≡ true → reads_bytes (cat n (cat goal end_of_cat)) ≡ false
+whole-reads_none greatest n h = reads-none (cat n (cat goal end_of_cat)) (whole-every greatest n is_of_characters (λ m k. (Sound-from greatest m k).characters) h)
 
 pub whole : (groups greatest : ℕ) (n : tree.Node) → greatest ≤ groups → IsPart 0 groups greatest n → IsTrue (is_well_formed (cat n (cat goal end_of_cat)))
 whole groups greatest n within p =
@@ -366,7 +390,7 @@ whole groups greatest n within p =
           (λ m k. refers-more greatest (length (group_ids (cat n (cat goal end_of_cat)))) m (omega (arith, root_count)) (Sound-from greatest m k).refers) p.sound;
       quantifiers = whole-every greatest n has_order_in_quantifier (λ m k. (Sound-from greatest m k).order) p.sound;
       bodies = whole-every greatest n has_one_character_body (λ m k. (Sound-from greatest m k).body) p.sound;
-      sequences = whole-every greatest n has_text_in_sequence (λ m k. (Sound-from greatest m k).text) p.sound;
+      sequences = whole-every greatest n has_text_in_sequence (λ m k. text-from m (Sound-from greatest m k).characters) p.sound;
       sets = whole-every greatest n fits_instructions (λ m k. (Sound-from greatest m k).fits) p.sound;
     })
 

@@ -1,6 +1,7 @@
 //! From the text of a pattern to its tree.
 
-ghost use Rattle.std.specs.Prelude.{◌≡◌, ℕ, ◌+◌, ◌<◌, ◌≤◌, length, IfOk, OnOk, IsTrue};
+ghost use Rattle.std.specs.Prelude.{◌≡◌, ℕ, ◌+◌, ◌<◌, ◌≤◌, false, length, IfOk, OnOk, IsTrue};
+ghost use Rattle.regex_meaning.specs.Layout.{reads_bytes};
 ghost use Rattle.regex_meaning.specs.WellFormed.{is_well_formed};
 ghost use Rattle.regex_pattern_front.specs.TreeOf.{node_of, tree_of};
 ghost use Rattle.regex_pattern_front.specs.Parts.{IsPart};
@@ -53,6 +54,7 @@ impl<T: Drop> From<AllocFailed<T>> for ParseError {
 pub fn try_parse(alloc: Global, pattern: &[u32], flags: Flags) -> Result<Regex, ParseError>
     ensures flags { IfOk result (λ re. re.flags ≡ flags) }
     ensures well_formed { IfOk result (λ re. IsTrue (is_well_formed (tree_of re).root)) }
+    ensures characters { IfOk result (λ re. reads_bytes (tree_of re).root ≡ false) }
 {
     let mut parser = Parser {
         leaves: LeafReader {
@@ -176,7 +178,8 @@ impl Parser<'_> {
     // The root of what was read, if nothing is open and each reference has its group.
     fn finish(self) -> Result<Node, ParseError>
         requires { IsReading self }
-        ensures { IfOk result (λ n. IsTrue (is_well_formed (node_of n))) }
+        ensures well_formed { IfOk result (λ n. IsTrue (is_well_formed (node_of n))) }
+        ensures characters { IfOk result (λ n. reads_bytes (node_of n) ≡ false) }
     {
         if !self.around.is_empty() || self.leaves.references > u32::from(self.groups) {
             return Err(ParseError::Syntax);

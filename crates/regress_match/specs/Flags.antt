@@ -1,6 +1,6 @@
 -- The public flags as the definitions have them.
 use Rattle.regex_meaning.specs.Tree as tree
-use Rattle.regress_match.specs.declared.api.Flags.{Flags}
+use Rattle.regress_match.specs.declared.api.flags.Flags.{Flags}
 
 abbrev pub flags_of : Flags → tree.Flags
 flags_of f = record {

@@ -1,3 +1,4 @@
 pub mod Flags
 pub mod Programs
+pub mod Refusals
 pub mod Trees

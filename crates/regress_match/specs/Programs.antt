@@ -6,7 +6,7 @@ use Rattle.regex_meaning.specs.Names.{Answer, answers_from}
 use Rattle.regex_meaning.specs.WellFormed.{is_well_formed}
 use Rattle.regex_pattern_front.specs.TreeOf.{tree_of}
 use Rattle.regress_match.specs.Trees.{tree_to_run}
-use Rattle.regress_match.specs.declared.api.Regex.{Regex}
+use Rattle.regress_match.specs.declared.api.regex.Regex.{Regex}
 
 -- the tree of the program that searches texts in bytes
 abbrev pub byte_tree : Regex → Tree

@@ -1,8 +1,13 @@
 //! Regular expressions with the syntax and meaning of ECMAScript: the match engine of the crate `regress`.
 //!
-//! A [`Regex`](api::Regex) is compiled from a pattern; its searches yield exactly the pattern tree's list of
-//! matches: at the least place with a match the most preferred one, and then on from there.
+//! A [`Regex`] is compiled from a pattern; its searches yield exactly the pattern tree's list of matches: at the least
+//! place with a match the most preferred one, and then on from there.
 #![tactic(auto)]
 
 pub mod api;
+pub mod backends;
 pub mod program;
+
+pub use crate::api::{
+    AsciiMatches, Error, Flags, Groups, Match, Matches, NamedGroups, Range, Regex, SearchError, escape,
+};

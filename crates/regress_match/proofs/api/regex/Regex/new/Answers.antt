@@ -1,7 +1,7 @@
 use Rattle.std.proofs.Common.{subst}
 use Rattle.regress_match.proofs.FlagLemmas.{IfOk-map, flags-none}
 use Rattle.regress_match.specs.Programs.{IsCompiledWith}
-use Rattle.regress_match.proofs.api.Regex.new.Goals as goal
+use Rattle.regress_match.proofs.api.regex.Regex.new.Goals as goal
 
 pub returns : goal.returns
 returns c =

@@ -1,6 +1,6 @@
 use Rattle.std.proofs.Common.{◌∙◌}
 use Rattle.regress_match.proofs.FlagLemmas.{contains-by, flags-by_letters}
-use Rattle.regress_match.proofs.api.FlagsFromRefStr.from.Goals as goal
+use Rattle.regress_match.proofs.api.flags.FlagsFromRefStr.from.Goals as goal
 
 pub returns : goal.returns
 returns c =

@@ -1,7 +1,7 @@
 use Rattle.std.proofs.Output.{has_written_of_eq}
 use Rattle.regress_match.specs.Flags.{flags_of}
 use Rattle.regress_match.proofs.FlagLemmas.{flags_text-parts}
-use Rattle.regress_match.proofs.api.FlagsDisplay.fmt.Goals as goal
+use Rattle.regress_match.proofs.api.flags.FlagsDisplay.fmt.Goals as goal
 
 pub returns-clause-writes : goal.returns-clause-writes
 returns-clause-writes g c =

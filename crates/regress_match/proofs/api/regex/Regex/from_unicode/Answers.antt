@@ -2,7 +2,7 @@ use Rattle.std.proofs.Common.{◌∙◌, ap, sym, subst, IsTrue}
 use Rattle.regex_meaning.specs.WellFormed.{is_well_formed}
 use Rattle.regex_pattern_front.specs.TreeOf.{tree_of, flags_of}
 use Rattle.regress_match.specs.Trees.{tree_to_run}
-use Rattle.regress_match.proofs.api.Regex.with_flags.Goals as goal
+use Rattle.regress_match.proofs.api.regex.Regex.with_flags.Goals as goal
 
 pub returns : goal.returns
 returns c =

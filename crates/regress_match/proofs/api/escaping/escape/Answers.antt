@@ -1,7 +1,7 @@
 use Rattle.std.proofs.Common.{◌≡◌, ◌++◌, string_bytes, ap, ◌∙◌}
 use Rattle.regress_match.proofs.EscapeLemmas.{mark, behind-mark, without-mark, escape-empty, escape-marked}
-use Rattle.regress_match.proofs.api.escape.Goals as goal
-use Rattle.regress_match.proofs.api.escape.Goals.{then-is_special+in_ok-push, else-is_special}
+use Rattle.regress_match.proofs.api.escaping.escape.Goals as goal
+use Rattle.regress_match.proofs.api.escaping.escape.Goals.{then-is_special+in_ok-push, else-is_special}
 
 pub loop-c-preserved : goal.loop-c-preserved
 loop-c-preserved c =

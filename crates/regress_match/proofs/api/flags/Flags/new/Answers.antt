@@ -2,7 +2,7 @@ use Rattle.std.proofs.Common.{ap, sym, ◌∙◌}
 use Rattle.std.proofs.iter.runs.Made.{run_of_exit}
 use Rattle.regex_meaning.specs.Flags.{flags_of_text}
 use Rattle.regress_match.proofs.FlagLemmas.{flags-none, flags-more}
-use Rattle.regress_match.proofs.api.Flags.new.Goals as goal
+use Rattle.regress_match.proofs.api.flags.Flags.new.Goals as goal
 
 pub loop-letter-init : goal.loop-letter-init
 loop-letter-init g c =

@@ -1,6 +1,6 @@
 use Rattle.std.proofs.Common.{◌∙◌, ap, nat_le, not}
 use Rattle.regress_match.proofs.Starts.{utf8_start, utf8_units}
-use Rattle.regress_match.proofs.api.Regex.find_from.Goals as goal
+use Rattle.regress_match.proofs.api.regex.Regex.find_from.Goals as goal
 
 pub new-requires-2 : goal.new-requires-2
 new-requires-2 c = utf8_start _ c.args.text.now _ c.in_ok-executor.ensures.text c.utf8.text c.args.start c.requires

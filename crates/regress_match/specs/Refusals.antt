@@ -1,0 +1,23 @@
+-- Which refusal of a step is which of the whole.
+use Rattle.std.specs.Prelude.{◌≡◌}
+use Rattle.regex_pattern_front.specs.declared.parse.ParseError.{ParseError}
+use Rattle.regex_pattern_front.specs.declared.parse.ParseError.TheVariants as parse
+use Rattle.regress_program.specs.declared.emit.EmitError.{EmitError}
+use Rattle.regress_program.specs.declared.emit.EmitError.TheVariants as emit
+use Rattle.regress_match.specs.declared.api.error.Error.{Error}
+use Rattle.regress_match.specs.declared.api.error.Error.TheVariants.{Parse, Emit, Memory}
+
+-- want of memory is one refusal, whichever step met it
+abbrev pub of_parse : ParseError → Error
+of_parse parse.Memory = Memory
+of_parse e = Parse e
+
+abbrev pub of_emit : EmitError → Error
+of_emit emit.Memory = Memory
+of_emit e = Emit e
+
+-- What refuses a pattern: no want of memory is wrapped, and a parsed tree is well formed.
+abbrev pub CanRefuse : Error → Type 0
+CanRefuse (Parse e) = ¬ (e ≡ parse.Memory)
+CanRefuse (Emit e) = ¬ (e ≡ emit.Memory) × (¬ (e ≡ emit.NotWellFormed) × ¬ (e ≡ emit.BytesInUnits))
+CanRefuse Memory = Unit {0}

@@ -1,0 +1,52 @@
+//! Why a pattern is not compiled.
+
+ghost use Rattle.std.specs.Prelude.{◌≡◌};
+ghost use Rattle.regress_match.specs.Refusals.{of_emit, of_parse};
+
+use regex_pattern_front::parse::ParseError;
+use regress_program::emit::EmitError;
+use std::alloc::AllocError;
+
+/// Why a pattern is not compiled.
+#[derive(Clone, Copy, Debug, PartialEq, Eq)]
+pub enum Error {
+    /// It is no pattern.
+    Parse(ParseError),
+    /// Its tree has no program.
+    Emit(EmitError),
+    /// There was no memory.
+    Memory,
+}
+
+impl From<AllocError> for Error {
+    ghost use Rattle.regress_match.specs.declared.api.error.Error.TheVariants.{Memory};
+
+    ghost from_gives = { λ _ e. e ≡ Memory };
+
+    fn from(_: AllocError) -> Self {
+        Error::Memory
+    }
+}
+
+impl From<ParseError> for Error {
+    ghost from_gives = { λ refused e. e ≡ of_parse refused };
+
+    fn from(error: ParseError) -> Self {
+        match error {
+            ParseError::Memory => Error::Memory,
+            error => Error::Parse(error),
+        }
+    }
+}
+
+impl From<EmitError> for Error {
+    ghost from_gives = { λ refused e. e ≡ of_emit refused };
+
+    fn from(error: EmitError) -> Self {
+        match error {
+            EmitError::Memory => Error::Memory,
+            error => Error::Emit(error),
+        }
+    }
+}
+

@@ -1,0 +1,107 @@
+//! Flags, from letters and as text.
+
+ghost use Rattle.std.specs.Prelude.{◌≡◌, if◌then◌else◌, Some, []};
+ghost use Rattle.std.specs.Iterator.{IsFinite};
+ghost use Rattle.std.specs.Iterator.Runs.{WholeRun};
+ghost use Rattle.regex_meaning.specs.Flags.{flags_of_text, flags_text};
+
+use regex_pattern_front::flags as front;
+use std::fmt;
+
+/// How a pattern is read and matched. The default is case-sensitive, without lines, and optimizing.
+#[derive(Clone, Copy, Debug, Default, PartialEq, Eq)]
+pub struct Flags {
+    /// Letters match whatever their case (`i`).
+    pub icase: bool,
+    /// `^` and `$` hold beside line terminators too (`m`).
+    pub multiline: bool,
+    /// `.` matches line terminators too (`s`).
+    pub dot_all: bool,
+    /// The tree is run as it was parsed.
+    pub no_opt: bool,
+    /// Patterns are read by code points, and case by Unicode's simple folding (`u`).
+    pub unicode: bool,
+    /// Classes are read as with `v`.
+    pub unicode_sets: bool,
+}
+
+impl Flags {
+    ghost use Rattle.regex_pattern_front.specs.TreeOf.{flags_of as front_flags_of};
+    ghost use Rattle.regress_match.specs.Flags.{flags_of};
+
+    /// The flags whose letters, of `m`, `i`, `s`, `u` and `v`, are among the code points of an iterator, which ends;
+    /// others are ignored, and `no_opt` is never set.
+    pub fn new<I: Iterator<Item = u32>>(letters: I) -> Self
+        requires can { I.can_next letters }
+        requires finite { IsFinite (I.remaining letters) }
+        ensures { WholeRun I.next_gives letters (λ run. flags_of result ≡ flags_of_text run.items) }
+    {
+        let mut flags = Flags::default();
+        for letter in letters {
+            flags.icase |= letter == 'i' as u32;
+            flags.multiline |= letter == 'm' as u32;
+            flags.dot_all |= letter == 's' as u32;
+            flags.unicode |= letter == 'u' as u32;
+            flags.unicode_sets |= letter == 'v' as u32;
+        }
+        flags
+    }
+
+    // The same flags for the front.
+    pub(super) fn for_front(self) -> front::Flags
+        ensures { front_flags_of result ≡ flags_of self }
+    {
+        front::Flags {
+            icase: self.icase,
+            multiline: self.multiline,
+            dot_all: self.dot_all,
+            no_opt: self.no_opt,
+            unicode: self.unicode,
+            unicode_sets: self.unicode_sets,
+        }
+    }
+}
+
+impl From<&str> for Flags {
+    ghost use Rattle.regress_match.specs.Flags.{flags_of};
+
+    ghost from_gives = { λ s f. flags_of f ≡ flags_of_text s.now };
+
+    /// The flags whose letters, of `m`, `i`, `s`, `u` and `v`, stand in the text; other characters are ignored,
+    /// and `no_opt` is never set.
+    fn from(letters: &str) -> Self {
+        let letters = letters.as_bytes();
+        Flags {
+            icase: letters.contains(&b'i'),
+            multiline: letters.contains(&b'm'),
+            dot_all: letters.contains(&b's'),
+            no_opt: false,
+            unicode: letters.contains(&b'u'),
+            unicode_sets: letters.contains(&b'v'),
+        }
+    }
+}
+
+impl fmt::Display for Flags {
+    ghost use Rattle.regress_match.specs.Flags.{flags_of};
+
+    ghost output = { λ f. Some (flags_text (flags_of f)) };
+
+    /// Writes the letters of the flags that are set, in the order `m i s u v`; `no_opt` has none.
+    fn fmt<W: fmt::Write>(&self, f: &mut fmt::Formatter<W>) -> fmt::Result {
+        let multiline = letter_if(self.multiline, "m");
+        let icase = letter_if(self.icase, "i");
+        let dot_all = letter_if(self.dot_all, "s");
+        let unicode = letter_if(self.unicode, "u");
+        let unicode_sets = letter_if(self.unicode_sets, "v");
+        write!(f, "{multiline}{icase}{dot_all}{unicode}{unicode_sets}")
+    }
+}
+
+// The letter of a flag that is set, and else no text.
+fn letter_if(set: bool, letter: &str) -> &str
+    ensures { result.now ≡ (if set then letter.now else []) }
+{
+    if set { letter } else { "" }
+}
+

@@ -1,0 +1,178 @@
+//! Patterns that are compiled, and their searches.
+
+ghost use Rattle.std.specs.Prelude.{◌≡◌, ◌<◌, ◌⊎◌, IfErr, IfOk, IsAscii, IsCharBoundary, false, length, nat_le, not, option_map, slice_get, []};
+ghost use Rattle.regex_meaning.specs.Flags.{flags_of_text};
+ghost use Rattle.regex_pattern_front.specs.TreeOf.{tree_of};
+ghost use Rattle.regress_exec.specs.Answers.{answer_of};
+ghost use Rattle.regress_match.specs.Refusals.{CanRefuse};
+ghost use Rattle.regress_match.specs.Trees.{tree_to_run};
+
+use crate::api::{Error, Flags};
+use crate::backends::{DefaultAsciiExecutor, DefaultExecutor};
+use regex_pattern_front::ir;
+use regex_pattern_front::optimizer::optimize;
+use regex_pattern_front::parse::try_parse;
+use regress_program::emit::emit;
+use regress_program::insn::CompiledRegex;
+use regress_search::exec;
+use regress_search::exec::{Match, MatchProducer, SearchError, Searcher};
+use std::alloc::Global;
+use std::snapshot::Snapshot;
+
+/// The matches of a pattern in a text in UTF-8. Contracts see the answers still to come.
+pub type Matches<'r, 't> = exec::Matches<DefaultExecutor<'r, 't>>;
+
+/// The matches of a pattern in a text of ASCII. Contracts see the answers still to come.
+pub type AsciiMatches<'r, 't> = exec::Matches<DefaultAsciiExecutor<'r, 't>>;
+
+// The tree that is run in place of a parsed one.
+fn to_run(mut tree: ir::Regex) -> ir::Regex
+    ensures { tree_of result ≡ tree_to_run (tree_of tree) }
+{
+    if tree.flags.no_opt {
+        return tree;
+    }
+    optimize(&mut tree);
+    tree
+}
+
+/// A pattern that is compiled.
+#[derive(Drop)]
+pub struct Regex {
+    cr: CompiledRegex,
+    // the tree that was parsed
+    source: Snapshot<ir::Regex>,
+}
+
+impl Regex {
+    ghost use Rattle.regress_match.specs.Flags.{flags_of};
+    ghost use Rattle.regress_match.specs.Programs.{IsCompiledWith, ascii_answers, utf8_answers};
+
+    /// Compiles a pattern with the default flags.
+    ///
+    /// # Errors
+    ///
+    /// Those of `with_flags`.
+    pub fn new(alloc: Global, pattern: &str) -> Result<Regex, Error>
+        ensures { IfOk result (IsCompiledWith (flags_of_text [])) }
+    {
+        Regex::with_flags(alloc, pattern, Flags::default())
+    }
+
+    /// Compiles a pattern with these flags: parses it, optimizes its tree unless `no_opt` is set, and emits the
+    /// program.
+    ///
+    /// # Errors
+    ///
+    /// `Parse` where the text is no pattern, `Emit` where its tree has no program, and `Memory` where there is no
+    /// memory for one of the steps.
+    pub fn with_flags(alloc: Global, pattern: &str, flags: Flags) -> Result<Regex, Error>
+        ensures { IfOk result (IsCompiledWith (flags_of flags)) }
+    {
+        let code_points: Vec<u32> = pattern.chars().map(u32::from).collect(alloc)?;
+        let tree = try_parse(alloc, &code_points, flags.for_front())?;
+        let source = Snapshot::of(&tree);
+        let cr = emit(alloc, &to_run(tree))?;
+        Ok(Regex { cr, source })
+    }
+
+    /// The first match in `text`, none exactly where there is none.
+    ///
+    /// # Errors
+    ///
+    /// `Memory` where there is no memory for the search.
+    pub fn find(&self, text: &str) -> Result<Option<Match>, SearchError>
+        ensures { IfOk result (λ m. option_map answer_of m ≡ slice_get (utf8_answers self.now text.now 0) 0) }
+    {
+        first(self.find_iter(text)?)
+    }
+
+    /// The matches in `text`, from its left end on.
+    ///
+    /// # Errors
+    ///
+    /// `Memory` where there is no memory for the search.
+    pub fn find_iter<'r, 't>(&'r self, text: &'t str) -> Result<Matches<'r, 't>, SearchError>
+        ensures answers { IfOk result (λ it. it.answers ≡ utf8_answers self.now text.now 0) }
+        ensures live { IfOk result (λ it. it.ended ≡ false) }
+    {
+        self.find_from(text, 0)
+    }
+
+    /// The matches in `text` from an offset in bytes on, which is a boundary of its characters
+    /// (`is_char_boundary`) or past the end. From past the end there are none.
+    ///
+    /// What stands before the start is part of the text: `^` does not hold there, and a lookbehind reads it.
+    ///
+    /// # Errors
+    ///
+    /// `Memory` where there is no memory for the search.
+    pub fn find_from<'r, 't>(
+        &'r self,
+        text: &'t str,
+        start: usize,
+    ) -> Result<Matches<'r, 't>, SearchError>
+        requires { IsCharBoundary text.now start ⊎ (length text.now < start) }
+        ensures answers { IfOk result (λ it. it.answers ≡ utf8_answers self.now text.now start) }
+        ensures ended { IfOk result (λ it. it.ended ≡ not (nat_le start (length text.now))) }
+    {
+        let executor = DefaultExecutor::new(&self.cr, text)?;
+        Ok(exec::Matches::new(executor, start))
+    }
+
+    /// The first match in a text of ASCII (`is_ascii`), none exactly where there is none.
+    ///
+    /// # Errors
+    ///
+    /// `Memory` where there is no memory for the search.
+    pub fn find_ascii(&self, text: &str) -> Result<Option<Match>, SearchError>
+        requires { IsAscii text.now }
+        ensures { IfOk result (λ m. option_map answer_of m ≡ slice_get (ascii_answers self.now text.now 0) 0) }
+    {
+        first(self.find_iter_ascii(text)?)
+    }
+
+    /// The matches in a text of ASCII (`is_ascii`), from its left end on.
+    ///
+    /// # Errors
+    ///
+    /// `Memory` where there is no memory for the search.
+    pub fn find_iter_ascii<'r, 't>(
+        &'r self,
+        text: &'t str,
+    ) -> Result<AsciiMatches<'r, 't>, SearchError>
+        requires { IsAscii text.now }
+        ensures answers { IfOk result (λ it. it.answers ≡ ascii_answers self.now text.now 0) }
+        ensures live { IfOk result (λ it. it.ended ≡ false) }
+    {
+        self.find_from_ascii(text, 0)
+    }
+
+    /// The matches in a text of ASCII (`is_ascii`) from an offset on. From past the end there are none.
+    ///
+    /// # Errors
+    ///
+    /// `Memory` where there is no memory for the search.
+    pub fn find_from_ascii<'r, 't>(
+        &'r self,
+        text: &'t str,
+        start: usize,
+    ) -> Result<AsciiMatches<'r, 't>, SearchError>
+        requires { IsAscii text.now }
+        ensures answers { IfOk result (λ it. it.answers ≡ ascii_answers self.now text.now start) }
+        ensures ended { IfOk result (λ it. it.ended ≡ not (nat_le start (length text.now))) }
+    {
+        let ascii = DefaultAsciiExecutor::new(&self.cr, text)?;
+        Ok(exec::Matches::new(ascii, start))
+    }
+}
+
+// The first of the matches to come, if there is one.
+fn first<P: MatchProducer + Drop>(
+    mut matches: exec::Matches<P>,
+) -> Result<Option<Match>, SearchError>
+    ensures { IfOk result (λ m. option_map answer_of m ≡ slice_get matches.answers 0) }
+{
+    matches.next().transpose()
+}
+

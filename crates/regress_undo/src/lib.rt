@@ -4,4 +4,6 @@
 pub mod back;
 pub mod here;
 pub mod memory;
+#[cfg(test)]
+mod rows;
 pub mod steps;

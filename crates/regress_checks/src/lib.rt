@@ -10,6 +10,8 @@ mod groups;
 #[cfg(test)]
 mod lines;
 #[cfg(test)]
+mod programs;
+#[cfg(test)]
 mod public;
 #[cfg(test)]
 mod rows;

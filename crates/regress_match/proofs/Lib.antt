@@ -1,3 +1,4 @@
 pub mod EscapeLemmas
 pub mod FlagLemmas
+pub mod RefusalLemmas
 pub mod Starts

@@ -14,6 +14,8 @@ mod programs;
 #[cfg(test)]
 mod public;
 #[cfg(test)]
+mod replace;
+#[cfg(test)]
 mod rows;
 #[cfg(test)]
 mod starts;

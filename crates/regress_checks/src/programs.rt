@@ -29,6 +29,8 @@ fn a_name_stands_for_the_group_that_matched(rt: HostRuntime) -> Result<(), Fail>
     assert_eq!(rt; names.len(), 1);
     assert_eq!(rt; names.next(), Some(("n", None)));
     assert_eq!(rt; found.groups().len(), 1);
+    let made = re.replace_all("ab", "[${n}]")?;
+    assert_eq!(rt; made.as_str(), "[a][b]");
     Ok(())
 }
 

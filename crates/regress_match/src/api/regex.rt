@@ -125,6 +125,11 @@ impl Regex {
         })
     }
 
+    // What its programs were made with.
+    pub(super) fn allocator(&self) -> Global {
+        self.cr.allocator()
+    }
+
     /// The first match in `text`, none exactly where there is none.
     ///
     /// # Errors

@@ -1,6 +1,6 @@
 //! What a replacement says for a match.
 
-ghost use Rattle.std.specs.Prelude.{◌≡◌, ◌++◌, ◌<◌, IfOk, IfSome, MatchOption, Some, length, option_map, slice_get, string_bytes};
+ghost use Rattle.std.specs.Prelude.{◌≡◌, ◌++◌, ◌<◌, IfNone, IfOk, IfSome, Some, length, option_map, slice_get, string_bytes};
 ghost use Rattle.regex_meaning.specs.Names.{Answer};
 ghost use Rattle.regex_meaning.specs.Replace.{behind_dollar, expansion, group_part, numbered, part_then, text_of, text_of_parts};
 ghost use Rattle.regress_search.specs.Answers.{answer_of, range_of};
@@ -84,7 +84,9 @@ fn read_number(digits: &str) -> (usize, &str)
 
 // The number with one digit more and what is left, if another digit is to be read.
 fn next_digit(number: usize, digits: &str) -> Option<(usize, &str)>
-    ensures { MatchOption result (numbered number digits.now ≡ part_then (group_part number) digits.now) (λ next. (numbered number digits.now ≡ numbered next.0 next.1.now) × (length next.1.now < length digits.now)) }
+    ensures ends { IfNone result (numbered number digits.now ≡ part_then (group_part number) digits.now) }
+    ensures goes_on { IfSome result (λ next. numbered number digits.now ≡ numbered next.0 next.1.now) }
+    ensures shorter { IfSome result (λ next. length next.1.now < length digits.now) }
 {
     match digits.as_bytes().first() {
         Some(digit @ b'0'..=b'9') if number <= MAX_CAPTURE_GROUPS => {

@@ -4,6 +4,7 @@ mod error;
 mod escaping;
 mod flags;
 mod regex;
+mod replace;
 
 pub use self::error::Error;
 pub use self::escaping::escape;

@@ -14,3 +14,4 @@ pub mod Names
 pub mod Answers
 pub mod Replace
 pub mod Flags
+pub mod Steps

@@ -1,51 +1,75 @@
 -- What is still to come, before and after one call.
-use Rattle.std.proofs.Common.{◌≡◌, ℕ, suc, ◌+◌, ◌<◌, ◌≤◌, [], ◌∷◌, length, Option, Some, None, Bool, true, false, refl, sym, ap, ap₂, ◌∙◌, arith}
+use Rattle.std.proofs.Common.{◌≡◌, ℕ, suc, ◌+◌, ◌<◌, ◌≤◌, [], ◌∷◌, length, Option, Some, None, Err, Bool, true, false, not, refl, sym, ap, ap₂, ◌∙◌, arith}
 use Rattle.std.proofs.lemmas.Bool.{leb-false}
-use Rattle.std.specs.Prelude.{if◌then◌else◌, nat_le, is_none}
-use Rattle.regex_meaning.specs.Tree.{Node}
+use Rattle.std.specs.Prelude.{if◌then◌else◌, nat_le, is_none, IsTrue}
+use Rattle.std.specs.Option.{option_map_or}
+use Rattle.regex_meaning.specs.Tree.{Tree}
 use Rattle.regex_meaning.specs.Text.{Text}
-use Rattle.regex_meaning.specs.Offsets.{IsText, IsBoundary, units}
+use Rattle.regex_meaning.specs.Offsets.{IsText, IsBoundary, place_at, units}
 use Rattle.regex_meaning.specs.Names.{Answer, answers_from}
-use Rattle.regex_meaning.specs.Answers.{first_answer, next_start, answers_on, answer_then_list}
+use Rattle.regex_meaning.specs.Answers.{first_answer, next_start}
+use Rattle.regex_meaning.specs.Steps.{is_within, left_of, need_from, answers_within, end_within, answers_next, end_next}
+use Rattle.regex_meaning.specs.Ticks.{needs}
+use Rattle.regex_meaning.proofs.StepLemmas.{within-some, within-none, beyond}
 use Rattle.regex_meaning.proofs.TextLemmas.{place_at-past}
-use Rattle.regex_meaning.proofs.AnswerLemmas.{answers-go_on, next_start-ahead}
-use Rattle.regress_exec.specs.ToCome.{ToCome, coming, items_left}
+use Rattle.regex_meaning.proofs.AnswerLemmas.{next_start-ahead}
+use Rattle.regress_exec.specs.declared.exec.SearchError.{SearchError}
+use Rattle.regress_exec.specs.declared.exec.SearchError.TheVariants.{Memory, StepLimit}
+use Rattle.regress_exec.specs.Spends.{Spends}
+use Rattle.regress_exec.specs.ToCome.{MayRefuse, ToCome, coming, items_left}
 
-module _ (root : Node) (text : Text) (is : IsText text) where
-  pub new-answers : (start : ℕ) (position : Option ℕ) → position ≡ (if nat_le start (units text) then Some start else None)
-      → answers_on root text position ≡ answers_from root text start
+module _ (tree : Tree) (text : Text) (is : IsText text) where
+  pub new-comes : (budget : Option ℕ) (start : ℕ) (position : Option ℕ) → position ≡ (if nat_le start (units text) then Some start else None)
+      → (answers_next tree text budget position ≡ answers_within tree text budget start) × (end_next tree text budget position ≡ end_within tree text budget start)
   unfolding answers_from
-  new-answers start position e = by (nat_le start (units text)) refl e
+  new-comes budget start position e = by (nat_le start (units text)) refl e
     where
-      by : (b : Bool) → nat_le start (units text) ≡ b → position ≡ (if b then Some start else None) → answers_on root text position ≡ answers_from root text start
-      by true q e = rw e refl
-      by false q e = let past = leb-false start (units text) q in rw (e, place_at-past text start is past) refl
+      past-end : place_at text start ≡ None → (budget : Option ℕ)
+          → ([] ≡ answers_within tree text budget start) × (true ≡ end_within tree text budget start)
+      past-end q None = (rw q refl, refl)
+      past-end q (Some steps) = (rw q refl, rw q refl)
 
-  pub some-answers : (at : ℕ) (a : Answer) (next : Option ℕ) → Some a ≡ first_answer root text at → next ≡ next_start root text at
-      → answers_from root text at ≡ a ∷ answers_on root text next
-  some-answers at a next e n = answers-go_on root text is at ∙ ap₂ (answer_then_list root text) (sym e) (sym n)
+      by : (b : Bool) → nat_le start (units text) ≡ b → position ≡ (if b then Some start else None)
+          → (answers_next tree text budget position ≡ answers_within tree text budget start) × (end_next tree text budget position ≡ end_within tree text budget start)
+      by true q e = (ap (answers_next tree text budget) e, ap (end_next tree text budget) e)
+      by false q e =
+          let none = past-end (place_at-past text start is (leb-false start (units text) q)) budget in
+          (ap (answers_next tree text budget) e ∙ none.0, ap (end_next tree text budget) e ∙ none.1)
 
-  pub no-answers : (at : ℕ) → None ≡ first_answer root text at → answers_from root text at ≡ []
-  no-answers at e = answers-go_on root text is at ∙ ap (λ a. answer_then_list root text a (next_start root text at)) (sym e)
+  module _ (s : ToCome) (budget position : Option ℕ) (at : ℕ) (was : coming tree text budget position ≡ s) (here : position ≡ Some at) where
+    answers-here : s.answers ≡ answers_within tree text budget at
+    answers-here = ap (λ (s : ToCome). s.answers) (sym was) ∙ ap (answers_next tree text budget) here
 
-  -- one call that found a match, from what the iterator saw to what it sees
-  pub call-some : (s : ToCome) (position : Option ℕ) (at : ℕ) (a : Answer) (root' : Node) (text' : Text) (next : Option ℕ)
-      → coming root text position ≡ s → position ≡ Some at → Some a ≡ first_answer root text at
-      → next ≡ next_start root text at → root' ≡ root → text' ≡ text → (s.answers ≡ a ∷ answers_on root' text' next) × (s.ended ≡ false)
-  call-some s position at a root' text' next was here found on r t = (
-    ap (λ (s : ToCome). s.answers) (sym was) ∙ ap (answers_on root text) here ∙ some-answers at a next found on
-        ∙ ap₂ (λ r t. a ∷ answers_on r t next) (sym r) (sym t),
-    ap (λ (s : ToCome). s.ended) (sym was) ∙ ap is_none here,
-  )
+    limit-here : s.limited ≡ not (end_within tree text budget at)
+    limit-here = ap (λ (s : ToCome). s.limited) (sym was) ∙ ap (λ p. not (end_next tree text budget p)) here
 
-  -- and one that found none
-  pub call-none : (s : ToCome) (position : Option ℕ) (at : ℕ) → coming root text position ≡ s
-      → position ≡ Some at → None ≡ first_answer root text at → s.answers ≡ []
-  call-none s position at was here found =
-      ap (λ (s : ToCome). s.answers) (sym was) ∙ ap (answers_on root text) here ∙ no-answers at found
+    pub not-ended : s.ended ≡ false
+    not-ended = ap (λ (s : ToCome). s.ended) (sym was) ∙ ap is_none here
 
-  pub next-boundary : (at next : ℕ) → Some next ≡ next_start root text at → IsBoundary text next
-  next-boundary at next e = (next_start-ahead root text is at next (sym e)).1
+    -- one call that found a match, from what the iterator saw to what it sees
+    pub call-some : (a : Answer) (tree' : Tree) (text' : Text) (after next : Option ℕ) → Some a ≡ first_answer tree.root text at → next ≡ next_start tree.root text at
+        → tree' ≡ tree → text' ≡ text → IsTrue (is_within budget (need_from tree text at)) → after ≡ left_of budget (need_from tree text at)
+        → (s.answers ≡ a ∷ answers_next tree' text' after next) × (s.limited ≡ not (end_next tree' text' after next)) × (s.ended ≡ false)
+    call-some a tree' text' after next found on r t within left =
+        let w = within-some tree text is budget at a (sym found) within in (
+          answers-here ∙ w.0 ∙ ap₂ (λ b n. a ∷ answers_next tree text b n) (sym left) (sym on) ∙ ap₂ (λ r t. a ∷ answers_next r t after next) (sym r) (sym t),
+          limit-here ∙ ap not (w.1 ∙ ap₂ (end_next tree text) (sym left) (sym on)) ∙ ap₂ (λ r t. not (end_next r t after next)) (sym r) (sym t),
+          not-ended,
+        )
+
+    -- and one that found none
+    pub call-none : None ≡ first_answer tree.root text at → IsTrue (is_within budget (need_from tree text at)) → (s.answers ≡ []) × (s.limited ≡ false)
+    call-none found within =
+        let w = within-none tree text is budget at (sym found) within in
+        (answers-here ∙ w.0, limit-here ∙ ap not w.1)
+
+    -- and one that was refused
+    pub call-refused : (X : Type 0) (e : SearchError) (after : Option ℕ) → Spends {X = X} (need_from tree text at) budget (Err e) after → MayRefuse e s
+    call-refused X Memory after r = tt
+    call-refused X StepLimit after r = let w = beyond tree text is budget at r.0 in (answers-here ∙ w.0, limit-here ∙ ap not w.1)
+
+  pub next-boundary : (at next : ℕ) → Some next ≡ next_start tree.root text at → IsBoundary text next
+  next-boundary at next e = (next_start-ahead tree.root text is at next (sym e)).1
 
 pub fewer : (s t : ToCome) (a : Answer) → s.answers ≡ a ∷ t.answers → s.ended ≡ false → items_left t < items_left s
 fewer s t a e f =

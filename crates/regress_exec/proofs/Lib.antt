@@ -10,3 +10,4 @@ pub mod Literals
 pub mod Groups
 pub mod InTurn
 pub mod Skips
+pub mod Budget

@@ -1,12 +1,12 @@
 -- What one attempt answers.
-use Rattle.std.specs.Prelude.{◌≡◌, ◌<◌, ◌≤◌, ◌+◌, ℕ, Bool, true, false, [], ◌∷◌, Option, Some, None, option_map, option_and_then, nat_lt, if◌then◌else◌}
+use Rattle.std.specs.Prelude.{◌≡◌, ◌<◌, ◌≤◌, ◌+◌, ℕ, Bool, true, false, List, [], ◌∷◌, Option, Some, None, option_map, option_and_then, nat_lt, if◌then◌else◌}
 use Rattle.std.specs.Option.{option_map_or}
 use Rattle.regex_meaning.specs.Tree.{Tree}
 use Rattle.regex_meaning.specs.Text.{Text, Direction, rightwards}
-use Rattle.regex_meaning.specs.Offsets.{IsBoundary, place_at, read, units}
+use Rattle.regex_meaning.specs.Offsets.{IsBoundary, offset, place_at, read, units}
 use Rattle.regex_meaning.specs.Outcomes.{Groups}
-use Rattle.regex_meaning.specs.StartPredicate.{StartPredicate, start_anchored}
-use Rattle.regex_meaning.specs.Ticks.{items_at}
+use Rattle.regex_meaning.specs.StartPredicate.{StartPredicate, start_anchored, start_predicate}
+use Rattle.regex_meaning.specs.Ticks.{items_at, ticks_to_first, tried_places}
 use Rattle.regress_program.specs.Code.{compiled}
 use Rattle.regress_machine.specs.Machine.{State, running, Found, search}
 use Rattle.regress_machine.specs.Finds.{first_pair, end_in_offsets, turns_at}
@@ -55,3 +55,25 @@ NoneBetween tree text from to = (at : ℕ) → IsBoundary text at → from ≤ a
 abbrev pub IsNextTry : Tree → Text → (from : ℕ) → (next : Option ℕ) → Type 0
 IsNextTry tree text from None = NoneBetween tree text from (units text + 1)
 IsNextTry tree text from (Some to) = IsBoundary text to × (from ≤ to) × NoneBetween tree text from to
+
+-- ---- Counted
+
+-- the ticks of the list at an offset, up to its first outcome
+abbrev pub ticks_from : Tree → Text → (at : ℕ) → ℕ
+ticks_from tree text at = option_map_or (λ place. ticks_to_first (items_at tree text place)) (place_at text at) 0
+
+abbrev pub first_of_places : Text → List ℕ → Option ℕ
+first_of_places text [] = None
+first_of_places text (place ∷ places) = Some (offset text place)
+
+-- the first offset from one on that is tried, where steps are counted
+abbrev pub first_tried : Tree → Text → (at : ℕ) → Option ℕ
+first_tried tree text at = option_and_then (λ place. first_of_places text (tried_places tree text (start_predicate tree) place)) (place_at text at)
+
+-- the next one behind an offset that was tried in vain
+abbrev pub behind_tried : StartPredicate → Tree → Text → (at : ℕ) → Option ℕ
+behind_tried start_anchored tree text at = None
+behind_tried _ tree text at = option_and_then (λ r. first_tried tree text r.1) (read text rightwards at)
+
+abbrev pub next_tried : Tree → Text → (at : ℕ) → Option ℕ
+next_tried tree text at = behind_tried (start_predicate tree) tree text at

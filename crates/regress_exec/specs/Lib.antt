@@ -4,3 +4,4 @@ pub mod Passing
 pub mod Attempts
 pub mod InTurn
 pub mod Positions
+pub mod Spends

@@ -1,14 +1,15 @@
 //! Finding matches in turn.
 
-ghost use Rattle.std.specs.Prelude.{◌≡◌, ◌<◌, ◌≤◌, ◌⊎◌, ℕ, Bool, map, option_map, IfOk, OnErr, OnSome, IfNone, if◌then◌else◌, nat_le, not, Some, None, string_bytes};
+ghost use Rattle.std.specs.Prelude.{◌≡◌, ◌<◌, ◌≤◌, ◌⊎◌, ℕ, Bool, Option, map, option_map, IfOk, OnErr, OnSome, IfNone, if◌then◌else◌, nat_le, not, Some, None, string_bytes};
 ghost use Rattle.std.specs.Iterator.{at_most};
 ghost use Rattle.std.specs.Option.{ForSome};
-ghost use Rattle.regex_meaning.specs.Tree.{Node};
+ghost use Rattle.regex_meaning.specs.Tree.{Tree};
 ghost use Rattle.regex_meaning.specs.Text.{Text};
 ghost use Rattle.regex_meaning.specs.Offsets.{IsText, IsBoundary, units};
-ghost use Rattle.regex_meaning.specs.Answers.{first_answer, next_start as start_behind};
-ghost use Rattle.regex_meaning.specs.Names.{answers_from};
+ghost use Rattle.regex_meaning.specs.Answers.{first_answer};
+ghost use Rattle.regex_meaning.specs.Steps.{answers_within, end_within, need_from};
 ghost use Rattle.regex_pattern_front.specs.TreeOf.{tree_of};
+ghost use Rattle.regress_exec.specs.Spends.{GoesOn, Spends};
 ghost use Rattle.regress_exec.specs.ToCome.{ToCome, coming, Gives, items_left};
 
 use regress_input::position::PositionType;
@@ -25,6 +26,8 @@ pub mod in_turn;
 pub enum SearchError {
     /// There was no memory.
     Memory,
+    /// The steps that were allowed are used up. Without a limit this never comes.
+    StepLimit,
 }
 
 impl From<AllocError> for SearchError {
@@ -66,15 +69,18 @@ impl Match {
     }
 }
 
-/// What finds the matches of a pattern in a text, one at a time. Contracts see the pattern's tree and the text.
+/// What finds the matches of a pattern in a text, one at a time. Contracts see the pattern's tree, the text, and the
+/// steps that it may still take, none where there is no limit.
 pub trait MatchProducer {
     ghost use Rattle.regress_exec.specs.Answers.{answer_of};
 
     type Position: PositionType;
 
-    ghost root: { Self → Node };
+    ghost tree: { Self → Tree };
 
     ghost text: { Self → Text };
+
+    ghost budget: { Self → Option ℕ } = { λ _. None };
 
     /// The position of an offset in units, which is a boundary or past the end; none where it is past the end.
     fn initial_position(&self, offset: usize) -> Option<Self::Position>
@@ -83,17 +89,22 @@ pub trait MatchProducer {
 
     /// The first match from a position on. `next_start` becomes the position from which the list of matches
     /// goes on, none where it does not; without a match, and on a refusal, it stays as it was.
+    ///
+    /// # Errors
+    ///
+    /// `StepLimit` where more steps are needed than are left, and then none is; and `Memory`.
     fn next_match(
         &mut self,
         pos: Self::Position,
         next_start: &mut Option<Self::Position>,
     ) -> Result<Option<Match>, SearchError>
         requires { IsBoundary (text self.old) (Self.Position.offset pos) }
-        ensures found { IfOk result (λ m. option_map answer_of m ≡ first_answer (root self.old) (text self.old) (Self.Position.offset pos)) }
-        ensures goes_on { IfOk result (λ m. OnSome m (option_map Self.Position.offset next_start.new ≡ start_behind (root self.old) (text self.old) (Self.Position.offset pos))) }
+        ensures found { IfOk result (λ m. option_map answer_of m ≡ first_answer (tree self.old).root (text self.old) (Self.Position.offset pos)) }
+        ensures goes_on { IfOk result (λ m. OnSome m (GoesOn (tree self.old) (text self.old) (Self.Position.offset pos) (option_map Self.Position.offset next_start.new))) }
         ensures none { IfOk result (λ m. IfNone m (next_start.new ≡ next_start.old)) }
         ensures refused { OnErr result (next_start.new ≡ next_start.old) }
-        ensures same_root { root self.new ≡ root self.old }
+        ensures steps { Spends (need_from (tree self.old) (text self.old) (Self.Position.offset pos)) (budget self.old) result (budget self.new) }
+        ensures same_tree { tree self.new ≡ tree self.old }
         ensures same_text { text self.new ≡ text self.old };
 
     ghost is_text: { (it : Self) → IsText (text it) };
@@ -114,8 +125,9 @@ pub trait Searcher<'r>: MatchProducer {
     where
         Self: Sized,
         requires { can_search text }
-        ensures root { IfOk result (λ e. Self.root e ≡ (tree_of re.now).root) }
-        ensures text { IfOk result (λ e. Self.text e ≡ text_of text (tree_of re.now).flags.unicode) };
+        ensures tree { IfOk result (λ e. Self.tree e ≡ tree_of re.now) }
+        ensures text { IfOk result (λ e. Self.text e ≡ text_of text (tree_of re.now).flags.unicode) }
+        ensures unlimited { IfOk result (λ e. Self.budget e ≡ None) };
 }
 
 /// Runs a program for bytes over a `str`. What makes one is `new` of `Searcher`.
@@ -134,7 +146,7 @@ pub struct Matches<P: MatchProducer> {
 impl<P: MatchProducer> Model for Matches<P> {
     ghost Value = { ToCome };
 
-    ghost view = { λ m. coming (P.root m.mp) (P.text m.mp) (option_map P.Position.offset m.position) };
+    ghost view = { λ m. coming (P.tree m.mp) (P.text m.mp) (P.budget m.mp) (option_map P.Position.offset m.position) };
 
     ghost invariant = { λ m. ForSome m.position (λ p. IsBoundary (P.text m.mp) (P.Position.offset p)) };
 }
@@ -143,7 +155,8 @@ impl<P: MatchProducer> Matches<P> {
     /// The matches from an offset in units on, which is a boundary or past the end; past the end there are none.
     pub fn new(mp: P, start: usize) -> Self
         requires { IsBoundary (P.text mp) start ⊎ (units (P.text mp) < start) }
-        ensures answers { result.answers ≡ answers_from (P.root mp) (P.text mp) start }
+        ensures answers { result.answers ≡ answers_within (P.tree mp) (P.text mp) (P.budget mp) start }
+        ensures limited { result.limited ≡ not (end_within (P.tree mp) (P.text mp) (P.budget mp) start) }
         ensures ended { result.ended ≡ not (nat_le start (units (P.text mp))) }
     {
         let position = mp.initial_position(start);

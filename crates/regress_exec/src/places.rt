@@ -1,6 +1,6 @@
 //! The walk over the places of a text, once for all executors.
 
-ghost use Rattle.std.specs.Prelude.{◌≡◌, ◌+◌, ◌≤◌, IfOk, map, option_map, string_bytes, length};
+ghost use Rattle.std.specs.Prelude.{◌≡◌, ◌+◌, ◌≤◌, ℕ, IfOk, IsSome, None, Option, map, option_map, string_bytes, length};
 ghost use Rattle.regex_meaning.specs.Tree.{Tree};
 ghost use Rattle.regex_meaning.specs.Text.{Text};
 ghost use Rattle.regex_meaning.specs.Offsets.{IsText, IsBoundary};
@@ -9,8 +9,9 @@ ghost use Rattle.regex_meaning.specs.Names.{names_by_id};
 ghost use Rattle.regex_pattern_front.specs.TreeOf.{tree_of};
 ghost use Rattle.regress_program.specs.Code.{compiled};
 ghost use Rattle.regress_exec.specs.Answers.{answer_by, answer_of, range_of};
-ghost use Rattle.regress_exec.specs.Attempts.{IsNextTry, IsVain, ends_with, end_from, offset_behind};
+ghost use Rattle.regress_exec.specs.Attempts.{IsNextTry, IsVain, ends_with, end_from, first_tried, next_tried, offset_behind, ticks_from};
 ghost use Rattle.regress_exec.specs.Positions.{span_of};
+ghost use Rattle.regress_exec.specs.Spends.{Spends};
 
 use crate::exec::{Match, MatchProducer, SearchError};
 use regress_input::indexing::InputIndexer;
@@ -18,8 +19,10 @@ use regress_program::insn::Program;
 use std::alloc::AllocError;
 use std::ops::Range;
 
-/// An executor that tries one place at a time. Contracts see the tree whose program it runs, the text, and the groups
-/// of the last attempt that found an end.
+/// An executor that tries one place at a time. Contracts see the tree whose program it runs, the text, the steps that
+/// it may still take where they are counted, and the groups of the last attempt that found an end.
+///
+/// Where steps are counted, the places that are tried are those that the start predicate lets through.
 pub trait Attempts {
     /// The text that is searched.
     type Input: InputIndexer;
@@ -27,6 +30,8 @@ pub trait Attempts {
     ghost tree: { Self → Tree };
 
     ghost text: { Self → Text };
+
+    ghost budget: { Self → Option ℕ } = { λ _. None };
 
     ghost groups: { Self → Groups };
 
@@ -45,6 +50,7 @@ pub trait Attempts {
     ) -> Result<Option<<Self::Input as InputIndexer>::Position>, SearchError>
         requires { IsBoundary (text self.old) (Self.Input.Position.offset pos) }
         ensures found { IfOk result (λ end. ends_with Self.Input.Position.offset end (groups self.new) ≡ end_from (tree self.old) (text self.old) (Self.Input.Position.offset pos)) }
+        ensures steps { Spends (ticks_from (tree self.old) (text self.old) (Self.Input.Position.offset pos)) (budget self.old) result (budget self.new) }
         ensures same_tree { tree self.new ≡ tree self.old }
         ensures same_text { text self.new ≡ text self.old };
 
@@ -70,7 +76,8 @@ pub trait Attempts {
         pos: <Self::Input as InputIndexer>::Position,
     ) -> Option<<Self::Input as InputIndexer>::Position>
         requires { IsBoundary (text self.now) (Self.Input.Position.offset pos) }
-        ensures { IsNextTry (tree self.now) (text self.now) (Self.Input.Position.offset pos) (option_map Self.Input.Position.offset result) };
+        ensures next { IsNextTry (tree self.now) (text self.now) (Self.Input.Position.offset pos) (option_map Self.Input.Position.offset result) }
+        ensures counted { IsSome (budget self.now) → option_map Self.Input.Position.offset result ≡ first_tried (tree self.now) (text self.now) (Self.Input.Position.offset pos) };
 
     /// The first position to try behind one that was tried in vain: no match begins between them. None where none
     /// begins behind it.
@@ -80,7 +87,8 @@ pub trait Attempts {
     ) -> Option<<Self::Input as InputIndexer>::Position>
         requires at { IsBoundary (text self.now) (Self.Input.Position.offset tried) }
         requires vain { IsVain (tree self.now) (text self.now) (Self.Input.Position.offset tried) }
-        ensures { IsNextTry (tree self.now) (text self.now) (Self.Input.Position.offset tried + 1) (option_map Self.Input.Position.offset result) };
+        ensures next { IsNextTry (tree self.now) (text self.now) (Self.Input.Position.offset tried + 1) (option_map Self.Input.Position.offset result) }
+        ensures counted { IsSome (budget self.now) → option_map Self.Input.Position.offset result ≡ next_tried (tree self.now) (text self.now) (Self.Input.Position.offset tried) };
 
     ghost is_text: { (it : Self) → IsText (text it) };
 }
@@ -157,9 +165,11 @@ fn position_behind<Input: InputIndexer>(
 impl<A: Attempts> MatchProducer for A {
     type Position = <A::Input as InputIndexer>::Position;
 
-    ghost root = { λ e. (A.tree e).root };
+    ghost tree = { A.tree };
 
     ghost text = { A.text };
+
+    ghost budget = { A.budget };
 
     ghost is_text = { A.is_text };
 

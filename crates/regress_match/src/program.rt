@@ -59,6 +59,7 @@ fn print_matches<W: Write, W2: Write>(re: &Regex, text: &str, out: &mut W, err: 
                 status = FOUND;
             }
             Err(SearchError::Memory) => return refuse(err, "out of memory"),
+            Err(SearchError::StepLimit) => return refuse(err, "out of steps"),
         }
     }
     status

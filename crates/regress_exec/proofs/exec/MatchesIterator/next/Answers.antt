@@ -1,7 +1,9 @@
-use Rattle.std.proofs.Common.{ap, sym, subst, option_map, refl, ◌∙◌}
+use Rattle.std.proofs.Common.{Option, ap, sym, subst, option_map, refl, ◌∙◌}
 use Rattle.regex_meaning.specs.Offsets.{IsBoundary}
+use Rattle.regress_exec.specs.declared.exec.Match.{Match}
 use Rattle.regress_exec.specs.Answers.{answer_of}
-use Rattle.regress_exec.proofs.Coming.{call-some, call-none, next-boundary, fewer}
+use Rattle.regress_exec.specs.ToCome.{coming}
+use Rattle.regress_exec.proofs.Coming.{call-some, call-none, call-refused, next-boundary, not-ended, fewer}
 use Rattle.regress_exec.proofs.exec.MatchesIterator.next.Goals as goal
 
 pub invariant_of-self : goal.invariant_of-self
@@ -9,25 +11,29 @@ invariant_of-self g c = λ x e.
     let offset = g.P.Position.PositionType.offset in
     let mp = c.self.inside.mp in
     subst (λ t. IsBoundary t (offset x)) (sym c.in-Ok-Some.ensures.same_text)
-    (next-boundary (g.P.MatchProducer.root mp) (g.P.MatchProducer.text mp) (g.met.P.MatchProducer.is_text mp) (offset c.in_ok-pos.pos) (offset x)
+    (next-boundary (g.P.MatchProducer.tree mp) (g.P.MatchProducer.text mp) (g.met.P.MatchProducer.is_text mp) (offset c.in_ok-pos.pos) (offset x)
     (ap (option_map offset) (sym e) ∙ (rw c.in-Ok-Some.field-0-is at c.in-Ok-Some.ensures.goes_on)))
 
 pub returns-in-Ok-Some-clause-steps : goal.returns-in-Ok-Some-clause-steps
 returns-in-Ok-Some-clause-steps g c =
     let offset = g.P.Position.PositionType.offset in
+    let p = g.P.MatchProducer in
     let mp = c.self.inside.mp in
     let new = c.next_match.new.self in
-    call-some (g.P.MatchProducer.root mp) (g.P.MatchProducer.text mp) (g.met.P.MatchProducer.is_text mp) c.args.self.now
-    (option_map offset c.self.inside.position) (offset c.in_ok-pos.pos) (answer_of c.in-Ok-Some.found)
-    (g.P.MatchProducer.root new) (g.P.MatchProducer.text new) (option_map offset c.next_match.new.next_start)
-    c.self.view_is (ap (option_map offset) c.in_ok-pos.was) (rw c.in-Ok-Some.field-0-is at c.in-Ok-Some.ensures.found) (rw c.in-Ok-Some.field-0-is at c.in-Ok-Some.ensures.goes_on)
-    c.in-Ok-Some.ensures.same_root c.in-Ok-Some.ensures.same_text
+    call-some (p.tree mp) (p.text mp) (g.met.P.MatchProducer.is_text mp) c.args.self.now
+    (p.budget mp) (option_map offset c.self.inside.position) (offset c.in_ok-pos.pos) c.self.view_is (ap (option_map offset) c.in_ok-pos.was)
+    (answer_of c.in-Ok-Some.found) (p.tree new) (p.text new) (p.budget new) (option_map offset c.next_match.new.next_start)
+    (rw c.in-Ok-Some.field-0-is at c.in-Ok-Some.ensures.found) (rw c.in-Ok-Some.field-0-is at c.in-Ok-Some.ensures.goes_on)
+    c.in-Ok-Some.ensures.same_tree c.in-Ok-Some.ensures.same_text c.in-Ok-Some.ensures.steps.0 c.in-Ok-Some.ensures.steps.1
 
 pub returns-in-Ok-Some-clause-goes : goal.returns-in-Ok-Some-clause-goes
 returns-in-Ok-Some-clause-goes g c =
     let steps = returns-in-Ok-Some-clause-steps g c in
+    let p = g.P.MatchProducer in
+    let new = c.next_match.new.self in
+    let after = coming (p.tree new) (p.text new) (p.budget new) (option_map g.P.Position.PositionType.offset c.next_match.new.next_start) in
     record {
-      on = λ f. (tt, tt, fewer _ _ _ steps.0 steps.1);
+      on = λ f. (tt, tt, fewer c.args.self.now after (answer_of c.in-Ok-Some.found) steps.0 steps.2);
       keeps = tt;
       rests = λ f. tt;
     }
@@ -35,8 +41,22 @@ returns-in-Ok-Some-clause-goes g c =
 pub returns-in-Ok-None-clause-steps : goal.returns-in-Ok-None-clause-steps
 returns-in-Ok-None-clause-steps g c =
     let offset = g.P.Position.PositionType.offset in
-    let mp = c.self.inside.mp in (
-      call-none (g.P.MatchProducer.root mp) (g.P.MatchProducer.text mp) (g.met.P.MatchProducer.is_text mp) c.args.self.now
-          (option_map offset c.self.inside.position) (offset c.in_ok-pos.pos) c.self.view_is (ap (option_map offset) c.in_ok-pos.was) (rw c.in-Ok-None.field-0-is at c.in-Ok-None.ensures.found),
+    let p = g.P.MatchProducer in
+    let mp = c.self.inside.mp in
+    let none = call-none (p.tree mp) (p.text mp) (g.met.P.MatchProducer.is_text mp) c.args.self.now (p.budget mp)
+    (option_map offset c.self.inside.position) (offset c.in_ok-pos.pos) c.self.view_is (ap (option_map offset) c.in_ok-pos.was)
+    (rw c.in-Ok-None.field-0-is at c.in-Ok-None.ensures.found) c.in-Ok-None.ensures.steps.0 in
+    (none.0, none.1, refl)
+
+pub returns-in-Err-clause-steps : goal.returns-in-Err-clause-steps
+returns-in-Err-clause-steps g c =
+    let offset = g.P.Position.PositionType.offset in
+    let p = g.P.MatchProducer in
+    let mp = c.self.inside.mp in
+    let is = g.met.P.MatchProducer.is_text mp in
+    let was = ap (option_map offset) c.in_ok-pos.was in (
+      call-refused (p.tree mp) (p.text mp) is c.args.self.now (p.budget mp) (option_map offset c.self.inside.position) (offset c.in_ok-pos.pos) c.self.view_is was
+          (Option Match) c.in-Err.refused (p.budget c.next_match.new.self) c.in-Err.ensures.steps,
+      not-ended (p.tree mp) (p.text mp) is c.args.self.now (p.budget mp) (option_map offset c.self.inside.position) (offset c.in_ok-pos.pos) c.self.view_is was,
       refl,
     )

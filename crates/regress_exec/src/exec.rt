@@ -18,8 +18,10 @@ use std::alloc::AllocError;
 use std::marker::Model;
 use std::ops::Range;
 
-pub mod groups;
-pub mod in_turn;
+mod in_turn;
+mod parts;
+
+pub use self::in_turn::{Groups, NamedGroups};
 
 /// Why a search was refused.
 #[derive(Clone, Copy, Debug, PartialEq, Eq)]
@@ -41,7 +43,7 @@ impl From<AllocError> for SearchError {
 }
 
 /// A match: a range of the text in units, and those of its groups.
-#[derive(Drop)]
+#[derive(Debug, Drop)]
 pub struct Match {
     /// The whole match.
     pub range: Range<usize>,

@@ -6,8 +6,8 @@ use Rattle.regress_exec.specs.Attempts.{IsNextTry}
 use Rattle.regress_exec.proofs.Anchored.{anchored-behind, anchored-by, predicate-compiled, tried-behind}
 use Rattle.regress_search.proofs.pikevm.PikeVMExecutorAttempts.place_behind.Goals as goal
 
-pub returns : goal.returns
-returns g c =
+pub returns-clause-next : goal.returns-clause-next
+returns-clause-next g c =
     let searched = c.args.self.now.searched in
     let tree = tree_of searched.program.now in
     let text = g.Input.InputIndexer.text searched.input in

@@ -10,7 +10,11 @@ mod groups;
 #[cfg(test)]
 mod lines;
 #[cfg(test)]
+mod programs;
+#[cfg(test)]
 mod public;
+#[cfg(test)]
+mod replace;
 #[cfg(test)]
 mod rows;
 #[cfg(test)]

@@ -1,3 +1,6 @@
 pub mod EscapeLemmas
+pub mod Expansion
 pub mod FlagLemmas
+pub mod RefusalLemmas
+pub mod Replacing
 pub mod Starts

@@ -2,9 +2,11 @@
 use Rattle.std.specs.Prelude.{◌≡◌, ℕ, List, IsTrue}
 use Rattle.regex_meaning.specs.Tree.{Tree, Flags}
 use Rattle.regex_meaning.specs.Text.{utf8_text, ascii_text}
+use Rattle.regex_meaning.specs.Layout.{IsByteCodeOf, IsUnitCodeOf}
 use Rattle.regex_meaning.specs.Names.{Answer, answers_from}
 use Rattle.regex_meaning.specs.WellFormed.{is_well_formed}
 use Rattle.regex_pattern_front.specs.TreeOf.{tree_of}
+use Rattle.regress_program.specs.Code.{compiled}
 use Rattle.regress_match.specs.Trees.{tree_to_run}
 use Rattle.regress_match.specs.declared.api.regex.Regex.{Regex}
 
@@ -12,15 +14,18 @@ use Rattle.regress_match.specs.declared.api.regex.Regex.{Regex}
 abbrev pub byte_tree : Regex → Tree
 byte_tree re = tree_of re.cr
 
--- the tree that was parsed
-abbrev pub source_tree : Regex → Tree
-source_tree re = tree_of re.source.value
+-- the tree of the program that searches texts of 16-bit units
+abbrev pub unit_tree : Regex → Tree
+unit_tree re = tree_of re.units
 
--- A well-formed tree was parsed with these flags, and the program is that of the tree to run in its place.
+-- One well-formed tree has these flags. The program for 16-bit units is its code, and that for bytes the code of the tree
+-- that is run in its place.
 pub record IsCompiledWith (wanted : Flags) (re : Regex) : Type 0 where
-  pub flags : (source_tree re).flags ≡ wanted
-  pub well_formed : IsTrue (is_well_formed (source_tree re).root)
-  pub program : byte_tree re ≡ tree_to_run (source_tree re)
+  pub flags : (unit_tree re).flags ≡ wanted
+  pub well_formed : IsTrue (is_well_formed (unit_tree re).root)
+  pub units : IsUnitCodeOf (compiled (unit_tree re)) (unit_tree re)
+  pub optimized : byte_tree re ≡ tree_to_run (unit_tree re)
+  pub bytes : IsByteCodeOf (compiled (byte_tree re)) (byte_tree re)
 
 -- the answers in a text in UTF-8 from an offset on
 abbrev pub utf8_answers : Regex → (bytes : List ℕ) → (start : ℕ) → List Answer

@@ -1,5 +1,4 @@
 -- Which refusal of a step is which of the whole.
-use Rattle.std.specs.Prelude.{◌≡◌}
 use Rattle.regex_pattern_front.specs.declared.parse.ParseError.{ParseError}
 use Rattle.regex_pattern_front.specs.declared.parse.ParseError.TheVariants as parse
 use Rattle.regress_program.specs.declared.emit.EmitError.{EmitError}
@@ -16,8 +15,10 @@ abbrev pub of_emit : EmitError → Error
 of_emit emit.Memory = Memory
 of_emit e = Emit e
 
--- What refuses a pattern: no want of memory is wrapped, and a parsed tree is well formed.
+-- What refuses a pattern: no want of memory is wrapped, and a parsed tree is well formed and of characters.
 abbrev pub CanRefuse : Error → Type 0
-CanRefuse (Parse e) = ¬ (e ≡ parse.Memory)
-CanRefuse (Emit e) = ¬ (e ≡ emit.Memory) × (¬ (e ≡ emit.NotWellFormed) × ¬ (e ≡ emit.BytesInUnits))
-CanRefuse Memory = Unit {0}
+CanRefuse (Parse parse.Memory) = ⊥
+CanRefuse (Emit emit.Memory) = ⊥
+CanRefuse (Emit emit.NotWellFormed) = ⊥
+CanRefuse (Emit emit.BytesInUnits) = ⊥
+CanRefuse _ = Unit {0}

@@ -4,11 +4,12 @@ mod error;
 mod escaping;
 mod flags;
 mod regex;
+mod replace;
 
 pub use self::error::Error;
 pub use self::escaping::escape;
 pub use self::flags::Flags;
 pub use self::regex::{AsciiMatches, Matches, Regex};
-pub use regress_search::exec::in_turn::{Groups, NamedGroups};
-pub use regress_search::exec::{Match, SearchError};
+pub use regress_exec::exec::in_turn::{Groups, NamedGroups};
+pub use regress_exec::exec::{Match, SearchError};
 pub use std::ops::Range;

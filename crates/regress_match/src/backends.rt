@@ -1,9 +1,9 @@
 //! The executors, and what is below a pattern that is compiled: parsing, optimizing, emitting.
 
-use regress_input::indexing::{AsciiInput, Utf8Input};
 pub use regex_pattern_front::optimizer::optimize;
 pub use regex_pattern_front::parse::try_parse;
-pub use regress_program::emit::emit;
+use regress_input::indexing::{AsciiInput, Utf8Input};
+pub use regress_program::emit::{emit, emit_units};
 pub use regress_search::pikevm::PikeVMExecutor;
 
 /// What searches texts in UTF-8.

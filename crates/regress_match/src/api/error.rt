@@ -49,4 +49,3 @@ impl From<EmitError> for Error {
         }
     }
 }
-

@@ -104,4 +104,3 @@ fn letter_if(set: bool, letter: &str) -> &str
 {
     if set { letter } else { "" }
 }
-

@@ -12,12 +12,11 @@ use crate::backends::{DefaultAsciiExecutor, DefaultExecutor};
 use regex_pattern_front::ir;
 use regex_pattern_front::optimizer::optimize;
 use regex_pattern_front::parse::try_parse;
-use regress_program::emit::emit;
-use regress_program::insn::CompiledRegex;
-use regress_search::exec;
-use regress_search::exec::{Match, MatchProducer, SearchError, Searcher};
-use std::alloc::Global;
-use std::snapshot::Snapshot;
+use regress_program::emit::{emit, emit_units};
+use regress_program::insn::{CompiledRegex, CompiledUnits};
+use regress_exec::exec;
+use regress_exec::exec::{Match, MatchProducer, SearchError, Searcher};
+use std::alloc::{AllocError, Global};
 
 /// The matches of a pattern in a text in UTF-8. Contracts see the answers still to come.
 pub type Matches<'r, 't> = exec::Matches<DefaultExecutor<'r, 't>>;
@@ -39,14 +38,15 @@ fn to_run(mut tree: ir::Regex) -> ir::Regex
 /// A pattern that is compiled.
 #[derive(Drop)]
 pub struct Regex {
+    // for texts in bytes
     cr: CompiledRegex,
-    // the tree that was parsed
-    source: Snapshot<ir::Regex>,
+    // for texts of 16-bit units
+    units: CompiledUnits,
 }
 
 impl Regex {
     ghost use Rattle.regress_match.specs.Flags.{flags_of};
-    ghost use Rattle.regress_match.specs.Programs.{IsCompiledWith, ascii_answers, utf8_answers};
+    ghost use Rattle.regress_match.specs.Programs.{IsCompiledWith, ascii_answers, byte_tree, unit_tree, utf8_answers};
 
     /// Compiles a pattern with the default flags.
     ///
@@ -54,26 +54,80 @@ impl Regex {
     ///
     /// Those of `with_flags`.
     pub fn new(alloc: Global, pattern: &str) -> Result<Regex, Error>
-        ensures { IfOk result (IsCompiledWith (flags_of_text [])) }
+        ensures compiled { IfOk result (IsCompiledWith (flags_of_text [])) }
+        ensures refused { IfErr result CanRefuse }
     {
         Regex::with_flags(alloc, pattern, Flags::default())
     }
 
-    /// Compiles a pattern with these flags: parses it, optimizes its tree unless `no_opt` is set, and emits the
-    /// program.
+    /// The same as `new`.
     ///
     /// # Errors
     ///
-    /// `Parse` where the text is no pattern, `Emit` where its tree has no program, and `Memory` where there is no
-    /// memory for one of the steps.
+    /// Those of `with_flags`.
+    pub fn from_str(alloc: Global, pattern: &str) -> Result<Regex, Error>
+        ensures compiled { IfOk result (IsCompiledWith (flags_of_text [])) }
+        ensures refused { IfErr result CanRefuse }
+    {
+        Regex::new(alloc, pattern)
+    }
+
+    /// Compiles a pattern with these flags: parses it, emits the program for 16-bit units, optimizes the tree unless
+    /// `no_opt` is set, and emits the program for bytes.
+    ///
+    /// # Errors
+    ///
+    /// `Parse` where the text is no pattern, `Emit` where its tree has too many groups, loops or instructions, and
+    /// `Memory` where there is no memory for one of the steps.
     pub fn with_flags(alloc: Global, pattern: &str, flags: Flags) -> Result<Regex, Error>
-        ensures { IfOk result (IsCompiledWith (flags_of flags)) }
+        ensures compiled { IfOk result (IsCompiledWith (flags_of flags)) }
+        ensures refused { IfErr result CanRefuse }
     {
         let code_points: Vec<u32> = pattern.chars().map(u32::from).collect(alloc)?;
-        let tree = try_parse(alloc, &code_points, flags.for_front())?;
-        let source = Snapshot::of(&tree);
+        Regex::from_unicode(alloc, &code_points, flags)
+    }
+
+    /// Compiles a pattern that is given by its code points, as `with_flags` does.
+    ///
+    /// # Errors
+    ///
+    /// Those of `with_flags`.
+    pub fn from_unicode(alloc: Global, pattern: &[u32], flags: Flags) -> Result<Regex, Error>
+        ensures compiled { IfOk result (IsCompiledWith (flags_of flags)) }
+        ensures refused { IfErr result CanRefuse }
+    {
+        let tree = try_parse(alloc, pattern, flags.for_front())?;
+        let units = emit_units(alloc, &tree)?;
         let cr = emit(alloc, &to_run(tree))?;
-        Ok(Regex { cr, source })
+        Ok(Regex { cr, units })
+    }
+
+    /// The pattern of two programs: texts in bytes are searched by the one, and texts of 16-bit units by the other. It
+    /// takes no memory.
+    pub fn from_programs(cr: CompiledRegex, units: CompiledUnits) -> Regex
+        ensures bytes { byte_tree result ≡ tree_of cr }
+        ensures units { unit_tree result ≡ tree_of units }
+    {
+        Regex { cr, units }
+    }
+
+    /// An equal pattern.
+    ///
+    /// # Errors
+    ///
+    /// Where there is no memory for its programs.
+    pub fn clone(&self) -> Result<Self, AllocError>
+        ensures { IfOk result (λ re. re ≡ self.now) }
+    {
+        Ok(Regex {
+            cr: self.cr.clone()?,
+            units: self.units.clone()?,
+        })
+    }
+
+    // What its programs were made with.
+    pub(super) fn allocator(&self) -> Global {
+        self.cr.allocator()
     }
 
     /// The first match in `text`, none exactly where there is none.
@@ -175,4 +229,3 @@ fn first<P: MatchProducer + Drop>(
 {
     matches.next().transpose()
 }
-

@@ -10,5 +10,5 @@ pub use self::error::Error;
 pub use self::escaping::escape;
 pub use self::flags::Flags;
 pub use self::regex::{AsciiMatches, Matches, Regex};
-pub use regress_search::exec::{Groups, Match, NamedGroups, SearchError};
+pub use regress_exec::exec::{Groups, Match, NamedGroups, SearchError};
 pub use std::ops::Range;

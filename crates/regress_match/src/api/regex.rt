@@ -12,10 +12,10 @@ use crate::backends::{DefaultAsciiExecutor, DefaultExecutor};
 use regex_pattern_front::ir;
 use regex_pattern_front::optimizer::optimize;
 use regex_pattern_front::parse::try_parse;
+use regress_exec::exec;
+use regress_exec::exec::{Match, MatchProducer, SearchError, Searcher};
 use regress_program::emit::{emit, emit_units};
 use regress_program::insn::{CompiledRegex, CompiledUnits};
-use regress_search::exec;
-use regress_search::exec::{Match, MatchProducer, SearchError, Searcher};
 use std::alloc::{AllocError, Global};
 
 /// The matches of a pattern in a text in UTF-8. Contracts see the answers still to come.

@@ -10,7 +10,7 @@ mod expansion;
 
 use crate::api::replace::expansion::expand;
 use crate::api::{Match, Regex, SearchError};
-use regress_search::exec::{MatchProducer, Matches};
+use regress_exec::exec::{MatchProducer, Matches};
 use std::alloc::{AllocError, Global};
 
 impl Regex {

@@ -5,7 +5,6 @@ use Rattle.regex_pattern_front.specs.TreeOf.{tree_of, flags_of}
 use Rattle.regress_program.specs.Code.{compiled}
 use Rattle.regex_meaning.specs.Tree.{Tree}
 use Rattle.regex_meaning.specs.WellFormed.{IsWellFormed}
-use Rattle.regex_meaning.proofs.WellFormedLemmas.{well_formed-iff}
 use Rattle.std.specs.Prelude.{Err}
 use Rattle.regress_match.specs.Refusals.{of_emit}
 use Rattle.regress_match.specs.Trees.{tree_to_run}
@@ -32,7 +31,7 @@ returns-in_err-units-clause-refused c =
     let e = c.in_err-units.field-0.0 in
     err-refused c.from_residual-in_err-units.result (of_emit e) _ (λ x h. h) c.from_residual-in_err-units.ensures.1
     (emit-refuses e
-    (λ is. c.emit_units.ensures.not_well_formed (c.in_err-units.was ∙ ap Err is) ((well_formed-iff tree.root).0 parsed.well_formed))
+    (λ is. c.emit_units.ensures.not_well_formed (c.in_err-units.was ∙ ap Err is) parsed.well_formed)
     (λ is. reads-not tree.root parsed.characters (c.emit_units.ensures.bytes_in_units (c.in_err-units.was ∙ ap Err is)).1))
 
 pub returns-in_err-cr-clause-refused : goal.returns-in_err-cr-clause-refused
@@ -43,5 +42,5 @@ returns-in_err-cr-clause-refused c =
     err-refused c.from_residual-in_err-cr.result (of_emit e) _ (λ x h. h) c.from_residual-in_err-cr.ensures.1
     (emit-refuses e
     (λ is. c.emit.ensures.not_well_formed (c.in_err-cr.was ∙ ap Err is)
-    (subst (λ (t : Tree). IsWellFormed t.root) (sym is_run) ((well_formed-iff (tree_to_run tree).root).0 (well_formed-to_run tree c.in_ok-tree.ensures.well_formed))))
+    (subst (λ (t : Tree). IsWellFormed t.root) (sym is_run) (well_formed-to_run tree c.in_ok-tree.ensures.well_formed)))
     (λ is. c.emit.ensures.no_units (c.in_err-cr.was ∙ ap Err is)))

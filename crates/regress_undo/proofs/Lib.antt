@@ -3,10 +3,13 @@ mod Slots
 pub mod LastMark
 pub mod Turning
 pub mod Arms
-pub mod Loops
+pub mod LoopTurns
 pub mod Ranges
-pub mod Runs
+pub mod RunPlaces
 pub mod Nearer
 pub mod Going
 pub mod Advancing
 pub mod Scanning
+pub mod Above
+pub mod Taking
+pub mod Remaining

@@ -1,7 +1,7 @@
 //! How many steps a search may take.
 
 ghost use Rattle.std.specs.Prelude.{◌≡◌, ◌<◌, ◌+◌, ℕ, Bool, true, false, OnOk, OnErr, IsTrue};
-ghost use Rattle.regress_undo.specs.Steps.{IsTaken, IsRefused};
+ghost use Rattle.regress_undo.specs.Steps.{Budget, IsTaken, IsRefused};
 
 use std::alloc::AllocError;
 
@@ -19,21 +19,21 @@ impl From<AllocError> for Stop {
 
 /// Counts steps, or does not.
 pub trait Steps: Copy {
-    ghost counts: { Bool };
+    ghost COUNTS: { Bool };
 
-    ghost left: { Self → ℕ };
+    /// Whether steps are counted.
+    const COUNTS: bool;
 
-    ghost ran_out: { Self → Bool };
+    ghost budget: { Self → Budget };
 
     /// Takes so many steps, if so many are left. If not, none are left then.
     fn take(&mut self, steps: usize) -> Result<(), Stop>
-        ensures taken { OnOk result (IsTaken counts steps (left self.old) (left self.new)) }
-        ensures same { OnOk result (ran_out self.new ≡ ran_out self.old) }
-        ensures refused { OnErr result (IsRefused counts steps (left self.old) (left self.new) (ran_out self.new)) };
+        ensures taken { OnOk result (IsTaken COUNTS steps (budget self.old) (budget self.new)) }
+        ensures refused { OnErr result (IsRefused COUNTS steps (budget self.old) (budget self.new)) };
 
     /// Whether steps were refused.
     fn is_out(&self) -> bool
-        ensures { result ≡ ran_out self.now };
+        ensures { result ≡ (budget self.now).out };
 }
 
 /// Any number of steps.
@@ -41,11 +41,11 @@ pub trait Steps: Copy {
 pub struct Free;
 
 impl Steps for Free {
-    ghost counts = { false };
+    ghost COUNTS = { false };
 
-    ghost left = { λ _. 0 };
+    const COUNTS: bool = false;
 
-    ghost ran_out = { λ _. false };
+    ghost budget = { λ _. record { left = 0; out = false } };
 
     #[inline(always)]
     fn take(&mut self, _steps: usize) -> Result<(), Stop> {
@@ -66,11 +66,11 @@ pub struct Limited {
 }
 
 impl Steps for Limited {
-    ghost counts = { true };
+    ghost COUNTS = { true };
 
-    ghost left = { λ s. s.left };
+    const COUNTS: bool = true;
 
-    ghost ran_out = { λ s. s.out };
+    ghost budget = { λ s. record { left = s.left; out = s.out } };
 
     #[inline(always)]
     fn take(&mut self, steps: usize) -> Result<(), Stop> {

@@ -13,3 +13,6 @@ pub mod Scanning
 pub mod Above
 pub mod Taking
 pub mod Remaining
+pub mod TakingUp
+pub mod Stages
+pub mod Looking

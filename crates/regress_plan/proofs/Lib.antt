@@ -1,2 +1,4 @@
 pub mod KeyLemmas
 pub mod ShareLemmas
+pub mod RowLemmas
+pub mod PlanLemmas

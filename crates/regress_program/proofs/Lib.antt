@@ -10,3 +10,4 @@ pub mod FilingLemmas
 pub mod Walks
 pub mod CharLemmas
 pub mod Weights
+pub mod PredicateLemmas

@@ -1,8 +1,14 @@
 -- What a program's fields are.
-use Rattle.std.specs.Prelude.{◌≡◌, map, IsTrue, string_bytes}
+use Rattle.std.specs.Prelude.{◌≡◌, map, Bool, true, false, IsTrue, string_bytes}
 use Rattle.regex_meaning.specs.WellFormed.{is_well_formed}
 use Rattle.regex_pattern_front.specs.TreeOf.{tree_of, flags_of, contents_of}
+use Rattle.regex_meaning.specs.Layout.{reads_bytes}
+use Rattle.regex_pattern_front.specs.declared.ir.Regex.{Regex}
+use Rattle.regress_plan.specs.declared.plan.Plan.{Plan}
+use Rattle.regress_plan.specs.Plans.{IsPlanOf}
 use Rattle.regress_program.specs.Insns.{insn_of}
+use Rattle.regress_program.specs.declared.insn.predicates.StartPredicate.{StartPredicate}
+use Rattle.regress_program.specs.Predicates.{IsStartOf}
 use Rattle.regress_program.specs.Code.{compiled}
 use Rattle.regress_program.specs.declared.insn.programs.Program.TheInside.{Inside}
 
@@ -15,3 +21,17 @@ pub record IsProgram (p : Inside) : Type 0 where
   pub flags : flags_of p.flags ≡ (compiled (tree_of p.tree.value)).flags
   pub group_names : map string_bytes p.group_names.items ≡ (compiled (tree_of p.tree.value)).group_names
   pub well_formed : IsTrue (is_well_formed (tree_of p.tree.value).root)
+
+-- the plan is that of the tree's program, for units of 8 or of 16 bits
+abbrev pub IsPlanFor : (wide : Bool) → Regex → Plan → Type 0
+IsPlanFor wide re plan = IsPlanOf wide (compiled (tree_of re)) plan
+
+-- what programs for bytes hold besides
+pub record IsForBytes (re : Regex) (start : StartPredicate) (plan : Plan) : Type 0 where
+  pub starts : IsStartOf start re
+  pub planned : IsPlanFor false re plan
+
+-- what programs for 16-bit units hold besides
+pub record IsForUnits (re : Regex) (plan : Plan) : Type 0 where
+  pub no_bytes : reads_bytes (tree_of re).root ≡ false
+  pub planned : IsPlanFor true re plan

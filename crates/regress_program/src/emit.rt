@@ -28,6 +28,7 @@ use crate::insn::{CompiledRegex, CompiledUnits, Program};
 use crate::startpredicate::predicate_for_re;
 use regex_pattern_front::ir;
 use regex_pattern_front::types::{LoopID, MAX_CAPTURE_GROUPS};
+use regress_plan::keys::Units;
 use std::alloc::{AllocError, Global};
 
 /// Why a tree is not compiled.
@@ -77,9 +78,11 @@ pub fn emit(alloc: Global, re: &ir::Regex) -> Result<CompiledRegex, EmitError>
 {
     let program = compile(alloc, re, false)?;
     let start_pred = predicate_for_re(alloc, re)?;
+    let plan = program.planned(Units::Bytes)?;
     Ok(CompiledRegex {
         program,
         start_pred,
+        plan,
     })
 }
 
@@ -101,7 +104,8 @@ pub fn emit_units(alloc: Global, re: &ir::Regex) -> Result<CompiledUnits, EmitEr
     ensures memory { IsErrOf result EmitError.Memory → IsRefusedInUnits Memory (tree_of re.now) }
 {
     let program = compile(alloc, re, reads_bytes(&re.node))?;
-    Ok(CompiledUnits { program })
+    let plan = program.planned(Units::Wide)?;
+    Ok(CompiledUnits { program, plan })
 }
 
 // What programs of both kinds hold, or why there is none; `bytes_in_units` says whether the tree is for 16-bit units

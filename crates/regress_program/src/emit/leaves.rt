@@ -1,6 +1,6 @@
 //! The instructions of nodes that have one.
 
-ghost use Rattle.std.specs.Prelude.{◌≡◌, ◌<◌, ◌≤◌, length};
+ghost use Rattle.std.specs.Prelude.{◌≡◌, ◌≤◌, length};
 ghost use Rattle.regex_meaning.specs.Layout as layout;
 ghost use Rattle.regex_pattern_front.specs.TreeOf.{anchor_of};
 ghost use Rattle.regress_program.specs.Insns.{insn_of};
@@ -47,42 +47,6 @@ pub(crate) fn byte_set_insn(members: &[u8]) -> Insn
         [a, b, c] => Insn::ByteSet3(ByteArraySet([*a, *b, *c])),
         [a, b, c, d] => Insn::ByteSet4(ByteArraySet([*a, *b, *c, *d])),
         _ => unreachable!(),
-    }
-}
-
-// These bytes, of which there are 1 to 16.
-pub(crate) fn byte_seq_insn(bytes: &[u8]) -> Insn
-    requires some { 0 < length bytes.now }
-    requires few { length bytes.now ≤ 16 }
-    ensures { insn_of result ≡ layout.ByteSeq bytes.now }
-{
-    match bytes.len() {
-        1 => Insn::ByteSeq1(array(bytes)),
-        2 => Insn::ByteSeq2(array(bytes)),
-        3 => Insn::ByteSeq3(array(bytes)),
-        4 => Insn::ByteSeq4(array(bytes)),
-        5 => Insn::ByteSeq5(array(bytes)),
-        6 => Insn::ByteSeq6(array(bytes)),
-        7 => Insn::ByteSeq7(array(bytes)),
-        8 => Insn::ByteSeq8(array(bytes)),
-        9 => Insn::ByteSeq9(array(bytes)),
-        10 => Insn::ByteSeq10(array(bytes)),
-        11 => Insn::ByteSeq11(array(bytes)),
-        12 => Insn::ByteSeq12(array(bytes)),
-        13 => Insn::ByteSeq13(array(bytes)),
-        14 => Insn::ByteSeq14(array(bytes)),
-        15 => Insn::ByteSeq15(array(bytes)),
-        _ => Insn::ByteSeq16(array(bytes)),
-    }
-}
-
-fn array<const N: usize>(bytes: &[u8]) -> [u8; N]
-    requires { length bytes.now ≡ N }
-    ensures { result ≡ bytes.now }
-{
-    match <[u8; N]>::try_from(bytes) {
-        Ok(array) => array,
-        Err(_) => unreachable!(),
     }
 }
 

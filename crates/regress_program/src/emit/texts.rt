@@ -9,9 +9,9 @@ ghost use Rattle.regress_program.specs.Code.{string_code, strings_size as size_o
 ghost use Rattle.regress_program.specs.Emitting.{state_of, with_code, with_insn, with_insns, code_points_of};
 
 use crate::emit::emitter::{Emitter, Mode};
-use crate::emit::leaves::{byte_seq_insn, spelling_insn};
+use crate::emit::leaves::spelling_insn;
 use regex_pattern_front::folding::expand_code_point;
-use regress_insn::insn::{Insn, MAX_BYTE_SEQ_LENGTH};
+use regress_insn::insn::{Insn, MAX_BYTE_SEQ_LENGTH, byte_seq};
 use std::alloc::AllocError;
 
 // How many chunks a byte sequence has.
@@ -52,7 +52,7 @@ impl Emitter {
         ensures { OnOk result (state_of self.new ≡ with_insn (layout.ByteSeq (take 16 (drop (chunk * 16) bytes.now))) (state_of self.old)) }
     {
         let rest = &bytes[chunk * MAX_BYTE_SEQ_LENGTH..];
-        self.put(byte_seq_insn(&rest[..rest.len().min(MAX_BYTE_SEQ_LENGTH)]))
+        self.put(byte_seq(&rest[..rest.len().min(MAX_BYTE_SEQ_LENGTH)]))
     }
 
     // Strings, of which each but the last has a branch before it and a jump behind it.

@@ -1,24 +1,27 @@
 //! Programs for bytes, and programs for 16-bit units.
 
-ghost use Rattle.std.specs.Prelude.{◌≡◌, IfOk, false};
+ghost use Rattle.std.specs.Prelude.{◌≡◌, IfOk, true, false};
 ghost use Rattle.regex_pattern_front.specs.TreeOf.{tree_of};
 ghost use Rattle.regex_meaning.specs.Layout.{reads_bytes};
 ghost use Rattle.regress_program.specs.Insns.{start_of};
 ghost use Rattle.regress_program.specs.Predicates.{IsShort};
 ghost use Rattle.regress_program.specs.Code.{compiled};
+ghost use Rattle.regress_program.specs.Programs.{IsPlanFor};
 
 use crate::insn::predicates::StartPredicate;
 use crate::insn::programs::Program;
+use regress_plan::plan::Plan;
 use std::alloc::AllocError;
 use std::marker::Model;
 use std::ops::Deref;
 
-/// The program of a well-formed pattern tree, for texts in bytes: a `Program`, which it derefs to, and a start
-/// predicate. Only the compiler makes one. Contracts see the tree.
+/// The program of a well-formed pattern tree, for texts in bytes: a `Program`, which it derefs to, a start predicate and
+/// a plan. Only the compiler makes one. Contracts see the tree.
 #[derive(Drop)]
 pub struct CompiledRegex {
     pub(crate) program: Program,
     pub(crate) start_pred: StartPredicate,
+    pub(crate) plan: Plan,
 }
 
 impl Model for CompiledRegex {
@@ -30,11 +33,11 @@ impl Model for CompiledRegex {
 
     ghost coded = { Prim.hlevel (codes, node.the_row.coded) };
 
-    ghost use Rattle.regress_program.specs.Predicates.{IsStartOf};
+    ghost use Rattle.regress_program.specs.Programs.{IsForBytes};
 
     ghost view = { λ p. p.program };
 
-    ghost invariant = { λ p. IsStartOf p.start_pred p.program };
+    ghost invariant = { λ p. IsForBytes p.program p.start_pred p.plan };
 }
 
 impl CompiledRegex {
@@ -55,6 +58,14 @@ impl CompiledRegex {
         &self.start_pred
     }
 
+    /// What it is made into for executors that search by plans.
+    #[inline(always)]
+    pub fn plan(&self) -> &Plan
+        ensures { IsPlanFor false self.now result.now }
+    {
+        &self.plan
+    }
+
     /// The same program once more.
     pub fn clone(&self) -> Result<Self, AllocError>
         ensures { IfOk result (λ p. p ≡ self.now) }
@@ -62,6 +73,7 @@ impl CompiledRegex {
         Ok(CompiledRegex {
             program: self.program.clone()?,
             start_pred: self.start_pred.clone()?,
+            plan: self.plan.clone()?,
         })
     }
 }
@@ -80,10 +92,11 @@ impl Deref for CompiledRegex {
 }
 
 /// The program of a well-formed pattern tree without byte sets and byte sequences, for texts of 16-bit units: a
-/// `Program`, which it derefs to. Only the compiler makes one. Contracts see the tree.
+/// `Program`, which it derefs to, and a plan. Only the compiler makes one. Contracts see the tree.
 #[derive(Drop)]
 pub struct CompiledUnits {
     pub(crate) program: Program,
+    pub(crate) plan: Plan,
 }
 
 impl Model for CompiledUnits {
@@ -95,13 +108,11 @@ impl Model for CompiledUnits {
 
     ghost coded = { Prim.hlevel (codes, node.the_row.coded) };
 
-    ghost use Rattle.std.specs.Prelude.{◌≡◌, false};
-    ghost use Rattle.regex_meaning.specs.Layout.{reads_bytes};
-    ghost use Rattle.regex_pattern_front.specs.TreeOf.{tree_of};
+    ghost use Rattle.regress_program.specs.Programs.{IsForUnits};
 
     ghost view = { λ p. p.program };
 
-    ghost invariant = { λ p. reads_bytes (tree_of p.program).root ≡ false };
+    ghost invariant = { λ p. IsForUnits p.program p.plan };
 }
 
 impl CompiledUnits {
@@ -114,12 +125,21 @@ impl CompiledUnits {
         &self.program
     }
 
+    /// What it is made into for executors that search by plans.
+    #[inline(always)]
+    pub fn plan(&self) -> &Plan
+        ensures { IsPlanFor true self.now result.now }
+    {
+        &self.plan
+    }
+
     /// The same program once more.
     pub fn clone(&self) -> Result<Self, AllocError>
         ensures { IfOk result (λ p. p ≡ self.now) }
     {
         Ok(CompiledUnits {
             program: self.program.clone()?,
+            plan: self.plan.clone()?,
         })
     }
 }

@@ -5,11 +5,15 @@ ghost use Rattle.regex_pattern_front.specs.TreeOf.{tree_of, flags_of, contents_o
 ghost use Rattle.regex_meaning.specs.WellFormed.{is_well_formed};
 ghost use Rattle.regress_program.specs.Insns.{insn_of};
 ghost use Rattle.regress_program.specs.Code.{compiled};
+ghost use Rattle.regress_program.specs.Programs.{IsPlanFor};
+ghost use Rattle.regress_plan.specs.Keys.{wide_of};
 
 use crate::carried::Carried;
 use regex_pattern_front::flags::Flags;
 use regex_pattern_front::types::BracketContents;
 use regress_insn::insn::Insn;
+use regress_plan::keys::Units;
+use regress_plan::plan::{Code, Plan};
 use std::alloc::{AllocError, Global};
 use std::marker::Model;
 
@@ -93,6 +97,18 @@ impl Program {
             Some(name) => name.as_str(),
             None => "",
         }
+    }
+
+    // What it is made into for executors that search by plans, over texts of these units.
+    pub(crate) fn planned(&self, units: Units) -> Result<Plan, AllocError>
+        ensures { IfOk result (IsPlanFor (wide_of units) self.now) }
+    {
+        let code = Code {
+            insns: self.insns(),
+            brackets: self.brackets(),
+            groups: self.groups(),
+        };
+        Plan::new(self.allocator(), code, units)
     }
 
     /// The same program once more.

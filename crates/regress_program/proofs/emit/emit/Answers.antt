@@ -6,8 +6,11 @@ use Rattle.regress_program.proofs.emit.emit.Goals as goal
 pub invariant_of-result : goal.invariant_of-result
 unfolding compiled
 invariant_of-result c = record {
-  predicate = rw c.in_ok-program.ensures.tree c.in_ok-start_pred.ensures.predicate;
-  short = c.in_ok-start_pred.ensures.short;
+  starts = record {
+    predicate = rw c.in_ok-program.ensures.tree c.in_ok-start_pred.ensures.predicate;
+    short = c.in_ok-start_pred.ensures.short;
+  };
+  planned = c.in_ok-plan.ensures;
 }
 
 pub returns-clause-code : goal.returns-clause-code

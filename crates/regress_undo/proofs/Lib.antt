@@ -16,3 +16,4 @@ pub mod Remaining
 pub mod TakingUp
 pub mod Stages
 pub mod Looking
+pub mod Dispatch

@@ -2,11 +2,18 @@
 #![tactic(auto)]
 
 pub mod back;
+pub mod characters;
+pub mod groups;
 pub mod here;
+pub mod loops;
 pub mod memory;
 pub mod planned;
+pub mod reads;
 #[cfg(test)]
 mod rows;
 pub mod run;
+pub mod runs;
+pub mod scans;
+pub mod sides;
 pub mod steps;
 pub mod turn;

@@ -4,6 +4,7 @@ pub mod LastMark
 pub mod Turning
 pub mod Arms
 pub mod LoopTurns
+pub mod NextTurns
 pub mod Ranges
 pub mod RunPlaces
 pub mod Nearer

@@ -5,6 +5,8 @@ pub mod Turning
 pub mod Arms
 pub mod LoopTurns
 pub mod NextTurns
+pub mod Iterating
+pub mod LoopEnds
 pub mod Ranges
 pub mod RunPlaces
 pub mod Nearer

@@ -4,6 +4,9 @@ pub mod LastMark
 pub mod Turning
 pub mod Arms
 pub mod LoopTurns
+pub mod NextTurns
+pub mod Iterating
+pub mod LoopEnds
 pub mod Ranges
 pub mod RunPlaces
 pub mod Nearer

@@ -5,4 +5,5 @@ pub mod Ranges
 pub mod Turns
 pub mod Searching
 pub mod Taken
+pub mod Iterations
 pub mod Searches

@@ -13,3 +13,4 @@ pub mod Scanning
 pub mod Above
 pub mod Taking
 pub mod Remaining
+pub mod NextUnits

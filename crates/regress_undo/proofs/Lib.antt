@@ -20,3 +20,4 @@ pub mod TakingUp
 pub mod Stages
 pub mod Looking
 pub mod Dispatch
+pub mod NextUnits

@@ -6,6 +6,7 @@ ghost use Rattle.regex_meaning.specs.Offsets.{IsBoundary};
 ghost use Rattle.regex_meaning.specs.Outcomes.{anchor_holds, is_at_word_boundary, differ};
 ghost use Rattle.regress_input.specs.Reading.{place};
 
+use regress_exec::reading::{at_line_end, at_line_start, at_word_boundary};
 use regress_input::indexing::InputIndexer;
 use regress_plan::ops::Edge;
 
@@ -19,7 +20,7 @@ pub(crate) fn is_line_start<Input: InputIndexer>(
     requires { IsBoundary (Input.text input.now) (Input.Position.offset at) }
     ensures { result ≡ anchor_holds (Input.text input.now) start_of_line multiline (place (Input.text input.now) (Input.Position.offset at)) }
 {
-    unreachable!()
+    at_line_start(input, multiline, at)
 }
 
 /// Whether a line ends here; not `multiline`, only the right end is one.
@@ -32,7 +33,7 @@ pub(crate) fn is_line_end<Input: InputIndexer>(
     requires { IsBoundary (Input.text input.now) (Input.Position.offset at) }
     ensures { result ≡ anchor_holds (Input.text input.now) end_of_line multiline (place (Input.text input.now) (Input.Position.offset at)) }
 {
-    unreachable!()
+    at_line_end(input, multiline, at)
 }
 
 /// Whether a word begins or ends here, or with `invert` does not.
@@ -45,5 +46,5 @@ pub(crate) fn is_word_edge<Input: InputIndexer>(
     requires { IsBoundary (Input.text input.now) (Input.Position.offset at) }
     ensures { result ≡ differ edge.invert (is_at_word_boundary (Input.text input.now) edge.unicode_icase (place (Input.text input.now) (Input.Position.offset at))) }
 {
-    unreachable!()
+    at_word_boundary(input, edge.invert, edge.unicode_icase, at)
 }

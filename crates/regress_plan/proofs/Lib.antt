@@ -2,3 +2,6 @@ pub mod KeyLemmas
 pub mod ShareLemmas
 pub mod RowLemmas
 pub mod PlanLemmas
+pub mod ClosingLemmas
+pub mod PeekLemmas
+pub mod SetLemmas

@@ -2,3 +2,5 @@ pub mod Keys
 pub mod Classes
 pub mod Plans
 pub mod Planned
+pub mod Closing
+pub mod Peeking

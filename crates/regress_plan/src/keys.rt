@@ -3,10 +3,10 @@
 //! A table has one entry for each key. A byte is its own key, and so is a 16-bit unit below 128. The other 16-bit
 //! units have a key for each 512 of them.
 
-ghost use Rattle.std.specs.Prelude.{◌≡◌, ◌<◌, ◌&&◌, ℕ, true, false};
+ghost use Rattle.std.specs.Prelude.{◌≡◌, ◌<◌, ◌&&◌, ◌||◌, ℕ, true, false, is_some};
 ghost use Rattle.regex_meaning.specs.Units.{Encoding};
 ghost use Rattle.regress_serves.specs.Tables.{is_character, first_key as first_key_in};
-ghost use Rattle.regress_plan.specs.Keys.{key as key_of, is_wide, wide_of, may_begin_pair as is_high, AreBegun, lead, high};
+ghost use Rattle.regress_plan.specs.Keys.{key as key_of, is_wide, is_lead, wide_of, may_begin_pair as is_high, AreBegun, lead, high};
 
 use regex_pattern_front::codepointset::Interval;
 
@@ -54,7 +54,8 @@ pub fn may_begin_pair(key: u8, units: Units) -> bool
 
 /// The characters that begin with a unit of this key, pairs apart; none where no character does.
 pub fn characters_of(key: u8, units: Units) -> Option<Begun>
-    ensures { AreBegun (wide_of units) key result }
+    ensures begun { AreBegun (wide_of units) key result }
+    ensures leads { is_some result ≡ (wide_of units || is_lead key) }
 {
     match units {
         Units::Bytes => spelled_from(key),
@@ -64,7 +65,8 @@ pub fn characters_of(key: u8, units: Units) -> Option<Begun>
 
 // The characters that UTF-8 spells from this byte on.
 fn spelled_from(byte: u8) -> Option<Begun>
-    ensures { AreBegun false byte result }
+    ensures begun { AreBegun false byte result }
+    ensures leads { is_some result ≡ is_lead byte }
 {
     let b = u32::from(byte);
     let (first, last, width) = match byte {

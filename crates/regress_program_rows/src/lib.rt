@@ -6,6 +6,8 @@ mod listing;
 #[cfg(test)]
 mod parts;
 #[cfg(test)]
+mod plans;
+#[cfg(test)]
 mod predicates;
 #[cfg(test)]
 mod rows;

@@ -3,7 +3,8 @@
 // The refused trees have goals that are not last, groups with wrong ids, groups that are not inside, references to no
 // group, minima above the maximum, bodies that are not one character, bytes that are no text, sets that fit no
 // instruction, and more groups or loops than there may be. For 16-bit units a tree that is not well formed is refused as such,
-// whatever stands in it. In the parts, the groups inside a lookbehind have the later one first.
+// whatever stands in it. In the parts, the groups inside a lookbehind have the later one first. Plans say where a search
+// has to try, and what may stand behind each loop over one character: the keys at which rows of keys begin and end.
 pub(crate) const ROWS: &str = "\
 program goal → Goal
 program cat:3 empty any goal → MatchAny, Goal
@@ -75,4 +76,16 @@ parts cat:2 byteset:61,62 goal → parts 2 0 0 0 0 0 0 / / / / ByteSet2 [97, 98]
 parts cat:2 byteset:61,62,63 goal → parts 2 0 0 0 0 0 0 / / / / ByteSet3 [97, 98, 99]parts 2 0 0 0 0 0 0 / / / / ByteSet3 [97, 98, 99]
 parts cat:2 byteset:61,62,63,64 goal → parts 2 0 0 0 0 0 0 / / / / ByteBracket 97 98 99 100parts 2 0 0 0 0 0 0 / / / / ByteBracket 97 98 99 100
 unit_parts cat:4 a group:0 not loop:1,2,0 named:1,62 b goal → parts 11 1 1 2 2 0 0 / b/ / /parts 11 1 1 2 2 0 0 / b/ / /
+plan goal → anywhere
+plan cat:2 bytes:61,62,63 goal → few 1 [97, 0, 0]
+plan cat:2 alt bytes:61,62,63 bytes:78,79,7A goal → few 2 [97, 120, 0]
+plan cat:3 loop:0,0,0 loop:0,0,0 a b goal → few 2 [97, 98, 0]
+plan cat:3 ahead:0,0 a any goal → few 1 [97, 0, 0]
+plan cat:3 loop1:0 a b goal → few 2 [97, 98, 0], narrow 98 99
+plan cat:3 loop1:0 any b goal → among 0 128 194 245, run 98 99
+plan cat:2 loop1:0 a goal → anywhere, narrow anything
+plan cat:2 set:20AC,E9 goal → among 195 196 226 227
+plan cat:2 byteset goal → few 0 [0, 0, 0]
+unit_plan cat:3 loop1:0 a b goal → few 2 [97, 98, 0], narrow 98 99
+unit_plan cat:2 set:20AC,E9 goal → among 128 129 144 145
 ";

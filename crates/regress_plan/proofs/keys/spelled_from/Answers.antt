@@ -3,47 +3,47 @@ use Rattle.std.proofs.Common.{◌≡◌, ◌+◌, ◌-◌, ◌*◌, Some, None, 
 use Rattle.regress_plan.proofs.KeyLemmas.{begun-bytes, begun-1, begun-2, begun-3-low, begun-3, begun-4-low, begun-4, begun-4-high, begun-inside, begun-past}
 use Rattle.regress_plan.proofs.keys.spelled_from.Goals as goal
 
-pub returns-in-0-to-127 : goal.returns-in-0-to-127
-returns-in-0-to-127 c =
+pub returns-in-0-to-127-clause-begun : goal.returns-in-0-to-127-clause-begun
+returns-in-0-to-127-clause-begun c =
     let same : c.from-b.result ≡ c.args.byte = omega arith in
     begun-bytes c.args.byte (Some (record { range = record { first = c.from-b.result; last = c.from-b.result }; width = 1 }))
     (λ d len led. rw same (begun-1 c.args.byte d len (omega arith) led))
 
-pub returns-in-194-to-223 : goal.returns-in-194-to-223
-returns-in-194-to-223 c =
+pub returns-in-194-to-223-clause-begun : goal.returns-in-194-to-223-clause-begun
+returns-in-194-to-223-clause-begun c =
     let same : c.from-b.result ≡ c.args.byte = omega arith in
     begun-bytes c.args.byte (Some (record { range = record { first = (c.from-b.result - 0xC0) * 0x40; last = (c.from-b.result - 0xC0) * 0x40 + 0x3F }; width = 2 }))
     (λ d len led. rw same (begun-2 c.args.byte d len (omega arith) (omega arith) led))
 
-pub returns-in-224 : goal.returns-in-224
-returns-in-224 c =
+pub returns-in-224-clause-begun : goal.returns-in-224-clause-begun
+returns-in-224-clause-begun c =
     begun-bytes c.args.byte (Some (record { range = record { first = 0x800; last = 0xFFF }; width = 3 }))
     (λ d len led. begun-3-low c.args.byte d len (omega arith) led)
 
-pub returns-in-225-to-239 : goal.returns-in-225-to-239
-returns-in-225-to-239 c =
+pub returns-in-225-to-239-clause-begun : goal.returns-in-225-to-239-clause-begun
+returns-in-225-to-239-clause-begun c =
     let same : c.from-b.result ≡ c.args.byte = omega arith in
     begun-bytes c.args.byte (Some (record { range = record { first = (c.from-b.result - 0xE0) * 0x1000; last = (c.from-b.result - 0xE0) * 0x1000 + 0xFFF }; width = 3 }))
     (λ d len led. rw same (begun-3 c.args.byte d len (omega arith) (omega arith) led))
 
-pub returns-in-240 : goal.returns-in-240
-returns-in-240 c =
+pub returns-in-240-clause-begun : goal.returns-in-240-clause-begun
+returns-in-240-clause-begun c =
     begun-bytes c.args.byte (Some (record { range = record { first = 0x1_0000; last = 0x3_FFFF }; width = 4 }))
     (λ d len led. begun-4-low c.args.byte d len (omega arith) led)
 
-pub returns-in-241-to-243 : goal.returns-in-241-to-243
-returns-in-241-to-243 c =
+pub returns-in-241-to-243-clause-begun : goal.returns-in-241-to-243-clause-begun
+returns-in-241-to-243-clause-begun c =
     let same : c.from-b.result ≡ c.args.byte = omega arith in
     begun-bytes c.args.byte (Some (record { range = record { first = (c.from-b.result - 0xF0) * 0x4_0000; last = (c.from-b.result - 0xF0) * 0x4_0000 + 0x3_FFFF }; width = 4 }))
     (λ d len led. rw same (begun-4 c.args.byte d len (omega arith) (omega arith) led))
 
-pub returns-in-244 : goal.returns-in-244
-returns-in-244 c =
+pub returns-in-244-clause-begun : goal.returns-in-244-clause-begun
+returns-in-244-clause-begun c =
     begun-bytes c.args.byte (Some (record { range = record { first = 0x10_0000; last = 0x10_FFFF }; width = 4 }))
     (λ d len led. begun-4-high c.args.byte d len (omega arith) led)
 
-pub returns-in_default : goal.returns-in_default
-returns-in_default c = begun-bytes c.args.byte None (λ d len led. begun-inside c.args.byte d len (omega arith) (omega arith) led)
+pub returns-in_default-clause-begun : goal.returns-in_default-clause-begun
+returns-in_default-clause-begun c = begun-bytes c.args.byte None (λ d len led. begun-inside c.args.byte d len (omega arith) (omega arith) led)
 
-pub returns-in_default-2 : goal.returns-in_default-2
-returns-in_default-2 c = begun-bytes c.args.byte None (λ d len led. begun-past c.args.byte d len (omega arith) led)
+pub returns-in_default-2-clause-begun : goal.returns-in_default-2-clause-begun
+returns-in_default-2-clause-begun c = begun-bytes c.args.byte None (λ d len led. begun-past c.args.byte d len (omega arith) led)

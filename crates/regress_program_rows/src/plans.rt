@@ -1,0 +1,73 @@
+//! What plans say of what may stand next, in words.
+
+use regex_pattern_front::ir::Regex;
+use regress_plan::beginnings::Beginnings;
+use regress_plan::ops::Op;
+use regress_plan::plan::{ANYTHING, Plan, Start};
+use regress_program::emit::{emit, emit_units};
+use std::alloc::{AllocError, Global};
+
+// The plan of a tree for texts in bytes.
+pub(crate) fn write_plan(alloc: Global, text: &mut String, tree: &Regex) -> Result<(), AllocError> {
+    match emit(alloc, tree) {
+        Ok(program) => write_sets(text, program.plan()),
+        Err(_) => Ok(()),
+    }
+}
+
+// The same for texts of 16-bit units.
+pub(crate) fn write_unit_plan(
+    alloc: Global,
+    text: &mut String,
+    tree: &Regex,
+) -> Result<(), AllocError> {
+    match emit_units(alloc, tree) {
+        Ok(program) => write_sets(text, program.plan()),
+        Err(_) => Ok(()),
+    }
+}
+
+// Where a search has to try, and what may stand behind each run.
+fn write_sets(text: &mut String, plan: &Plan) -> Result<(), AllocError> {
+    match plan.start {
+        Start::Anywhere => text.push_str("anywhere")?,
+        Start::Among { set } => write_set(text, plan, "among", set)?,
+        Start::Few { units, len } => write!(text, "few {len} {units:?}")?,
+    }
+    for op in &plan.ops {
+        match op {
+            Op::RunNarrow(run) => write_set(text, plan, ", narrow", run.next)?,
+            Op::Run(run) => write_set(text, plan, ", run", run.next)?,
+            Op::LazyRun(run) => write_set(text, plan, ", lazy", run.next)?,
+            _ => {}
+        }
+    }
+    Ok(())
+}
+
+fn write_set(text: &mut String, plan: &Plan, name: &str, number: u32) -> Result<(), AllocError> {
+    text.push_str(name)?;
+    if number == ANYTHING {
+        return text.push_str(" anything");
+    }
+    match plan.sets.get(number as usize) {
+        Some(set) => write_edges(text, set),
+        None => text.push_str(" no set"),
+    }
+}
+
+// The first key of each row of keys that are in the set, or are not; and whether the end is in it.
+fn write_edges(text: &mut String, set: &Beginnings) -> Result<(), AllocError> {
+    let mut before = false;
+    for (key, here) in set.keys.iter().enumerate() {
+        if *here != before {
+            write!(text, " {key}")?;
+        }
+        before = *here;
+    }
+    if set.end {
+        text.push_str(" end")
+    } else {
+        Ok(())
+    }
+}

@@ -7,3 +7,4 @@ pub mod Searching
 pub mod Taken
 pub mod Iterations
 pub mod Searches
+pub mod Planning

@@ -6,4 +6,5 @@ pub mod Turns
 pub mod Searching
 pub mod Taken
 pub mod Iterations
+pub mod Again
 pub mod Searches

@@ -6,5 +6,6 @@ pub mod Turns
 pub mod Searching
 pub mod Taken
 pub mod Iterations
+pub mod Again
 pub mod Searches
 pub mod Planning

@@ -6,3 +6,4 @@ pub mod Turns
 pub mod Searching
 pub mod Taken
 pub mod Searches
+pub mod Reached

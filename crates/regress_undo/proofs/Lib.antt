@@ -13,6 +13,8 @@ pub mod Nearer
 pub mod Going
 pub mod Advancing
 pub mod Scanning
+pub mod RunTurns
+pub mod RunMarks
 pub mod Above
 pub mod Taking
 pub mod Remaining

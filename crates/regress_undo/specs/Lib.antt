@@ -9,3 +9,4 @@ pub mod Iterations
 pub mod Again
 pub mod Searches
 pub mod Planning
+pub mod Reached

@@ -23,3 +23,4 @@ pub mod Stages
 pub mod Looking
 pub mod Dispatch
 pub mod NextUnits
+pub mod Attempting

@@ -1,0 +1,155 @@
+//! The executor that keeps one state and undoes its changes.
+
+ghost use Rattle.std.specs.Prelude.{◌≡◌, ◌<◌, IsAscii, IfOk, ⊤};
+ghost use Rattle.regex_meaning.specs.Text.{ascii_text, utf8_text, utf16_text, ucs2_text};
+ghost use Rattle.regex_pattern_front.specs.TreeOf.{tree_of};
+ghost use Rattle.regress_undo.specs.Memory.{state_of};
+
+use crate::here::Here;
+use crate::memory::Memory;
+use crate::planned::{PlannedProgram, PlannedSearch};
+use crate::run::run;
+use crate::steps::{Free, Stop};
+use regress_exec::exec::{Executor, SearchError, Searcher};
+use regress_exec::places::Attempts;
+use regress_exec::searched::Searched;
+use regress_input::indexing::{AsciiInput, InputIndexer, Ucs2Input, Utf8Input, Utf16Input};
+use regress_program::insn::{CompiledRegex, CompiledUnits, Program};
+use std::alloc::AllocError;
+
+/// Runs a program's plan over a text. It keeps one state, and undoes what it did to it when a way has failed.
+#[derive(Drop)]
+pub struct BacktrackExecutor<'r, Input: InputIndexer> {
+    search: PlannedSearch<'r, Input>,
+    // with the groups of the last attempt that found an end
+    memory: Memory,
+}
+
+impl<'r, Input: InputIndexer> Attempts for BacktrackExecutor<'r, Input> {
+    type Input = Input;
+
+    ghost tree = { λ e. tree_of e.search.searched.program.now };
+
+    ghost text = { λ e. Input.text e.search.searched.input };
+
+    ghost groups = { λ e. (state_of e.memory 0 0).groups };
+
+    ghost is_text = { λ e. Input.is_text e.search.searched.input };
+
+    fn program(&self) -> &Program {
+        self.search.searched.program
+    }
+
+    fn input(&self) -> &Input {
+        &self.search.searched.input
+    }
+
+    fn attempt(&mut self, pos: Input::Position) -> Result<Option<Input::Position>, SearchError> {
+        let at = self.search.searched.input.pos_to_offset(pos);
+        let (groups, loops) = self.search.program.slots();
+        self.memory.begin(groups, loops, at)?;
+        let start = Here { ip: 0, pos };
+        match run(&self.search, true, start, &mut self.memory, &mut Free) {
+            Ok(end) => Ok(end),
+            Err(Stop) => Err(SearchError::Memory),
+        }
+    }
+
+    fn group_count(&self) -> usize {
+        self.memory.group_count()
+    }
+
+    fn group(&self, id: usize) -> Option<(Input::Position, Input::Position)> {
+        if id >= self.memory.group_count() {
+            return None;
+        }
+        let (start, end) = self.memory.range_of(id)?;
+        let left = self.search.searched.input.left_end();
+        Some((left + start, left + end))
+    }
+
+    fn place_from(&self, pos: Input::Position) -> Option<Input::Position> {
+        Some(pos)
+    }
+
+    fn place_behind(&self, tried: Input::Position) -> Option<Input::Position> {
+        self.search.searched.next_try(tried)
+    }
+}
+
+impl<'r, 't> BacktrackExecutor<'r, Utf16Input<'t>> {
+    /// Searches 16-bit units, read as UTF-16, with the program `re`.
+    pub fn new_utf16(re: &'r CompiledUnits, text: &'t [u16]) -> Result<Self, AllocError>
+        ensures tree { IfOk result (λ e. Self.tree e ≡ tree_of re.now) }
+        ensures text { IfOk result (λ e. Self.text e ≡ utf16_text text.now (tree_of re.now).flags.unicode) }
+    {
+        Ok(BacktrackExecutor {
+            search: PlannedSearch {
+                program: PlannedProgram::for_units(re),
+                searched: Searched::in_utf16(re, text),
+            },
+            memory: Memory::new(re.allocator()),
+        })
+    }
+}
+
+impl<'r, 't> BacktrackExecutor<'r, Ucs2Input<'t>> {
+    /// Searches 16-bit units, each of which is a character, with the program `re`.
+    pub fn new_ucs2(re: &'r CompiledUnits, text: &'t [u16]) -> Result<Self, AllocError>
+        ensures tree { IfOk result (λ e. Self.tree e ≡ tree_of re.now) }
+        ensures text { IfOk result (λ e. Self.text e ≡ ucs2_text text.now (tree_of re.now).flags.unicode) }
+    {
+        Ok(BacktrackExecutor {
+            search: PlannedSearch {
+                program: PlannedProgram::for_units(re),
+                searched: Searched::in_ucs2(re, text),
+            },
+            memory: Memory::new(re.allocator()),
+        })
+    }
+}
+
+impl<'r, 't> Searcher<'r> for BacktrackExecutor<'r, Utf8Input<'t>> {
+    type Text = &'t str;
+
+    ghost can_search = { λ _. ⊤ };
+
+    ghost text_of = { λ text. utf8_text text.now };
+
+    fn new(re: &'r CompiledRegex, text: &'t str) -> Result<Self, AllocError> {
+        Ok(BacktrackExecutor {
+            search: PlannedSearch {
+                program: PlannedProgram::for_bytes(re),
+                searched: Searched::in_utf8(re, text),
+            },
+            memory: Memory::new(re.allocator()),
+        })
+    }
+}
+
+impl<'r, 't> Executor<'r, 't> for BacktrackExecutor<'r, Utf8Input<'t>> {
+    type AsAscii = BacktrackExecutor<'r, AsciiInput<'t>>;
+}
+
+impl<'r, 't> Searcher<'r> for BacktrackExecutor<'r, AsciiInput<'t>> {
+    type Text = &'t str;
+
+    // `is_ascii` is the test
+    ghost can_search = { λ text. IsAscii text.now };
+
+    ghost text_of = { λ text. ascii_text text.now };
+
+    fn new(re: &'r CompiledRegex, text: &'t str) -> Result<Self, AllocError> {
+        Ok(BacktrackExecutor {
+            search: PlannedSearch {
+                program: PlannedProgram::for_bytes(re),
+                searched: Searched::in_ascii(re, text),
+            },
+            memory: Memory::new(re.allocator()),
+        })
+    }
+}
+
+impl<'r, 't> Executor<'r, 't> for BacktrackExecutor<'r, AsciiInput<'t>> {
+    type AsAscii = Self;
+}

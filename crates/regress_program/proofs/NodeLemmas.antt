@@ -1,5 +1,5 @@
 -- The tree of a node with a list.
-use Rattle.std.proofs.Common.{◌≡◌, ℕ, ◌+◌, ◌<◌, ◌-◌, ◌^◌, min, suc, Bool, true, false, ◌&&◌, IsTrue, List, [], ◌∷◌, length, slice_get, Some, None, get_or, drop, drop-cons, add-one, sym, ap, ◌∙◌, refl, arith, Vec, Global}
+use Rattle.std.proofs.Common.{◌≡◌, ℕ, ◌+◌, ◌<◌, ◌-◌, ◌^◌, min, suc, true, false, List, [], ◌∷◌, length, slice_get, Some, None, get_or, drop, drop-cons, add-one, sym, ap, ◌∙◌, refl, arith, Vec, Global}
 use Rattle.regex_meaning.specs.Tree as tree
 use Rattle.regex_pattern_front.specs.TreeOf.{node_of, nodes_of}
 use Rattle.regex_pattern_front.specs.declared.ir.Node.{Node, Cat, Cat', Row_of-Node, end_of-Node, more_of-Node, items-the_row-Node, items_hidden-the_row-Node-0}

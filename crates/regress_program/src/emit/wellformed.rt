@@ -103,29 +103,32 @@ fn count_all_goals(nodes: &[Node], before: u8) -> u8
 fn is_goal_at_end(node: &Node) -> bool
     ensures { result ≡ ends_in_goal (node_of node.now) }
 {
-    match node {
-        Node::Goal => true,
-        Node::Cat(nodes) => match nodes.last() {
-            Some(last) => is_goal_at_end(last),
-            None => false,
-        },
-        Node::Empty
-        | Node::Char { .. }
-        | Node::CharSet(_)
-        | Node::ByteSet(_)
-        | Node::ByteSequence(_)
-        | Node::Alt(..)
-        | Node::Bracket(_)
-        | Node::StringSet { .. }
-        | Node::MatchAny
-        | Node::MatchAnyExceptLineTerminator
-        | Node::Anchor { .. }
-        | Node::WordBoundary { .. }
-        | Node::CaptureGroup { .. }
-        | Node::BackRef { .. }
-        | Node::LookaroundAssertion { .. }
-        | Node::Loop { .. }
-        | Node::Loop1CharBody { .. } => false,
+    let mut rest = node;
+    loop {
+        match rest {
+            Node::Goal => return true,
+            Node::Cat(nodes) => match nodes.last() {
+                Some(last) => rest = last,
+                None => return false,
+            },
+            Node::Empty
+            | Node::Char { .. }
+            | Node::CharSet(_)
+            | Node::ByteSet(_)
+            | Node::ByteSequence(_)
+            | Node::Alt(..)
+            | Node::Bracket(_)
+            | Node::StringSet { .. }
+            | Node::MatchAny
+            | Node::MatchAnyExceptLineTerminator
+            | Node::Anchor { .. }
+            | Node::WordBoundary { .. }
+            | Node::CaptureGroup { .. }
+            | Node::BackRef { .. }
+            | Node::LookaroundAssertion { .. }
+            | Node::Loop { .. }
+            | Node::Loop1CharBody { .. } => return false,
+        }
     }
 }
 

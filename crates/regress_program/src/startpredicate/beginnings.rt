@@ -1,11 +1,11 @@
 //! What the nodes of a tree begin with.
-#![tactic(auto, unfolding(regex_pattern_front::specs::TreeOf::node_of, regex_meaning::specs::StartPredicate::beginning, crate::specs::Predicates::may_grow))]
+#![tactic(auto, unfolding(regex_pattern_front::specs::TreeOf::node_of, regex_meaning::specs::StartPredicate::beginning, crate::specs::Predicates::may_grow, crate::proofs::Weights::weight))]
 
-ghost use Rattle.std.specs.Prelude.{◌≡◌, false, IfOk, IsOk};
+ghost use Rattle.std.specs.Prelude.{◌≡◌, true, false, IfOk, IsOk};
 ghost use Rattle.regex_meaning.specs.StartPredicate.{beginning, join, sequence_of, sequence_or, union, first_byte, shared_front};
 ghost use Rattle.regex_pattern_front.specs.TreeOf.{node_of};
 ghost use Rattle.regress_program.specs.Beginnings.{beginning_of};
-ghost use Rattle.regress_program.specs.Nodes.{cat_of};
+ghost use Rattle.regress_program.specs.Nodes.{cat_of, is_leaf};
 ghost use Rattle.regress_program.specs.Predicates.{may_grow};
 
 use crate::startpredicate::bytesets::{
@@ -27,18 +27,16 @@ pub(crate) enum Beginning<'a> {
     OneOf(ByteBitmap),
 }
 
-// What the node begins with.
+// What the node begins with. What it takes to find out of a node that holds no other stays out of the frames of those
+// that do, so that deep nesting costs little stack.
 #[cycle(begins)]
 pub(crate) fn begins(node: &Node) -> Result<Beginning<'_>, AllocError>
     ensures beginning { IfOk result (λ b. beginning_of b ≡ beginning (node_of node.now)) }
     ensures no_memory { may_grow (node_of node.now) ≡ false → IsOk result }
 {
     match node {
-        Node::ByteSequence(bytes) => Ok(begins_with(bytes)),
-        Node::ByteSet(members) => Ok(Beginning::OneOf(set_of(members))),
-        Node::CharSet(members) => Ok(Beginning::OneOf(first_bytes_of_members(members))),
-        Node::Bracket(contents) => Ok(Beginning::OneOf(first_bytes_of_class(contents)?)),
         Node::Cat(nodes) => row_begins(nodes),
+        Node::Alt(left, right) => arms_begin(left, right),
         Node::CaptureGroup { contents, .. } => begins(contents),
         Node::Loop { loopee, quant, .. } | Node::Loop1CharBody { loopee, quant } => {
             if 0 < quant.min {
@@ -47,8 +45,35 @@ pub(crate) fn begins(node: &Node) -> Result<Beginning<'_>, AllocError>
                 Ok(Beginning::Anything)
             }
         }
-        Node::Alt(left, right) => Ok(join(begins(left)?, begins(right)?)),
         Node::LookaroundAssertion { .. } => Ok(Beginning::Open),
+        Node::Empty
+        | Node::Goal
+        | Node::Char { .. }
+        | Node::CharSet(_)
+        | Node::ByteSet(_)
+        | Node::ByteSequence(_)
+        | Node::Bracket(_)
+        | Node::StringSet { .. }
+        | Node::MatchAny
+        | Node::MatchAnyExceptLineTerminator
+        | Node::Anchor { .. }
+        | Node::WordBoundary { .. }
+        | Node::BackRef { .. } => leaf_begins(node),
+    }
+}
+
+// What a node that holds no other begins with.
+#[inline(never)]
+fn leaf_begins(node: &Node) -> Result<Beginning<'_>, AllocError>
+    requires { is_leaf (node_of node.now) ≡ true }
+    ensures beginning { IfOk result (λ b. beginning_of b ≡ beginning (node_of node.now)) }
+    ensures no_memory { may_grow (node_of node.now) ≡ false → IsOk result }
+{
+    match node {
+        Node::ByteSequence(bytes) => Ok(begins_with(bytes)),
+        Node::ByteSet(members) => Ok(Beginning::OneOf(set_of(members))),
+        Node::CharSet(members) => Ok(Beginning::OneOf(first_bytes_of_members(members))),
+        Node::Bracket(contents) => Ok(Beginning::OneOf(first_bytes_of_class(contents)?)),
         Node::Empty
         | Node::Goal
         | Node::Char { .. }
@@ -58,11 +83,18 @@ pub(crate) fn begins(node: &Node) -> Result<Beginning<'_>, AllocError>
         | Node::Anchor { .. }
         | Node::WordBoundary { .. }
         | Node::BackRef { .. } => Ok(Beginning::Anything),
+        Node::Cat(_) => unreachable!(),
+        Node::Alt(..) => unreachable!(),
+        Node::CaptureGroup { .. } => unreachable!(),
+        Node::LookaroundAssertion { .. } => unreachable!(),
+        Node::Loop { .. } => unreachable!(),
+        Node::Loop1CharBody { .. } => unreachable!(),
     }
 }
 
 // What the nodes one after another begin with: the first that reads something decides.
 #[cycle(begins)]
+#[inline(never)]
 fn row_begins(nodes: &[Node]) -> Result<Beginning<'_>, AllocError>
     ensures beginning { IfOk result (λ b. beginning_of b ≡ beginning (cat_of nodes.now)) }
     ensures no_memory { may_grow (cat_of nodes.now) ≡ false → IsOk result }
@@ -74,6 +106,22 @@ fn row_begins(nodes: &[Node]) -> Result<Beginning<'_>, AllocError>
         }
     }
     Ok(Beginning::Open)
+}
+
+// What alternatives begin with, of which the others may be alternatives again.
+#[cycle(begins)]
+#[inline(never)]
+fn arms_begin<'a>(first: &'a Node, others: &'a Node) -> Result<Beginning<'a>, AllocError>
+    ensures beginning { IfOk result (λ b. beginning_of b ≡ join (beginning (node_of first.now)) (beginning (node_of others.now))) }
+    ensures no_memory { may_grow (node_of first.now) ≡ false → may_grow (node_of others.now) ≡ false → IsOk result }
+{
+    let mut shared = begins(first)?;
+    let mut rest = others;
+    while let Node::Alt(left, right) = rest {
+        shared = join(shared, begins(left)?);
+        rest = right;
+    }
+    Ok(join(shared, begins(rest)?))
 }
 
 // What these bytes begin with; an empty sequence, which no well-formed tree has, begins with anything.

@@ -5,7 +5,6 @@ use Rattle.regex_pattern_front.specs.TreeOf.{contents_of}
 use Rattle.regress_program.specs.Emitting.{state_of}
 use Rattle.regress_program.proofs.EmitLemmas.{with_code-ascii, with_code-bracket}
 use Rattle.regress_program.proofs.emit.emitter.Emitter.emit_bracket.Goals as goal
-use Rattle.std.proofs.lemmas.Bool.{false_from_ne_true}
 
 pub returns-in_ok-put-in-Some : goal.returns-in_ok-put-in-Some
 returns-in_ok-put-in-Some c =

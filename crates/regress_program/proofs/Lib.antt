@@ -10,3 +10,6 @@ pub mod FilingLemmas
 pub mod Walks
 pub mod CharLemmas
 pub mod Weights
+pub mod WalkedLemmas
+pub mod GoalLemmas
+pub mod TallyLemmas

@@ -4,7 +4,7 @@ use Rattle.regex_pattern_front.specs.TreeOf.{node_of}
 use Rattle.regex_pattern_front.specs.declared.ir.Node.{Node}
 use Rattle.regex_pattern_front.specs.declared.ir.Node.TheViews.{out-Node}
 use Rattle.regex_pattern_front.proofs.NodeLemmas.{turned-other}
-use Rattle.regex_pattern_front.proofs.optimizer.turned_back.Goals as goal
+use Rattle.regex_pattern_front.proofs.optimizer.turn_back.Goals as goal
 
 pub loop-done-preserved : goal.loop-done-preserved
 unfolding node_of out-Node out

@@ -4,13 +4,14 @@ use Rattle.std.specs.Prelude.{if◌then◌else◌, nat_lt, ◌==◌}
 use Rattle.std.proofs.lemmas.List.{drop_all}
 use Rattle.std.proofs.lemmas.Result.{IfOk-weaker}
 use Rattle.std.proofs.lemmas.Bool.{ne_eqb, or_parts, eqb-true}
-use Rattle.regex_meaning.specs.Tree.{Node, byte_sequence, cat, alt, capture_group, loop, loop_1_char_body, Tree}
+use Rattle.regex_meaning.specs.Tree.{Node, byte_sequence, cat, end_of_cat, alt, capture_group, lookaround, loop, loop_1_char_body, Tree}
 use Rattle.regex_meaning.specs.WellFormed.{IsWellFormed}
 use Rattle.regex_meaning.specs.StartPredicate.{Beginning, open_ended, arbitrary, sequence, one_of, then_of, join, beginning, sequence_or, shared_front, union, first_byte, is_anchored, StartPredicate, start_of, start_predicate, start_arbitrary, start_byte_set, start_anchored, IsSound}
 use Rattle.regex_meaning.proofs.Clean.{predicate-sound}
 use Rattle.regress_program.specs.declared.insn.predicates.StartPredicate as declared
 use Rattle.regress_program.specs.Insns.{start_of as predicate_of}
-use Rattle.regress_program.specs.Beginnings.{bytes_from}
+use Rattle.regress_program.specs.Beginnings.{bytes_from, joined_to, after, after_arm}
+use Rattle.regress_program.specs.Nodes.{is_leaf}
 use Rattle.regress_program.specs.Predicates.{is_open, is_sequence, may_grow, may_take_memory}
 use Rattle.regress_program.proofs.ByteSetLemmas.{union-both, union-assoc, union-again, union-same}
 
@@ -145,12 +146,112 @@ join-assoc (one_of xs) (one_of ys) arbitrary = refl
 join-assoc (one_of xs) (one_of ys) (sequence zs) = ap one_of (union-assoc xs ys (first_byte zs))
 join-assoc (one_of xs) (one_of ys) (one_of zs) = ap one_of (union-assoc xs ys zs)
 
--- one arm more
-pub join-next : (before after arm all : Beginning) (left right : Node) → after ≡ join before arm → arm ≡ beginning left
-    → join before (beginning (alt left right)) ≡ all → join after (beginning right) ≡ all
+-- ---- What is shared so far
+
+join-reads : (a b : Beginning) → is_open (join a b) ≡ false
+join-reads open_ended b = refl
+join-reads arbitrary b = refl
+join-reads (sequence xs) open_ended = refl
+join-reads (sequence xs) arbitrary = refl
+join-reads (sequence xs) (sequence ys) = of_front (shared_front xs ys)
+  where
+    of_front : (front : List ℕ) → is_open (sequence_or front (union (first_byte xs) (first_byte ys))) ≡ false
+    of_front [] = refl
+    of_front (x ∷ front) = refl
+join-reads (sequence xs) (one_of ys) = refl
+join-reads (one_of xs) open_ended = refl
+join-reads (one_of xs) arbitrary = refl
+join-reads (one_of xs) (sequence ys) = refl
+join-reads (one_of xs) (one_of ys) = refl
+
+joined_to-reads : (shared more : Beginning) → is_open shared ≡ false → joined_to shared more ≡ join shared more
+joined_to-reads open_ended more h = cc
+joined_to-reads arbitrary more h = refl
+joined_to-reads (sequence xs) more h = refl
+joined_to-reads (one_of xs) more h = refl
+
+joined_to-arbitrary : (shared : Beginning) → joined_to shared arbitrary ≡ arbitrary
+joined_to-arbitrary open_ended = refl
+joined_to-arbitrary arbitrary = refl
+joined_to-arbitrary (sequence xs) = refl
+joined_to-arbitrary (one_of xs) = refl
+
+joined_to-join : (shared a b : Beginning) → is_open a ≡ false → joined_to shared (join a b) ≡ joined_to (joined_to shared a) b
+joined_to-join open_ended a b h = sym (joined_to-reads a b h)
+joined_to-join arbitrary a b h = sym (join-assoc arbitrary a b)
+joined_to-join (sequence xs) a b h = sym (joined_to-reads (join (sequence xs) a) b (join-reads (sequence xs) a) ∙ join-assoc (sequence xs) a b)
+joined_to-join (one_of xs) a b h = sym (joined_to-reads (join (one_of xs) a) b (join-reads (one_of xs) a) ∙ join-assoc (one_of xs) a b)
+
+after_arm-reads : (shared more : Beginning) → is_open more ≡ false → after_arm shared more ≡ joined_to shared more
+after_arm-reads shared open_ended h = cc
+after_arm-reads shared arbitrary h = refl
+after_arm-reads shared (sequence xs) h = refl
+after_arm-reads shared (one_of xs) h = refl
+
+after-reads : (shared more : Beginning) → is_open more ≡ false → after shared more ≡ joined_to shared more
+after-reads shared open_ended h = cc
+after-reads shared arbitrary h = refl
+after-reads shared (sequence xs) h = refl
+after-reads shared (one_of xs) h = refl
+
+after_arm-anything : (more : Beginning) → after_arm arbitrary more ≡ arbitrary
+after_arm-anything open_ended = refl
+after_arm-anything arbitrary = refl
+after_arm-anything (sequence xs) = refl
+after_arm-anything (one_of xs) = refl
+
+-- alternatives one after another
+pub arms-joined : (shared a b : Beginning) → after_arm shared (join a b) ≡ after_arm (after_arm shared a) b
+arms-joined shared open_ended b = joined_to-arbitrary shared ∙ sym (after_arm-anything b)
+arms-joined shared arbitrary b =
+    joined_to-join shared arbitrary b refl ∙ ap (λ s. joined_to s b) (joined_to-arbitrary shared) ∙ sym (ap (λ s. after_arm s b) (joined_to-arbitrary shared) ∙ after_arm-anything b)
+arms-joined shared (sequence xs) open_ended = joined_to-arbitrary shared
+arms-joined shared (sequence xs) arbitrary = joined_to-join shared (sequence xs) arbitrary refl
+arms-joined shared (sequence xs) (sequence ys) =
+    after_arm-reads shared (join (sequence xs) (sequence ys)) (join-reads (sequence xs) (sequence ys)) ∙ joined_to-join shared (sequence xs) (sequence ys) refl
+arms-joined shared (sequence xs) (one_of ys) = joined_to-join shared (sequence xs) (one_of ys) refl
+arms-joined shared (one_of xs) open_ended = joined_to-arbitrary shared
+arms-joined shared (one_of xs) arbitrary = joined_to-join shared (one_of xs) arbitrary refl
+arms-joined shared (one_of xs) (sequence ys) = joined_to-join shared (one_of xs) (sequence ys) refl
+arms-joined shared (one_of xs) (one_of ys) = joined_to-join shared (one_of xs) (one_of ys) refl
+
+pub arms-after : (shared : Beginning) (left right : Node) → after_arm (after_arm shared (beginning left)) (beginning right) ≡ after shared (beginning (alt left right))
 unfolding beginning
-join-next before after arm all left right e f g =
-    ap (λ b. join b (beginning right)) (e ∙ ap (join before) f) ∙ join-assoc before (beginning left) (beginning right) ∙ g
+arms-after shared left right =
+    let both = join (beginning left) (beginning right) in
+    let reads = join-reads (beginning left) (beginning right) in
+    sym (arms-joined shared (beginning left) (beginning right)) ∙ after_arm-reads shared both reads ∙ sym (after-reads shared both reads)
+
+-- one arm more
+pub arms-next : (before one all : Beginning) (left right : Node) → one ≡ after_arm before (beginning left)
+    → after_arm before (beginning (alt left right)) ≡ all → after_arm one (beginning right) ≡ all
+unfolding beginning
+arms-next before one all left right e h =
+    ap (λ s. after_arm s (beginning right)) e ∙ sym (arms-joined before (beginning left) (beginning right)) ∙ h
+
+pub after-nothing : (more : Beginning) → after open_ended more ≡ more
+after-nothing open_ended = refl
+after-nothing arbitrary = refl
+after-nothing (sequence xs) = refl
+after-nothing (one_of xs) = refl
+
+-- ---- Leaves
+
+pub leaf-reads : (n : Node) → is_leaf n ≡ true → is_open (beginning n) ≡ false
+unfolding beginning
+leaf-reads (byte_sequence []) h = refl
+leaf-reads (byte_sequence (b ∷ bytes)) h = refl
+leaf-reads (cat first rest) h = cc
+leaf-reads end_of_cat h = cc
+leaf-reads (alt left right) h = cc
+leaf-reads (capture_group id name contents) h = cc
+leaf-reads (lookaround l contents) h = cc
+leaf-reads (loop q start_group end_group loopee) h = cc
+leaf-reads (loop_1_char_body q loopee) h = cc
+leaf-reads _ h = refl
+
+pub leaf-after : (n : Node) (shared after_it b : Beginning) → is_leaf n ≡ true → b ≡ beginning n → after_it ≡ joined_to shared b → after_it ≡ after shared (beginning n)
+leaf-after n shared after_it b leaf e f = f ∙ ap (joined_to shared) e ∙ sym (after-reads shared (beginning n) (leaf-reads n leaf))
 
 -- ---- Memory
 

@@ -147,7 +147,8 @@ impl Emitter {
         }
     }
 
-    // The code of a node that holds no other.
+    // The code of a node that holds no other; out of the frames of those that do.
+    #[inline(never)]
     fn emit_leaf(&mut self, mode: Mode, node: &Node) -> Result<(), AllocError>
         requires leaf { is_leaf (node_of node.now) ≡ true }
         requires sets { IsTrue (every fits_instructions (node_of node.now)) }
@@ -279,6 +280,7 @@ impl Emitter {
 
     // The head is written again once it is known where the search goes on.
     #[cycle(emit)]
+    #[inline(never)]
     fn emit_lookaround(
         &mut self,
         mode: Mode,
@@ -304,6 +306,7 @@ impl Emitter {
 
     // The head is written again once its exit is known.
     #[cycle(emit)]
+    #[inline(never)]
     fn emit_loop(
         &mut self,
         mode: Mode,

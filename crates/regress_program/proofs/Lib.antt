@@ -13,3 +13,4 @@ pub mod Weights
 pub mod WalkedLemmas
 pub mod GoalLemmas
 pub mod TallyLemmas
+pub mod LeafLemmas

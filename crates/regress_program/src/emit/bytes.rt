@@ -24,23 +24,7 @@ impl Visitor for Characters {
     fn visit(&mut self, node: &Node) -> bool {
         match node {
             Node::ByteSet(_) | Node::ByteSequence(_) => false,
-            Node::Empty
-            | Node::Goal
-            | Node::Char { .. }
-            | Node::CharSet(_)
-            | Node::Alt(..)
-            | Node::Bracket(_)
-            | Node::StringSet { .. }
-            | Node::MatchAny
-            | Node::MatchAnyExceptLineTerminator
-            | Node::Anchor { .. }
-            | Node::WordBoundary { .. }
-            | Node::CaptureGroup { .. }
-            | Node::BackRef { .. }
-            | Node::LookaroundAssertion { .. }
-            | Node::Loop { .. }
-            | Node::Loop1CharBody { .. } => true,
-            Node::Cat(_) => true,
+            _ => true,
         }
     }
 }

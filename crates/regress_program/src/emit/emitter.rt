@@ -131,19 +131,7 @@ impl Emitter {
                 enclosed_groups,
             } => self.emit_loop(mode, quant, enclosed_groups, loopee),
             Node::Loop1CharBody { loopee, quant } => self.emit_loop_1_char(mode, quant, loopee),
-            Node::Empty
-            | Node::Goal
-            | Node::Char { .. }
-            | Node::CharSet(_)
-            | Node::ByteSet(_)
-            | Node::ByteSequence(_)
-            | Node::Bracket(_)
-            | Node::StringSet { .. }
-            | Node::MatchAny
-            | Node::MatchAnyExceptLineTerminator
-            | Node::Anchor { .. }
-            | Node::WordBoundary { .. }
-            | Node::BackRef { .. } => self.emit_leaf(mode, node),
+            _ => self.emit_leaf(mode, node),
         }
     }
 

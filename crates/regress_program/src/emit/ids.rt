@@ -115,19 +115,7 @@ impl Ids {
                 ..
             } => self.gather_enclosed(enclosed_groups.start, enclosed_groups.end, loopee),
             Node::Loop1CharBody { loopee, .. } => self.gather(loopee),
-            Node::Empty
-            | Node::Goal
-            | Node::Char { .. }
-            | Node::CharSet(_)
-            | Node::ByteSet(_)
-            | Node::ByteSequence(_)
-            | Node::Bracket(_)
-            | Node::StringSet { .. }
-            | Node::MatchAny
-            | Node::MatchAnyExceptLineTerminator
-            | Node::Anchor { .. }
-            | Node::WordBoundary { .. }
-            | Node::BackRef { .. } => Some(Span::NONE),
+            _ => Some(Span::NONE),
         }
     }
 

@@ -61,19 +61,7 @@ fn file(alloc: Global, node: &Node, names: &mut [String]) -> Result<(), AllocErr
         Node::Loop { loopee, .. } | Node::Loop1CharBody { loopee, .. } => {
             file(alloc, loopee, names)
         }
-        Node::Empty
-        | Node::Goal
-        | Node::Char { .. }
-        | Node::CharSet(_)
-        | Node::ByteSet(_)
-        | Node::ByteSequence(_)
-        | Node::Bracket(_)
-        | Node::StringSet { .. }
-        | Node::MatchAny
-        | Node::MatchAnyExceptLineTerminator
-        | Node::Anchor { .. }
-        | Node::WordBoundary { .. }
-        | Node::BackRef { .. } => Ok(()),
+        _ => Ok(()),
     }
 }
 
@@ -163,24 +151,7 @@ impl Visitor for Unnamed {
     fn visit(&mut self, node: &Node) -> bool {
         match node {
             Node::CaptureGroup { name, .. } => is_empty_name(name),
-            Node::Cat(_) => true,
-            Node::Empty
-            | Node::Goal
-            | Node::Char { .. }
-            | Node::CharSet(_)
-            | Node::ByteSet(_)
-            | Node::ByteSequence(_)
-            | Node::Alt(..)
-            | Node::Bracket(_)
-            | Node::StringSet { .. }
-            | Node::MatchAny
-            | Node::MatchAnyExceptLineTerminator
-            | Node::Anchor { .. }
-            | Node::WordBoundary { .. }
-            | Node::BackRef { .. }
-            | Node::LookaroundAssertion { .. }
-            | Node::Loop { .. }
-            | Node::Loop1CharBody { .. } => true,
+            _ => true,
         }
     }
 }

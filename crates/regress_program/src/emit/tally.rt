@@ -63,22 +63,7 @@ impl Visitor for Tally {
             Node::Cat(_) => return true,
             Node::CaptureGroup { .. } => self.groups = self.groups.saturating_add(1),
             Node::Loop { .. } => self.loops = self.loops.saturating_add(1),
-            Node::Empty
-            | Node::Goal
-            | Node::Char { .. }
-            | Node::CharSet(_)
-            | Node::ByteSet(_)
-            | Node::ByteSequence(_)
-            | Node::Alt(..)
-            | Node::Bracket(_)
-            | Node::StringSet { .. }
-            | Node::MatchAny
-            | Node::MatchAnyExceptLineTerminator
-            | Node::Anchor { .. }
-            | Node::WordBoundary { .. }
-            | Node::BackRef { .. }
-            | Node::LookaroundAssertion { .. }
-            | Node::Loop1CharBody { .. } => {}
+            _ => {}
         }
         self.add_insns(own_size(node));
         true

@@ -46,19 +46,7 @@ pub(crate) fn walk<V: Visitor>(visitor: &mut V, root: &Node) -> bool
                 rest = contents;
             }
             Node::Loop { loopee, .. } | Node::Loop1CharBody { loopee, .. } => rest = loopee,
-            Node::Empty
-            | Node::Goal
-            | Node::Char { .. }
-            | Node::CharSet(_)
-            | Node::ByteSet(_)
-            | Node::ByteSequence(_)
-            | Node::Bracket(_)
-            | Node::StringSet { .. }
-            | Node::MatchAny
-            | Node::MatchAnyExceptLineTerminator
-            | Node::Anchor { .. }
-            | Node::WordBoundary { .. }
-            | Node::BackRef { .. } => return true,
+            _ => return true,
         }
     }
     false

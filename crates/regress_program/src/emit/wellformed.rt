@@ -79,24 +79,7 @@ impl Visitor for Goals {
                 self.found = true;
                 first
             }
-            Node::Cat(_) => true,
-            Node::Empty
-            | Node::Char { .. }
-            | Node::CharSet(_)
-            | Node::ByteSet(_)
-            | Node::ByteSequence(_)
-            | Node::Alt(..)
-            | Node::Bracket(_)
-            | Node::StringSet { .. }
-            | Node::MatchAny
-            | Node::MatchAnyExceptLineTerminator
-            | Node::Anchor { .. }
-            | Node::WordBoundary { .. }
-            | Node::CaptureGroup { .. }
-            | Node::BackRef { .. }
-            | Node::LookaroundAssertion { .. }
-            | Node::Loop { .. }
-            | Node::Loop1CharBody { .. } => true,
+            _ => true,
         }
     }
 }
@@ -121,23 +104,7 @@ fn is_goal_at_end(node: &Node) -> bool
                 Some(last) => rest = last,
                 None => return false,
             },
-            Node::Empty
-            | Node::Char { .. }
-            | Node::CharSet(_)
-            | Node::ByteSet(_)
-            | Node::ByteSequence(_)
-            | Node::Alt(..)
-            | Node::Bracket(_)
-            | Node::StringSet { .. }
-            | Node::MatchAny
-            | Node::MatchAnyExceptLineTerminator
-            | Node::Anchor { .. }
-            | Node::WordBoundary { .. }
-            | Node::CaptureGroup { .. }
-            | Node::BackRef { .. }
-            | Node::LookaroundAssertion { .. }
-            | Node::Loop { .. }
-            | Node::Loop1CharBody { .. } => return false,
+            _ => return false,
         }
     }
 }
@@ -164,18 +131,7 @@ impl Visitor for Soundness {
             Node::BackRef { group, .. } => 1 <= *group && *group as usize <= self.groups,
             Node::Loop { quant, .. } => is_in_order(quant),
             Node::Loop1CharBody { loopee, quant } => is_in_order(quant) && is_one_character(loopee),
-            Node::Cat(_) => true,
-            Node::Empty
-            | Node::Goal
-            | Node::Char { .. }
-            | Node::Alt(..)
-            | Node::Bracket(_)
-            | Node::MatchAny
-            | Node::MatchAnyExceptLineTerminator
-            | Node::Anchor { .. }
-            | Node::WordBoundary { .. }
-            | Node::CaptureGroup { .. }
-            | Node::LookaroundAssertion { .. } => true,
+            _ => true,
         }
     }
 }

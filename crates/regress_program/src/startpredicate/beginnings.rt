@@ -64,19 +64,7 @@ fn add<'a>(shared: &mut Beginning<'a>, node: &'a Node) -> Result<bool, AllocErro
             }
         }
         Node::LookaroundAssertion { .. } => Ok(false),
-        Node::Empty
-        | Node::Goal
-        | Node::Char { .. }
-        | Node::CharSet(_)
-        | Node::ByteSet(_)
-        | Node::ByteSequence(_)
-        | Node::Bracket(_)
-        | Node::StringSet { .. }
-        | Node::MatchAny
-        | Node::MatchAnyExceptLineTerminator
-        | Node::Anchor { .. }
-        | Node::WordBoundary { .. }
-        | Node::BackRef { .. } => {
+        _ => {
             add_leaf(shared, node)?;
             Ok(true)
         }

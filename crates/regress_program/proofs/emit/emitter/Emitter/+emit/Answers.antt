@@ -7,6 +7,7 @@ use Rattle.regress_program.specs.Insns.{insn_of}
 use Rattle.regress_program.specs.Nodes.{cat_of}
 use Rattle.regex_meaning.specs.WellFormed.{fits_instructions}
 use Rattle.regress_program.specs.Emitting.{HasRoom, state_of, with_code, lookaround_of, with_arm, jump_behind, with_jumps}
+use Rattle.regress_program.proofs.LeafLemmas.{leaf-of}
 use Rattle.regress_program.proofs.NodeLemmas.{node_of-Cat, cat_of-drop}
 use Rattle.regress_program.proofs.Weights.{weight, weight-child}
 use Rattle.regress_program.proofs.EmitLemmas.{with_code-cat, room-first, room-rest, room-left, room-arm, room-others, second_fits, first-arm, next-arm, below-arm, last-fits, below-code, jump-fits, jump-place, arm-done, with_code-capture_group, with_code-loop_1_char_body, with_code-lookaround, with_code-loop, room-group, room-loop_1_char_body, room-lookaround, room-loop, room-unnamed, end_of_lookaround_fits, end_of_loop_fits}
@@ -284,3 +285,19 @@ emit-emit_loop_1_char-requires t c =
     let room = rw is at c.requires.room in
     let smaller : weight (node_of c.args.node.now) ≡ weight inside + 1 = ap weight is in
     (search rules, (rw c.deref-in-Loop1CharBody.ensures sets, rw c.deref-in-Loop1CharBody.ensures room))
+
+pub emit-emit_leaf-requires : goal.emit-emit_leaf-requires
+emit-emit_leaf-requires t c =
+    let d = c.in_default in
+    record {
+      leaf = leaf-of c.args.node.now (record {
+        not_Cat = d.not-Cat;
+        not_Alt = d.not-Alt;
+        not_CaptureGroup = d.not-CaptureGroup;
+        not_LookaroundAssertion = d.not-LookaroundAssertion;
+        not_Loop = d.not-Loop;
+        not_Loop1CharBody = d.not-Loop1CharBody;
+      });
+      sets = c.requires.sets;
+      room = c.requires.room;
+    }

@@ -1,15 +1,11 @@
-use Rattle.std.proofs.Common.{sym, refl, ap, ◌∙◌}
+use Rattle.std.proofs.Common.{ap, sym}
 use Rattle.std.specs.Prelude.{is_some}
-use Rattle.regex_pattern_front.specs.TreeOf.{node_of}
-use Rattle.regress_program.specs.Filing.{is_nameless}
-use Rattle.regress_program.proofs.NodeLemmas.{node_of-Cat}
-use Rattle.regress_program.proofs.WalkedLemmas.{row-passes}
+use Rattle.regress_program.specs.Walked.{passes}
+use Rattle.regress_program.proofs.LeafLemmas.{names-other}
 use Rattle.regress_program.proofs.emit.names.UnnamedVisitor.visit.Goals as goal
 
-pub returns-in-Cat-clause-goes_on : goal.returns-in-Cat-clause-goes_on
-returns-in-Cat-clause-goes_on c =
-    ap is_some (row-passes is_nameless (λ first rest. refl) refl c.in-Cat.field-0.items _ c.args.self.now (ap node_of c.in-Cat.is ∙ node_of-Cat c.in-Cat.field-0))
+pub returns-in_default-clause-goes_on : goal.returns-in_default-clause-goes_on
+returns-in_default-clause-goes_on c = ap (λ b. is_some (passes b c.args.self.now)) (sym (names-other c.args.node.now c.in_default.not-CaptureGroup))
 
-pub returns-in-Cat-clause-step : goal.returns-in-Cat-clause-step
-returns-in-Cat-clause-step c went =
-    sym (row-passes is_nameless (λ first rest. refl) refl c.in-Cat.field-0.items _ c.args.self.now (ap node_of c.in-Cat.is ∙ node_of-Cat c.in-Cat.field-0))
+pub returns-in_default-clause-step : goal.returns-in_default-clause-step
+returns-in_default-clause-step c went = ap (λ b. passes b c.args.self.now) (names-other c.args.node.now c.in_default.not-CaptureGroup)

@@ -1,15 +1,10 @@
-use Rattle.std.proofs.Common.{sym, refl, ap, ◌∙◌}
+use Rattle.std.proofs.Common.{ap, sym}
 use Rattle.std.specs.Prelude.{is_some}
-use Rattle.regex_pattern_front.specs.TreeOf.{node_of}
-use Rattle.regress_program.specs.Goals.{with_goals}
-use Rattle.regress_program.proofs.NodeLemmas.{node_of-Cat}
-use Rattle.regress_program.proofs.WalkedLemmas.{row-goes}
+use Rattle.regress_program.proofs.LeafLemmas.{goals-other}
 use Rattle.regress_program.proofs.emit.wellformed.GoalsVisitor.visit.Goals as goal
 
-pub returns-in-Cat-clause-goes_on : goal.returns-in-Cat-clause-goes_on
-returns-in-Cat-clause-goes_on c =
-    ap is_some (sym (row-goes with_goals (λ first rest it. refl) (λ it. refl) c.in-Cat.field-0.items _ c.args.self.now (ap node_of c.in-Cat.is ∙ node_of-Cat c.in-Cat.field-0)))
+pub returns-in_default-clause-goes_on : goal.returns-in_default-clause-goes_on
+returns-in_default-clause-goes_on c = ap is_some (sym (goals-other c.args.node.now c.args.self.now c.in_default.not-Goal))
 
-pub returns-in-Cat-clause-step : goal.returns-in-Cat-clause-step
-returns-in-Cat-clause-step c went =
-    row-goes with_goals (λ first rest it. refl) (λ it. refl) c.in-Cat.field-0.items _ c.args.self.now (ap node_of c.in-Cat.is ∙ node_of-Cat c.in-Cat.field-0)
+pub returns-in_default-clause-step : goal.returns-in_default-clause-step
+returns-in_default-clause-step c went = goals-other c.args.node.now c.args.self.now c.in_default.not-Goal

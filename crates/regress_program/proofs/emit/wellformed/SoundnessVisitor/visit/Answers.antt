@@ -1,15 +1,18 @@
-use Rattle.std.proofs.Common.{sym, refl, ap, ◌∙◌}
+use Rattle.std.proofs.Common.{◌≡◌, true, ap, sym}
 use Rattle.std.specs.Prelude.{is_some}
 use Rattle.regex_pattern_front.specs.TreeOf.{node_of}
 use Rattle.regress_program.specs.Ids.{is_sound_by_itself}
-use Rattle.regress_program.proofs.NodeLemmas.{node_of-Cat}
-use Rattle.regress_program.proofs.WalkedLemmas.{row-passes}
+use Rattle.regress_program.specs.Walked.{passes}
+use Rattle.regress_program.proofs.LeafLemmas.{sound-other}
 use Rattle.regress_program.proofs.emit.wellformed.SoundnessVisitor.visit.Goals as goal
 
-pub returns-in-Cat-clause-goes_on : goal.returns-in-Cat-clause-goes_on
-returns-in-Cat-clause-goes_on c =
-    ap is_some (row-passes (is_sound_by_itself c.args.self.now.groups) (λ first rest. refl) refl c.in-Cat.field-0.items _ c.args.self.now (ap node_of c.in-Cat.is ∙ node_of-Cat c.in-Cat.field-0))
+other : (c : goal.In_default) → is_sound_by_itself c.args.self.now.groups (node_of c.args.node.now) ≡ true
+other c =
+    let d = c.in_default in
+    sound-other c.args.self.now.groups c.args.node.now d.not-CharSet d.not-ByteSet d.not-ByteSequence d.not-StringSet d.not-BackRef d.not-Loop d.not-Loop1CharBody
 
-pub returns-in-Cat-clause-step : goal.returns-in-Cat-clause-step
-returns-in-Cat-clause-step c went =
-    sym (row-passes (is_sound_by_itself c.args.self.now.groups) (λ first rest. refl) refl c.in-Cat.field-0.items _ c.args.self.now (ap node_of c.in-Cat.is ∙ node_of-Cat c.in-Cat.field-0))
+pub returns-in_default-clause-goes_on : goal.returns-in_default-clause-goes_on
+returns-in_default-clause-goes_on c = ap (λ b. is_some (passes b c.args.self.now)) (sym (other c))
+
+pub returns-in_default-clause-step : goal.returns-in_default-clause-step
+returns-in_default-clause-step c went = ap (λ b. passes b c.args.self.now) (other c)

@@ -51,33 +51,31 @@ fn optimize_all(nodes: &mut Vec<Node>)
 }
 
 // Alternatives, in a loop: on the way there each is turned to look at the one before it, and on the way back as it was.
-// Its nodes stay out of the frames that nested groups take.
+// What moves on the way back stays out of the frames that nested alternatives take.
 #[cycle(optimize)]
 #[inline(never)]
 fn optimize_row(row: &mut Node)
     ensures { node_of row.new ≡ optimized (node_of row.old) }
 {
     let mut done = Node::Empty;
-    let mut rest = mem::replace(row, Node::Empty);
-    while let Node::Alt(left, right) = &mut rest {
+    while let Node::Alt(left, right) = row {
         optimize_node(left);
         mem::swap(&mut **right, &mut done);
-        mem::swap(&mut rest, &mut done);
+        mem::swap(row, &mut done);
     }
-    optimize_node(&mut rest);
-    *row = turned_back(done, rest);
+    optimize_node(row);
+    turn_back(&mut done, row);
 }
 
 // The alternatives of a row that was turned round, and those behind them.
 #[inline(never)]
-fn turned_back(mut done: Node, mut rest: Node) -> Node
-    ensures { node_of result ≡ turned_back (node_of done) (node_of rest) }
+fn turn_back(done: &mut Node, rest: &mut Node)
+    ensures { node_of rest.new ≡ turned_back (node_of done.old) (node_of rest.old) }
 {
-    while let Node::Alt(_, right) = &mut done {
-        mem::swap(&mut **right, &mut rest);
-        mem::swap(&mut done, &mut rest);
+    while let Node::Alt(_, right) = done {
+        mem::swap(&mut **right, rest);
+        mem::swap(done, rest);
     }
-    rest
 }
 
 // Makes a loop one over one character.

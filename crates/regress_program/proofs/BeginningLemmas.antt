@@ -1,18 +1,19 @@
 -- What nodes begin with.
 use Rattle.std.proofs.Common.{◌≡◌, ℕ, ◌+◌, ◌<◌, ◌≤◌, Bool, true, false, not, ◌&&◌, ◌||◌, List, [], ◌∷◌, ◌++◌, length, take, drop, get_or, refl, sym, ap, ◌∙◌, arith, append-nil, drop-cons, Result, IfOk}
-use Rattle.std.specs.Prelude.{if◌then◌else◌, nat_lt}
+use Rattle.std.specs.Prelude.{if◌then◌else◌, nat_lt, ◌==◌}
 use Rattle.std.proofs.lemmas.List.{drop_all}
 use Rattle.std.proofs.lemmas.Result.{IfOk-weaker}
-use Rattle.std.proofs.lemmas.Bool.{ne_eqb, or_parts}
-use Rattle.regex_meaning.specs.Tree.{Node, byte_sequence, cat, alt, capture_group, loop, loop_1_char_body, Tree}
+use Rattle.std.proofs.lemmas.Bool.{ne_eqb, or_parts, eqb-true}
+use Rattle.regex_meaning.specs.Tree.{Node, byte_sequence, cat, end_of_cat, alt, capture_group, lookaround, loop, loop_1_char_body, Tree}
 use Rattle.regex_meaning.specs.WellFormed.{IsWellFormed}
 use Rattle.regex_meaning.specs.StartPredicate.{Beginning, open_ended, arbitrary, sequence, one_of, then_of, join, beginning, sequence_or, shared_front, union, first_byte, is_anchored, StartPredicate, start_of, start_predicate, start_arbitrary, start_byte_set, start_anchored, IsSound}
 use Rattle.regex_meaning.proofs.Clean.{predicate-sound}
 use Rattle.regress_program.specs.declared.insn.predicates.StartPredicate as declared
 use Rattle.regress_program.specs.Insns.{start_of as predicate_of}
-use Rattle.regress_program.specs.Beginnings.{bytes_from}
+use Rattle.regress_program.specs.Beginnings.{bytes_from, joined_to, after, after_arm}
+use Rattle.regress_program.specs.Nodes.{is_leaf}
 use Rattle.regress_program.specs.Predicates.{is_open, is_sequence, may_grow, may_take_memory}
-use Rattle.regress_program.proofs.ByteSetLemmas.{union-both}
+use Rattle.regress_program.proofs.ByteSetLemmas.{union-both, union-assoc, union-again, union-same}
 
 -- ---- Shared fronts
 
@@ -44,6 +45,213 @@ pub first_bytes_alone : (xs ys front one both : List ℕ) → front ≡ shared_f
 first_bytes_alone xs ys front one both e none f g =
     no_front (shared_front xs ys) both (sym (ap length e) ∙ none)
     ∙ ap (sequence_or (shared_front xs ys)) (g ∙ ap (λ zs. union zs (first_byte ys)) f ∙ union-both (first_byte xs) (first_byte ys))
+
+-- ---- Three in a row
+
+front-assoc : (xs ys zs : List ℕ) → shared_front (shared_front xs ys) zs ≡ shared_front xs (shared_front ys zs)
+front-assoc [] ys zs = refl
+front-assoc (x ∷ xs) [] zs = refl
+front-assoc (x ∷ xs) (y ∷ ys) [] = shared_front-none (shared_front (x ∷ xs) (y ∷ ys))
+front-assoc (x ∷ xs) (y ∷ ys) (z ∷ zs) = by (x == y) (y == z) refl refl (front-assoc xs ys zs)
+  where
+    by : (s t : Bool) → (x == y) ≡ s → (y == z) ≡ t → shared_front (shared_front xs ys) zs ≡ shared_front xs (shared_front ys zs)
+        → shared_front (if x == y then x ∷ shared_front xs ys else []) (z ∷ zs) ≡ shared_front (x ∷ xs) (if y == z then y ∷ shared_front ys zs else [])
+    by true true e f rest =
+        let same : (x == z) ≡ true = ap (λ n. n == z) (eqb-true x y e) ∙ f in
+        rw (e, f, same, e) (ap (λ r. x ∷ r) rest)
+    by true false e f rest =
+        let other : (x == z) ≡ false = ap (λ n. n == z) (eqb-true x y e) ∙ f in
+        rw (e, f, other) refl
+    by false true e f rest = rw (e, f, e) refl
+    by false false e f rest = rw (e, f) refl
+
+-- a front that is not empty has the first byte of both
+front-first : (xs ys : List ℕ) (b : ℕ) (bs : List ℕ) → b ∷ bs ≡ shared_front xs ys → (first_byte xs ≡ b ∷ []) × (first_byte ys ≡ b ∷ [])
+front-first [] ys b bs e = cc
+front-first (x ∷ xs) [] b bs e = cc
+front-first (x ∷ xs) (y ∷ ys) b bs e = by (x == y) refl e
+  where
+    by : (s : Bool) → (x == y) ≡ s → b ∷ bs ≡ (if s then x ∷ shared_front xs ys else []) → (x ∷ [] ≡ b ∷ []) × (y ∷ [] ≡ b ∷ [])
+    by true t f =
+        let first : b ≡ x = cc in
+        (ap (λ n. n ∷ []) (sym first), ap (λ n. n ∷ []) (sym (first ∙ eqb-true x y t)))
+    by false t f = cc
+
+join-arbitrary : (a : Beginning) → join a arbitrary ≡ arbitrary
+join-arbitrary open_ended = refl
+join-arbitrary arbitrary = refl
+join-arbitrary (sequence xs) = refl
+join-arbitrary (one_of xs) = refl
+
+join-open : (a : Beginning) → join a open_ended ≡ arbitrary
+join-open open_ended = refl
+join-open arbitrary = refl
+join-open (sequence xs) = refl
+join-open (one_of xs) = refl
+
+join-sequences : (xs ys zs front behind : List ℕ) → front ≡ shared_front xs ys → behind ≡ shared_front ys zs
+    → join (sequence_or front (union (first_byte xs) (first_byte ys))) (sequence zs)
+    ≡ join (sequence xs) (sequence_or behind (union (first_byte ys) (first_byte zs)))
+join-sequences xs ys zs [] [] e f = ap one_of (union-assoc (first_byte xs) (first_byte ys) (first_byte zs))
+join-sequences xs ys zs [] (g ∷ gs) e f =
+    let firsts = front-first ys zs g gs f in
+    let none : shared_front xs (g ∷ gs) ≡ [] = ap (shared_front xs) f ∙ sym (front-assoc xs ys zs) ∙ ap (λ r. shared_front r zs) (sym e) in
+    rw (none, firsts.0, firsts.1) (ap one_of (union-same (first_byte xs) (g ∷ [])))
+join-sequences xs ys zs (b ∷ bs) [] e f =
+    let firsts = front-first xs ys b bs e in
+    let none : shared_front (b ∷ bs) zs ≡ [] = ap (λ r. shared_front r zs) e ∙ front-assoc xs ys zs ∙ ap (shared_front xs) (sym f) ∙ shared_front-none xs in
+    rw (none, firsts.0, firsts.1) (ap one_of (sym (union-again (b ∷ []) (first_byte zs))))
+join-sequences xs ys zs (b ∷ bs) (g ∷ gs) e f =
+    let firsts = front-first xs ys b bs e in
+    let others = front-first ys zs g gs f in
+    let same : shared_front (b ∷ bs) zs ≡ shared_front xs (g ∷ gs) = ap (λ r. shared_front r zs) e ∙ front-assoc xs ys zs ∙ ap (shared_front xs) (sym f) in
+    rw (same, firsts.0, others.1) refl
+
+join-sequence-one : (xs ys zs front : List ℕ) → front ≡ shared_front xs ys
+    → join (sequence_or front (union (first_byte xs) (first_byte ys))) (one_of zs) ≡ one_of (union (first_byte xs) (union (first_byte ys) zs))
+join-sequence-one xs ys zs [] e = ap one_of (union-assoc (first_byte xs) (first_byte ys) zs)
+join-sequence-one xs ys zs (b ∷ bs) e =
+    let firsts = front-first xs ys b bs e in
+    rw (firsts.0, firsts.1) (ap one_of (sym (union-again (b ∷ []) zs)))
+
+join-one-sequence : (xs ys zs behind : List ℕ) → behind ≡ shared_front ys zs
+    → one_of (union (union xs (first_byte ys)) (first_byte zs)) ≡ join (one_of xs) (sequence_or behind (union (first_byte ys) (first_byte zs)))
+join-one-sequence xs ys zs [] e = ap one_of (union-assoc xs (first_byte ys) (first_byte zs))
+join-one-sequence xs ys zs (b ∷ bs) e =
+    let firsts = front-first ys zs b bs e in
+    rw (firsts.0, firsts.1) (ap one_of (union-same xs (b ∷ [])))
+
+-- it makes no difference which two are joined first
+pub join-assoc : (a b c : Beginning) → join (join a b) c ≡ join a (join b c)
+join-assoc open_ended b c = refl
+join-assoc arbitrary b c = refl
+join-assoc (sequence xs) open_ended c = refl
+join-assoc (sequence xs) arbitrary c = refl
+join-assoc (one_of xs) open_ended c = refl
+join-assoc (one_of xs) arbitrary c = refl
+join-assoc (sequence xs) (sequence ys) open_ended = join-open (join (sequence xs) (sequence ys))
+join-assoc (sequence xs) (sequence ys) arbitrary = join-arbitrary (join (sequence xs) (sequence ys))
+join-assoc (sequence xs) (sequence ys) (sequence zs) = join-sequences xs ys zs (shared_front xs ys) (shared_front ys zs) refl refl
+join-assoc (sequence xs) (sequence ys) (one_of zs) = join-sequence-one xs ys zs (shared_front xs ys) refl
+join-assoc (sequence xs) (one_of ys) open_ended = refl
+join-assoc (sequence xs) (one_of ys) arbitrary = refl
+join-assoc (sequence xs) (one_of ys) (sequence zs) = ap one_of (union-assoc (first_byte xs) ys (first_byte zs))
+join-assoc (sequence xs) (one_of ys) (one_of zs) = ap one_of (union-assoc (first_byte xs) ys zs)
+join-assoc (one_of xs) (sequence ys) open_ended = refl
+join-assoc (one_of xs) (sequence ys) arbitrary = refl
+join-assoc (one_of xs) (sequence ys) (sequence zs) = join-one-sequence xs ys zs (shared_front ys zs) refl
+join-assoc (one_of xs) (sequence ys) (one_of zs) = ap one_of (union-assoc xs (first_byte ys) zs)
+join-assoc (one_of xs) (one_of ys) open_ended = refl
+join-assoc (one_of xs) (one_of ys) arbitrary = refl
+join-assoc (one_of xs) (one_of ys) (sequence zs) = ap one_of (union-assoc xs ys (first_byte zs))
+join-assoc (one_of xs) (one_of ys) (one_of zs) = ap one_of (union-assoc xs ys zs)
+
+-- ---- What is shared so far
+
+join-reads : (a b : Beginning) → is_open (join a b) ≡ false
+join-reads open_ended b = refl
+join-reads arbitrary b = refl
+join-reads (sequence xs) open_ended = refl
+join-reads (sequence xs) arbitrary = refl
+join-reads (sequence xs) (sequence ys) = of_front (shared_front xs ys)
+  where
+    of_front : (front : List ℕ) → is_open (sequence_or front (union (first_byte xs) (first_byte ys))) ≡ false
+    of_front [] = refl
+    of_front (x ∷ front) = refl
+join-reads (sequence xs) (one_of ys) = refl
+join-reads (one_of xs) open_ended = refl
+join-reads (one_of xs) arbitrary = refl
+join-reads (one_of xs) (sequence ys) = refl
+join-reads (one_of xs) (one_of ys) = refl
+
+joined_to-reads : (shared more : Beginning) → is_open shared ≡ false → joined_to shared more ≡ join shared more
+joined_to-reads open_ended more h = cc
+joined_to-reads arbitrary more h = refl
+joined_to-reads (sequence xs) more h = refl
+joined_to-reads (one_of xs) more h = refl
+
+joined_to-arbitrary : (shared : Beginning) → joined_to shared arbitrary ≡ arbitrary
+joined_to-arbitrary open_ended = refl
+joined_to-arbitrary arbitrary = refl
+joined_to-arbitrary (sequence xs) = refl
+joined_to-arbitrary (one_of xs) = refl
+
+joined_to-join : (shared a b : Beginning) → is_open a ≡ false → joined_to shared (join a b) ≡ joined_to (joined_to shared a) b
+joined_to-join open_ended a b h = sym (joined_to-reads a b h)
+joined_to-join arbitrary a b h = sym (join-assoc arbitrary a b)
+joined_to-join (sequence xs) a b h = sym (joined_to-reads (join (sequence xs) a) b (join-reads (sequence xs) a) ∙ join-assoc (sequence xs) a b)
+joined_to-join (one_of xs) a b h = sym (joined_to-reads (join (one_of xs) a) b (join-reads (one_of xs) a) ∙ join-assoc (one_of xs) a b)
+
+after_arm-reads : (shared more : Beginning) → is_open more ≡ false → after_arm shared more ≡ joined_to shared more
+after_arm-reads shared open_ended h = cc
+after_arm-reads shared arbitrary h = refl
+after_arm-reads shared (sequence xs) h = refl
+after_arm-reads shared (one_of xs) h = refl
+
+after-reads : (shared more : Beginning) → is_open more ≡ false → after shared more ≡ joined_to shared more
+after-reads shared open_ended h = cc
+after-reads shared arbitrary h = refl
+after-reads shared (sequence xs) h = refl
+after-reads shared (one_of xs) h = refl
+
+after_arm-anything : (more : Beginning) → after_arm arbitrary more ≡ arbitrary
+after_arm-anything open_ended = refl
+after_arm-anything arbitrary = refl
+after_arm-anything (sequence xs) = refl
+after_arm-anything (one_of xs) = refl
+
+-- alternatives one after another
+pub arms-joined : (shared a b : Beginning) → after_arm shared (join a b) ≡ after_arm (after_arm shared a) b
+arms-joined shared open_ended b = joined_to-arbitrary shared ∙ sym (after_arm-anything b)
+arms-joined shared arbitrary b =
+    joined_to-join shared arbitrary b refl ∙ ap (λ s. joined_to s b) (joined_to-arbitrary shared) ∙ sym (ap (λ s. after_arm s b) (joined_to-arbitrary shared) ∙ after_arm-anything b)
+arms-joined shared (sequence xs) open_ended = joined_to-arbitrary shared
+arms-joined shared (sequence xs) arbitrary = joined_to-join shared (sequence xs) arbitrary refl
+arms-joined shared (sequence xs) (sequence ys) =
+    after_arm-reads shared (join (sequence xs) (sequence ys)) (join-reads (sequence xs) (sequence ys)) ∙ joined_to-join shared (sequence xs) (sequence ys) refl
+arms-joined shared (sequence xs) (one_of ys) = joined_to-join shared (sequence xs) (one_of ys) refl
+arms-joined shared (one_of xs) open_ended = joined_to-arbitrary shared
+arms-joined shared (one_of xs) arbitrary = joined_to-join shared (one_of xs) arbitrary refl
+arms-joined shared (one_of xs) (sequence ys) = joined_to-join shared (one_of xs) (sequence ys) refl
+arms-joined shared (one_of xs) (one_of ys) = joined_to-join shared (one_of xs) (one_of ys) refl
+
+pub arms-after : (shared : Beginning) (left right : Node) → after_arm (after_arm shared (beginning left)) (beginning right) ≡ after shared (beginning (alt left right))
+unfolding beginning
+arms-after shared left right =
+    let both = join (beginning left) (beginning right) in
+    let reads = join-reads (beginning left) (beginning right) in
+    sym (arms-joined shared (beginning left) (beginning right)) ∙ after_arm-reads shared both reads ∙ sym (after-reads shared both reads)
+
+-- one arm more
+pub arms-next : (before one all : Beginning) (left right : Node) → one ≡ after_arm before (beginning left)
+    → after_arm before (beginning (alt left right)) ≡ all → after_arm one (beginning right) ≡ all
+unfolding beginning
+arms-next before one all left right e h =
+    ap (λ s. after_arm s (beginning right)) e ∙ sym (arms-joined before (beginning left) (beginning right)) ∙ h
+
+pub after-nothing : (more : Beginning) → after open_ended more ≡ more
+after-nothing open_ended = refl
+after-nothing arbitrary = refl
+after-nothing (sequence xs) = refl
+after-nothing (one_of xs) = refl
+
+-- ---- Leaves
+
+pub leaf-reads : (n : Node) → is_leaf n ≡ true → is_open (beginning n) ≡ false
+unfolding beginning
+leaf-reads (byte_sequence []) h = refl
+leaf-reads (byte_sequence (b ∷ bytes)) h = refl
+leaf-reads (cat first rest) h = cc
+leaf-reads end_of_cat h = cc
+leaf-reads (alt left right) h = cc
+leaf-reads (capture_group id name contents) h = cc
+leaf-reads (lookaround l contents) h = cc
+leaf-reads (loop q start_group end_group loopee) h = cc
+leaf-reads (loop_1_char_body q loopee) h = cc
+leaf-reads _ h = refl
+
+pub leaf-after : (n : Node) (shared after_it b : Beginning) → is_leaf n ≡ true → b ≡ beginning n → after_it ≡ joined_to shared b → after_it ≡ after shared (beginning n)
+leaf-after n shared after_it b leaf e f = f ∙ ap (joined_to shared) e ∙ sym (after-reads shared (beginning n) (leaf-reads n leaf))
 
 -- ---- Memory
 
@@ -81,6 +289,11 @@ no_sequence (capture_group id name contents) h = no_sequence contents h
 no_sequence (loop q start_group end_group loopee) h = if-no_sequence (nat_lt 0 q.min) (beginning loopee) (may_grow loopee) h (no_sequence loopee)
 no_sequence (loop_1_char_body q loopee) h = if-no_sequence (nat_lt 0 q.min) (beginning loopee) (may_grow loopee) h (no_sequence loopee)
 no_sequence _ h = refl
+
+-- the arms but the first
+pub quiet-arms : (left right : Node) → may_grow (alt left right) ≡ false → may_grow right ≡ false
+unfolding may_grow
+quiet-arms left right h = (or_parts (may_grow left) (may_grow right) h).1
 
 -- the first node of a row, and the rest where it is open
 pub quiet-first : (first rest : Node) → may_grow (cat first rest) ≡ false → may_grow first ≡ false

@@ -54,6 +54,24 @@ union-comm xs ys = bytes_where-same _ _ (λ b h. or-comm (contains xs b) (contai
 pub union-both : (xs ys : List ℕ) → union (union [] xs) ys ≡ union xs ys
 union-both xs ys = bytes_where-same _ _ (λ b h. ap (λ t. t || contains ys b) (contains-bytes_where (contains xs) b h))
 
+pub union-assoc : (xs ys zs : List ℕ) → union (union xs ys) zs ≡ union xs (union ys zs)
+union-assoc xs ys zs = bytes_where-same _ _ (λ b h.
+    ap (λ t. t || contains zs b) (contains-bytes_where (λ c. contains xs c || contains ys c) b h)
+    ∙ or_assoc (contains xs b) (contains ys b) (contains zs b)
+    ∙ ap (λ t. contains xs b || t) (sym (contains-bytes_where (λ c. contains ys c || contains zs c) b h)))
+
+or-twice : (s t : Bool) → (s || (s || t)) ≡ (s || t)
+or-twice true t = refl
+or-twice false t = refl
+
+-- what is there already makes no difference
+pub union-again : (xs ys : List ℕ) → union xs (union xs ys) ≡ union xs ys
+union-again xs ys = bytes_where-same _ _ (λ b h.
+    ap (λ t. contains xs b || t) (contains-bytes_where (λ c. contains xs c || contains ys c) b h) ∙ or-twice (contains xs b) (contains ys b))
+
+pub union-same : (xs ys : List ℕ) → union (union xs ys) ys ≡ union xs ys
+union-same xs ys = union-comm (union xs ys) ys ∙ ap (union ys) (union-comm xs ys) ∙ union-again ys xs ∙ union-comm ys xs
+
 -- ---- First bytes
 
 -- the set and the first bytes of these code points

@@ -21,6 +21,11 @@ pub filed-append : (named others : List (ℕ × List ℕ)) (names : List (List �
 filed-append [] others names = refl
 filed-append (n ∷ named) others names = filed-append named others (set names n.0 n.1)
 
+-- the names of an alternative, and those of the others
+pub filed-next : (left right : Node) (before after : List (List ℕ)) → after ≡ filed (named_ids left) before
+    → filed (named_ids right) after ≡ filed (named_ids (alt left right)) before
+filed-next left right before after e = ap (filed (named_ids right)) e ∙ sym (filed-append (named_ids left) (named_ids right) before)
+
 pub length-filed : (named : List (ℕ × List ℕ)) (names : List (List ℕ)) → length (filed named names) ≡ length names
 length-filed [] names = refl
 length-filed (n ∷ named) names = length-filed named (set names n.0 n.1) ∙ length-set names n.0 n.1

@@ -11,3 +11,7 @@ pub mod Walks
 pub mod CharLemmas
 pub mod Weights
 pub mod PredicateLemmas
+pub mod WalkedLemmas
+pub mod GoalLemmas
+pub mod TallyLemmas
+pub mod LeafLemmas

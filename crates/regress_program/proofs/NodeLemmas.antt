@@ -1,27 +1,13 @@
 -- The tree of a node with a list.
-use Rattle.std.proofs.Common.{◌≡◌, ℕ, ◌+◌, ◌<◌, ◌-◌, ◌^◌, min, suc, true, false, List, [], ◌∷◌, length, slice_get, Some, None, get_or, drop, drop-cons, add-one, sym, ap, ◌∙◌, refl, arith, Vec, Global}
+pub use Rattle.regex_pattern_front.proofs.NodeLemmas.{node_of-Cat}
+use Rattle.std.proofs.Common.{◌≡◌, ℕ, ◌+◌, ◌<◌, ◌-◌, ◌^◌, min, suc, true, false, List, [], ◌∷◌, length, slice_get, Some, None, get_or, drop, drop-cons, add-one, sym, ap, ◌∙◌, refl, arith}
 use Rattle.regex_meaning.specs.Tree as tree
-use Rattle.regex_pattern_front.specs.TreeOf.{node_of, nodes_of}
-use Rattle.regex_pattern_front.specs.declared.ir.Node.{Node, Cat, Cat', Row_of-Node, end_of-Node, more_of-Node, items-the_row-Node, items_hidden-the_row-Node-0}
+use Rattle.regex_pattern_front.specs.TreeOf.{node_of}
+use Rattle.regex_pattern_front.specs.declared.ir.Node.{Node}
 use Rattle.regex_meaning.specs.WellFormed.{ends_in_goal, is_one_character}
 use Rattle.regex_meaning.specs.StartPredicate.{is_anchored}
 use Rattle.regress_program.specs.Nodes.{cat_of, is_leaf}
 use Rattle.regress_program.specs.Code.{own_size}
-
-row-is : (n : _) (row : Row_of-Node n) → nodes_of row ≡ cat_of (items-the_row-Node n row)
-unfolding nodes_of
-row-is n end_of-Node = refl
-row-is n (more_of-Node node rest) = ap (λ t. tree.cat (node_of node) t) (row-is _ rest)
-
-abbrev row_in : Node → (n : _) × Row_of-Node n
-row_in (Cat' _ row) = (_, row)
-row_in _ = (_, end_of-Node)
-
-pub node_of-Cat : (nodes : Vec Node Global) → node_of (Cat nodes) ≡ cat_of nodes.items
-unfolding node_of
-node_of-Cat nodes =
-    let row = row_in (Cat nodes) in
-    row-is row.0 row.1 ∙ ap cat_of (items_hidden-the_row-Node-0 nodes)
 
 -- the rest of a row, from a node on
 pub cat_of-drop : (nodes : List Node) (i : ℕ) (n : Node) → i < length nodes → n ≡ get_or nodes i n

@@ -1,5 +1,5 @@
 -- A number for each node, which falls from a node to those inside it.
-use Rattle.std.proofs.Common.{◌≡◌, ℕ, zero, suc, ◌+◌, ◌<◌, List, [], ◌∷◌, length, get_or, ap, arith}
+use Rattle.std.proofs.Common.{◌≡◌, ℕ, zero, suc, ◌+◌, ◌<◌, List, [], ◌∷◌, length, get_or, slice_get, Some, ap, arith}
 use Rattle.regex_meaning.specs.Tree.{Node, cat, alt, capture_group, lookaround, loop, loop_1_char_body}
 use Rattle.regex_pattern_front.specs.TreeOf.{node_of}
 use Rattle.regex_pattern_front.specs.declared.ir.Node as declared
@@ -19,3 +19,11 @@ unfolding weight
 weight-child [] i n h e = absurd (omega arith)
 weight-child (x ∷ xs) zero n h e = omega (arith, ap (λ m. weight (node_of m)) e)
 weight-child (x ∷ xs) (suc i) n h e = omega (arith, weight-child xs i n (omega arith) e)
+
+pub weight-member : (nodes : List declared.Node) (i : ℕ) (n : declared.Node) → slice_get nodes i ≡ Some n → weight (node_of n) < weight (cat_of nodes)
+unfolding weight
+weight-member [] i n e = cc
+weight-member (x ∷ xs) zero n e =
+    let same : x ≡ n = cc in
+    omega (arith, ap (λ m. weight (node_of m)) same)
+weight-member (x ∷ xs) (suc i) n e = omega (arith, weight-member xs i n e)

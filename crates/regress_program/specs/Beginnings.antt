@@ -12,6 +12,21 @@ beginning_of Anything = meaning.arbitrary
 beginning_of (Sequence bytes) = meaning.sequence bytes.now
 beginning_of (OneOf set) = meaning.one_of (byte_bitmap_bytes set)
 
+-- what alternatives begin with, of which the first ones may be none
+abbrev pub joined_to : (shared more : meaning.Beginning) → meaning.Beginning
+joined_to meaning.open_ended more = more
+joined_to shared more = meaning.join shared more
+
+-- where the last one reads something
+abbrev pub after : (shared more : meaning.Beginning) → meaning.Beginning
+after shared meaning.open_ended = shared
+after shared more = joined_to shared more
+
+-- or begins with anything, since it reads nothing
+abbrev pub after_arm : (shared more : meaning.Beginning) → meaning.Beginning
+after_arm shared meaning.open_ended = meaning.arbitrary
+after_arm shared more = joined_to shared more
+
 -- the bytes of the set from a number on
 unfoldable pub bytes_from : (set : List ℕ) (from : ℕ) → List ℕ
 bytes_from set from = filter (contains set) (numbers_from from (256 - from))

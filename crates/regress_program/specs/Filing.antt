@@ -2,7 +2,11 @@
 use Rattle.std.specs.Prelude.{ℕ, Bool, List, [], ◌∷◌, length, set, ◌==◌}
 use Rattle.std.specs.List.{list_all}
 use Rattle.regex_meaning.specs.Tree.{Node}
-use Rattle.regex_meaning.specs.Names.{named_ids}
+use Rattle.regex_meaning.specs.Names.{own_name, named_ids}
+
+-- the node is no group with a name
+abbrev pub is_nameless : Node → Bool
+is_nameless node = list_all (λ p. length p.1 == 0) (own_name node)
 
 -- no group has a name
 abbrev pub is_unnamed : Node → Bool

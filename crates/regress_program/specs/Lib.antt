@@ -9,3 +9,6 @@ pub mod Ids
 pub mod Spans
 pub mod Refusals
 pub mod Filing
+pub mod Walked
+pub mod Goals
+pub mod Tallies

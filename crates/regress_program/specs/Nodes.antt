@@ -1,13 +1,7 @@
--- Nodes in a row.
-use Rattle.std.specs.Prelude.{Bool, true, false, List, [], ◌∷◌}
+-- Nodes in a row, and nodes that hold no other.
+pub use Rattle.regex_pattern_front.specs.TreeOf.{cat_of}
+use Rattle.std.specs.Prelude.{Bool, true, false}
 use Rattle.regex_meaning.specs.Tree as tree
-use Rattle.regex_pattern_front.specs.declared.ir.Node.{Node}
-use Rattle.regex_pattern_front.specs.TreeOf.{node_of}
-
--- the nodes one after another
-abbrev pub cat_of : List Node → tree.Node
-cat_of [] = tree.end_of_cat
-cat_of (node ∷ nodes) = tree.cat (node_of node) (cat_of nodes)
 
 -- it holds no other node
 abbrev pub is_leaf : tree.Node → Bool

@@ -16,6 +16,7 @@ mod leaves;
 mod names;
 mod tally;
 mod texts;
+mod walk;
 mod wellformed;
 
 use crate::carried::Carried;

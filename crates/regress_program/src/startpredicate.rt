@@ -1,5 +1,5 @@
 //! What a text has to start with where a pattern matches.
-#![tactic(auto, unfolding(regex_pattern_front::specs::TreeOf::node_of))]
+#![tactic(auto, unfolding(regex_pattern_front::specs::TreeOf::node_of, crate::proofs::Weights::weight))]
 
 ghost use Rattle.std.specs.Prelude.{◌≡◌, ◌&&◌, not, false, IfOk, IsOk};
 ghost use Rattle.regex_meaning.specs.StartPredicate.{IsSound, is_anchored, start_predicate, start_of as predicate_of, sequence, one_of};
@@ -104,35 +104,43 @@ fn matches_at_left_end(re: &ir::Regex) -> bool
 fn is_start_anchored(node: &Node) -> bool
     ensures { result ≡ is_anchored (node_of node.now) }
 {
-    match node {
-        Node::Cat(nodes) => match nodes.first() {
-            Some(first) => is_start_anchored(first),
-            None => false,
-        },
-        Node::Anchor {
-            anchor_type: AnchorType::StartOfLine,
-            multiline,
-        } => !*multiline,
-        Node::Anchor {
-            anchor_type: AnchorType::EndOfLine,
-            ..
-        } => false,
-        Node::CaptureGroup { contents, .. } => is_start_anchored(contents),
-        Node::Alt(left, right) => is_start_anchored(left) && is_start_anchored(right),
-        Node::Empty
-        | Node::Goal
-        | Node::Char { .. }
-        | Node::CharSet(_)
-        | Node::ByteSet(_)
-        | Node::ByteSequence(_)
-        | Node::Bracket(_)
-        | Node::StringSet { .. }
-        | Node::MatchAny
-        | Node::MatchAnyExceptLineTerminator
-        | Node::WordBoundary { .. }
-        | Node::BackRef { .. }
-        | Node::LookaroundAssertion { .. }
-        | Node::Loop { .. }
-        | Node::Loop1CharBody { .. } => false,
+    let mut rest = node;
+    loop {
+        match rest {
+            Node::Cat(nodes) => match nodes.first() {
+                Some(first) => rest = first,
+                None => return false,
+            },
+            Node::Alt(left, right) => {
+                if !is_start_anchored(left) {
+                    return false;
+                }
+                rest = right;
+            }
+            Node::CaptureGroup { contents, .. } => rest = contents,
+            Node::Anchor {
+                anchor_type: AnchorType::StartOfLine,
+                multiline,
+            } => return !*multiline,
+            Node::Anchor {
+                anchor_type: AnchorType::EndOfLine,
+                ..
+            } => return false,
+            Node::Empty
+            | Node::Goal
+            | Node::Char { .. }
+            | Node::CharSet(_)
+            | Node::ByteSet(_)
+            | Node::ByteSequence(_)
+            | Node::Bracket(_)
+            | Node::StringSet { .. }
+            | Node::MatchAny
+            | Node::MatchAnyExceptLineTerminator
+            | Node::WordBoundary { .. }
+            | Node::BackRef { .. }
+            | Node::LookaroundAssertion { .. }
+            | Node::Loop { .. }
+            | Node::Loop1CharBody { .. } => return false,
+        }
     }
 }

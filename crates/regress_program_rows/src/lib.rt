@@ -1,6 +1,8 @@
-//! Rows of the compiler: programs and start predicates of trees made by hand, names, refusals.
+//! Rows of the compiler: programs and start predicates of trees made by hand, names, refusals, wide and deep patterns.
 #![tactic(auto)]
 
+#[cfg(test)]
+mod deep;
 #[cfg(test)]
 mod listing;
 #[cfg(test)]

@@ -1,55 +1,37 @@
 //! The trees that read bytes.
-#![tactic(auto, unfolding(regex_pattern_front::specs::TreeOf::node_of, crate::proofs::Weights::weight))]
+#![tactic(auto, unfolding(regex_pattern_front::specs::TreeOf::node_of))]
 
-ghost use Rattle.std.specs.Prelude.{◌≡◌};
-ghost use Rattle.regex_meaning.specs.Layout.{reads_bytes as node_reads_bytes};
+ghost use Rattle.std.specs.Prelude.{◌≡◌, not};
+ghost use Rattle.std.proofs.Common.{refl};
+ghost use Rattle.regex_meaning.specs.Layout.{is_of_bytes, reads_bytes as node_reads_bytes};
 ghost use Rattle.regex_pattern_front.specs.TreeOf.{node_of};
-ghost use Rattle.regress_program.specs.Nodes.{cat_of};
+ghost use Rattle.regress_program.specs.Walked.{passes};
 
+use crate::emit::walk::{Visitor, walk};
 use regex_pattern_front::ir::Node;
 
-// Whether a byte set or a byte sequence stands in the tree.
-#[cycle(bytes)]
-pub(crate) fn reads_bytes(node: &Node) -> bool
-    ensures { result ≡ node_reads_bytes (node_of node.now) }
-{
-    let mut rest = node;
-    while let Node::Alt(left, right) = rest {
-        if reads_bytes(left) {
-            return true;
+// Stops at a byte set or a byte sequence.
+#[derive(Drop)]
+struct Characters;
+
+impl Visitor for Characters {
+    ghost step = { λ n it. passes (not (is_of_bytes n)) it };
+
+    ghost passes_rows = { λ first rest it. refl };
+
+    ghost passes_ends = { λ it. refl };
+
+    fn visit(&mut self, node: &Node) -> bool {
+        match node {
+            Node::ByteSet(_) | Node::ByteSequence(_) => false,
+            _ => true,
         }
-        rest = right;
-    }
-    match rest {
-        Node::Alt(..) => unreachable!(),
-        Node::ByteSet(_) | Node::ByteSequence(_) => true,
-        Node::Cat(nodes) => any_reads_bytes(nodes),
-        Node::CaptureGroup { contents, .. } | Node::LookaroundAssertion { contents, .. } => {
-            reads_bytes(contents)
-        }
-        Node::Loop { loopee, .. } | Node::Loop1CharBody { loopee, .. } => reads_bytes(loopee),
-        Node::Empty
-        | Node::Goal
-        | Node::Char { .. }
-        | Node::CharSet(_)
-        | Node::Bracket(_)
-        | Node::StringSet { .. }
-        | Node::MatchAny
-        | Node::MatchAnyExceptLineTerminator
-        | Node::Anchor { .. }
-        | Node::WordBoundary { .. }
-        | Node::BackRef { .. } => false,
     }
 }
 
-#[cycle(bytes)]
-fn any_reads_bytes(nodes: &[Node]) -> bool
-    ensures { result ≡ node_reads_bytes (cat_of nodes.now) }
+// Whether a byte set or a byte sequence stands in the tree.
+pub(crate) fn reads_bytes(node: &Node) -> bool
+    ensures { result ≡ node_reads_bytes (node_of node.now) }
 {
-    for node in nodes {
-        if reads_bytes(node) {
-            return true;
-        }
-    }
-    false
+    !walk(&mut Characters, node)
 }

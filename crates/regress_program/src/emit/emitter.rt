@@ -1,15 +1,15 @@
 //! The code of a node, put behind the code so far.
 #![tactic(auto, using(std::proofs::lemmas::Grind::common_steps), unfolding(regex_pattern_front::specs::TreeOf::node_of, crate::specs::Code::code_of, crate::specs::Code::loop_count, crate::specs::Code::brackets_of, crate::specs::Code::size))]
 
-ghost use Rattle.std.specs.Prelude.{◌≡◌, ◌+◌, ◌-◌, ◌<◌, ◌^◌, [], true, length, OnOk, IsTrue, if◌then◌else◌};
-ghost use Rattle.regex_meaning.specs.Tree.{alt, capture_group, lookaround, loop as loop_of, loop_1_char_body, every};
+ghost use Rattle.std.specs.Prelude.{◌≡◌, ◌+◌, ◌-◌, ◌<◌, ◌^◌, [], true, length, IfOk, OnOk, IsTrue, if◌then◌else◌};
+ghost use Rattle.regex_meaning.specs.Tree.{empty, alt, capture_group, lookaround, loop as loop_of, loop_1_char_body, every};
 ghost use Rattle.regex_meaning.specs.WellFormed.{fits_instructions};
 ghost use Rattle.regex_meaning.specs.Layout.{lookaround_insn};
 ghost use Rattle.regex_pattern_front.specs.TreeOf.{node_of, quantifier_of};
 ghost use Rattle.regress_program.specs.Insns.{insn_of};
 ghost use Rattle.regress_program.specs.Code.{resets};
 ghost use Rattle.regress_program.specs.Nodes.{cat_of, is_leaf};
-ghost use Rattle.regress_program.specs.Emitting.{HasRoom, state_of, with_code, with_insn, with_insns, with_insn_at, with_loop, nothing, lookaround_of};
+ghost use Rattle.regress_program.specs.Emitting.{HasRoom, state_of, with_code, with_insn, with_insns, with_insn_at, with_loop, nothing, lookaround_of, with_arm, jump_behind, with_jumps, are_below};
 
 use crate::emit::leaves::{anchor_insn, byte_set_insn, char_set_insn, word_boundary_insn};
 use regex_pattern_front::ir::{Node, Quantifier};
@@ -113,7 +113,7 @@ impl Emitter {
     {
         match node {
             Node::Cat(nodes) => self.emit_all(mode, nodes),
-            Node::Alt(left, right) => self.emit_alt(mode, left, right),
+            Node::Alt(left, right) => self.emit_alternatives(mode, left, right),
             Node::CaptureGroup { id, contents, .. } => self.emit_group(mode, *id, contents),
             Node::LookaroundAssertion {
                 negate,
@@ -131,23 +131,12 @@ impl Emitter {
                 enclosed_groups,
             } => self.emit_loop(mode, quant, enclosed_groups, loopee),
             Node::Loop1CharBody { loopee, quant } => self.emit_loop_1_char(mode, quant, loopee),
-            Node::Empty
-            | Node::Goal
-            | Node::Char { .. }
-            | Node::CharSet(_)
-            | Node::ByteSet(_)
-            | Node::ByteSequence(_)
-            | Node::Bracket(_)
-            | Node::StringSet { .. }
-            | Node::MatchAny
-            | Node::MatchAnyExceptLineTerminator
-            | Node::Anchor { .. }
-            | Node::WordBoundary { .. }
-            | Node::BackRef { .. } => self.emit_leaf(mode, node),
+            _ => self.emit_leaf(mode, node),
         }
     }
 
-    // The code of a node that holds no other.
+    // The code of a node that holds no other; out of the frames of those that do.
+    #[inline(never)]
     fn emit_leaf(&mut self, mode: Mode, node: &Node) -> Result<(), AllocError>
         requires leaf { is_leaf (node_of node.now) ≡ true }
         requires sets { IsTrue (every fits_instructions (node_of node.now)) }
@@ -201,25 +190,63 @@ impl Emitter {
         Ok(())
     }
 
-    // The jumps are written again once their targets are known.
+    // Alternatives, of which the others may be alternatives again. The jumps behind them are written again once it is
+    // known where the last one ends.
     #[cycle(emit)]
-    fn emit_alt(&mut self, mode: Mode, left: &Node, right: &Node) -> Result<(), AllocError>
-        requires left { IsTrue (every fits_instructions (node_of left.now)) }
-        requires right { IsTrue (every fits_instructions (node_of right.now)) }
-        requires room { HasRoom (state_of self.old) (alt (node_of left.now) (node_of right.now)) }
-        ensures { OnOk result (state_of self.new ≡ with_code mode.unicode mode.behind (alt (node_of left.now) (node_of right.now)) (state_of self.old)) }
+    #[inline(never)]
+    fn emit_alternatives(
+        &mut self,
+        mode: Mode,
+        first: &Node,
+        others: &Node,
+    ) -> Result<(), AllocError>
+        requires first { IsTrue (every fits_instructions (node_of first.now)) }
+        requires others { IsTrue (every fits_instructions (node_of others.now)) }
+        requires room { HasRoom (state_of self.old) (alt (node_of first.now) (node_of others.now)) }
+        ensures { OnOk result (state_of self.new ≡ with_code mode.unicode mode.behind (alt (node_of first.now) (node_of others.now)) (state_of self.old)) }
+    {
+        let mut jumps = Vec::new(*self.insns.allocator());
+        jumps.push(self.emit_arm(mode, first)?)?;
+        let mut rest = others;
+        while let Node::Alt(left, right) = rest {
+            jumps.push(self.emit_arm(mode, left)?)?;
+            rest = right;
+        }
+        self.emit(mode, rest)?;
+        self.end_arms(jumps);
+        Ok(())
+    }
+
+    // An alternative that others follow: a branch to them, which is written again once it is known where they are, its
+    // code, and a jump past them, which is blank. The jump's place.
+    #[cycle(emit)]
+    fn emit_arm(&mut self, mode: Mode, arm: &Node) -> Result<u32, AllocError>
+        requires sets { IsTrue (every fits_instructions (node_of arm.now)) }
+        requires room { HasRoom (state_of self.old) (alt (node_of arm.now) empty) }
+        ensures code { OnOk result (state_of self.new ≡ with_arm mode.unicode mode.behind (node_of arm.now) (state_of self.old)) }
+        ensures jump { IfOk result (λ jump. jump ≡ jump_behind (node_of arm.now) (state_of self.old)) }
     {
         let branch = self.insns.len();
         self.put(Insn::Alt { secondary: 0 })?;
-        self.emit(mode, left)?;
-        let jump = self.insns.len();
+        self.emit(mode, arm)?;
+        let jump = self.next();
         self.put(Insn::Jump { target: 0 })?;
         let secondary = self.next();
         self.set(branch, Insn::Alt { secondary });
-        self.emit(mode, right)?;
+        Ok(jump)
+    }
+
+    // The jumps at these places lead here.
+    #[inline(never)]
+    fn end_arms(&mut self, mut jumps: Vec<u32>)
+        requires room { length (state_of self.old).insns < 2 ^ 32 }
+        requires within { are_below (length (state_of self.old).insns) jumps.items ≡ true }
+        ensures { state_of self.new ≡ with_jumps jumps.items (state_of self.old) }
+    {
         let target = self.next();
-        self.set(jump, Insn::Jump { target });
-        Ok(())
+        while let Some(jump) = jumps.pop() {
+            self.set(jump as usize, Insn::Jump { target });
+        }
     }
 
     #[cycle(emit)]
@@ -241,6 +268,7 @@ impl Emitter {
 
     // The head is written again once it is known where the search goes on.
     #[cycle(emit)]
+    #[inline(never)]
     fn emit_lookaround(
         &mut self,
         mode: Mode,
@@ -266,6 +294,7 @@ impl Emitter {
 
     // The head is written again once its exit is known.
     #[cycle(emit)]
+    #[inline(never)]
     fn emit_loop(
         &mut self,
         mode: Mode,

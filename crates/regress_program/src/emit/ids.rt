@@ -1,9 +1,9 @@
 //! The ids of groups: each stands once, and loops and lookarounds name those inside them.
-#![tactic(auto, unfolding(regex_pattern_front::specs::TreeOf::node_of, crate::specs::Ids::are_fresh, crate::specs::Ids::least, crate::specs::Ids::past))]
+#![tactic(auto, unfolding(regex_pattern_front::specs::TreeOf::node_of, crate::specs::Ids::are_fresh, crate::specs::Ids::least, crate::specs::Ids::past, crate::proofs::Weights::weight))]
 
 ghost use Rattle.std.specs.Prelude.{◌≡◌, ◌≤◌, ◌&&◌, ◌||◌, ◌+◌, ◌-◌, ◌∷◌, not, ◌==◌, ℕ, false, length, is_some, IfSome, OnSome, nat_le};
 ghost use Rattle.regex_meaning.specs.Lists.{contains};
-ghost use Rattle.regex_meaning.specs.Tree.{group_ids, every};
+ghost use Rattle.regex_meaning.specs.Tree.{alt, group_ids, every};
 ghost use Rattle.regex_meaning.specs.WellFormed.{names_the_groups_inside};
 ghost use Rattle.regex_pattern_front.specs.TreeOf.{node_of};
 ghost use Rattle.regress_program.specs.Nodes.{cat_of};
@@ -101,11 +101,7 @@ impl Ids {
     {
         match node {
             Node::Cat(nodes) => self.gather_all(nodes),
-            Node::Alt(left, right) => {
-                let left = self.gather(left)?;
-                let right = self.gather(right)?;
-                Some(left.joined(right))
-            }
+            Node::Alt(left, right) => self.gather_alternatives(left, right),
             Node::CaptureGroup { id, contents, .. } => self.gather_group(*id, contents),
             Node::LookaroundAssertion {
                 start_group,
@@ -119,19 +115,7 @@ impl Ids {
                 ..
             } => self.gather_enclosed(enclosed_groups.start, enclosed_groups.end, loopee),
             Node::Loop1CharBody { loopee, .. } => self.gather(loopee),
-            Node::Empty
-            | Node::Goal
-            | Node::Char { .. }
-            | Node::CharSet(_)
-            | Node::ByteSet(_)
-            | Node::ByteSequence(_)
-            | Node::Bracket(_)
-            | Node::StringSet { .. }
-            | Node::MatchAny
-            | Node::MatchAnyExceptLineTerminator
-            | Node::Anchor { .. }
-            | Node::WordBoundary { .. }
-            | Node::BackRef { .. } => Some(Span::NONE),
+            _ => Some(Span::NONE),
         }
     }
 
@@ -147,6 +131,25 @@ impl Ids {
             inside = inside.joined(self.gather(node)?);
         }
         Some(inside)
+    }
+
+    // Those of alternatives, of which the others may be alternatives again.
+    #[cycle(gather)]
+    #[inline(never)]
+    fn gather_alternatives(&mut self, first: &Node, others: &Node) -> Option<Span>
+        ensures found { is_some result ≡ ids_stand (is_seen self.old.bits) (alt (node_of first.now) (node_of others.now)) }
+        ensures span { IfSome result (λ s. as_span s ≡ span_of (group_ids (alt (node_of first.now) (node_of others.now)))) }
+        ensures bounded { IfSome result (λ s. s.high ≤ 65536) }
+        ensures seen { OnSome result ((k : ℕ) → is_seen self.new.bits k ≡ (is_seen self.old.bits k || contains (group_ids (alt (node_of first.now) (node_of others.now))) k)) }
+    {
+        let mut inside = self.gather(first)?;
+        let mut rest = others;
+        while let Node::Alt(left, right) = rest {
+            inside = inside.joined(self.gather(left)?);
+            rest = right;
+        }
+        let last = self.gather(rest)?;
+        Some(inside.joined(last))
     }
 
     #[cycle(gather)]

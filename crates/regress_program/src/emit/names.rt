@@ -1,14 +1,17 @@
 //! The names of groups, filed by id.
-#![tactic(auto, unfolding(regex_pattern_front::specs::TreeOf::node_of))]
+#![tactic(auto, unfolding(regex_pattern_front::specs::TreeOf::node_of, crate::proofs::Weights::weight))]
 
 ghost use Rattle.std.specs.Prelude.{◌≡◌, ◌∷◌, [], length, map, set, replicate, string_bytes, IfOk, OnOk, IsTrue, ◌==◌};
-ghost use Rattle.regex_meaning.specs.Tree.{group_ids};
+ghost use Rattle.std.proofs.Common.{refl};
+ghost use Rattle.regex_meaning.specs.Tree.{alt, group_ids};
 ghost use Rattle.regex_meaning.specs.WellFormed.{each_id_stands_once};
 ghost use Rattle.regex_meaning.specs.Names.{named_ids, names_by_id as names_of_tree};
 ghost use Rattle.regex_pattern_front.specs.TreeOf.{node_of, name_of};
 ghost use Rattle.regress_program.specs.Nodes.{cat_of};
-ghost use Rattle.regress_program.specs.Filing.{filed, is_unnamed as is_node_unnamed};
+ghost use Rattle.regress_program.specs.Filing.{filed, is_nameless, is_unnamed as is_node_unnamed};
+ghost use Rattle.regress_program.specs.Walked.{passes};
 
+use crate::emit::walk::{Visitor, walk};
 use regex_pattern_front::ir::Node;
 use regex_pattern_front::types::CaptureGroupID;
 use std::alloc::{AllocError, Global};
@@ -50,11 +53,7 @@ fn file(alloc: Global, node: &Node, names: &mut [String]) -> Result<(), AllocErr
 {
     match node {
         Node::Cat(nodes) => file_all(alloc, nodes, names),
-        Node::Alt(left, right) => {
-            file(alloc, left, names)?;
-            file(alloc, right, names)?;
-            Ok(())
-        }
+        Node::Alt(left, right) => file_alternatives(alloc, left, right, names),
         Node::CaptureGroup { id, contents, name } => {
             file_group(alloc, *id, name, contents, names)
         }
@@ -62,19 +61,7 @@ fn file(alloc: Global, node: &Node, names: &mut [String]) -> Result<(), AllocErr
         Node::Loop { loopee, .. } | Node::Loop1CharBody { loopee, .. } => {
             file(alloc, loopee, names)
         }
-        Node::Empty
-        | Node::Goal
-        | Node::Char { .. }
-        | Node::CharSet(_)
-        | Node::ByteSet(_)
-        | Node::ByteSequence(_)
-        | Node::Bracket(_)
-        | Node::StringSet { .. }
-        | Node::MatchAny
-        | Node::MatchAnyExceptLineTerminator
-        | Node::Anchor { .. }
-        | Node::WordBoundary { .. }
-        | Node::BackRef { .. } => Ok(()),
+        _ => Ok(()),
     }
 }
 
@@ -86,6 +73,27 @@ fn file_all(alloc: Global, nodes: &[Node], names: &mut [String]) -> Result<(), A
     for node in nodes {
         file(alloc, node, names)?;
     }
+    Ok(())
+}
+
+// The names inside alternatives, of which the others may be alternatives again.
+#[cycle(file)]
+fn file_alternatives(
+    alloc: Global,
+    first: &Node,
+    others: &Node,
+    names: &mut [String],
+) -> Result<(), AllocError>
+    ensures long { length names.new ≡ length names.old }
+    ensures filed { OnOk result (map string_bytes names.new ≡ filed (named_ids (alt (node_of first.now) (node_of others.now))) (map string_bytes names.old)) }
+{
+    file(alloc, first, names)?;
+    let mut rest = others;
+    while let Node::Alt(left, right) = rest {
+        file(alloc, left, names)?;
+        rest = right;
+    }
+    file(alloc, rest, names)?;
     Ok(())
 }
 
@@ -129,43 +137,30 @@ fn copied(alloc: Global, name: &Option<String>) -> Result<String, AllocError>
     }
 }
 
-// Whether no group has a name.
-#[cycle(unnamed)]
-fn is_unnamed(node: &Node) -> bool
-    ensures { result ≡ is_node_unnamed (node_of node.now) }
-{
-    match node {
-        Node::Cat(nodes) => are_unnamed(nodes),
-        Node::Alt(left, right) => is_unnamed(left) && is_unnamed(right),
-        Node::CaptureGroup { contents, name, .. } => is_empty_name(name) && is_unnamed(contents),
-        Node::LookaroundAssertion { contents, .. } => is_unnamed(contents),
-        Node::Loop { loopee, .. } | Node::Loop1CharBody { loopee, .. } => is_unnamed(loopee),
-        Node::Empty
-        | Node::Goal
-        | Node::Char { .. }
-        | Node::CharSet(_)
-        | Node::ByteSet(_)
-        | Node::ByteSequence(_)
-        | Node::Bracket(_)
-        | Node::StringSet { .. }
-        | Node::MatchAny
-        | Node::MatchAnyExceptLineTerminator
-        | Node::Anchor { .. }
-        | Node::WordBoundary { .. }
-        | Node::BackRef { .. } => true,
+// Stops at a group with a name.
+#[derive(Drop)]
+struct Unnamed;
+
+impl Visitor for Unnamed {
+    ghost step = { λ n it. passes (is_nameless n) it };
+
+    ghost passes_rows = { λ first rest it. refl };
+
+    ghost passes_ends = { λ it. refl };
+
+    fn visit(&mut self, node: &Node) -> bool {
+        match node {
+            Node::CaptureGroup { name, .. } => is_empty_name(name),
+            _ => true,
+        }
     }
 }
 
-#[cycle(unnamed)]
-fn are_unnamed(nodes: &[Node]) -> bool
-    ensures { result ≡ is_node_unnamed (cat_of nodes.now) }
+// Whether no group has a name.
+fn is_unnamed(node: &Node) -> bool
+    ensures { result ≡ is_node_unnamed (node_of node.now) }
 {
-    for node in nodes {
-        if !is_unnamed(node) {
-            return false;
-        }
-    }
-    true
+    walk(&mut Unnamed, node)
 }
 
 fn is_empty_name(name: &Option<String>) -> bool

@@ -1,13 +1,15 @@
 //! What a tree asks of a program.
-#![tactic(auto, unfolding(regex_pattern_front::specs::TreeOf::node_of, crate::specs::Code::size, crate::specs::Code::loop_count))]
+#![tactic(auto, unfolding(regex_pattern_front::specs::TreeOf::node_of))]
 
-ghost use Rattle.std.specs.Prelude.{◌≡◌, ◌+◌, ◌-◌, ◌^◌, length, min};
+ghost use Rattle.std.specs.Prelude.{◌≡◌, ◌+◌, ◌-◌, ◌^◌, Some, length, min};
+ghost use Rattle.std.proofs.Common.{refl};
 ghost use Rattle.regex_meaning.specs.Tree.{group_ids};
 ghost use Rattle.regex_pattern_front.specs.TreeOf.{node_of};
 ghost use Rattle.regress_program.specs.Code.{size, own_size as own_size_of, loop_count};
-ghost use Rattle.regress_program.specs.Nodes.{cat_of};
+ghost use Rattle.regress_program.specs.Tallies.{counted};
 
 use crate::emit::texts::{chunk_count, strings_size};
+use crate::emit::walk::{Visitor, walk};
 use regex_pattern_front::ir::Node;
 
 /// How many groups, loops and instructions; each count stops at `usize::MAX`.
@@ -31,55 +33,13 @@ impl Tally {
         }
     }
 
-    // Counts a node, too.
-    #[cycle(tally)]
+    // Counts a node and those inside it, too.
     pub(crate) fn add(&mut self, node: &Node)
         ensures groups { min self.new.groups (2 ^ 64 - 1) ≡ min (self.old.groups + length (group_ids (node_of node.now))) (2 ^ 64 - 1) }
         ensures loops { min self.new.loops (2 ^ 64 - 1) ≡ min (self.old.loops + loop_count (node_of node.now)) (2 ^ 64 - 1) }
         ensures insns { min self.new.insns (2 ^ 64 - 1) ≡ min (self.old.insns + size (node_of node.now)) (2 ^ 64 - 1) }
     {
-        self.add_insns(own_size(node));
-        match node {
-            Node::Cat(nodes) => self.add_all(nodes),
-            Node::Alt(left, right) => {
-                self.add(left);
-                self.add(right);
-            }
-            Node::CaptureGroup { contents, .. } => {
-                self.groups = self.groups.saturating_add(1);
-                self.add(contents);
-            }
-            Node::Loop { loopee, .. } => {
-                self.loops = self.loops.saturating_add(1);
-                self.add(loopee);
-            }
-            Node::LookaroundAssertion { contents, .. } => self.add(contents),
-            Node::Loop1CharBody { loopee, .. } => self.add(loopee),
-            Node::Empty
-            | Node::Goal
-            | Node::Char { .. }
-            | Node::CharSet(_)
-            | Node::ByteSet(_)
-            | Node::ByteSequence(_)
-            | Node::Bracket(_)
-            | Node::StringSet { .. }
-            | Node::MatchAny
-            | Node::MatchAnyExceptLineTerminator
-            | Node::Anchor { .. }
-            | Node::WordBoundary { .. }
-            | Node::BackRef { .. } => {}
-        }
-    }
-
-    #[cycle(tally)]
-    fn add_all(&mut self, nodes: &[Node])
-        ensures groups { min self.new.groups (2 ^ 64 - 1) ≡ min (self.old.groups + length (group_ids (cat_of nodes.now))) (2 ^ 64 - 1) }
-        ensures loops { min self.new.loops (2 ^ 64 - 1) ≡ min (self.old.loops + loop_count (cat_of nodes.now)) (2 ^ 64 - 1) }
-        ensures insns { min self.new.insns (2 ^ 64 - 1) ≡ min (self.old.insns + size (cat_of nodes.now)) (2 ^ 64 - 1) }
-    {
-        for node in nodes {
-            self.add(node);
-        }
+        let _ = walk(self, node);
     }
 
     fn add_insns(&mut self, count: usize)
@@ -88,6 +48,25 @@ impl Tally {
         ensures insns { self.new.insns ≡ min (self.old.insns + count) (2 ^ 64 - 1) }
     {
         self.insns = self.insns.saturating_add(count);
+    }
+}
+
+impl Visitor for Tally {
+    ghost step = { λ n it. Some (counted n it) };
+
+    ghost passes_rows = { λ first rest it. refl };
+
+    ghost passes_ends = { λ it. refl };
+
+    fn visit(&mut self, node: &Node) -> bool {
+        match node {
+            Node::Cat(_) => return true,
+            Node::CaptureGroup { .. } => self.groups = self.groups.saturating_add(1),
+            Node::Loop { .. } => self.loops = self.loops.saturating_add(1),
+            _ => {}
+        }
+        self.add_insns(own_size(node));
+        true
     }
 }
 

@@ -2,16 +2,19 @@
 #![tactic(auto, unfolding(regex_pattern_front::specs::TreeOf::node_of))]
 
 ghost use Rattle.std.specs.Prelude.{◌≡◌, ◌+◌, ◌≤◌, ◌↔◌, ◌==◌, nat_le, nat_lt, ◌&&◌, min, length, IsTrue};
+ghost use Rattle.std.proofs.Common.{refl};
 ghost use Rattle.std.specs.List.{list_all};
 ghost use Rattle.std.specs.Str.{is_utf8, chars, continuation_len};
 ghost use Rattle.regex_pattern_front.specs.TreeOf.{node_of, quantifier_of};
 ghost use Rattle.regex_meaning.specs.Tree.{every};
 ghost use Rattle.regex_meaning.specs.WellFormed.{goal_count, ends_in_goal, goal_is_last, IsWellFormed, is_one_character as is_one_character_node, is_in_order as is_quantifier_in_order};
-ghost use Rattle.regress_program.specs.Nodes.{cat_of};
 ghost use Rattle.regress_program.specs.Ids.{is_sound_by_itself as is_node_sound};
 ghost use Rattle.regress_program.specs.Emitting.{code_points_of};
+ghost use Rattle.regress_program.specs.Walked.{passes};
+ghost use Rattle.regress_program.specs.Goals.{with_goals};
 
 use crate::emit::ids::Ids;
+use crate::emit::walk::{Visitor, walk};
 use regex_pattern_front::ir;
 use regex_pattern_front::ir::{Node, Quantifier};
 
@@ -53,123 +56,91 @@ fn is_root_well_formed(root: &Node) -> bool
 fn is_goal_last(root: &Node) -> bool
     ensures { result ≡ goal_is_last (node_of root.now) }
 {
-    count_goals(root, 0) == 1 && is_goal_at_end(root)
+    has_one_goal(root) && is_goal_at_end(root)
 }
 
-// How many `Goal` nodes there are with those before, counted up to two.
-#[cycle(goals)]
-fn count_goals(node: &Node, before: u8) -> u8
-    requires { before ≤ 2 }
-    ensures { result ≡ min (before + goal_count (node_of node.now)) 2 }
-{
-    match node {
-        Node::Goal => before.min(1) + 1,
-        Node::Cat(nodes) => count_all_goals(nodes, before),
-        Node::Alt(left, right) => count_goals(right, count_goals(left, before)),
-        Node::CaptureGroup { contents, .. } | Node::LookaroundAssertion { contents, .. } => {
-            count_goals(contents, before)
+// Looks for `Goal`, and stops at a second one.
+#[derive(Drop)]
+struct Goals {
+    found: bool,
+}
+
+impl Visitor for Goals {
+    ghost step = { with_goals };
+
+    ghost passes_rows = { λ first rest it. refl };
+
+    ghost passes_ends = { λ it. refl };
+
+    fn visit(&mut self, node: &Node) -> bool {
+        match node {
+            Node::Goal => {
+                let first = !self.found;
+                self.found = true;
+                first
+            }
+            _ => true,
         }
-        Node::Loop { loopee, .. } | Node::Loop1CharBody { loopee, .. } => {
-            count_goals(loopee, before)
-        }
-        Node::Empty
-        | Node::Char { .. }
-        | Node::CharSet(_)
-        | Node::ByteSet(_)
-        | Node::ByteSequence(_)
-        | Node::Bracket(_)
-        | Node::StringSet { .. }
-        | Node::MatchAny
-        | Node::MatchAnyExceptLineTerminator
-        | Node::Anchor { .. }
-        | Node::WordBoundary { .. }
-        | Node::BackRef { .. } => before,
     }
 }
 
-#[cycle(goals)]
-fn count_all_goals(nodes: &[Node], before: u8) -> u8
-    requires { before ≤ 2 }
-    ensures { result ≡ min (before + goal_count (cat_of nodes.now)) 2 }
+// Whether there is exactly one `Goal`.
+fn has_one_goal(root: &Node) -> bool
+    ensures { result ≡ (goal_count (node_of root.now) == 1) }
 {
-    let mut count = before;
-    for node in nodes {
-        count = count_goals(node, count);
-    }
-    count
+    let mut goals = Goals { found: false };
+    walk(&mut goals, root) && goals.found
 }
 
 // Whether the node is `Goal`, or a `Cat` whose last child is so in turn.
 fn is_goal_at_end(node: &Node) -> bool
     ensures { result ≡ ends_in_goal (node_of node.now) }
 {
-    match node {
-        Node::Goal => true,
-        Node::Cat(nodes) => match nodes.last() {
-            Some(last) => is_goal_at_end(last),
-            None => false,
-        },
-        Node::Empty
-        | Node::Char { .. }
-        | Node::CharSet(_)
-        | Node::ByteSet(_)
-        | Node::ByteSequence(_)
-        | Node::Alt(..)
-        | Node::Bracket(_)
-        | Node::StringSet { .. }
-        | Node::MatchAny
-        | Node::MatchAnyExceptLineTerminator
-        | Node::Anchor { .. }
-        | Node::WordBoundary { .. }
-        | Node::CaptureGroup { .. }
-        | Node::BackRef { .. }
-        | Node::LookaroundAssertion { .. }
-        | Node::Loop { .. }
-        | Node::Loop1CharBody { .. } => false,
+    let mut rest = node;
+    loop {
+        match rest {
+            Node::Goal => return true,
+            Node::Cat(nodes) => match nodes.last() {
+                Some(last) => rest = last,
+                None => return false,
+            },
+            _ => return false,
+        }
+    }
+}
+
+// Stops at a node that is not sound by itself, where there are so many groups.
+#[derive(Drop)]
+struct Soundness {
+    groups: usize,
+}
+
+impl Visitor for Soundness {
+    ghost step = { λ n it. passes (is_node_sound it.groups n) it };
+
+    ghost passes_rows = { λ first rest it. refl };
+
+    ghost passes_ends = { λ it. refl };
+
+    fn visit(&mut self, node: &Node) -> bool {
+        match node {
+            Node::CharSet(members) => members.len() <= 4,
+            Node::ByteSet(members) => members.len() <= 4 && are_ascii(members),
+            Node::ByteSequence(bytes) => is_text(bytes),
+            Node::StringSet { alternatives, .. } => are_code_points(alternatives),
+            Node::BackRef { group, .. } => 1 <= *group && *group as usize <= self.groups,
+            Node::Loop { quant, .. } => is_in_order(quant),
+            Node::Loop1CharBody { loopee, quant } => is_in_order(quant) && is_one_character(loopee),
+            _ => true,
+        }
     }
 }
 
 // Whether the node and each inside it are sound by themselves, where there are so many groups.
-#[cycle(sound)]
 fn is_sound(node: &Node, groups: usize) -> bool
     ensures { result ≡ every (is_node_sound groups) (node_of node.now) }
 {
-    match node {
-        Node::Empty
-        | Node::Goal
-        | Node::Char { .. }
-        | Node::Bracket(_)
-        | Node::MatchAny
-        | Node::MatchAnyExceptLineTerminator
-        | Node::Anchor { .. }
-        | Node::WordBoundary { .. } => true,
-        Node::CharSet(members) => members.len() <= 4,
-        Node::ByteSet(members) => members.len() <= 4 && are_ascii(members),
-        Node::ByteSequence(bytes) => is_text(bytes),
-        Node::StringSet { alternatives, .. } => are_code_points(alternatives),
-        Node::BackRef { group, .. } => 1 <= *group && *group as usize <= groups,
-        Node::Cat(nodes) => are_sound(nodes, groups),
-        Node::Alt(left, right) => is_sound(left, groups) && is_sound(right, groups),
-        Node::CaptureGroup { contents, .. } | Node::LookaroundAssertion { contents, .. } => {
-            is_sound(contents, groups)
-        }
-        Node::Loop { loopee, quant, .. } => is_in_order(quant) && is_sound(loopee, groups),
-        Node::Loop1CharBody { loopee, quant } => {
-            is_in_order(quant) && is_one_character(loopee) && is_sound(loopee, groups)
-        }
-    }
-}
-
-#[cycle(sound)]
-fn are_sound(nodes: &[Node], groups: usize) -> bool
-    ensures { result ≡ every (is_node_sound groups) (cat_of nodes.now) }
-{
-    for node in nodes {
-        if !is_sound(node, groups) {
-            return false;
-        }
-    }
-    true
+    walk(&mut Soundness { groups }, node)
 }
 
 fn are_ascii(bytes: &[u8]) -> bool

@@ -1,12 +1,12 @@
 //! What the nodes of a tree begin with.
-#![tactic(auto, unfolding(regex_pattern_front::specs::TreeOf::node_of, regex_meaning::specs::StartPredicate::beginning, crate::specs::Predicates::may_grow))]
+#![tactic(auto, unfolding(regex_pattern_front::specs::TreeOf::node_of, regex_meaning::specs::StartPredicate::beginning, crate::specs::Predicates::may_grow, crate::proofs::Weights::weight))]
 
-ghost use Rattle.std.specs.Prelude.{◌≡◌, false, IfOk, IsOk};
+ghost use Rattle.std.specs.Prelude.{◌≡◌, not, true, false, IfOk, OnOk, IsOk};
 ghost use Rattle.regex_meaning.specs.StartPredicate.{beginning, join, sequence_of, sequence_or, union, first_byte, shared_front};
 ghost use Rattle.regex_pattern_front.specs.TreeOf.{node_of};
-ghost use Rattle.regress_program.specs.Beginnings.{beginning_of};
-ghost use Rattle.regress_program.specs.Nodes.{cat_of};
-ghost use Rattle.regress_program.specs.Predicates.{may_grow};
+ghost use Rattle.regress_program.specs.Beginnings.{beginning_of, after, after_arm, joined_to};
+ghost use Rattle.regress_program.specs.Nodes.{cat_of, is_leaf};
+ghost use Rattle.regress_program.specs.Predicates.{is_open, may_grow};
 
 use crate::startpredicate::bytesets::{
     add_all, add_first_byte, first_bytes_of_class, first_bytes_of_members, set_of,
@@ -28,8 +28,109 @@ pub(crate) enum Beginning<'a> {
 }
 
 // What the node begins with.
-#[cycle(begins)]
 pub(crate) fn begins(node: &Node) -> Result<Beginning<'_>, AllocError>
+    ensures beginning { IfOk result (λ b. beginning_of b ≡ beginning (node_of node.now)) }
+    ensures no_memory { may_grow (node_of node.now) ≡ false → IsOk result }
+{
+    let mut shared = Beginning::Open;
+    add(&mut shared, node)?;
+    Ok(shared)
+}
+
+// Joins what the node begins with to what alternatives before it begin with, which is `Open` where there is none, unless
+// the node reads nothing. Whether it reads something.
+//
+// What alternatives share stands in one place, and what it takes to find it out of a node that holds no other stays out
+// of the frames of those that do: so deep nesting costs little stack.
+#[cycle(add)]
+fn add<'a>(shared: &mut Beginning<'a>, node: &'a Node) -> Result<bool, AllocError>
+    ensures shared { OnOk result (beginning_of shared.new ≡ after (beginning_of shared.old) (beginning (node_of node.now))) }
+    ensures reads { IfOk result (λ reads. reads ≡ not (is_open (beginning (node_of node.now)))) }
+    ensures no_memory { may_grow (node_of node.now) ≡ false → IsOk result }
+{
+    match node {
+        Node::Cat(nodes) => add_row(shared, nodes),
+        Node::Alt(left, right) => {
+            add_arms(shared, left, right)?;
+            Ok(true)
+        }
+        Node::CaptureGroup { contents, .. } => add(shared, contents),
+        Node::Loop { loopee, quant, .. } | Node::Loop1CharBody { loopee, quant } => {
+            if 0 < quant.min {
+                add(shared, loopee)
+            } else {
+                *shared = Beginning::Anything;
+                Ok(true)
+            }
+        }
+        Node::LookaroundAssertion { .. } => Ok(false),
+        _ => {
+            add_leaf(shared, node)?;
+            Ok(true)
+        }
+    }
+}
+
+// The same of nodes one after another, of which the first that reads something decides.
+#[cycle(add)]
+fn add_row<'a>(shared: &mut Beginning<'a>, nodes: &'a [Node]) -> Result<bool, AllocError>
+    ensures shared { OnOk result (beginning_of shared.new ≡ after (beginning_of shared.old) (beginning (cat_of nodes.now))) }
+    ensures reads { IfOk result (λ reads. reads ≡ not (is_open (beginning (cat_of nodes.now)))) }
+    ensures no_memory { may_grow (cat_of nodes.now) ≡ false → IsOk result }
+{
+    for node in nodes {
+        if add(shared, node)? {
+            return Ok(true);
+        }
+    }
+    Ok(false)
+}
+
+// Joins what alternatives begin with, of which the others may be alternatives again.
+#[cycle(add)]
+fn add_arms<'a>(
+    shared: &mut Beginning<'a>,
+    first: &'a Node,
+    others: &'a Node,
+) -> Result<(), AllocError>
+    ensures shared { OnOk result (beginning_of shared.new ≡ after_arm (after_arm (beginning_of shared.old) (beginning (node_of first.now))) (beginning (node_of others.now))) }
+    ensures no_memory { may_grow (node_of first.now) ≡ false → may_grow (node_of others.now) ≡ false → IsOk result }
+{
+    add_arm(shared, first)?;
+    let mut rest = others;
+    while let Node::Alt(left, right) = rest {
+        add_arm(shared, left)?;
+        rest = right;
+    }
+    add_arm(shared, rest)
+}
+
+// Joins what an alternative begins with, which is anything where it reads nothing.
+#[cycle(add)]
+fn add_arm<'a>(shared: &mut Beginning<'a>, arm: &'a Node) -> Result<(), AllocError>
+    ensures shared { OnOk result (beginning_of shared.new ≡ after_arm (beginning_of shared.old) (beginning (node_of arm.now))) }
+    ensures no_memory { may_grow (node_of arm.now) ≡ false → IsOk result }
+{
+    if !add(shared, arm)? {
+        *shared = Beginning::Anything;
+    }
+    Ok(())
+}
+
+// Joins what a node that holds no other begins with.
+#[inline(never)]
+fn add_leaf<'a>(shared: &mut Beginning<'a>, node: &'a Node) -> Result<(), AllocError>
+    requires { is_leaf (node_of node.now) ≡ true }
+    ensures shared { OnOk result (beginning_of shared.new ≡ after (beginning_of shared.old) (beginning (node_of node.now))) }
+    ensures no_memory { may_grow (node_of node.now) ≡ false → IsOk result }
+{
+    *shared = joined_to(*shared, leaf_begins(node)?);
+    Ok(())
+}
+
+// What a node that holds no other begins with.
+fn leaf_begins(node: &Node) -> Result<Beginning<'_>, AllocError>
+    requires { is_leaf (node_of node.now) ≡ true }
     ensures beginning { IfOk result (λ b. beginning_of b ≡ beginning (node_of node.now)) }
     ensures no_memory { may_grow (node_of node.now) ≡ false → IsOk result }
 {
@@ -38,17 +139,6 @@ pub(crate) fn begins(node: &Node) -> Result<Beginning<'_>, AllocError>
         Node::ByteSet(members) => Ok(Beginning::OneOf(set_of(members))),
         Node::CharSet(members) => Ok(Beginning::OneOf(first_bytes_of_members(members))),
         Node::Bracket(contents) => Ok(Beginning::OneOf(first_bytes_of_class(contents)?)),
-        Node::Cat(nodes) => row_begins(nodes),
-        Node::CaptureGroup { contents, .. } => begins(contents),
-        Node::Loop { loopee, quant, .. } | Node::Loop1CharBody { loopee, quant } => {
-            if 0 < quant.min {
-                begins(loopee)
-            } else {
-                Ok(Beginning::Anything)
-            }
-        }
-        Node::Alt(left, right) => Ok(join(begins(left)?, begins(right)?)),
-        Node::LookaroundAssertion { .. } => Ok(Beginning::Open),
         Node::Empty
         | Node::Goal
         | Node::Char { .. }
@@ -58,22 +148,13 @@ pub(crate) fn begins(node: &Node) -> Result<Beginning<'_>, AllocError>
         | Node::Anchor { .. }
         | Node::WordBoundary { .. }
         | Node::BackRef { .. } => Ok(Beginning::Anything),
+        Node::Cat(_) => unreachable!(),
+        Node::Alt(..) => unreachable!(),
+        Node::CaptureGroup { .. } => unreachable!(),
+        Node::LookaroundAssertion { .. } => unreachable!(),
+        Node::Loop { .. } => unreachable!(),
+        Node::Loop1CharBody { .. } => unreachable!(),
     }
-}
-
-// What the nodes one after another begin with: the first that reads something decides.
-#[cycle(begins)]
-fn row_begins(nodes: &[Node]) -> Result<Beginning<'_>, AllocError>
-    ensures beginning { IfOk result (λ b. beginning_of b ≡ beginning (cat_of nodes.now)) }
-    ensures no_memory { may_grow (cat_of nodes.now) ≡ false → IsOk result }
-{
-    for node in nodes {
-        let first = begins(node)?;
-        if !matches!(first, Beginning::Open) {
-            return Ok(first);
-        }
-    }
-    Ok(Beginning::Open)
 }
 
 // What these bytes begin with; an empty sequence, which no well-formed tree has, begins with anything.
@@ -84,6 +165,16 @@ fn begins_with(bytes: &[u8]) -> Beginning<'_>
         Beginning::Anything
     } else {
         Beginning::Sequence(bytes)
+    }
+}
+
+// What alternatives begin with, of which the first ones may be none.
+fn joined_to<'a>(shared: Beginning<'a>, more: Beginning<'a>) -> Beginning<'a>
+    ensures { beginning_of result ≡ joined_to (beginning_of shared.entry) (beginning_of more.entry) }
+{
+    match shared {
+        Beginning::Open => more,
+        Beginning::Anything | Beginning::Sequence(_) | Beginning::OneOf(_) => join(shared, more),
     }
 }
 

@@ -74,24 +74,19 @@ optimize_node-returns-in_default t c =
       not_Loop1CharBody = d.not-Loop1CharBody;
     })
 
-pub optimize_row-loop-rest-init : goal.optimize_row-loop-rest-init
+pub optimize_row-loop-row-init : goal.optimize_row-loop-row-init
 unfolding node_of
-optimize_row-loop-rest-init t c =
-    let same : c.replace-rest.result ≡ c.args.row.now = c.replace-rest.ensures.value in
-    record { deep = rw same (omega arith); turned = rw same refl }
+optimize_row-loop-row-init t c = record { deep = omega arith; turned = refl }
 
-pub optimize_row-loop-rest-preserved : goal.optimize_row-loop-rest-preserved
+pub optimize_row-loop-row-preserved : goal.optimize_row-loop-row-preserved
 unfolding node_of optimized the_depth depth fold
-optimize_row-loop-rest-preserved t c =
+optimize_row-loop-row-preserved t c =
     let left : c.deref_mut.result.now ≡ c.in-Alt.left.value = c.deref_mut.ensures.value ∙ ap (λ (b : Box Node Global). b.value) c.in-Alt.left-is in
     let right : c.deref_mut-in-Alt.result.now ≡ c.in-Alt.right.value = c.deref_mut-in-Alt.ensures.value ∙ ap (λ (b : Box Node Global). b.value) c.in-Alt.right-is in
-    let smaller : size-Node c.in-Alt.right.value < size-Node c.loop-rest.rest = rw c.in-Alt.is (search rules) in
+    let smaller : size-Node c.in-Alt.right.value < size-Node c.loop-row.row = rw c.in-Alt.is (search rules) in
     record {
-      deep = rw (c.swap-in-Alt.ensures.x_after, c.swap.ensures.y_after, right) (omega (arith, smaller, c.loop-rest.invariant.deep));
+      deep = rw (c.swap-in-Alt.ensures.x_after, c.swap.ensures.y_after, right) (omega (arith, smaller, c.loop-row.invariant.deep));
       turned =
           rw (c.swap-in-Alt.ensures.x_after, c.swap-in-Alt.ensures.y_after, c.swap.ensures.y_after, c.swap.ensures.x_after, c.optimize_node.ensures, left, right)
-          (rw c.in-Alt.is at c.loop-rest.invariant.turned);
+          (rw c.in-Alt.is at c.loop-row.invariant.turned);
     }
-
-pub optimize_row-optimize_node-requires-2 : goal.optimize_row-optimize_node-requires-2
-optimize_row-optimize_node-requires-2 t c = (omega (arith, c.decreases, c.loop-rest.invariant.deep), tt)

@@ -18,11 +18,11 @@ invariant-optimize_all-loop-i l =
     goal.unvisited-optimize_all-loop-i l
     × ((k : ℕ) (d : _) → k < l.i → node_of (get_or l.nodes.items k d) ≡ optimized (node_of (get_or l.initial.nodes.items k d)))
 
-abbrev pub invariant-optimize_row-loop-rest : goal.invariant-optimize_row-loop-rest
-invariant-optimize_row-loop-rest l = record {
-  deep : size-Node l.rest ≤ size-Node l.fn.row;
-  turned : turned_back (node_of l.done) (optimized (node_of l.rest)) ≡ optimized (node_of l.fn.row);
+abbrev pub invariant-optimize_row-loop-row : goal.invariant-optimize_row-loop-row
+invariant-optimize_row-loop-row l = record {
+  deep : size-Node l.row ≤ size-Node l.fn.row;
+  turned : turned_back (node_of l.done) (optimized (node_of l.row)) ≡ optimized (node_of l.fn.row);
 }
 
-abbrev pub decreases-optimize_row-loop-rest : goal.decreases-optimize_row-loop-rest
-decreases-optimize_row-loop-rest l = size-Node l.rest
+abbrev pub decreases-optimize_row-loop-row : goal.decreases-optimize_row-loop-row
+decreases-optimize_row-loop-row l = size-Node l.row

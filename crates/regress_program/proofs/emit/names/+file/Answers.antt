@@ -1,24 +1,54 @@
-use Rattle.std.proofs.Common.{◌≡◌, ◌+◌, ◌∙◌, ap, sym, map, set, drop, string_bytes}
-use Rattle.regex_meaning.specs.Tree.{cat}
+use Rattle.std.proofs.Common.{◌≡◌, ◌+◌, ◌<◌, ◌∙◌, rules, arith, ap, sym, map, set, drop, string_bytes}
+use Rattle.regex_meaning.specs.Tree.{cat, alt}
 use Rattle.regex_meaning.specs.Names.{named_ids}
 use Rattle.regex_pattern_front.specs.TreeOf.{node_of}
 use Rattle.regress_program.specs.Nodes.{cat_of}
 use Rattle.regress_program.specs.Filing.{filed}
 use Rattle.regress_program.proofs.NodeLemmas.{node_of-Cat, cat_of-drop}
-use Rattle.regress_program.proofs.FilingLemmas.{filed-append}
+use Rattle.regress_program.proofs.FilingLemmas.{filed-append, filed-next}
+use Rattle.regress_program.proofs.Weights.{weight, weight-child}
 use Rattle.regress_program.proofs.emit.names.+file.Goals as goal
 
 pub file-returns-in-Cat-clause-filed : goal.file-returns-in-Cat-clause-filed
 file-returns-in-Cat-clause-filed t c = rw (c.in-Cat.is, node_of-Cat c.in-Cat.nodes, ← c.deref.ensures.value) c.file_all.ensures.filed
 
-pub file-returns-in_ok-file-in-Alt-2-clause-filed : goal.file-returns-in_ok-file-in-Alt-2-clause-filed
-unfolding node_of
-file-returns-in_ok-file-in-Alt-2-clause-filed t c =
-    let left = named_ids (node_of c.in-Alt.left.value) in
-    let right = named_ids (node_of c.in-Alt.right.value) in
-    let first : map string_bytes c.file.new.names ≡ filed left (map string_bytes c.args.names.now) = rw c.deref-in-Alt.ensures at c.in_ok-file-in-Alt.ensures.filed in
-    let second : map string_bytes c.file-in-Alt.new.names ≡ filed right (map string_bytes c.file.new.names) = rw c.deref-in-Alt-2.ensures at c.in_ok-file-in-Alt-2.ensures.filed in
-    rw c.in-Alt.is (second ∙ ap (filed right) first ∙ sym (filed-append left right (map string_bytes c.args.names.now)))
+pub file-file_all-requires : goal.file-file_all-requires
+file-file_all-requires t c =
+    let is : node_of c.args.node.now ≡ cat_of c.deref.result.now = ap node_of c.in-Cat.is ∙ node_of-Cat c.in-Cat.nodes ∙ ap cat_of (sym c.deref.ensures.value) in
+    let same : weight (node_of c.args.node.now) ≡ weight (cat_of c.deref.result.now) = ap weight is in
+    search rules
+
+pub file_all-file-requires : goal.file_all-file-requires
+file_all-file-requires t c =
+    let nodes = c.args.nodes.now in
+    let n = c.node-item.result in
+    let smaller : weight (node_of n) < weight (cat_of nodes) = weight-child nodes c.loop-node.node-index n c.loop-node-test.true c.node-item.is in
+    search rules
+
+pub file_alternatives-loop-rest-init : goal.file_alternatives-loop-rest-init
+file_alternatives-loop-rest-init t c = record {
+  within = omega arith;
+  long = c.file.ensures.long;
+  filed = filed-next (node_of c.args.first.now) (node_of c.args.others.now) (map string_bytes c.args.names.now) (map string_bytes c.file.new.names) c.in_ok-file.ensures.filed;
+}
+
+pub file_alternatives-loop-rest-preserved : goal.file_alternatives-loop-rest-preserved
+unfolding node_of weight
+file_alternatives-loop-rest-preserved t c =
+    let a = node_of c.in-Alt.left.value in
+    let b = node_of c.in-Alt.right.value in
+    let i = c.loop-rest.invariant in
+    let is : node_of c.loop-rest.rest.now ≡ alt a b = ap node_of c.in-Alt.is in
+    let next : node_of c.deref-rest.result.now ≡ b = ap node_of c.deref-rest.ensures in
+    let smaller : weight (node_of c.loop-rest.rest.now) ≡ weight a + weight b + 1 = ap weight is in
+    let one : map string_bytes c.file-in-Alt.new.names ≡ filed (named_ids a) (map string_bytes c.loop-rest.names) = rw c.deref.ensures at c.in_ok-file-2.ensures.filed in
+    record {
+      within = omega (arith, ap weight next, smaller, i.within);
+      long = c.file-in-Alt.ensures.long ∙ i.long;
+      filed = ap (λ n. filed (named_ids n) (map string_bytes c.file-in-Alt.new.names)) next
+          ∙ filed-next a b (map string_bytes c.loop-rest.names) (map string_bytes c.file-in-Alt.new.names) one
+          ∙ ap (λ n. filed (named_ids n) (map string_bytes c.loop-rest.names)) (sym is) ∙ i.filed;
+    }
 
 pub file_all-loop-node-preserved : goal.file_all-loop-node-preserved
 file_all-loop-node-preserved t c =

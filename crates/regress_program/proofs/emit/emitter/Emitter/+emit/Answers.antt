@@ -1,15 +1,16 @@
-use Rattle.std.proofs.Common.{◌≡◌, ℕ, ◌+◌, ◌<◌, ◌∙◌, ap, [], sym, IsTrue, rules, drop, length}
+use Rattle.std.proofs.Common.{◌≡◌, ℕ, ◌+◌, ◌<◌, ◌∙◌, ap, [], ◌∷◌, sym, refl, IsTrue, rules, arith, drop, length}
 use Rattle.std.proofs.lemmas.List.{length-map}
-use Rattle.regex_meaning.specs.Tree.{cat, every, capture_group}
+use Rattle.regex_meaning.specs.Tree.{empty, cat, alt, every, capture_group}
 use Rattle.regex_meaning.specs.Layout.{Alt, Jump, BeginCaptureGroup, EnterLoop, Goal}
 use Rattle.regex_pattern_front.specs.TreeOf.{node_of, quantifier_of}
 use Rattle.regress_program.specs.Insns.{insn_of}
 use Rattle.regress_program.specs.Nodes.{cat_of}
 use Rattle.regex_meaning.specs.WellFormed.{fits_instructions}
-use Rattle.regress_program.specs.Emitting.{HasRoom, state_of, with_code, lookaround_of}
+use Rattle.regress_program.specs.Emitting.{HasRoom, state_of, with_code, lookaround_of, with_arm, jump_behind, with_jumps}
+use Rattle.regress_program.proofs.LeafLemmas.{leaf-of}
 use Rattle.regress_program.proofs.NodeLemmas.{node_of-Cat, cat_of-drop}
 use Rattle.regress_program.proofs.Weights.{weight, weight-child}
-use Rattle.regress_program.proofs.EmitLemmas.{with_code-cat, with_code-alt, room-first, room-rest, room-right, second_fits, end_fits, with_code-capture_group, with_code-loop_1_char_body, with_code-lookaround, with_code-loop, room-group, room-loop_1_char_body, room-lookaround, room-loop, room-unnamed, end_of_lookaround_fits, end_of_loop_fits}
+use Rattle.regress_program.proofs.EmitLemmas.{with_code-cat, room-first, room-rest, room-left, room-arm, room-others, second_fits, first-arm, next-arm, below-arm, last-fits, below-code, jump-fits, jump-place, arm-done, with_code-capture_group, with_code-loop_1_char_body, with_code-lookaround, with_code-loop, room-group, room-loop_1_char_body, room-lookaround, room-loop, room-unnamed, end_of_lookaround_fits, end_of_loop_fits}
 use Rattle.regress_program.proofs.emit.emitter.Emitter.+emit.Goals as goal
 use Rattle.regex_meaning.proofs.Booleans.{and-left, and-right}
 
@@ -24,9 +25,9 @@ emit-emit_all-requires t c =
     let room : HasRoom (state_of c.args.self.now) (cat_of c.deref.result.now) = rw is at c.requires.room in
     (search rules, (sets, room))
 
-pub emit-emit_alt-requires : goal.emit-emit_alt-requires
+pub emit-emit_alternatives-requires : goal.emit-emit_alternatives-requires
 unfolding node_of weight
-emit-emit_alt-requires t c = search rules
+emit-emit_alternatives-requires t c = search rules
 
 pub emit_all-emit-requires : goal.emit_all-emit-requires
 emit_all-emit-requires t c =
@@ -56,39 +57,119 @@ emit_all-loop-node-preserved t c =
       code = ap (with_code u d rest) c.in_ok-emit.ensures ∙ sym (with_code-cat u d (node_of n) rest (state_of c.loop-node.self)) ∙ code;
     }
 
-pub emit_alt-next-secondary-requires : goal.emit_alt-next-secondary-requires
-emit_alt-next-secondary-requires t c =
-    second_fits c.args.mode.unicode c.args.mode.behind (node_of c.args.left.now) (node_of c.args.right.now)
+pub emit_alternatives-loop-rest-init : goal.emit_alternatives-loop-rest-init
+emit_alternatives-loop-rest-init t c =
+    let u = c.args.mode.unicode in
+    let d = c.args.mode.behind in
+    let a = node_of c.args.first.now in
+    let b = node_of c.args.others.now in
+    let s = state_of c.args.self.now in
+    let one = state_of c.emit_arm.new.self in
+    let e = c.in_ok-emit_arm.ensures in
+    let places : c.push.new.self.items ≡ c.in_ok-emit_arm.field-0 ∷ [] = rw c.new-jumps.ensures.items at c.in_ok-push.ensures.items in
+    record {
+      within = omega arith;
+      sets = c.requires.others;
+      room = room-others u d a b s one c.requires.room e.code;
+      places = below-arm u d a s one [] c.push.new.self.items c.in_ok-emit_arm.field-0 e.code e.jump places refl;
+      code = first-arm u d a b s one c.push.new.self.items c.in_ok-emit_arm.field-0 e.code e.jump places;
+    }
+
+pub emit_alternatives-emit_arm-requires : goal.emit_alternatives-emit_arm-requires
+unfolding weight
+emit_alternatives-emit_arm-requires t c =
+    let room = room-arm (state_of c.args.self.now) (node_of c.args.first.now) (node_of c.args.others.now) c.requires.room in
+    search rules
+
+pub emit_alternatives-emit_arm-requires-in-Alt : goal.emit_alternatives-emit_arm-requires-in-Alt
+unfolding node_of weight
+emit_alternatives-emit_arm-requires-in-Alt t c =
+    let a = node_of c.in-Alt.left.value in
+    let b = node_of c.in-Alt.right.value in
+    let is : node_of c.loop-rest.rest.now ≡ alt a b = ap node_of c.in-Alt.is in
+    let arm : node_of c.deref.result.now ≡ a = ap node_of c.deref.ensures in
+    let both : IsTrue (every fits_instructions (alt a b)) = rw is at c.loop-rest.invariant.sets in
+    let sets : IsTrue (every fits_instructions (node_of c.deref.result.now)) = rw arm (and-left _ _ both) in
+    let room : HasRoom (state_of c.loop-rest.self) (alt (node_of c.deref.result.now) empty) = rw arm (room-arm (state_of c.loop-rest.self) a b (rw is at c.loop-rest.invariant.room)) in
+    let smaller : weight (node_of c.loop-rest.rest.now) ≡ weight a + weight b + 1 = ap weight is in
+    let same : weight (node_of c.deref.result.now) ≡ weight a = ap weight arm in
+    let within = c.loop-rest.invariant.within in
+    (search rules, (sets, room))
+
+pub emit_alternatives-loop-rest-smaller : goal.emit_alternatives-loop-rest-smaller
+unfolding node_of weight
+emit_alternatives-loop-rest-smaller t c =
+    let smaller : weight (node_of c.loop-rest.rest.now) ≡ weight (node_of c.in-Alt.left.value) + weight (node_of c.in-Alt.right.value) + 1 = ap (λ n. weight (node_of n)) c.in-Alt.is in
+    omega (arith, smaller, ap (λ n. weight (node_of n)) c.deref-rest.ensures)
+
+pub emit_alternatives-loop-rest-preserved : goal.emit_alternatives-loop-rest-preserved
+unfolding node_of weight
+emit_alternatives-loop-rest-preserved t c =
+    let u = c.args.mode.unicode in
+    let d = c.args.mode.behind in
+    let a = node_of c.in-Alt.left.value in
+    let b = node_of c.in-Alt.right.value in
+    let s = state_of c.loop-rest.self in
+    let one = state_of c.emit_arm-in-Alt.new.self in
+    let i = c.loop-rest.invariant in
+    let is : node_of c.loop-rest.rest.now ≡ alt a b = ap node_of c.in-Alt.is in
+    let next : node_of c.deref-rest.result.now ≡ b = ap node_of c.deref-rest.ensures in
+    let e = c.in_ok-emit_arm-2.ensures in
+    let arm : node_of c.deref.result.now ≡ a = ap node_of c.deref.ensures in
+    let code : one ≡ with_arm u d a s = rw arm at e.code in
+    let jump : c.in_ok-emit_arm-2.field-0 ≡ jump_behind a s = rw arm at e.jump in
+    let both : IsTrue (every fits_instructions (alt a b)) = rw is at i.sets in
+    let room : HasRoom s (alt a b) = rw is at i.room in
+    let smaller : weight (node_of c.loop-rest.rest.now) ≡ weight a + weight b + 1 = ap weight is in
+    record {
+      within = omega (arith, ap weight next, smaller, i.within);
+      sets = rw next (and-right _ _ both);
+      room = rw next (room-others u d a b s one room code);
+      places = below-arm u d a s one c.loop-rest.jumps.items c.push-in-Alt.new.self.items c.in_ok-emit_arm-2.field-0 code jump c.in_ok-push-2.ensures.items i.places;
+      code = rw next (next-arm u d a b s one _ c.loop-rest.jumps.items c.push-in-Alt.new.self.items c.in_ok-emit_arm-2.field-0 code jump c.in_ok-push-2.ensures.items (rw is at i.code));
+    }
+
+pub emit_alternatives-end_arms-requires : goal.emit_alternatives-end_arms-requires
+emit_alternatives-end_arms-requires t c =
+    let u = c.args.mode.unicode in
+    let d = c.args.mode.behind in
+    let s = state_of c.loop-rest.self in
+    let rest = node_of c.loop-rest.rest.now in
+    record {
+      room = last-fits u d rest s (state_of c.emit.new.self) c.loop-rest.invariant.room c.in_ok-emit.ensures;
+      within = below-code u d rest s (state_of c.emit.new.self) c.loop-rest.jumps.items c.in_ok-emit.ensures c.loop-rest.invariant.places;
+    }
+
+pub emit_alternatives-returns : goal.emit_alternatives-returns
+emit_alternatives-returns t c = c.end_arms.ensures ∙ ap (with_jumps c.loop-rest.jumps.items) c.in_ok-emit.ensures ∙ c.loop-rest.invariant.code
+
+pub emit_arm-emit-requires : goal.emit_arm-emit-requires
+unfolding weight
+emit_arm-emit-requires t c =
+    let room = room-left (state_of c.args.self.now) (state_of c.put.new.self) (Alt 0) (node_of c.args.arm.now) empty c.requires.room c.in_ok-put.ensures in
+    (search rules, (c.requires.sets, room))
+
+pub emit_arm-next-jump-requires : goal.emit_arm-next-jump-requires
+emit_arm-next-jump-requires t c =
+    jump-fits c.args.mode.unicode c.args.mode.behind (node_of c.args.arm.now) empty (state_of c.args.self.now) (state_of c.put.new.self) (state_of c.emit.new.self) (Alt 0)
+    c.requires.room c.in_ok-put.ensures c.in_ok-emit.ensures
+
+pub emit_arm-next-secondary-requires : goal.emit_arm-next-secondary-requires
+emit_arm-next-secondary-requires t c =
+    second_fits c.args.mode.unicode c.args.mode.behind (node_of c.args.arm.now) empty
     (state_of c.args.self.now) (state_of c.put.new.self) (state_of c.emit.new.self) (state_of c.put-2.new.self) (Alt 0) (Jump 0)
     c.requires.room c.in_ok-put.ensures c.in_ok-emit.ensures c.in_ok-put-2.ensures
 
-pub emit_alt-emit-requires-2 : goal.emit_alt-emit-requires-2
-unfolding weight
-emit_alt-emit-requires-2 t c =
-    let room : HasRoom (state_of c.set.new.self) (node_of c.args.right.now) =
-    room-right c.args.mode.unicode c.args.mode.behind (node_of c.args.left.now) (node_of c.args.right.now)
-    (state_of c.args.self.now) (state_of c.put.new.self) (state_of c.emit.new.self) (state_of c.put-2.new.self) (state_of c.set.new.self)
-    (Alt 0) (Jump 0) (Alt c.next-secondary.result) c.len-branch.result
-    c.requires.room c.in_ok-put.ensures c.in_ok-emit.ensures c.in_ok-put-2.ensures c.set.ensures in
-    search rules
+pub emit_arm-returns-clause-code : goal.emit_arm-returns-clause-code
+emit_arm-returns-clause-code t c =
+    let s = state_of c.args.self.now in
+    let branch : c.len-branch.result ≡ length s.insns = c.len-branch.ensures ∙ c.args.self.now.insns.ok.0 ∙ sym (length-map c.args.self.now.insns.items insn_of) in
+    arm-done c.args.mode.unicode c.args.mode.behind (node_of c.args.arm.now) s (state_of c.put.new.self) (state_of c.emit.new.self) (state_of c.put-2.new.self) (state_of c.set.new.self)
+    c.len-branch.result c.next-secondary.result c.in_ok-put.ensures c.in_ok-emit.ensures c.in_ok-put-2.ensures branch c.next-secondary.ensures c.set.ensures
 
-pub emit_alt-next-target-requires : goal.emit_alt-next-target-requires
-emit_alt-next-target-requires t c =
-    end_fits c.args.mode.unicode c.args.mode.behind (node_of c.args.left.now) (node_of c.args.right.now)
-    (state_of c.args.self.now) (state_of c.put.new.self) (state_of c.emit.new.self) (state_of c.put-2.new.self) (state_of c.set.new.self) (state_of c.emit-2.new.self)
-    (Alt 0) (Jump 0) (Alt c.next-secondary.result) c.len-branch.result
-    c.requires.room c.in_ok-put.ensures c.in_ok-emit.ensures c.in_ok-put-2.ensures c.set.ensures c.in_ok-emit-2.ensures
-
-pub emit_alt-returns : goal.emit_alt-returns
-emit_alt-returns t c =
-    let s0 = state_of c.args.self.now in
-    let s2 = state_of c.emit.new.self in
-    let branch : c.len-branch.result ≡ length s0.insns = c.len-branch.ensures ∙ c.args.self.now.insns.ok.0 ∙ sym (length-map c.args.self.now.insns.items insn_of) in
-    let jump : c.len-jump.result ≡ length s2.insns = c.len-jump.ensures ∙ c.emit.new.self.insns.ok.0 ∙ sym (length-map c.emit.new.self.insns.items insn_of) in
-    with_code-alt c.args.mode.unicode c.args.mode.behind (node_of c.args.left.now) (node_of c.args.right.now)
-    s0 (state_of c.put.new.self) s2 (state_of c.put-2.new.self) (state_of c.set.new.self) (state_of c.emit-2.new.self) (state_of c.set-2.new.self)
-    (Alt 0) (Jump 0) c.in_ok-put.ensures c.in_ok-emit.ensures c.in_ok-put-2.ensures
-    (rw (← branch, ← c.next-secondary.ensures) c.set.ensures) c.in_ok-emit-2.ensures (rw (← jump, ← c.next-target.ensures) c.set-2.ensures)
+pub emit_arm-returns-clause-jump : goal.emit_arm-returns-clause-jump
+emit_arm-returns-clause-jump t c =
+    c.next-jump.ensures ∙ jump-place c.args.mode.unicode c.args.mode.behind (node_of c.args.arm.now) (state_of c.args.self.now) (state_of c.put.new.self) (state_of c.emit.new.self) (Alt 0) c.in_ok-put.ensures c.in_ok-emit.ensures
 
 pub emit_group-returns : goal.emit_group-returns
 emit_group-returns t c =
@@ -204,3 +285,19 @@ emit-emit_loop_1_char-requires t c =
     let room = rw is at c.requires.room in
     let smaller : weight (node_of c.args.node.now) ≡ weight inside + 1 = ap weight is in
     (search rules, (rw c.deref-in-Loop1CharBody.ensures sets, rw c.deref-in-Loop1CharBody.ensures room))
+
+pub emit-emit_leaf-requires : goal.emit-emit_leaf-requires
+emit-emit_leaf-requires t c =
+    let d = c.in_default in
+    record {
+      leaf = leaf-of c.args.node.now (record {
+        not_Cat = d.not-Cat;
+        not_Alt = d.not-Alt;
+        not_CaptureGroup = d.not-CaptureGroup;
+        not_LookaroundAssertion = d.not-LookaroundAssertion;
+        not_Loop = d.not-Loop;
+        not_Loop1CharBody = d.not-Loop1CharBody;
+      });
+      sets = c.requires.sets;
+      room = c.requires.room;
+    }

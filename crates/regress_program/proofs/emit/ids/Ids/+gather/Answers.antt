@@ -1,4 +1,4 @@
-use Rattle.std.proofs.Common.{◌≡◌, ℕ, ◌+◌, ◌&&◌, ◌||◌, true, false, [], refl, ◌∙◌, ap, sym, arith, drop}
+use Rattle.std.proofs.Common.{◌≡◌, ℕ, ◌+◌, ◌<◌, ◌++◌, rules, ◌&&◌, ◌||◌, true, false, [], refl, ◌∙◌, ap, sym, arith, drop}
 use Rattle.std.specs.Prelude.{is_some}
 use Rattle.std.proofs.lemmas.List.{drop_all}
 use Rattle.regex_meaning.specs.Lists.{contains}
@@ -6,10 +6,11 @@ use Rattle.regex_meaning.specs.Tree.{alt, group_ids, every}
 use Rattle.regex_meaning.specs.WellFormed.{names_the_groups_inside}
 use Rattle.regex_pattern_front.specs.TreeOf.{node_of}
 use Rattle.regress_program.specs.Nodes.{cat_of}
-use Rattle.regress_program.specs.Ids.{is_seen, are_fresh, span_of, joined}
+use Rattle.regress_program.specs.Ids.{is_seen, are_fresh, ids_stand, span_of, joined}
 use Rattle.regress_program.specs.Spans.{as_span}
 use Rattle.regress_program.proofs.NodeLemmas.{node_of-Cat, cat_of-drop}
 use Rattle.regress_program.proofs.IdLemmas.{first_fails, second_decides, span-append, joined_same, joined-assoc, joined-none, joined-last, seen_next, fills-encloses}
+use Rattle.regress_program.proofs.Weights.{weight, weight-child}
 use Rattle.regress_program.proofs.emit.ids.Ids.+gather.Goals as goal
 
 pub gather-returns-in-Cat-clause-found : goal.gather-returns-in-Cat-clause-found
@@ -21,56 +22,84 @@ gather-returns-in-Cat-clause-span t c = rw (c.in-Cat.is, node_of-Cat c.in-Cat.no
 pub gather-returns-in-Cat-clause-seen : goal.gather-returns-in-Cat-clause-seen
 gather-returns-in-Cat-clause-seen t c = rw (c.in-Cat.is, node_of-Cat c.in-Cat.nodes, ← c.deref.ensures.value) c.gather_all.ensures.seen
 
-pub gather-returns-in_err-left-in-Alt-clause-found : goal.gather-returns-in_err-left-in-Alt-clause-found
-unfolding node_of
-gather-returns-in_err-left-in-Alt-clause-found t c =
-    let a = node_of c.in-Alt.left.value in
-    let b = node_of c.in-Alt.right.value in
-    let is : node_of c.args.node.now ≡ alt a b = ap node_of c.in-Alt.is in
-    let fails : false ≡ (are_fresh (is_seen c.args.self.now.bits) (group_ids a) && every names_the_groups_inside a) = rw c.deref-in-Alt.ensures at c.in_err-left-in-Alt.ensures.found in
+pub gather-gather_all-requires : goal.gather-gather_all-requires
+gather-gather_all-requires t c =
+    let is : node_of c.args.node.now ≡ cat_of c.deref.result.now = ap node_of c.in-Cat.is ∙ node_of-Cat c.in-Cat.nodes ∙ ap cat_of (sym c.deref.ensures.value) in
+    let same : weight (node_of c.args.node.now) ≡ weight (cat_of c.deref.result.now) = ap weight is in
+    search rules
+
+pub gather_all-gather-requires : goal.gather_all-gather-requires
+gather_all-gather-requires t c =
+    let nodes = c.args.nodes.now in
+    let n = c.node-item.result in
+    let smaller : weight (node_of n) < weight (cat_of nodes) = weight-child nodes c.loop-node.node-index n c.loop-node-test.true c.node-item.is in
+    search rules
+
+pub gather_alternatives-returns-in_err-inside-clause-found : goal.gather_alternatives-returns-in_err-inside-clause-found
+gather_alternatives-returns-in_err-inside-clause-found t c =
+    let a = node_of c.args.first.now in
+    let b = node_of c.args.others.now in
     ap is_some c.from_residual.ensures
-    ∙ first_fails (is_seen c.args.self.now.bits) (group_ids a) (group_ids b) (every names_the_groups_inside a) (every names_the_groups_inside b) fails
-    ∙ sym (ap (λ n. are_fresh (is_seen c.args.self.now.bits) (group_ids n) && every names_the_groups_inside n) is)
+    ∙ first_fails (is_seen c.args.self.now.bits) (group_ids a) (group_ids b) (every names_the_groups_inside a) (every names_the_groups_inside b) c.in_err-inside.ensures.found
 
-pub gather-returns-in_err-right-in-Alt-clause-found : goal.gather-returns-in_err-right-in-Alt-clause-found
-unfolding node_of
-gather-returns-in_err-right-in-Alt-clause-found t c =
-    let a = node_of c.in-Alt.left.value in
-    let b = node_of c.in-Alt.right.value in
+pub gather_alternatives-loop-rest-init : goal.gather_alternatives-loop-rest-init
+gather_alternatives-loop-rest-init t c =
+    let a = node_of c.args.first.now in
+    let b = node_of c.args.others.now in
     let f = is_seen c.args.self.now.bits in
     let g = is_seen c.gather.new.self.bits in
-    let is : node_of c.args.node.now ≡ alt a b = ap node_of c.in-Alt.is in
-    let first : true ≡ (are_fresh f (group_ids a) && every names_the_groups_inside a) = rw c.deref-in-Alt.ensures at c.in_ok-left-in-Alt.ensures.found in
-    let seen : (k : ℕ) → g k ≡ (f k || contains (group_ids a) k) = rw c.deref-in-Alt.ensures at c.in_ok-left-in-Alt.ensures.seen in
-    let second : false ≡ (are_fresh g (group_ids b) && every names_the_groups_inside b) = rw c.deref-in-Alt-2.ensures at c.in_err-right-in-Alt.ensures.found in
-    ap is_some c.from_residual-in_err-right-in-Alt.ensures
-    ∙ second_decides f g (group_ids a) (group_ids b) (every names_the_groups_inside a) (every names_the_groups_inside b) false first seen second
-    ∙ sym (ap (λ n. are_fresh f (group_ids n) && every names_the_groups_inside n) is)
+    let e = c.in_ok-inside.ensures in
+    record {
+      within = omega arith;
+      found = second_decides f g (group_ids a) (group_ids b) (every names_the_groups_inside a) (every names_the_groups_inside b) (are_fresh g (group_ids b) && every names_the_groups_inside b) e.found e.seen refl;
+      span = joined_same (as_span c.in_ok-inside.inside) (span_of (group_ids a)) (span_of (group_ids b)) (span_of (group_ids b)) e.span refl ∙ span-append (group_ids a) (group_ids b);
+      bounded = e.bounded;
+      seen = seen_next f g f (group_ids a) (group_ids b) (group_ids a ++ group_ids b) e.seen (λ k. refl);
+    }
 
-pub gather-returns-in_ok-right-in-Alt-clause-found : goal.gather-returns-in_ok-right-in-Alt-clause-found
+pub gather_alternatives-returns-in_err-gather-clause-found : goal.gather_alternatives-returns-in_err-gather-clause-found
 unfolding node_of
-gather-returns-in_ok-right-in-Alt-clause-found t c =
+gather_alternatives-returns-in_err-gather-clause-found t c =
     let a = node_of c.in-Alt.left.value in
     let b = node_of c.in-Alt.right.value in
-    let f = is_seen c.args.self.now.bits in
-    let g = is_seen c.gather.new.self.bits in
-    let is : node_of c.args.node.now ≡ alt a b = ap node_of c.in-Alt.is in
-    let first : true ≡ (are_fresh f (group_ids a) && every names_the_groups_inside a) = rw c.deref-in-Alt.ensures at c.in_ok-left-in-Alt.ensures.found in
-    let seen : (k : ℕ) → g k ≡ (f k || contains (group_ids a) k) = rw c.deref-in-Alt.ensures at c.in_ok-left-in-Alt.ensures.seen in
-    let second : true ≡ (are_fresh g (group_ids b) && every names_the_groups_inside b) = rw c.deref-in-Alt-2.ensures at c.in_ok-right-in-Alt.ensures.found in
-    second_decides f g (group_ids a) (group_ids b) (every names_the_groups_inside a) (every names_the_groups_inside b) true first seen second
-    ∙ sym (ap (λ n. are_fresh f (group_ids n) && every names_the_groups_inside n) is)
+    let f = is_seen c.loop-rest.self.bits in
+    let is : node_of c.loop-rest.rest.now ≡ alt a b = ap node_of c.in-Alt.is in
+    let fails : false ≡ ids_stand f a = rw c.deref.ensures at c.in_err-gather.ensures.found in
+    ap is_some c.from_residual-in_err-gather.ensures
+    ∙ first_fails f (group_ids a) (group_ids b) (every names_the_groups_inside a) (every names_the_groups_inside b) fails
+    ∙ sym (ap (ids_stand f) is) ∙ c.loop-rest.invariant.found
 
-pub gather-returns-in_ok-right-in-Alt-clause-span : goal.gather-returns-in_ok-right-in-Alt-clause-span
-unfolding node_of
-gather-returns-in_ok-right-in-Alt-clause-span t c =
+pub gather_alternatives-loop-rest-preserved : goal.gather_alternatives-loop-rest-preserved
+unfolding node_of weight
+gather_alternatives-loop-rest-preserved t c =
     let a = node_of c.in-Alt.left.value in
     let b = node_of c.in-Alt.right.value in
-    let is : node_of c.args.node.now ≡ alt a b = ap node_of c.in-Alt.is in
-    let first : as_span c.in_ok-left-in-Alt.left ≡ span_of (group_ids a) = rw c.deref-in-Alt.ensures at c.in_ok-left-in-Alt.ensures.span in
-    let second : as_span c.in_ok-right-in-Alt.right ≡ span_of (group_ids b) = rw c.deref-in-Alt-2.ensures at c.in_ok-right-in-Alt.ensures.span in
-    c.joined.ensures ∙ joined_same (as_span c.in_ok-left-in-Alt.left) (span_of (group_ids a)) (as_span c.in_ok-right-in-Alt.right) (span_of (group_ids b)) first second
-    ∙ span-append (group_ids a) (group_ids b) ∙ sym (ap (λ n. span_of (group_ids n)) is)
+    let all = group_ids (alt (node_of c.args.first.now) (node_of c.args.others.now)) in
+    let f = is_seen c.loop-rest.self.bits in
+    let g = is_seen c.gather-in-Alt.new.self.bits in
+    let i = c.loop-rest.invariant in
+    let is : node_of c.loop-rest.rest.now ≡ alt a b = ap node_of c.in-Alt.is in
+    let next : node_of c.deref-rest.result.now ≡ b = ap node_of c.deref-rest.ensures in
+    let inside = as_span c.loop-rest.inside in
+    let one = as_span c.in_ok-gather.field-0 in
+    let found : true ≡ ids_stand f a = rw c.deref.ensures at c.in_ok-gather.ensures.found in
+    let span : one ≡ span_of (group_ids a) = rw c.deref.ensures at c.in_ok-gather.ensures.span in
+    let seen : (k : ℕ) → g k ≡ (f k || contains (group_ids a) k) = rw c.deref.ensures at c.in_ok-gather.ensures.seen in
+    let spans = c.joined-inside.ensures ∙ joined_same inside inside one (span_of (group_ids a)) refl span in
+    let smaller : weight (node_of c.loop-rest.rest.now) ≡ weight a + weight b + 1 = ap weight is in
+    record {
+      within = omega (arith, ap weight next, smaller, i.within);
+      found = ap (ids_stand g) next
+          ∙ second_decides f g (group_ids a) (group_ids b) (every names_the_groups_inside a) (every names_the_groups_inside b) (are_fresh g (group_ids b) && every names_the_groups_inside b) found seen refl
+          ∙ sym (ap (ids_stand f) is) ∙ i.found;
+      span = ap (λ n. joined (as_span c.joined-inside.result) (span_of (group_ids n))) next
+          ∙ joined_same (as_span c.joined-inside.result) (joined inside (span_of (group_ids a))) (span_of (group_ids b)) (span_of (group_ids b)) spans refl
+          ∙ joined-assoc inside (span_of (group_ids a)) (span_of (group_ids b)) ∙ ap (joined inside) (span-append (group_ids a) (group_ids b))
+          ∙ sym (ap (λ n. joined inside (span_of (group_ids n))) is) ∙ i.span;
+      bounded = omega (arith, ap (λ s. s.high) c.joined-inside.ensures, c.in_ok-gather.ensures.bounded, i.bounded);
+      seen = λ k. ap (λ n. g k || contains (group_ids n) k) next
+          ∙ seen_next f g (is_seen c.args.self.now.bits) (group_ids a) (group_ids b) all seen (λ j. sym (ap (λ n. f j || contains (group_ids n) j) is) ∙ i.seen j) k;
+    }
 
 pub gather_all-loop-node-init : goal.gather_all-loop-node-init
 gather_all-loop-node-init t c = record {

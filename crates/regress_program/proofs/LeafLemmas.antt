@@ -1,0 +1,114 @@
+-- What a node is that is none of some kinds.
+use Rattle.std.proofs.Common.{◌≡◌, ℕ, Bool, true, false, List, [], ◌∷◌, Option, Some, refl, sym, ap, ◌∙◌, Vec, Global, Box, String}
+use Rattle.regex_meaning.specs.Layout.{is_of_bytes}
+use Rattle.regex_pattern_front.specs.TreeOf.{node_of}
+use Rattle.regex_pattern_front.specs.declared.ir.Node.{Node}
+use Rattle.regex_pattern_front.specs.declared.ir.Node.TheVariants.{Goal, CharSet, ByteSet, ByteSequence, Cat, StringSet, CaptureGroup, BackRef, Loop, Loop1CharBody, rolls-Cat, rolls-Alt, rolls-CaptureGroup, rolls-LookaroundAssertion, rolls-Loop, rolls-Loop1CharBody}
+use Rattle.regex_pattern_front.specs.declared.ir.Node.TheOpen.{Node-F}
+use Rattle.regex_pattern_front.specs.declared.ir.Node.TheViews.{roll-Node}
+use Rattle.regex_pattern_front.specs.declared.ir.Node.TheFolds.{ind-Node}
+use denote.Hole.Carrier.{roll}
+use Rattle.regex_pattern_front.proofs.NodeLemmas.{HasNone}
+use Rattle.regress_program.specs.Ids.{is_sound_by_itself}
+use Rattle.regress_program.specs.Nodes.{cat_of, is_leaf}
+use Rattle.regex_meaning.specs.WellFormed.{ends_in_goal}
+use Rattle.regex_pattern_front.specs.declared.ir.Quantifier.{Quantifier}
+use Rattle.std.specs.declared.ops.Range.{Range}
+use Rattle.regress_program.specs.Filing.{is_nameless}
+use Rattle.regress_program.specs.Goals.{with_goals}
+use Rattle.regress_program.specs.declared.emit.wellformed.Goals.{Goals}
+use Rattle.regress_program.proofs.NodeLemmas.{node_of-Cat}
+
+-- ---- One that holds no other
+
+leaf-rolled : (x : Node-F Node) → HasNone (roll-Node x) → is_leaf (node_of (roll-Node x)) ≡ true
+unfolding node_of roll-Node roll
+leaf-rolled (Node-F.Cat v) h = absurd (h.not_Cat v (sym (rolls-Cat v)))
+leaf-rolled (Node-F.Alt l r) h = absurd (h.not_Alt l r (sym (rolls-Alt l r)))
+leaf-rolled (Node-F.CaptureGroup i n name) h = absurd (h.not_CaptureGroup i n name (sym (rolls-CaptureGroup i n name)))
+leaf-rolled (Node-F.LookaroundAssertion n b s e c) h = absurd (h.not_LookaroundAssertion n b s e c (sym (rolls-LookaroundAssertion n b s e c)))
+leaf-rolled (Node-F.Loop l q e) h = absurd (h.not_Loop l q e (sym (rolls-Loop l q e)))
+leaf-rolled (Node-F.Loop1CharBody l q) h = absurd (h.not_Loop1CharBody l q (sym (rolls-Loop1CharBody l q)))
+leaf-rolled _ h = refl
+
+pub leaf-of : (n : Node) → HasNone n → is_leaf (node_of n) ≡ true
+leaf-of = ind-Node (λ n. HasNone n → is_leaf (node_of n) ≡ true) (λ x y is. leaf-rolled x)
+
+-- ---- One of another kind
+
+goals-rolled : (x : Node-F Node) (it : Goals) → (roll-Node x ≡ Goal → ⊥) → with_goals (node_of (roll-Node x)) it ≡ Some it
+unfolding node_of roll-Node roll
+goals-rolled Node-F.Goal it h = absurd (h refl)
+goals-rolled (Node-F.Cat v) it h = ap (λ n. with_goals n it) (node_of-Cat v) ∙ of_nodes v.items
+  where
+    of_nodes : (ns : List Node) → with_goals (cat_of ns) it ≡ Some it
+    of_nodes [] = refl
+    of_nodes (m ∷ ms) = refl
+goals-rolled _ it h = refl
+
+pub goals-other : (n : Node) (it : Goals) → (n ≡ Goal → ⊥) → with_goals (node_of n) it ≡ Some it
+goals-other = ind-Node (λ n. (it : Goals) → (n ≡ Goal → ⊥) → with_goals (node_of n) it ≡ Some it) (λ x y is. goals-rolled x)
+
+bytes-rolled : (x : Node-F Node) → ((v : Vec ℕ Global) → roll-Node x ≡ ByteSet v → ⊥) → ((v : Vec ℕ Global) → roll-Node x ≡ ByteSequence v → ⊥) → is_of_bytes (node_of (roll-Node x)) ≡ false
+unfolding node_of roll-Node roll
+bytes-rolled (Node-F.ByteSet v) h k = absurd (h v refl)
+bytes-rolled (Node-F.ByteSequence v) h k = absurd (k v refl)
+bytes-rolled (Node-F.Cat v) h k = ap is_of_bytes (node_of-Cat v) ∙ of_nodes v.items
+  where
+    of_nodes : (ns : List Node) → is_of_bytes (cat_of ns) ≡ false
+    of_nodes [] = refl
+    of_nodes (m ∷ ms) = refl
+bytes-rolled _ h k = refl
+
+pub bytes-other : (n : Node) → ((v : Vec ℕ Global) → n ≡ ByteSet v → ⊥) → ((v : Vec ℕ Global) → n ≡ ByteSequence v → ⊥) → is_of_bytes (node_of n) ≡ false
+bytes-other = ind-Node (λ n. ((v : Vec ℕ Global) → n ≡ ByteSet v → ⊥) → ((v : Vec ℕ Global) → n ≡ ByteSequence v → ⊥) → is_of_bytes (node_of n) ≡ false) (λ x y is. bytes-rolled x)
+
+names-rolled : (x : Node-F Node) → ((id : ℕ) (contents : Box Node Global) (name : Option (String Global)) → roll-Node x ≡ CaptureGroup id contents name → ⊥) → is_nameless (node_of (roll-Node x)) ≡ true
+unfolding node_of roll-Node roll
+names-rolled (Node-F.CaptureGroup i n name) h = absurd (h i n name (sym (rolls-CaptureGroup i n name)))
+names-rolled (Node-F.Cat v) h = ap is_nameless (node_of-Cat v) ∙ of_nodes v.items
+  where
+    of_nodes : (ns : List Node) → is_nameless (cat_of ns) ≡ true
+    of_nodes [] = refl
+    of_nodes (m ∷ ms) = refl
+names-rolled _ h = refl
+
+pub names-other : (n : Node) → ((id : ℕ) (contents : Box Node Global) (name : Option (String Global)) → n ≡ CaptureGroup id contents name → ⊥) → is_nameless (node_of n) ≡ true
+names-other = ind-Node (λ n. ((id : ℕ) (contents : Box Node Global) (name : Option (String Global)) → n ≡ CaptureGroup id contents name → ⊥) → is_nameless (node_of n) ≡ true) (λ x y is. names-rolled x)
+
+ends-rolled : (x : Node-F Node) → (roll-Node x ≡ Goal → ⊥) → ((v : Vec Node Global) → roll-Node x ≡ Cat v → ⊥) → ends_in_goal (node_of (roll-Node x)) ≡ false
+unfolding node_of roll-Node roll
+ends-rolled Node-F.Goal h k = absurd (h refl)
+ends-rolled (Node-F.Cat v) h k = absurd (k v (sym (rolls-Cat v)))
+ends-rolled _ h k = refl
+
+pub ends-other : (n : Node) → (n ≡ Goal → ⊥) → ((v : Vec Node Global) → n ≡ Cat v → ⊥) → ends_in_goal (node_of n) ≡ false
+ends-other = ind-Node (λ n. (n ≡ Goal → ⊥) → ((v : Vec Node Global) → n ≡ Cat v → ⊥) → ends_in_goal (node_of n) ≡ false) (λ x y is. ends-rolled x)
+
+sound-rolled : (groups : ℕ) (x : Node-F Node) → ((v : Vec ℕ Global) → roll-Node x ≡ CharSet v → ⊥) → ((v : Vec ℕ Global) → roll-Node x ≡ ByteSet v → ⊥) → ((v : Vec ℕ Global) → roll-Node x ≡ ByteSequence v → ⊥)
+    → ((strings : Vec (Vec ℕ Global) Global) (icase : Bool) → roll-Node x ≡ StringSet strings icase → ⊥) → ((group : ℕ) (icase : Bool) → roll-Node x ≡ BackRef group icase → ⊥)
+    → ((loopee : Box Node Global) (q : Quantifier) (groups : Range ℕ) → roll-Node x ≡ Loop loopee q groups → ⊥) → ((loopee : Box Node Global) (q : Quantifier) → roll-Node x ≡ Loop1CharBody loopee q → ⊥)
+    → is_sound_by_itself groups (node_of (roll-Node x)) ≡ true
+unfolding node_of roll-Node roll
+sound-rolled groups (Node-F.CharSet v) h1 h2 h3 h4 h5 h6 h7 = absurd (h1 v refl)
+sound-rolled groups (Node-F.ByteSet v) h1 h2 h3 h4 h5 h6 h7 = absurd (h2 v refl)
+sound-rolled groups (Node-F.ByteSequence v) h1 h2 h3 h4 h5 h6 h7 = absurd (h3 v refl)
+sound-rolled groups (Node-F.StringSet v i) h1 h2 h3 h4 h5 h6 h7 = absurd (h4 v i refl)
+sound-rolled groups (Node-F.BackRef g i) h1 h2 h3 h4 h5 h6 h7 = absurd (h5 g i refl)
+sound-rolled groups (Node-F.Loop b q g) h1 h2 h3 h4 h5 h6 h7 = absurd (h6 b q g (sym (rolls-Loop b q g)))
+sound-rolled groups (Node-F.Loop1CharBody b q) h1 h2 h3 h4 h5 h6 h7 = absurd (h7 b q (sym (rolls-Loop1CharBody b q)))
+sound-rolled groups (Node-F.Cat v) h1 h2 h3 h4 h5 h6 h7 = ap (is_sound_by_itself groups) (node_of-Cat v) ∙ of_nodes v.items
+  where
+    of_nodes : (ns : List Node) → is_sound_by_itself groups (cat_of ns) ≡ true
+    of_nodes [] = refl
+    of_nodes (m ∷ ms) = refl
+sound-rolled groups _ h1 h2 h3 h4 h5 h6 h7 = refl
+
+pub sound-other : (groups : ℕ) (n : Node) → ((v : Vec ℕ Global) → n ≡ CharSet v → ⊥) → ((v : Vec ℕ Global) → n ≡ ByteSet v → ⊥) → ((v : Vec ℕ Global) → n ≡ ByteSequence v → ⊥)
+    → ((strings : Vec (Vec ℕ Global) Global) (icase : Bool) → n ≡ StringSet strings icase → ⊥) → ((group : ℕ) (icase : Bool) → n ≡ BackRef group icase → ⊥)
+    → ((loopee : Box Node Global) (q : Quantifier) (groups : Range ℕ) → n ≡ Loop loopee q groups → ⊥) → ((loopee : Box Node Global) (q : Quantifier) → n ≡ Loop1CharBody loopee q → ⊥)
+    → is_sound_by_itself groups (node_of n) ≡ true
+sound-other groups = ind-Node (λ n. ((v : Vec ℕ Global) → n ≡ CharSet v → ⊥) → ((v : Vec ℕ Global) → n ≡ ByteSet v → ⊥) → ((v : Vec ℕ Global) → n ≡ ByteSequence v → ⊥)
+    → ((strings : Vec (Vec ℕ Global) Global) (icase : Bool) → n ≡ StringSet strings icase → ⊥) → ((group : ℕ) (icase : Bool) → n ≡ BackRef group icase → ⊥)
+    → ((loopee : Box Node Global) (q : Quantifier) (groups : Range ℕ) → n ≡ Loop loopee q groups → ⊥) → ((loopee : Box Node Global) (q : Quantifier) → n ≡ Loop1CharBody loopee q → ⊥)
+    → is_sound_by_itself groups (node_of n) ≡ true) (λ x y is. sound-rolled groups x)

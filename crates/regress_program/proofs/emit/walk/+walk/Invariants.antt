@@ -1,0 +1,24 @@
+use Rattle.std.proofs.Common.{◌≡◌, ◌+◌, ◌*◌, ◌≤◌, drop}
+use Rattle.regex_pattern_front.specs.TreeOf.{node_of}
+use Rattle.regress_program.specs.Nodes.{cat_of}
+use Rattle.regress_program.specs.Walked.{walked}
+use Rattle.regress_program.proofs.Weights.{weight}
+use Rattle.regress_program.proofs.emit.walk.+walk.Given as goal
+
+abbrev pub decreases-walk : goal.decreases-walk
+decreases-walk g l = 2 * weight (node_of l.root.now) + 1
+
+abbrev pub decreases-walk_row : goal.decreases-walk_row
+decreases-walk_row g l = 2 * weight (cat_of l.nodes.now)
+
+abbrev pub invariant-walk-loop-rest : goal.invariant-walk-loop-rest
+invariant-walk-loop-rest g l = record {
+  within : weight (node_of l.rest) ≤ weight (node_of l.root);
+  walked : walked g.V.Visitor.step (node_of l.rest) l.visitor ≡ walked g.V.Visitor.step (node_of l.root) l.initial.visitor;
+}
+
+abbrev pub decreases-walk-loop-rest : goal.decreases-walk-loop-rest
+decreases-walk-loop-rest g l = weight (node_of l.rest)
+
+abbrev pub invariant-walk_row-loop-node : goal.invariant-walk_row-loop-node
+invariant-walk_row-loop-node g l = walked g.V.Visitor.step (cat_of (drop l.node-index l.nodes)) l.visitor ≡ walked g.V.Visitor.step (cat_of l.nodes) l.initial.visitor

@@ -1,5 +1,5 @@
 -- Texts that are made piece by piece.
-use Rattle.std.proofs.Common.{◌≡◌, ℕ, ◌+◌, ◌≤◌, List, [], ◌∷◌, ◌++◌, drop, max, sym, ap, ◌∙◌, arith, append_assoc, subst, take}
+use Rattle.std.proofs.Common.{◌≡◌, ℕ, suc, ◌+◌, ◌≤◌, List, [], ◌∷◌, ◌++◌, drop, refl, max, sym, ap, ◌∙◌, arith, append_assoc, subst, take}
 use Rattle.std.specs.Prelude.{Bool, Result, Ok, Option, Some, None, slice_range, IsUtf8, IfSome}
 use Rattle.regex_meaning.specs.Tree.{Node}
 use Rattle.regex_meaning.specs.Text.{utf8_text}
@@ -14,6 +14,7 @@ use Rattle.regress_exec.specs.ToCome.{ToCome, Gives}
 use Rattle.regress_exec.specs.declared.exec.Match.{Match}
 use Rattle.regress_exec.specs.declared.exec.SearchError.{SearchError}
 use Rattle.std.specs.Borrow.{Bor}
+use Rattle.std.specs.List.{Contains}
 use Rattle.regress_match.specs.Closures.{CanBeCalled}
 use Rattle.regress_match.specs.Replacements.{expanded, IsSlice, FitsText, StandFrom}
 
@@ -55,12 +56,19 @@ pub stands-first : (text : List ℕ) (from : ℕ) (left rest : List Answer) (m :
     → (from ≤ m.range.0) × FitsText text m × StandFrom text m.range.1 rest
 stands-first text from left rest m h e = subst (StandFrom text from) e h
 
--- a closure that may be called at all matches, and at the next one and the rest
+-- ---- A closure that may be called at all matches
+
+-- at those that are left, where these are all
 pub callable-all : (takes : Bor Match → Type 0) (left all : List Answer) → CanBeCalled takes all → left ≡ all → CanBeCalled takes left
 callable-all takes left all h e = subst (CanBeCalled takes) (sym e) h
 
+-- at the next one
+pub callable-next : (takes : Bor Match → Type 0) (left rest : List Answer) (found : Bor Match) → CanBeCalled takes left → left ≡ answer_of found.now ∷ rest → takes found
+callable-next takes left rest found h e = h found (subst (λ ms. Contains ms (answer_of found.now)) (sym e) (0, omega arith, refl))
+
+-- at the rest
 pub callable-rest : (takes : Bor Match → Type 0) (left rest : List Answer) (m : Answer) → CanBeCalled takes left → left ≡ m ∷ rest → CanBeCalled takes rest
-callable-rest takes left rest m h e = (subst (CanBeCalled takes) e h).1
+callable-rest takes left rest m h e = λ found among. h found (subst (λ ms. Contains ms (answer_of found.now)) (sym e) (suc among.0, omega (arith, among.1), among.2))
 
 -- ---- Replacements
 

@@ -1,6 +1,7 @@
 -- Closures that answer a text for a match: where they may be called, and what their answers make.
 use Rattle.std.specs.Prelude.{◌≡◌, ℕ, List, ◌∷◌, ◌++◌, map, Result, Ok, Err, String, string_bytes}
 use Rattle.std.specs.Borrow.{Bor}
+use Rattle.std.specs.List.{Contains}
 use Rattle.regex_meaning.specs.Laws.{Each}
 use Rattle.regex_meaning.specs.Names.{Answer}
 use Rattle.regex_meaning.specs.Replace.{replaced}
@@ -12,7 +13,7 @@ use Rattle.regress_match.specs.declared.api.error.ReplaceError.TheVariants.{Sear
 
 -- it may be called at each of these matches
 abbrev pub CanBeCalled : (takes : Bor Match → Type 0) → List Answer → Type 0
-CanBeCalled takes ms = Each (λ m. (found : Bor Match) → answer_of found.now ≡ m → takes found) ms
+CanBeCalled takes ms = (found : Bor Match) → Contains ms (answer_of found.now) → takes found
 
 -- what refuses an answer's place in the text
 abbrev pub CanRefuseAnswer : {Z E : Type 0} → Result (String Z) E → ReplaceError E → Type 0

@@ -4,7 +4,7 @@ use Rattle.regress_exec.specs.Answers.{answer_of}
 use Rattle.regress_exec.specs.ToCome.{ToCome}
 use Rattle.regress_match.specs.Replacements.{StandFrom}
 use Rattle.regress_match.proofs.Closures.{begins, ends, goes-answered, refuses-answered}
-use Rattle.regress_match.proofs.Replacing.{callable-all, callable-rest, gives-limit, gives-ok, stands-first}
+use Rattle.regress_match.proofs.Replacing.{callable-all, callable-next, callable-rest, gives-limit, gives-ok, stands-first}
 use Rattle.regress_match.proofs.api.replace.closures.write_each.Goals as goal
 
 pub loop-item-init : goal.loop-item-init
@@ -19,6 +19,11 @@ loop-item-init g c =
       limited = ap (λ (it : ToCome). it.limited) into;
       begun = begins _ c.args.text.now c.args.matches.answers c.into_iter-item-iterator.result.answers _ (ap (λ (it : ToCome). it.answers) into) c.new-made.ensures.bytes;
     }
+
+pub with-requires : goal.with-requires
+with-requires g c =
+    callable-next _ c.loop-item.item-iterator.answers c.next.new.self.answers _ c.loop-item.invariant.callable
+    (gives-ok c.loop-item.item-iterator c.next.new.self _ c.in_ok-found.found c.in-Some.ensures.steps c.in_ok-found.was)
 
 pub returns-in_err-write_answer-clause-refused : goal.returns-in_err-write_answer-clause-refused
 returns-in_err-write_answer-clause-refused g c = λ _.

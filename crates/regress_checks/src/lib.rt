@@ -4,6 +4,10 @@
 #[cfg(test)]
 mod anchored;
 #[cfg(test)]
+mod backends;
+#[cfg(test)]
+mod closures;
+#[cfg(test)]
 mod flags;
 #[cfg(test)]
 mod groups;
@@ -25,3 +29,5 @@ mod table;
 mod tool;
 #[cfg(test)]
 mod trees;
+#[cfg(test)]
+mod units;

@@ -2,6 +2,7 @@
 //! match; `; ` stands between matches.
 
 use regress_match::api;
+use regress_match::backends::{DefaultUcs2Executor, DefaultUtf16Executor};
 use regress_search::exec::{Match, MatchProducer, Matches, SearchError};
 use std::alloc::AllocError;
 use std::ops::Range;
@@ -58,6 +59,20 @@ pub fn write_all<'r, 't>(
 pub fn write_all_of_ascii<'r, 't>(
     line: &mut String,
     matches: &mut api::AsciiMatches<'r, 't>,
+) -> Result<(), SearchError> {
+    write_items(line, matches)
+}
+
+pub fn write_all_of_utf16<'r, 't>(
+    line: &mut String,
+    matches: &mut Matches<DefaultUtf16Executor<'r, 't>>,
+) -> Result<(), SearchError> {
+    write_items(line, matches)
+}
+
+pub fn write_all_of_ucs2<'r, 't>(
+    line: &mut String,
+    matches: &mut Matches<DefaultUcs2Executor<'r, 't>>,
 ) -> Result<(), SearchError> {
     write_items(line, matches)
 }

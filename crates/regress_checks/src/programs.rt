@@ -1,5 +1,6 @@
 //! Patterns of two programs, clones of patterns, and the trees of two patterns.
 
+use crate::lines::write_all_of_ucs2;
 use regress_match::backends::{emit, emit_units};
 use regress_match::{Error, Regex};
 use regress_trees::tree_of;
@@ -43,13 +44,16 @@ fn a_name_stands_for_the_first_of_two_that_matched(rt: HostRuntime) -> Result<()
 }
 
 #[test]
-fn bytes_are_searched_by_the_byte_program(rt: HostRuntime) -> Result<(), Fail> {
+fn bytes_and_units_have_programs_of_their_own(rt: HostRuntime) -> Result<(), Fail> {
     let alloc = rt.alloc();
     let a = tree_of(alloc, "cat:2 a goal").ok_or("no tree")?;
     let b = tree_of(alloc, "cat:2 b goal").ok_or("no tree")?;
     let re = Regex::from_programs(emit(alloc, &a)?, emit_units(alloc, &b)?).clone()?;
-    let found = re.find("ba")?.ok_or("no match")?;
-    assert_eq!(rt; found.range(), 1..2);
+    let found = re.find("ab")?.ok_or("no match")?;
+    assert_eq!(rt; found.range(), 0..1);
+    let mut line = String::new(alloc);
+    write_all_of_ucs2(&mut line, &mut re.find_from_ucs2(&[0x61, 0x62], 0)?)?;
+    assert_eq!(rt; line.as_str(), "1..2");
     Ok(())
 }
 

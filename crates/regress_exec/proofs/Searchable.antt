@@ -1,5 +1,5 @@
 -- Programs that were compiled can be searched with.
-use Rattle.std.proofs.Common.{◌≡◌, ℕ, suc, List, [], ◌∷◌, true, refl}
+use Rattle.std.proofs.Common.{◌≡◌, ℕ, suc, List, [], ◌∷◌, true, false, refl, ap, sym, ◌∙◌}
 use Rattle.std.specs.Prelude.{IsTrue, IsAscii, nat_lt}
 use Rattle.std.specs.List.{list_all}
 use Rattle.regex_meaning.specs.Tree.{Tree}
@@ -26,3 +26,7 @@ can-search tree text w is u b = record {
 pub all-ascii : (bytes : List ℕ) → IsAscii bytes → list_all (λ b. nat_lt b 128) bytes ≡ true
 all-ascii [] h = refl
 all-ascii (b ∷ bytes) h = and_from (nat_lt b 128) (list_all (λ b. nat_lt b 128) bytes) (lt-ltb b 128 (h 0)) (all-ascii bytes (λ i. h (suc i)))
+
+-- a program that reads no bytes asks nothing where bytes are read
+pub without-bytes : {P : Type 0} (tree run : Tree) → run ≡ tree → reads_bytes tree.root ≡ false → IsTrue (reads_bytes run.root) → P
+without-bytes tree run same none reads = cc (sym reads ∙ ap (λ (t : Tree). reads_bytes t.root) same ∙ none)

@@ -2,7 +2,7 @@
 
 ghost use Rattle.std.specs.Prelude.{◌≡◌, IsAscii, IsTrue, IsSome, false, option_map};
 ghost use Rattle.std.specs.Option.{option_map_or};
-ghost use Rattle.regex_meaning.specs.Text.{ascii_text, utf8_text};
+ghost use Rattle.regex_meaning.specs.Text.{ascii_text, ucs2_text, utf16_text, utf8_text};
 ghost use Rattle.regex_meaning.specs.WellFormed.{is_well_formed};
 ghost use Rattle.regex_pattern_front.specs.TreeOf.{tree_of};
 ghost use Rattle.regress_program.specs.Code.{compiled};
@@ -11,8 +11,8 @@ ghost use Rattle.regress_machine.specs.Bytes.{ReadsBytes, reads_bytes};
 ghost use Rattle.regress_exec.specs.Attempts.{anchors};
 ghost use Rattle.regress_exec.specs.Passing.{IsInBytes};
 
-use regress_input::indexing::{AsciiInput, InputIndexer, Utf8Input};
-use regress_program::insn::{CompiledRegex, Program, StartPredicate};
+use regress_input::indexing::{AsciiInput, InputIndexer, Ucs2Input, Utf8Input, Utf16Input};
+use regress_program::insn::{CompiledRegex, CompiledUnits, Program, StartPredicate};
 
 /// A program, and a text that it can search: characters are folded as the program's flags say, and where the program
 /// reads bytes the text is one of bytes. With a start predicate, which is one on bytes, it always is.
@@ -70,6 +70,40 @@ impl<'r, 't> Searched<'r, AsciiInput<'t>> {
             program,
             start_pred: Some(re.start_pred()),
             input: AsciiInput::new(text, flags.unicode),
+        }
+    }
+}
+
+impl<'r, 't> Searched<'r, Utf16Input<'t>> {
+    /// A program for 16-bit units over a text in UTF-16.
+    pub fn in_utf16(re: &'r CompiledUnits, text: &'t [u16]) -> Self
+        ensures program { tree_of result.program.now ≡ tree_of re.now }
+        ensures text { ⟦<Utf16Input<'t> as InputIndexer>⟧.text result.input ≡ utf16_text text.now (tree_of re.now).flags.unicode }
+    {
+        let program = re.program();
+        let flags = program.flags();
+        let _well_formed = program.insns();
+        Searched {
+            program,
+            start_pred: None,
+            input: Utf16Input::new(text, flags.unicode),
+        }
+    }
+}
+
+impl<'r, 't> Searched<'r, Ucs2Input<'t>> {
+    /// A program for 16-bit units over a text in UCS-2.
+    pub fn in_ucs2(re: &'r CompiledUnits, text: &'t [u16]) -> Self
+        ensures program { tree_of result.program.now ≡ tree_of re.now }
+        ensures text { ⟦<Ucs2Input<'t> as InputIndexer>⟧.text result.input ≡ ucs2_text text.now (tree_of re.now).flags.unicode }
+    {
+        let program = re.program();
+        let flags = program.flags();
+        let _well_formed = program.insns();
+        Searched {
+            program,
+            start_pred: None,
+            input: Ucs2Input::new(text, flags.unicode),
         }
     }
 }

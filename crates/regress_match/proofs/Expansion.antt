@@ -1,5 +1,5 @@
 -- What a replacement says, read part by part.
-use Rattle.std.proofs.Common.{◌≡◌, ℕ, zero, suc, ◌+◌, ◌*◌, ◌≤◌, ◌<◌, Bool, true, false, ◌&&◌, inl, inr, List, [], ◌∷◌, ◌++◌, length, map, drop, take, refl, sym, ap, ◌∙◌, arith, append_assoc, nat_le, not, cond, ◌-◌, ◌||◌, IsUtf8, IsCharBoundary, length-drop, append-nil, lit<}
+use Rattle.std.proofs.Common.{◌≡◌, ℕ, zero, suc, ◌+◌, ◌*◌, ◌≤◌, ◌<◌, Bool, true, false, ◌&&◌, List, [], ◌∷◌, ◌++◌, length, map, drop, take, refl, sym, ap, ◌∙◌, arith, append_assoc, nat_le, not, cond, ◌-◌, ◌||◌, IsUtf8, IsCharBoundary, length-drop, append-nil, lit<}
 use Rattle.std.specs.Prelude.{if◌then◌else◌, ◌==◌, Option, Some, None, IfSome, slice_get, Result, Ok, Err, is_ok, IfOk}
 use Rattle.std.specs.List.{before_first, after_first, position_or_len, list_any}
 use Rattle.std.specs.Option.{option_or}

@@ -1,3 +1,4 @@
+pub mod Closures
 pub mod EscapeLemmas
 pub mod Expansion
 pub mod FlagLemmas

@@ -1,6 +1,6 @@
 -- Texts that are made piece by piece.
-use Rattle.std.proofs.Common.{◌≡◌, ℕ, ◌+◌, ◌≤◌, List, [], ◌∷◌, ◌++◌, length, map, drop, max, refl, sym, ap, ap₂, ◌∙◌, arith, append_assoc, append-nil, subst}
-use Rattle.std.specs.Prelude.{Bool, Result, Ok, Option, Some, None, slice_range, IsCharBoundary, IsUtf8, IfSome}
+use Rattle.std.proofs.Common.{◌≡◌, ℕ, suc, ◌+◌, ◌≤◌, List, [], ◌∷◌, ◌++◌, drop, refl, max, sym, ap, ◌∙◌, arith, append_assoc, subst, take}
+use Rattle.std.specs.Prelude.{Bool, Result, Ok, Option, Some, None, slice_range, IsUtf8, IfSome}
 use Rattle.regex_meaning.specs.Tree.{Node}
 use Rattle.regex_meaning.specs.Text.{utf8_text}
 use Rattle.regex_meaning.specs.Laws.{Each, StandInOrder, IsAnswerOf, IsRange}
@@ -13,6 +13,9 @@ use Rattle.regress_exec.specs.Answers.{answer_of}
 use Rattle.regress_exec.specs.ToCome.{ToCome, Gives}
 use Rattle.regress_exec.specs.declared.exec.Match.{Match}
 use Rattle.regress_exec.specs.declared.exec.SearchError.{SearchError}
+use Rattle.std.specs.Borrow.{Bor}
+use Rattle.std.specs.List.{Contains}
+use Rattle.regress_match.specs.Closures.{CanBeCalled}
 use Rattle.regress_match.specs.Replacements.{expanded, IsSlice, FitsText, StandFrom}
 
 -- ---- Where matches stand
@@ -36,14 +39,36 @@ module _ (bytes : List ℕ) (unicode : Bool) (is_utf8 : IsUtf8 bytes) where
       stand root 0 0 _ (omega arith) (answers-StandInOrder root (utf8_text bytes unicode) (utf8_text-IsText bytes unicode) 0)
       (answers-IsAnswerOf root (utf8_text bytes unicode) (utf8_text-IsText bytes unicode) 0)
 
+-- the first of them alone
+pub first-stands : (from : ℕ) (ms : List Answer) → StandInOrder from ms → StandInOrder from (take 1 ms)
+first-stands from [] h = tt
+first-stands from (m ∷ ms) h = (h.0, h.1, tt)
+
 -- ---- The match that comes next
 
 pub gives-ok : (s t : ToCome) (r : Result Match SearchError) (m : Match) → Gives s (Some r) t → r ≡ Ok m → s.answers ≡ answer_of m ∷ t.answers
 gives-ok s t r m h e = (subst (λ x. Gives s (Some x) t) e h).0
 
+pub gives-limit : (s t : ToCome) (r : Result Match SearchError) (m : Match) → Gives s (Some r) t → r ≡ Ok m → t.limited ≡ s.limited
+gives-limit s t r m h e = sym (subst (λ x. Gives s (Some x) t) e h).1
+
 pub stands-first : (text : List ℕ) (from : ℕ) (left rest : List Answer) (m : Answer) → StandFrom text from left → left ≡ m ∷ rest
     → (from ≤ m.range.0) × FitsText text m × StandFrom text m.range.1 rest
 stands-first text from left rest m h e = subst (StandFrom text from) e h
+
+-- ---- A closure that may be called at all matches
+
+-- at those that are left, where these are all
+pub callable-all : (takes : Bor Match → Type 0) (left all : List Answer) → CanBeCalled takes all → left ≡ all → CanBeCalled takes left
+callable-all takes left all h e = subst (CanBeCalled takes) (sym e) h
+
+-- at the next one
+pub callable-next : (takes : Bor Match → Type 0) (left rest : List Answer) (found : Bor Match) → CanBeCalled takes left → left ≡ answer_of found.now ∷ rest → takes found
+callable-next takes left rest found h e = h found (subst (λ ms. Contains ms (answer_of found.now)) (sym e) (0, omega arith, refl))
+
+-- at the rest
+pub callable-rest : (takes : Bor Match → Type 0) (left rest : List Answer) (m : Answer) → CanBeCalled takes left → left ≡ m ∷ rest → CanBeCalled takes rest
+callable-rest takes left rest m h e = λ found among. h found (subst (λ ms. Contains ms (answer_of found.now)) (sym e) (suc among.0, omega (arith, among.1), among.2))
 
 -- ---- Replacements
 

@@ -1,4 +1,6 @@
+pub mod Closures
 pub mod Flags
+pub mod Laws
 pub mod Programs
 pub mod Parts
 pub mod Refusals

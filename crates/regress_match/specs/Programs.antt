@@ -1,7 +1,8 @@
 -- The trees whose programs a `Regex` holds, and what it finds.
-use Rattle.std.specs.Prelude.{◌≡◌, ℕ, List, IsTrue}
+use Rattle.std.specs.Prelude.{◌≡◌, ◌<◌, ◌⊎◌, ℕ, List, IsTrue}
 use Rattle.regex_meaning.specs.Tree.{Tree, Flags}
-use Rattle.regex_meaning.specs.Text.{utf8_text, ascii_text}
+use Rattle.regex_meaning.specs.Text.{Text, utf8_text, ascii_text, utf16_text, ucs2_text}
+use Rattle.regex_meaning.specs.Offsets.{IsBoundary, units}
 use Rattle.regex_meaning.specs.Layout.{IsByteCodeOf, IsUnitCodeOf}
 use Rattle.regex_meaning.specs.Names.{Answer, answers_from}
 use Rattle.regex_meaning.specs.WellFormed.{is_well_formed}
@@ -34,3 +35,15 @@ utf8_answers re bytes start = answers_from (byte_tree re).root (utf8_text bytes 
 -- the answers in a text of ASCII from an offset on
 abbrev pub ascii_answers : Regex → (bytes : List ℕ) → (start : ℕ) → List Answer
 ascii_answers re bytes start = answers_from (byte_tree re).root (ascii_text bytes (byte_tree re).flags.unicode) start
+
+-- the answers in a text in UTF-16 from an offset on
+abbrev pub utf16_answers : Regex → (units : List ℕ) → (start : ℕ) → List Answer
+utf16_answers re units start = answers_from (unit_tree re).root (utf16_text units (unit_tree re).flags.unicode) start
+
+-- the answers in a text in UCS-2 from an offset on
+abbrev pub ucs2_answers : Regex → (units : List ℕ) → (start : ℕ) → List Answer
+ucs2_answers re units start = answers_from (unit_tree re).root (ucs2_text units (unit_tree re).flags.unicode) start
+
+-- searches may start there: at a boundary, or past the end
+abbrev pub IsStart : Text → (start : ℕ) → Type 0
+IsStart text start = IsBoundary text start ⊎ (units text < start)

@@ -1,8 +1,11 @@
 -- Which refusal of a step is which of the whole.
+use Rattle.std.specs.Prelude.{◌≡◌}
 use Rattle.regex_pattern_front.specs.declared.parse.ParseError.{ParseError}
 use Rattle.regex_pattern_front.specs.declared.parse.ParseError.TheVariants as parse
 use Rattle.regress_program.specs.declared.emit.EmitError.{EmitError}
 use Rattle.regress_program.specs.declared.emit.EmitError.TheVariants as emit
+use Rattle.regress_exec.specs.declared.exec.SearchError.{SearchError}
+use Rattle.regress_exec.specs.declared.exec.SearchError.TheVariants as search
 use Rattle.regress_match.specs.declared.api.error.Error.{Error}
 use Rattle.regress_match.specs.declared.api.error.Error.TheVariants.{Parse, Emit, Memory}
 
@@ -22,3 +25,7 @@ CanRefuse (Emit emit.Memory) = ⊥
 CanRefuse (Emit emit.NotWellFormed) = ⊥
 CanRefuse (Emit emit.BytesInUnits) = ⊥
 CanRefuse _ = Unit {0}
+
+-- want of memory, which alone refuses a search without a limit of steps
+abbrev pub IsMemory : SearchError → Type 0
+IsMemory e = e ≡ search.Memory

@@ -5,10 +5,13 @@ mod escaping;
 mod flags;
 mod regex;
 mod replace;
+mod units;
 
-pub use self::error::Error;
+pub use self::error::{Error, ReplaceError};
 pub use self::escaping::escape;
 pub use self::flags::Flags;
 pub use self::regex::{AsciiMatches, Matches, Regex};
+pub use self::replace::whole_matches_give_back;
 pub use regress_exec::exec::{Groups, Match, NamedGroups, SearchError};
+pub use regress_input::indexing::is_unit_boundary;
 pub use std::ops::Range;

@@ -1,7 +1,7 @@
 //! The executor that copies its states: as plain as can be, each way still to try a state of its own.
 
-ghost use Rattle.std.specs.Prelude.{◌≡◌, ◌<◌, ◌≤◌, ◌++◌, map, IsTrue, IsAscii, IsSome, IfOk, option_map, ⊤};
-ghost use Rattle.regex_meaning.specs.Text.{ascii_text, utf8_text};
+ghost use Rattle.std.specs.Prelude.{◌≡◌, ◌<◌, ◌≤◌, ◌++◌, map, IsTrue, IsAscii, IsSome, IfOk, None, option_map, ⊤};
+ghost use Rattle.regex_meaning.specs.Text.{ascii_text, ucs2_text, utf16_text, utf8_text};
 ghost use Rattle.regex_meaning.specs.Offsets.{IsBoundary, units};
 ghost use Rattle.regex_pattern_front.specs.TreeOf.{tree_of};
 ghost use Rattle.regress_input.specs.Reading.{way};
@@ -18,13 +18,13 @@ mod states;
 
 use self::actions::take_turn;
 use self::states::{State, Turn, initial_state, resume};
-use regress_exec::exec::{Executor, SearchError, Searcher};
+use regress_exec::exec::{Executor, MatchProducer, SearchError, Searcher};
 use regress_exec::places::Attempts;
 use regress_exec::searched::Searched;
 use regress_input::cursor::{Backward, Forward};
-use regress_input::indexing::{AsciiInput, InputIndexer, Utf8Input};
+use regress_input::indexing::{AsciiInput, InputIndexer, Ucs2Input, Utf8Input, Utf16Input};
 use regress_input::position::PositionType;
-use regress_program::insn::{CompiledRegex, Insn, Program};
+use regress_program::insn::{CompiledRegex, CompiledUnits, Insn, Program};
 use std::alloc::{AllocError, Global};
 
 /// Runs a program over a text by copies of whole states.
@@ -35,6 +35,20 @@ pub struct PikeVMExecutor<'r, Input: InputIndexer> {
     stack: Vec<State<Input::Position>>,
     // those of the last attempt that found an end
     groups: Vec<Option<(Input::Position, Input::Position)>>,
+}
+
+impl<'r, Input: InputIndexer> PikeVMExecutor<'r, Input> {
+    // The executor that has tried nothing yet. It takes no memory.
+    fn over(searched: Searched<'r, Input>) -> Self
+        ensures { result.searched ≡ searched.entry }
+    {
+        let alloc = searched.program.allocator();
+        PikeVMExecutor {
+            searched,
+            stack: Vec::new(alloc),
+            groups: Vec::new(alloc),
+        }
+    }
 }
 
 // One turn in a direction.
@@ -213,12 +227,7 @@ impl<'r, 't> Searcher<'r> for PikeVMExecutor<'r, Utf8Input<'t>> {
     ghost text_of = { λ text. utf8_text text.now };
 
     fn new(re: &'r CompiledRegex, text: &'t str) -> Result<Self, AllocError> {
-        let alloc = re.allocator();
-        Ok(PikeVMExecutor {
-            searched: Searched::in_utf8(re, text),
-            stack: Vec::new(alloc),
-            groups: Vec::new(alloc),
-        })
+        Ok(PikeVMExecutor::over(Searched::in_utf8(re, text)))
     }
 }
 
@@ -235,15 +244,40 @@ impl<'r, 't> Searcher<'r> for PikeVMExecutor<'r, AsciiInput<'t>> {
     ghost text_of = { λ text. ascii_text text.now };
 
     fn new(re: &'r CompiledRegex, text: &'t str) -> Result<Self, AllocError> {
-        let alloc = re.allocator();
-        Ok(PikeVMExecutor {
-            searched: Searched::in_ascii(re, text),
-            stack: Vec::new(alloc),
-            groups: Vec::new(alloc),
-        })
+        Ok(PikeVMExecutor::over(Searched::in_ascii(re, text)))
     }
 }
 
 impl<'r, 't> Executor<'r, 't> for PikeVMExecutor<'r, AsciiInput<'t>> {
     type AsAscii = Self;
+}
+
+impl<'r, 't> PikeVMExecutor<'r, Utf16Input<'t>> {
+    /// Searches a text in UTF-16 with the program `re`.
+    ///
+    /// # Errors
+    ///
+    /// None so far: it takes no memory.
+    pub fn new_utf16(re: &'r CompiledUnits, text: &'t [u16]) -> Result<Self, AllocError>
+        ensures tree { IfOk result (λ e. ⟦<PikeVMExecutor<'r, Utf16Input<'t>> as MatchProducer>⟧.tree e ≡ tree_of re.now) }
+        ensures text { IfOk result (λ e. ⟦<PikeVMExecutor<'r, Utf16Input<'t>> as MatchProducer>⟧.text e ≡ utf16_text text.now (tree_of re.now).flags.unicode) }
+        ensures unlimited { IfOk result (λ e. ⟦<PikeVMExecutor<'r, Utf16Input<'t>> as MatchProducer>⟧.budget e ≡ None) }
+    {
+        Ok(PikeVMExecutor::over(Searched::in_utf16(re, text)))
+    }
+}
+
+impl<'r, 't> PikeVMExecutor<'r, Ucs2Input<'t>> {
+    /// Searches a text in UCS-2 with the program `re`.
+    ///
+    /// # Errors
+    ///
+    /// None so far: it takes no memory.
+    pub fn new_ucs2(re: &'r CompiledUnits, text: &'t [u16]) -> Result<Self, AllocError>
+        ensures tree { IfOk result (λ e. ⟦<PikeVMExecutor<'r, Ucs2Input<'t>> as MatchProducer>⟧.tree e ≡ tree_of re.now) }
+        ensures text { IfOk result (λ e. ⟦<PikeVMExecutor<'r, Ucs2Input<'t>> as MatchProducer>⟧.text e ≡ ucs2_text text.now (tree_of re.now).flags.unicode) }
+        ensures unlimited { IfOk result (λ e. ⟦<PikeVMExecutor<'r, Ucs2Input<'t>> as MatchProducer>⟧.budget e ≡ None) }
+    {
+        Ok(PikeVMExecutor::over(Searched::in_ucs2(re, text)))
+    }
 }

@@ -1,9 +1,10 @@
-//! Why a pattern is not compiled.
+//! Why a pattern is not compiled, and why a text is not replaced.
 
 ghost use Rattle.std.specs.Prelude.{◌≡◌};
 ghost use Rattle.regress_match.specs.Refusals.{of_emit, of_parse};
 
 use regex_pattern_front::parse::ParseError;
+use regress_exec::exec::SearchError;
 use regress_program::emit::EmitError;
 use std::alloc::AllocError;
 
@@ -47,5 +48,35 @@ impl From<EmitError> for Error {
             EmitError::Memory => Error::Memory,
             error => Error::Emit(error),
         }
+    }
+}
+
+/// Why a text is not made of what a closure answers for matches.
+#[derive(Debug, Drop)]
+pub enum ReplaceError<E> {
+    /// The search was refused, or there was no memory for the text.
+    Search(SearchError),
+    /// The closure refused a match.
+    Closure(E),
+}
+
+impl<E> From<SearchError> for ReplaceError<E> {
+    ghost use Rattle.regress_match.specs.declared.api.error.ReplaceError.TheVariants.{Search};
+
+    ghost from_gives = { λ refused e. e ≡ Search refused };
+
+    fn from(error: SearchError) -> Self {
+        ReplaceError::Search(error)
+    }
+}
+
+impl<E> From<AllocError> for ReplaceError<E> {
+    ghost use Rattle.regress_exec.specs.declared.exec.SearchError.TheVariants.{Memory};
+    ghost use Rattle.regress_match.specs.declared.api.error.ReplaceError.TheVariants.{Search};
+
+    ghost from_gives = { λ _ e. e ≡ Search Memory };
+
+    fn from(_: AllocError) -> Self {
+        ReplaceError::Search(SearchError::Memory)
     }
 }

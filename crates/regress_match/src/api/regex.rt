@@ -4,16 +4,16 @@ ghost use Rattle.std.specs.Prelude.{◌≡◌, ◌<◌, ◌⊎◌, IfErr, IfOk, 
 ghost use Rattle.regex_meaning.specs.Flags.{flags_of_text};
 ghost use Rattle.regex_pattern_front.specs.TreeOf.{tree_of};
 ghost use Rattle.regress_exec.specs.Answers.{answer_of};
-ghost use Rattle.regress_match.specs.Refusals.{CanRefuse};
+ghost use Rattle.regress_match.specs.Refusals.{CanRefuse, IsMemory};
 ghost use Rattle.regress_match.specs.Trees.{tree_to_run};
 
 use crate::api::{Error, Flags};
-use crate::backends::{DefaultAsciiExecutor, DefaultExecutor};
+use crate::backends::{DefaultAsciiExecutor, DefaultExecutor, search_from};
 use regex_pattern_front::ir;
 use regex_pattern_front::optimizer::optimize;
 use regex_pattern_front::parse::try_parse;
 use regress_exec::exec;
-use regress_exec::exec::{Match, MatchProducer, SearchError, Searcher};
+use regress_exec::exec::{Match, MatchProducer, SearchError};
 use regress_program::emit::{emit, emit_units};
 use regress_program::insn::{CompiledRegex, CompiledUnits};
 use std::alloc::{AllocError, Global};
@@ -130,13 +130,28 @@ impl Regex {
         self.cr.allocator()
     }
 
+    // What texts in bytes are searched with.
+    pub(crate) fn byte_program(&self) -> &CompiledRegex
+        ensures { result.now ≡ self.now.cr }
+    {
+        &self.cr
+    }
+
+    // What texts of 16-bit units are searched with.
+    pub(super) fn unit_program(&self) -> &CompiledUnits
+        ensures { result.now ≡ self.now.units }
+    {
+        &self.units
+    }
+
     /// The first match in `text`, none exactly where there is none.
     ///
     /// # Errors
     ///
     /// `Memory` where there is no memory for the search.
     pub fn find(&self, text: &str) -> Result<Option<Match>, SearchError>
-        ensures { IfOk result (λ m. option_map answer_of m ≡ slice_get (utf8_answers self.now text.now 0) 0) }
+        ensures first { IfOk result (λ m. option_map answer_of m ≡ slice_get (utf8_answers self.now text.now 0) 0) }
+        ensures refused { IfErr result IsMemory }
     {
         first(self.find_iter(text)?)
     }
@@ -149,6 +164,8 @@ impl Regex {
     pub fn find_iter<'r, 't>(&'r self, text: &'t str) -> Result<Matches<'r, 't>, SearchError>
         ensures answers { IfOk result (λ it. it.answers ≡ utf8_answers self.now text.now 0) }
         ensures live { IfOk result (λ it. it.ended ≡ false) }
+        ensures unlimited { IfOk result (λ it. it.limited ≡ false) }
+        ensures refused { IfErr result IsMemory }
     {
         self.find_from(text, 0)
     }
@@ -169,9 +186,10 @@ impl Regex {
         requires { IsCharBoundary text.now start ⊎ (length text.now < start) }
         ensures answers { IfOk result (λ it. it.answers ≡ utf8_answers self.now text.now start) }
         ensures ended { IfOk result (λ it. it.ended ≡ not (nat_le start (length text.now))) }
+        ensures unlimited { IfOk result (λ it. it.limited ≡ false) }
+        ensures refused { IfErr result IsMemory }
     {
-        let executor = DefaultExecutor::new(&self.cr, text)?;
-        Ok(exec::Matches::new(executor, start))
+        search_from::<DefaultExecutor<'r, 't>>(&self.cr, text, start)
     }
 
     /// The first match in a text of ASCII (`is_ascii`), none exactly where there is none.
@@ -181,7 +199,8 @@ impl Regex {
     /// `Memory` where there is no memory for the search.
     pub fn find_ascii(&self, text: &str) -> Result<Option<Match>, SearchError>
         requires { IsAscii text.now }
-        ensures { IfOk result (λ m. option_map answer_of m ≡ slice_get (ascii_answers self.now text.now 0) 0) }
+        ensures first { IfOk result (λ m. option_map answer_of m ≡ slice_get (ascii_answers self.now text.now 0) 0) }
+        ensures refused { IfErr result IsMemory }
     {
         first(self.find_iter_ascii(text)?)
     }
@@ -198,6 +217,8 @@ impl Regex {
         requires { IsAscii text.now }
         ensures answers { IfOk result (λ it. it.answers ≡ ascii_answers self.now text.now 0) }
         ensures live { IfOk result (λ it. it.ended ≡ false) }
+        ensures unlimited { IfOk result (λ it. it.limited ≡ false) }
+        ensures refused { IfErr result IsMemory }
     {
         self.find_from_ascii(text, 0)
     }
@@ -215,9 +236,10 @@ impl Regex {
         requires { IsAscii text.now }
         ensures answers { IfOk result (λ it. it.answers ≡ ascii_answers self.now text.now start) }
         ensures ended { IfOk result (λ it. it.ended ≡ not (nat_le start (length text.now))) }
+        ensures unlimited { IfOk result (λ it. it.limited ≡ false) }
+        ensures refused { IfErr result IsMemory }
     {
-        let ascii = DefaultAsciiExecutor::new(&self.cr, text)?;
-        Ok(exec::Matches::new(ascii, start))
+        search_from::<DefaultAsciiExecutor<'r, 't>>(&self.cr, text, start)
     }
 }
 
@@ -225,7 +247,8 @@ impl Regex {
 fn first<P: MatchProducer + Drop>(
     mut matches: exec::Matches<P>,
 ) -> Result<Option<Match>, SearchError>
-    ensures { IfOk result (λ m. option_map answer_of m ≡ slice_get matches.answers 0) }
+    ensures first { IfOk result (λ m. option_map answer_of m ≡ slice_get matches.answers 0) }
+    ensures refused { matches.limited ≡ false → IfErr result IsMemory }
 {
     matches.next().transpose()
 }

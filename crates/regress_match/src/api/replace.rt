@@ -1,11 +1,14 @@
 //! Texts with other text in place of matches.
 
-ghost use Rattle.std.specs.Prelude.{◌≡◌, ◌≤◌, ◌++◌, IfOk, IsCharBoundary, drop, slice_range, string_bytes, take};
+ghost use Rattle.std.specs.Prelude.{◌≡◌, ◌≤◌, ◌++◌, IfErr, IfOk, IsCharBoundary, drop, false, slice_range, string_bytes, take};
 ghost use Rattle.regex_meaning.specs.Replace.{replaced};
 ghost use Rattle.regress_exec.specs.Answers.{answer_of};
+ghost use Rattle.regress_match.specs.Laws.{WholeMatchesGiveBack};
 ghost use Rattle.regress_match.specs.Programs.{utf8_answers};
+ghost use Rattle.regress_match.specs.Refusals.{IsMemory};
 ghost use Rattle.regress_match.specs.Replacements.{FitsText, StandFrom, expanded};
 
+mod closures;
 mod expansion;
 
 use crate::api::replace::expansion::expand;
@@ -24,7 +27,8 @@ impl Regex {
     ///
     /// `Memory` where there is no memory for the search or the text.
     pub fn replace(&self, text: &str, replacement: &str) -> Result<String, SearchError>
-        ensures { IfOk result (λ s. string_bytes s ≡ replaced text.now 0 (expanded text.now replacement.now (take 1 (utf8_answers self.now text.now 0)))) }
+        ensures made { IfOk result (λ s. string_bytes s ≡ replaced text.now 0 (expanded text.now replacement.now (take 1 (utf8_answers self.now text.now 0)))) }
+        ensures refused { IfErr result IsMemory }
     {
         expand_first(self.allocator(), self.find_iter(text)?, text, replacement)
     }
@@ -35,11 +39,17 @@ impl Regex {
     ///
     /// `Memory` where there is no memory for the search or the text.
     pub fn replace_all(&self, text: &str, replacement: &str) -> Result<String, SearchError>
-        ensures { IfOk result (λ s. string_bytes s ≡ replaced text.now 0 (expanded text.now replacement.now (utf8_answers self.now text.now 0))) }
+        ensures made { IfOk result (λ s. string_bytes s ≡ replaced text.now 0 (expanded text.now replacement.now (utf8_answers self.now text.now 0))) }
+        ensures refused { IfErr result IsMemory }
     {
         expand_each(self.allocator(), self.find_iter(text)?, text, replacement)
     }
 }
+
+/// Matches replaced by `$0`, the first one or all, give the text back.
+pub fn whole_matches_give_back()
+    ensures { WholeMatchesGiveBack }
+{}
 
 // Writes what stands before a match, and answers where the text goes on behind it.
 fn reach(made: &mut String, text: &str, from: usize, found: &Match) -> Result<usize, AllocError>
@@ -70,7 +80,8 @@ fn expand_first<P: MatchProducer + Drop>(
     replacement: &str,
 ) -> Result<String, SearchError>
     requires { StandFrom text.now 0 matches.answers }
-    ensures { IfOk result (λ s. string_bytes s ≡ replaced text.now 0 (expanded text.now replacement.now (take 1 matches.answers))) }
+    ensures made { IfOk result (λ s. string_bytes s ≡ replaced text.now 0 (expanded text.now replacement.now (take 1 matches.answers))) }
+    ensures refused { matches.limited ≡ false → IfErr result IsMemory }
 {
     let mut made = String::new(alloc);
     let Some(item) = matches.next() else {
@@ -90,7 +101,8 @@ fn expand_each<P: MatchProducer + Drop>(
     replacement: &str,
 ) -> Result<String, SearchError>
     requires { StandFrom text.now 0 matches.answers }
-    ensures { IfOk result (λ s. string_bytes s ≡ replaced text.now 0 (expanded text.now replacement.now matches.answers)) }
+    ensures made { IfOk result (λ s. string_bytes s ≡ replaced text.now 0 (expanded text.now replacement.now matches.answers)) }
+    ensures refused { matches.limited ≡ false → IfErr result IsMemory }
 {
     let mut made = String::new(alloc);
     let mut from = 0;

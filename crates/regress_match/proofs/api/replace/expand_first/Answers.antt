@@ -1,17 +1,16 @@
-use Rattle.std.proofs.Common.{◌≡◌, ◌∙◌, ◌++◌, ap, sym, subst, refl, drop, string_bytes, slice_range, IsCharBoundary, take, []}
+use Rattle.std.proofs.Common.{◌∙◌, ◌++◌, ap, refl, drop, string_bytes, slice_range, take, []}
 use Rattle.std.proofs.lemmas.Str.{IsCharBoundary-start}
 use Rattle.regex_meaning.specs.Replace.{replaced}
 use Rattle.regress_exec.specs.Answers.{answer_of}
-use Rattle.regress_exec.specs.ToCome.{ToCome}
-use Rattle.regress_match.specs.Replacements.{StandFrom, expanded}
+use Rattle.regress_match.specs.Replacements.{expanded}
 use Rattle.regress_match.proofs.Replacing.{gives-ok, stands-first, expanded-more, expanded-end}
 use Rattle.regress_match.proofs.api.replace.expand_first.Goals as goal
 
 pub finish-requires : goal.finish-requires
 finish-requires g c = IsCharBoundary-start c.args.text.now c.utf8.text
 
-pub returns-in_default : goal.returns-in_default
-returns-in_default g c =
+pub returns-in_default-clause-made : goal.returns-in_default-clause-made
+returns-in_default-clause-made g c =
     expanded-end c.args.text.now c.args.replacement.now [] _ _ 0 (take 1 c.args.matches.answers) refl (ap (take 1) c.in_default.ensures.steps.0)
     (c.in_ok-finish.ensures ∙ ap (λ bs. bs ++ drop 0 c.args.text.now) c.new-made.ensures.bytes)
 
@@ -26,8 +25,8 @@ pub reach-requires-clause-fits : goal.reach-requires-clause-fits
 reach-requires-clause-fits g c =
     (stands-first c.args.text.now 0 c.args.matches.answers c.next.new.self.answers (answer_of c.in_ok-found.found) c.requires (gives-ok c.args.matches c.next.new.self _ c.in_ok-found.found c.in-Some.ensures.steps c.in_ok-found.was)).1
 
-pub returns : goal.returns
-returns g c =
+pub returns-clause-made : goal.returns-clause-made
+returns-clause-made g c =
     let next = gives-ok c.args.matches c.next.new.self _ c.in_ok-found.found c.in-Some.ensures.steps c.in_ok-found.was in
     let text = c.args.text.now in
     let replacement = c.args.replacement.now in

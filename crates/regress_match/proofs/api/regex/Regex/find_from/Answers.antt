@@ -1,11 +1,12 @@
-use Rattle.std.proofs.Common.{◌∙◌, ap, nat_le, not}
+use Rattle.std.proofs.Common.{◌∙◌, ap, nat_le, not, refl}
+use Rattle.regress_match.specs.Programs.{byte_tree}
+use Rattle.regress_match.proofs.FlagLemmas.{IfOk-map}
 use Rattle.regress_match.proofs.Starts.{utf8_start, utf8_units}
 use Rattle.regress_match.proofs.api.regex.Regex.find_from.Goals as goal
 
-pub new-requires-2 : goal.new-requires-2
-new-requires-2 c = utf8_start _ c.args.text.now _ c.in_ok-executor.ensures.text c.utf8.text c.args.start c.requires
+pub search_from-requires : goal.search_from-requires
+search_from-requires c = λ lifetimes. ((refl, tt), (tt, utf8_start _ c.args.text.now (byte_tree c.args.self.now).flags.unicode refl c.utf8.text c.args.start c.requires))
 
 pub returns-clause-ended : goal.returns-clause-ended
 returns-clause-ended c =
-    c.new-2.ensures.ended
-    ∙ ap (λ n. not (nat_le c.args.start n)) (utf8_units _ c.args.text.now _ c.in_ok-executor.ensures.text c.utf8.text)
+    IfOk-map c.search_from.result _ _ (λ it e. e ∙ ap (λ n. not (nat_le c.args.start n)) (utf8_units _ c.args.text.now (byte_tree c.args.self.now).flags.unicode refl c.utf8.text)) c.search_from.ensures.ended

@@ -20,7 +20,7 @@ same-branches : (b : Bool) (c : ℕ) → (if b then c else c) ≡ c
 same-branches true c = refl
 same-branches false c = refl
 
-small-scalar : (c : ℕ) → c < 0xD800 → is_scalar c ≡ true
+pub small-scalar : (c : ℕ) → c < 0xD800 → is_scalar c ≡ true
 small-scalar c less = rw (le-leb 0 c (omega arith), le-leb c 0xD7FF (omega arith)) refl
 
 kept : (folded c : ℕ) → is_scalar folded ≡ true → (if is_scalar folded then folded else c) ≡ folded

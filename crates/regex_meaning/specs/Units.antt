@@ -1,12 +1,18 @@
 -- The units in which the characters of a text are spelled.
-use Rattle.std.specs.Prelude.{◌≡◌, ℕ, ◌+◌, ◌-◌, ◌/◌, ◌%◌, List, [], ◌∷◌, length, map, flat_map, if◌then◌else◌, nat_lt, encode_utf8_all}
-use Rattle.regex_meaning.specs.Text.{Text, offsets_from}
+use Rattle.std.specs.Prelude.{◌≡◌, ℕ, ◌+◌, ◌-◌, ◌/◌, ◌%◌, Bool, List, [], ◌∷◌, length, map, flat_map, if◌then◌else◌, nat_lt, encode_utf8_all}
+use Rattle.regex_meaning.specs.Text.{Text, offsets_from, is_scalar}
 
 -- In UTF-8 the units are bytes (ASCII is a part of it); in UTF-16 and UCS-2 they are of 16 bits.
 pub data Encoding : Type 0 where
   utf8 : Encoding
   utf16 : Encoding
   ucs2 : Encoding
+
+-- the numbers that texts of an encoding have as characters
+abbrev pub is_character : Encoding → ℕ → Bool
+is_character utf8 c = is_scalar c
+is_character utf16 c = nat_lt c 0x11_0000
+is_character ucs2 c = nat_lt c 0x1_0000
 
 -- two surrogates, the high one first
 abbrev pub pair_of : ℕ → List ℕ

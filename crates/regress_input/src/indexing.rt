@@ -1,9 +1,10 @@
 //! Inputs: texts that are read a character at a time.
 
 ghost use Rattle.std.specs.Prelude.{◌≡◌, ◌<◌, ◌≤◌, ◌^◌, option_map, IfSome, IfNone, IsTrue, Some, slice_get};
+ghost use Rattle.std.specs.List.{list_all};
 ghost use Rattle.regex_meaning.specs.Text.{Text, rightwards, leftwards};
 ghost use Rattle.regex_meaning.specs.Offsets.{IsText, IsBoundary, units, read};
-ghost use Rattle.regex_meaning.specs.Units.{units_in, IsSpelledIn};
+ghost use Rattle.regex_meaning.specs.Units.{units_in, IsSpelledIn, is_character};
 ghost use Rattle.regress_input.specs.Reading.{way, led_to, same_fold, character, past as past_character, past_range, part, IsReadBack, units_on};
 ghost use Rattle.regress_input.specs.Reading.{bytes_of, bytes_if, IsInUtf8, byte_beside, past_bytes, where_bytes, IsFoundFrom};
 
@@ -108,6 +109,8 @@ pub trait InputIndexer: Copy + Debug + UnitsAre {
     ghost offsets_fit: { (it : Self) → units (text it) < 2 ^ 63 };
 
     ghost spelled: { (it : Self) → IsSpelledIn Self.Units.encoding (text it) };
+
+    ghost characters: { (it : Self) → IsTrue (list_all (is_character Self.Units.encoding) (text it).characters) };
 
     // Where units are bytes, they are those of UTF-8.
     ghost in_utf8: { (it : Self) → IsTrue Self.Units.ARE_BYTES → IsInUtf8 (text it) };

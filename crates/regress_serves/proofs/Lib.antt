@@ -11,6 +11,5 @@ pub mod Runs
 pub mod Loops
 pub mod Looks
 pub mod Ends
-pub mod Texts
 pub mod Checks
 pub mod Arms

@@ -3,6 +3,7 @@
 ghost use Rattle.std.specs.Prelude.{◌≡◌, ◌<◌, ◌^◌, nat_le, ℕ, length, IsAscii};
 ghost use Rattle.std.proofs.Common.{rules};
 ghost use Rattle.regex_meaning.specs.Text.{ascii_text, fold_ascii};
+ghost use Rattle.regex_meaning.proofs.CharactersIn.{ascii-characters};
 ghost use Rattle.regex_meaning.proofs.TextLemmas.{ascii_text-IsText};
 ghost use Rattle.regress_input.specs.InUtf8.{ascii_text-IsInUtf8};
 ghost use Rattle.regress_input.specs.Spellings.{ascii_text-IsSpelled, ascii_text-fits};
@@ -91,6 +92,8 @@ impl<'a> InputIndexer for AsciiInput<'a> {
     ghost offsets_fit = { λ it. ascii_text-fits it.input.now it.unicode it.fits };
 
     ghost spelled = { λ it. ascii_text-IsSpelled it.input.now it.unicode it.is_ascii };
+
+    ghost characters = { λ it. ascii-characters it.input.now it.is_ascii };
 
     ghost in_utf8 = { λ it _. ascii_text-IsInUtf8 it.input.now it.unicode it.is_ascii };
 

@@ -3,7 +3,9 @@
 ghost use Rattle.std.specs.Prelude.{◌≡◌, ◌<◌, ◌*◌, ◌^◌, ℕ, true, length};
 ghost use Rattle.std.proofs.Common.{rules};
 ghost use Rattle.regex_meaning.specs.Text.{ucs2_text, fold_code_point};
+ghost use Rattle.regex_meaning.proofs.CharactersIn.{ucs2-characters};
 ghost use Rattle.regex_meaning.proofs.TextLemmas.{ucs2_text-IsText};
+ghost use Rattle.regress_input.specs.Utf16.{AreUnits};
 ghost use Rattle.regress_input.specs.Reading.{no_bytes};
 ghost use Rattle.regress_input.specs.Spellings.{ucs2_text-IsSpelled, ucs2_text-fits};
 
@@ -53,6 +55,7 @@ pub struct Ucs2Input<'a> {
     unicode: bool,
     ghost fits: { length input.now < 2 ^ 63 },
     ghost sized: { length input.now * 2 < 2 ^ 63 },
+    ghost small: { AreUnits input.now },
 }
 
 impl<'a> Ucs2Input<'a> {
@@ -83,6 +86,8 @@ impl<'a> InputIndexer for Ucs2Input<'a> {
     ghost offsets_fit = { λ it. ucs2_text-fits it.input.now it.unicode it.fits };
 
     ghost spelled = { λ it. ucs2_text-IsSpelled it.input.now it.unicode };
+
+    ghost characters = { λ it. ucs2-characters it.input.now it.small };
 
     ghost in_utf8 = { λ it bytes. no_bytes bytes };
 

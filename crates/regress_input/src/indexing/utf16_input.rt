@@ -2,6 +2,7 @@
 
 ghost use Rattle.std.specs.Prelude.{◌≡◌, ◌<◌, ◌*◌, ◌^◌, length};
 ghost use Rattle.regex_meaning.specs.Text.{utf16_text};
+ghost use Rattle.regex_meaning.proofs.CharactersIn.{utf16-characters};
 ghost use Rattle.regex_meaning.proofs.TextLemmas.{utf16_text-IsText};
 ghost use Rattle.regress_input.specs.Utf16.{AreUnits};
 ghost use Rattle.regress_input.specs.Reading.{no_bytes};
@@ -49,6 +50,8 @@ impl<'a> InputIndexer for Utf16Input<'a> {
     ghost offsets_fit = { λ it. utf16_text-fits it.input.now it.unicode it.small it.fits };
 
     ghost spelled = { λ it. utf16_text-IsSpelled it.input.now it.unicode };
+
+    ghost characters = { λ it. utf16-characters it.input.now it.small };
 
     ghost in_utf8 = { λ it bytes. no_bytes bytes };
 

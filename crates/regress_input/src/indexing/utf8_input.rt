@@ -2,6 +2,7 @@
 
 ghost use Rattle.std.specs.Prelude.{◌≡◌, ◌<◌, ◌^◌, ◌==◌, ℕ, length, IsUtf8};
 ghost use Rattle.regex_meaning.specs.Text.{utf8_text, is_scalar, fold_char};
+ghost use Rattle.regex_meaning.proofs.CharactersIn.{utf8-characters};
 ghost use Rattle.regex_meaning.proofs.TextLemmas.{utf8_text-IsText};
 ghost use Rattle.std.proofs.Common.{rules};
 ghost use Rattle.regress_input.specs.InUtf8.{utf8_text-IsInUtf8};
@@ -83,6 +84,8 @@ impl<'a> InputIndexer for Utf8Input<'a> {
     ghost offsets_fit = { λ it. utf8_text-fits it.input.now it.unicode it.is_utf8 it.fits };
 
     ghost spelled = { λ it. utf8_text-IsSpelled it.input.now it.unicode };
+
+    ghost characters = { λ it. utf8-characters it.input.now it.is_utf8 };
 
     ghost in_utf8 = { λ it _. utf8_text-IsInUtf8 it.input.now it.unicode it.is_utf8 };
 

@@ -1,6 +1,6 @@
 //! What an executor searches, and with which program.
 
-ghost use Rattle.std.specs.Prelude.{◌≡◌, IsAscii, IsTrue, IsSome, false, option_map};
+ghost use Rattle.std.specs.Prelude.{◌≡◌, ◌+◌, IsAscii, IsTrue, IsSome, false, option_map};
 ghost use Rattle.std.specs.Option.{option_map_or};
 ghost use Rattle.regex_meaning.specs.Text.{ascii_text, ucs2_text, utf16_text, utf8_text};
 ghost use Rattle.regex_meaning.specs.WellFormed.{is_well_formed};
@@ -8,7 +8,8 @@ ghost use Rattle.regex_pattern_front.specs.TreeOf.{tree_of};
 ghost use Rattle.regress_program.specs.Code.{compiled};
 ghost use Rattle.regress_program.specs.Insns.{start_of};
 ghost use Rattle.regress_machine.specs.Bytes.{ReadsBytes, reads_bytes};
-ghost use Rattle.regress_exec.specs.Attempts.{anchors};
+ghost use Rattle.regex_meaning.specs.Offsets.{IsBoundary};
+ghost use Rattle.regress_exec.specs.Attempts.{anchors, IsNextTry, tried_next};
 ghost use Rattle.regress_exec.specs.Passing.{IsInBytes};
 
 use regress_input::indexing::{AsciiInput, InputIndexer, Ucs2Input, Utf8Input, Utf16Input};
@@ -37,11 +38,39 @@ impl<'r, Input: InputIndexer> Searched<'r, Input> {
     {
         matches!(self.start_pred, Some(StartPredicate::StartAnchored))
     }
+
+    /// The position to try behind one that was tried in vain: none where it is known that matches stand at the left end
+    /// alone, else one character on.
+    #[inline(always)]
+    pub fn next_try(&self, tried: Input::Position) -> Option<Input::Position>
+        requires { IsBoundary (Input.text self.now.input) (Input.Position.offset tried) }
+        ensures { IsNextTry (tree_of self.now.program.now) (Input.text self.now.input) (Input.Position.offset tried + 1) (option_map Input.Position.offset result) }
+    {
+        behind_tried(&self.input, self.is_anchored(), tried)
+    }
+}
+
+// The position behind one that was tried in vain.
+#[inline(always)]
+fn behind_tried<Input: InputIndexer>(
+    input: &Input,
+    anchored: bool,
+    tried: Input::Position,
+) -> Option<Input::Position>
+    requires { IsBoundary (Input.text input.now) (Input.Position.offset tried) }
+    ensures { option_map Input.Position.offset result ≡ tried_next anchored (Input.text input.now) (Input.Position.offset tried) }
+{
+    if anchored {
+        None
+    } else {
+        input.next_right_pos(tried)
+    }
 }
 
 impl<'r, 't> Searched<'r, Utf8Input<'t>> {
     /// A program over a text in UTF-8.
     pub fn in_utf8(re: &'r CompiledRegex, text: &'t str) -> Self
+        ensures same { result.program.now ≡ re.now }
         ensures program { tree_of result.program.now ≡ tree_of re.now }
         ensures text { ⟦<Utf8Input<'t> as InputIndexer>⟧.text result.input ≡ utf8_text text.now (tree_of re.now).flags.unicode }
     {
@@ -60,6 +89,7 @@ impl<'r, 't> Searched<'r, AsciiInput<'t>> {
     /// A program over a text of ASCII (`is_ascii` is the test).
     pub fn in_ascii(re: &'r CompiledRegex, text: &'t str) -> Self
         requires { IsAscii text.now }
+        ensures same { result.program.now ≡ re.now }
         ensures program { tree_of result.program.now ≡ tree_of re.now }
         ensures text { ⟦<AsciiInput<'t> as InputIndexer>⟧.text result.input ≡ ascii_text text.now (tree_of re.now).flags.unicode }
     {
@@ -77,6 +107,7 @@ impl<'r, 't> Searched<'r, AsciiInput<'t>> {
 impl<'r, 't> Searched<'r, Utf16Input<'t>> {
     /// A program for 16-bit units over a text in UTF-16.
     pub fn in_utf16(re: &'r CompiledUnits, text: &'t [u16]) -> Self
+        ensures same { result.program.now ≡ re.now }
         ensures program { tree_of result.program.now ≡ tree_of re.now }
         ensures text { ⟦<Utf16Input<'t> as InputIndexer>⟧.text result.input ≡ utf16_text text.now (tree_of re.now).flags.unicode }
     {
@@ -94,6 +125,7 @@ impl<'r, 't> Searched<'r, Utf16Input<'t>> {
 impl<'r, 't> Searched<'r, Ucs2Input<'t>> {
     /// A program for 16-bit units over a text in UCS-2.
     pub fn in_ucs2(re: &'r CompiledUnits, text: &'t [u16]) -> Self
+        ensures same { result.program.now ≡ re.now }
         ensures program { tree_of result.program.now ≡ tree_of re.now }
         ensures text { ⟦<Ucs2Input<'t> as InputIndexer>⟧.text result.input ≡ ucs2_text text.now (tree_of re.now).flags.unicode }
     {

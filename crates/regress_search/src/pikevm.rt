@@ -9,7 +9,7 @@ ghost use Rattle.regress_program.specs.Code.{compiled};
 ghost use Rattle.regress_program.specs.Insns.{insn_of};
 ghost use Rattle.regress_machine.specs.Machine.{act, in_turn};
 ghost use Rattle.regress_machine.specs.Finds.{end_of};
-ghost use Rattle.regress_exec.specs.Attempts.{end_from, search_from, tried_next};
+ghost use Rattle.regress_exec.specs.Attempts.{end_from, search_from};
 ghost use Rattle.regress_machine.specs.Turns.{end_of_search, CanTake};
 ghost use Rattle.regress_search.specs.States.{groups_of, state_of, next_of, running_of, waiting_of, preferred_last, TakesUp};
 
@@ -152,23 +152,6 @@ fn preferred_end<Input: InputIndexer>(
     Ok(end)
 }
 
-// The position to try behind one without a match: none where matches stand at the left end alone.
-#[inline(always)]
-fn next_try<Input: InputIndexer>(
-    input: &Input,
-    anchored: bool,
-    pos: Input::Position,
-) -> Option<Input::Position>
-    requires { IsBoundary (Input.text input.now) (Input.Position.offset pos) }
-    ensures { option_map Input.Position.offset result ≡ tried_next anchored (Input.text input.now) (Input.Position.offset pos) }
-{
-    if anchored {
-        None
-    } else {
-        input.next_right_pos(pos)
-    }
-}
-
 impl<'r, Input: InputIndexer> Attempts for PikeVMExecutor<'r, Input> {
     type Input = Input;
 
@@ -215,7 +198,7 @@ impl<'r, Input: InputIndexer> Attempts for PikeVMExecutor<'r, Input> {
     }
 
     fn place_behind(&self, tried: Input::Position) -> Option<Input::Position> {
-        next_try(&self.searched.input, self.searched.is_anchored(), tried)
+        self.searched.next_try(tried)
     }
 }
 

@@ -28,7 +28,7 @@ pub struct BacktrackExecutor<'r, Input: InputIndexer> {
 impl<'r, Input: InputIndexer> Attempts for BacktrackExecutor<'r, Input> {
     type Input = Input;
 
-    ghost tree = { λ e. tree_of e.search.searched.program.now };
+    ghost tree = { λ e. tree_of e.search.program.regex };
 
     ghost text = { λ e. Input.text e.search.searched.input };
 
@@ -49,7 +49,8 @@ impl<'r, Input: InputIndexer> Attempts for BacktrackExecutor<'r, Input> {
         let (groups, loops) = self.search.program.slots();
         self.memory.begin(groups, loops, at)?;
         let start = Here { ip: 0, pos };
-        match run(&self.search, true, start, &mut self.memory, &mut Free) {
+        let mut steps = Free;
+        match run(&self.search, true, start, &mut self.memory, &mut steps) {
             Ok(end) => Ok(end),
             Err(Stop) => Err(SearchError::Memory),
         }

@@ -3,6 +3,7 @@
 
 pub mod back;
 pub mod characters;
+pub mod classicalbacktrack;
 pub mod groups;
 pub mod here;
 pub mod loops;

@@ -279,6 +279,15 @@ impl Memory {
         self.slots[id].number
     }
 
+    /// How many groups there are.
+    #[inline(always)]
+    pub fn group_count(&self) -> usize
+        ensures groups { result ≡ self.now.groups }
+        ensures length { result ≡ length (state_of self.now 0 0).groups }
+    {
+        self.groups
+    }
+
     /// A group's range, if it has one.
     #[inline(always)]
     pub fn range_of(&self, id: usize) -> Option<(usize, usize)>

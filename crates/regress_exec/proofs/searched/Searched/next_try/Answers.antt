@@ -4,15 +4,15 @@ use Rattle.regress_program.specs.Code.{compiled}
 use Rattle.regress_program.specs.Insns.{start_of}
 use Rattle.regress_exec.specs.Attempts.{IsNextTry}
 use Rattle.regress_exec.proofs.Anchored.{anchored-behind, anchored-by, predicate-compiled, tried-behind}
-use Rattle.regress_search.proofs.pikevm.PikeVMExecutorAttempts.place_behind.Goals as goal
+use Rattle.regress_exec.proofs.searched.Searched.next_try.Goals as goal
 
-pub returns-clause-next : goal.returns-clause-next
-returns-clause-next g c =
-    let searched = c.args.self.now.searched in
+pub returns : goal.returns
+returns g c =
+    let searched = c.args.self.now in
     let tree = tree_of searched.program.now in
     let text = g.Input.InputIndexer.text searched.input in
     let is = g.met.Input.InputIndexer.is_text searched.input in
     let at = g.Input.Position.PositionType.offset c.args.tried in
-    subst (IsNextTry tree text (at + 1)) (sym c.next_try.ensures) (tried-behind tree text is at c.is_anchored.result (λ e.
+    subst (IsNextTry tree text (at + 1)) (sym c.behind_tried.ensures) (tried-behind tree text is at c.is_anchored.result (λ e.
     let known = anchored-by searched.start_pred (λ p. start_of p.now) (compiled tree).start_pred c.is_anchored.result c.is_anchored.ensures searched.predicted e in
-    anchored-behind tree text is searched.well_formed (searched.scalars known.1).scalars (sym (predicate-compiled tree) ∙ known.0) at) c.requires.at)
+    anchored-behind tree text is searched.well_formed (searched.scalars known.1).scalars (sym (predicate-compiled tree) ∙ known.0) at) c.requires)

@@ -1,6 +1,6 @@
 -- The tree of a node with a list.
 pub use Rattle.regex_pattern_front.proofs.NodeLemmas.{node_of-Cat}
-use Rattle.std.proofs.Common.{◌≡◌, ℕ, ◌+◌, ◌<◌, ◌-◌, ◌^◌, min, suc, true, false, List, [], ◌∷◌, length, slice_get, Some, None, get_or, drop, drop-cons, add-one, sym, ap, ◌∙◌, refl, arith}
+use Rattle.std.proofs.Common.{◌≡◌, ℕ, ◌+◌, ◌<◌, ◌-◌, suc, true, false, List, [], ◌∷◌, length, slice_get, Some, None, get_or, drop, drop-cons, add-one, sym, ap, ◌∙◌, refl, arith}
 use Rattle.regex_meaning.specs.Tree as tree
 use Rattle.regex_pattern_front.specs.TreeOf.{node_of}
 use Rattle.regex_pattern_front.specs.declared.ir.Node.{Node}
@@ -42,11 +42,6 @@ no_leaf (n ∷ nodes) h = cc
 pub own_size-cat_of : (nodes : List Node) → own_size (cat_of nodes) ≡ 0
 own_size-cat_of [] = refl
 own_size-cat_of (n ∷ nodes) = refl
-
--- a count that nothing was added to before the rest was
-pub counted-none : (before none between after rest all : ℕ) → none ≡ min 0 (2 ^ 64 - 1) → between ≡ min (before + none) (2 ^ 64 - 1)
-    → min after (2 ^ 64 - 1) ≡ min (between + rest) (2 ^ 64 - 1) → all ≡ rest → min after (2 ^ 64 - 1) ≡ min (before + all) (2 ^ 64 - 1)
-counted-none before none between after rest all e f g h = omega (arith, e, f, g, h)
 
 -- a row is no one character
 pub is_one_character-cat_of : (nodes : List Node) → is_one_character (cat_of nodes) ≡ false

@@ -66,15 +66,6 @@ walked-passes test (loop q start_group end_group loopee) s = both_pass (tested t
 walked-passes test (loop_1_char_body q loopee) s = both_pass (tested test (loop_1_char_body q loopee)) (walked (tested test) loopee) s (test s (loop_1_char_body q loopee)) (every (test s) loopee) refl (walked-passes test loopee s)
 walked-passes test _ s = refl
 
--- a test that rows pass
-pub row-passes : {S : Type 0} (test : Node → Bool) → ((first rest : Node) → test (cat first rest) ≡ true) → test end_of_cat ≡ true
-    → (nodes : List declared.Node) (n : Node) (s : S) → n ≡ cat_of nodes → Some s ≡ passes (test n) s
-row-passes test rows ends nodes n s e = ap (λ b. passes b s) (sym (ap test e ∙ of_nodes nodes))
-  where
-    of_nodes : (ns : List declared.Node) → test (cat_of ns) ≡ true
-    of_nodes [] = ends
-    of_nodes (m ∷ ms) = rows _ (cat_of ms)
-
 went-on : {S : Type 0} (b : Bool) (s : S) → is_some (passes b s) ≡ b
 went-on false s = refl
 went-on true s = refl

@@ -1,6 +1,6 @@
 //! The executor that keeps one state and undoes its changes.
 
-ghost use Rattle.std.specs.Prelude.{◌≡◌, ◌<◌, IsAscii, IfOk, ⊤};
+ghost use Rattle.std.specs.Prelude.{◌≡◌, ◌<◌, IsAscii, IfOk, None, ⊤};
 ghost use Rattle.regex_meaning.specs.Text.{ascii_text, utf8_text, utf16_text, ucs2_text};
 ghost use Rattle.regex_pattern_front.specs.TreeOf.{tree_of};
 ghost use Rattle.regress_undo.specs.Memory.{state_of};
@@ -10,7 +10,7 @@ use crate::memory::Memory;
 use crate::planned::{PlannedProgram, PlannedSearch};
 use crate::run::run;
 use crate::steps::{Free, Stop};
-use regress_exec::exec::{Executor, SearchError, Searcher};
+use regress_exec::exec::{Executor, MatchProducer, SearchError, Searcher};
 use regress_exec::places::Attempts;
 use regress_exec::searched::Searched;
 use regress_input::indexing::{AsciiInput, InputIndexer, Ucs2Input, Utf8Input, Utf16Input};
@@ -81,14 +81,16 @@ impl<'r, Input: InputIndexer> Attempts for BacktrackExecutor<'r, Input> {
 impl<'r, 't> BacktrackExecutor<'r, Utf16Input<'t>> {
     /// Searches 16-bit units, read as UTF-16, with the program `re`.
     pub fn new_utf16(re: &'r CompiledUnits, text: &'t [u16]) -> Result<Self, AllocError>
-        ensures tree { IfOk result (λ e. Self.tree e ≡ tree_of re.now) }
-        ensures text { IfOk result (λ e. Self.text e ≡ utf16_text text.now (tree_of re.now).flags.unicode) }
+        ensures tree { IfOk result (λ e. ⟦<BacktrackExecutor<'r, Utf16Input<'t>> as MatchProducer>⟧.tree e ≡ tree_of re.now) }
+        ensures text { IfOk result (λ e. ⟦<BacktrackExecutor<'r, Utf16Input<'t>> as MatchProducer>⟧.text e ≡ utf16_text text.now (tree_of re.now).flags.unicode) }
+        ensures unlimited { IfOk result (λ e. ⟦<BacktrackExecutor<'r, Utf16Input<'t>> as MatchProducer>⟧.budget e ≡ None) }
     {
+        let search = PlannedSearch::new(
+            PlannedProgram::for_units(re),
+            Searched::in_utf16(re, text),
+        );
         Ok(BacktrackExecutor {
-            search: PlannedSearch {
-                program: PlannedProgram::for_units(re),
-                searched: Searched::in_utf16(re, text),
-            },
+            search,
             memory: Memory::new(re.allocator()),
         })
     }
@@ -97,14 +99,16 @@ impl<'r, 't> BacktrackExecutor<'r, Utf16Input<'t>> {
 impl<'r, 't> BacktrackExecutor<'r, Ucs2Input<'t>> {
     /// Searches 16-bit units, each of which is a character, with the program `re`.
     pub fn new_ucs2(re: &'r CompiledUnits, text: &'t [u16]) -> Result<Self, AllocError>
-        ensures tree { IfOk result (λ e. Self.tree e ≡ tree_of re.now) }
-        ensures text { IfOk result (λ e. Self.text e ≡ ucs2_text text.now (tree_of re.now).flags.unicode) }
+        ensures tree { IfOk result (λ e. ⟦<BacktrackExecutor<'r, Ucs2Input<'t>> as MatchProducer>⟧.tree e ≡ tree_of re.now) }
+        ensures text { IfOk result (λ e. ⟦<BacktrackExecutor<'r, Ucs2Input<'t>> as MatchProducer>⟧.text e ≡ ucs2_text text.now (tree_of re.now).flags.unicode) }
+        ensures unlimited { IfOk result (λ e. ⟦<BacktrackExecutor<'r, Ucs2Input<'t>> as MatchProducer>⟧.budget e ≡ None) }
     {
+        let search = PlannedSearch::new(
+            PlannedProgram::for_units(re),
+            Searched::in_ucs2(re, text),
+        );
         Ok(BacktrackExecutor {
-            search: PlannedSearch {
-                program: PlannedProgram::for_units(re),
-                searched: Searched::in_ucs2(re, text),
-            },
+            search,
             memory: Memory::new(re.allocator()),
         })
     }
@@ -118,11 +122,12 @@ impl<'r, 't> Searcher<'r> for BacktrackExecutor<'r, Utf8Input<'t>> {
     ghost text_of = { λ text. utf8_text text.now };
 
     fn new(re: &'r CompiledRegex, text: &'t str) -> Result<Self, AllocError> {
+        let search = PlannedSearch::new(
+            PlannedProgram::for_bytes(re),
+            Searched::in_utf8(re, text),
+        );
         Ok(BacktrackExecutor {
-            search: PlannedSearch {
-                program: PlannedProgram::for_bytes(re),
-                searched: Searched::in_utf8(re, text),
-            },
+            search,
             memory: Memory::new(re.allocator()),
         })
     }
@@ -141,11 +146,12 @@ impl<'r, 't> Searcher<'r> for BacktrackExecutor<'r, AsciiInput<'t>> {
     ghost text_of = { λ text. ascii_text text.now };
 
     fn new(re: &'r CompiledRegex, text: &'t str) -> Result<Self, AllocError> {
+        let search = PlannedSearch::new(
+            PlannedProgram::for_bytes(re),
+            Searched::in_ascii(re, text),
+        );
         Ok(BacktrackExecutor {
-            search: PlannedSearch {
-                program: PlannedProgram::for_bytes(re),
-                searched: Searched::in_ascii(re, text),
-            },
+            search,
             memory: Memory::new(re.allocator()),
         })
     }

@@ -103,10 +103,7 @@ impl<'r, 't> BacktrackExecutor<'r, Ucs2Input<'t>> {
         ensures text { IfOk result (λ e. ⟦<BacktrackExecutor<'r, Ucs2Input<'t>> as MatchProducer>⟧.text e ≡ ucs2_text text.now (tree_of re.now).flags.unicode) }
         ensures unlimited { IfOk result (λ e. ⟦<BacktrackExecutor<'r, Ucs2Input<'t>> as MatchProducer>⟧.budget e ≡ None) }
     {
-        let search = PlannedSearch::new(
-            PlannedProgram::for_units(re),
-            Searched::in_ucs2(re, text),
-        );
+        let search = PlannedSearch::new(PlannedProgram::for_units(re), Searched::in_ucs2(re, text));
         Ok(BacktrackExecutor {
             search,
             memory: Memory::new(re.allocator()),
@@ -122,10 +119,7 @@ impl<'r, 't> Searcher<'r> for BacktrackExecutor<'r, Utf8Input<'t>> {
     ghost text_of = { λ text. utf8_text text.now };
 
     fn new(re: &'r CompiledRegex, text: &'t str) -> Result<Self, AllocError> {
-        let search = PlannedSearch::new(
-            PlannedProgram::for_bytes(re),
-            Searched::in_utf8(re, text),
-        );
+        let search = PlannedSearch::new(PlannedProgram::for_bytes(re), Searched::in_utf8(re, text));
         Ok(BacktrackExecutor {
             search,
             memory: Memory::new(re.allocator()),

@@ -18,16 +18,16 @@ pub use regress_search::pikevm::PikeVMExecutor;
 pub use regress_undo::classicalbacktrack::BacktrackExecutor;
 
 /// What searches texts in UTF-8.
-pub type DefaultExecutor<'r, 't> = PikeVMExecutor<'r, Utf8Input<'t>>;
+pub type DefaultExecutor<'r, 't> = BacktrackExecutor<'r, Utf8Input<'t>>;
 
 /// What searches texts of ASCII.
-pub type DefaultAsciiExecutor<'r, 't> = PikeVMExecutor<'r, AsciiInput<'t>>;
+pub type DefaultAsciiExecutor<'r, 't> = BacktrackExecutor<'r, AsciiInput<'t>>;
 
 /// What searches texts in UTF-16.
-pub type DefaultUtf16Executor<'r, 't> = PikeVMExecutor<'r, Utf16Input<'t>>;
+pub type DefaultUtf16Executor<'r, 't> = BacktrackExecutor<'r, Utf16Input<'t>>;
 
 /// What searches texts in UCS-2.
-pub type DefaultUcs2Executor<'r, 't> = PikeVMExecutor<'r, Ucs2Input<'t>>;
+pub type DefaultUcs2Executor<'r, 't> = BacktrackExecutor<'r, Ucs2Input<'t>>;
 
 // The matches from an offset on, as `S` finds them with this program.
 pub(crate) fn search_from<'r, S: Searcher<'r>>(

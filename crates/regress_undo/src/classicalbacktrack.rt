@@ -23,6 +23,9 @@ pub struct BacktrackExecutor<'r, Input: InputIndexer> {
     search: PlannedSearch<'r, Input>,
     // with the groups of the last attempt that found an end
     memory: Memory,
+    // Where the last attempt began. A position shows the text's lifetime in this type, which calls that are generic in
+    // the executor need to have.
+    tried: Option<Input::Position>,
 }
 
 impl<'r, Input: InputIndexer> Attempts for BacktrackExecutor<'r, Input> {
@@ -45,6 +48,7 @@ impl<'r, Input: InputIndexer> Attempts for BacktrackExecutor<'r, Input> {
     }
 
     fn attempt(&mut self, pos: Input::Position) -> Result<Option<Input::Position>, SearchError> {
+        self.tried = Some(pos);
         let at = self.search.searched.input.pos_to_offset(pos);
         let (groups, loops) = self.search.program.slots();
         self.memory.begin(groups, loops, at)?;
@@ -92,6 +96,7 @@ impl<'r, 't> BacktrackExecutor<'r, Utf16Input<'t>> {
         Ok(BacktrackExecutor {
             search,
             memory: Memory::new(re.allocator()),
+            tried: None,
         })
     }
 }
@@ -107,6 +112,7 @@ impl<'r, 't> BacktrackExecutor<'r, Ucs2Input<'t>> {
         Ok(BacktrackExecutor {
             search,
             memory: Memory::new(re.allocator()),
+            tried: None,
         })
     }
 }
@@ -123,6 +129,7 @@ impl<'r, 't> Searcher<'r> for BacktrackExecutor<'r, Utf8Input<'t>> {
         Ok(BacktrackExecutor {
             search,
             memory: Memory::new(re.allocator()),
+            tried: None,
         })
     }
 }
@@ -147,6 +154,7 @@ impl<'r, 't> Searcher<'r> for BacktrackExecutor<'r, AsciiInput<'t>> {
         Ok(BacktrackExecutor {
             search,
             memory: Memory::new(re.allocator()),
+            tried: None,
         })
     }
 }

@@ -4,10 +4,10 @@ use crate::lines::write_all;
 use crate::starts::is_start;
 use regex_pattern_front::ir::Regex;
 use regress_input::indexing::Utf8Input;
+use regress_match::backends::BacktrackExecutor;
 use regress_program::emit::emit;
 use regress_program::insn::CompiledRegex;
 use regress_search::exec::{Matches, SearchError, Searcher};
-use regress_search::pikevm::PikeVMExecutor;
 use regress_trees::tree_of;
 use std::alloc::Global;
 
@@ -21,7 +21,7 @@ fn write_from(
     if !is_start(text, start) {
         return Ok(line.push_str("no start")?);
     }
-    let executor = PikeVMExecutor::<Utf8Input>::new(re, text)?;
+    let executor = BacktrackExecutor::<Utf8Input>::new(re, text)?;
     write_all(line, &mut Matches::new(executor, start))
 }
 

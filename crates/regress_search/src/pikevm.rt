@@ -4,16 +4,16 @@ ghost use Rattle.std.specs.Prelude.{◌≡◌, ◌<◌, ◌≤◌, ◌++◌, map
 ghost use Rattle.regex_meaning.specs.Text.{ascii_text, ucs2_text, utf16_text, utf8_text};
 ghost use Rattle.regex_meaning.specs.Offsets.{IsBoundary, units};
 ghost use Rattle.regex_pattern_front.specs.TreeOf.{tree_of};
-ghost use Rattle.regress_input.specs.Reading.{way};
 ghost use Rattle.regress_program.specs.Code.{compiled};
 ghost use Rattle.regress_program.specs.Insns.{insn_of};
-ghost use Rattle.regress_machine.specs.Machine.{act, in_turn};
-ghost use Rattle.regress_machine.specs.Finds.{end_of};
-ghost use Rattle.regress_exec.specs.Attempts.{end_from, search_from};
-ghost use Rattle.regress_machine.specs.Turns.{end_of_search, CanTake};
-ghost use Rattle.regress_search.specs.States.{groups_of, state_of, next_of, running_of, waiting_of, preferred_last, TakesUp};
+ghost use Rattle.regress_machine.specs.Machine.{in_turn};
+ghost use Rattle.regress_exec.specs.Attempts.{end_from};
+ghost use Rattle.regress_machine.specs.Turns.{CanTake};
+ghost use Rattle.regress_search.specs.Acting.{end_with, search_at, turn_at, HasRun};
+ghost use Rattle.regress_search.specs.States.{groups_of, next_of, waiting_of, in_hand, preferred_last, TakesUp};
 
 mod actions;
+mod runs;
 mod states;
 
 use self::actions::take_turn;
@@ -60,9 +60,9 @@ fn turn_in<Input: InputIndexer>(
     state: State<Input::Position>,
 ) -> Result<Turn<Input::Position>, AllocError>
     requires code { map insn_of insns.now ≡ (compiled (tree_of searched.now.program.now)).insns }
-    requires can { CanTake (act (compiled (tree_of searched.now.program.now)) (Input.text searched.now.input) (way forward) (state_of Input.Position.offset state)) }
+    requires can { CanTake (turn_at Input.Position.offset searched.now.program.now (Input.text searched.now.input) forward state) }
     requires inside { Input.Position.offset state.pos ≤ units (Input.text searched.now.input) }
-    ensures { IfOk result (λ t. next_of Input.Position.offset t ≡ act (compiled (tree_of searched.now.program.now)) (Input.text searched.now.input) (way forward) (state_of Input.Position.offset state)) }
+    ensures { IfOk result (λ t. next_of Input.Position.offset t ≡ turn_at Input.Position.offset searched.now.program.now (Input.text searched.now.input) forward state) }
 {
     if forward {
         take_turn(searched, insns, Forward, state)
@@ -74,7 +74,7 @@ fn turn_in<Input: InputIndexer>(
 // The state in hand, or else the last one of the stack.
 #[inline(always)]
 fn take_up<P: PositionType>(next: Option<State<P>>, stack: &mut Vec<State<P>>) -> Option<State<P>>
-    ensures { TakesUp P.offset (running_of P.offset next ++ waiting_of P.offset stack.old.items) result stack.new.items }
+    ensures { TakesUp P.offset (in_hand P.offset next stack.old.items) result stack.new.items }
 {
     match next {
         Some(state) => Some(state),
@@ -87,7 +87,7 @@ fn take_scanned<P: PositionType>(
     mut states: Vec<State<P>>,
     stack: &mut Vec<State<P>>,
 ) -> Result<Option<State<P>>, AllocError>
-    ensures { IfOk result (λ next. running_of P.offset next ++ waiting_of P.offset stack.new.items ≡ in_turn (preferred_last P.offset states.items) ++ waiting_of P.offset stack.old.items) }
+    ensures { IfOk result (λ next. in_hand P.offset next stack.new.items ≡ in_turn (preferred_last P.offset states.items) ++ waiting_of P.offset stack.old.items) }
 {
     let Some(next) = states.pop() else {
         return Ok(None);
@@ -105,8 +105,8 @@ fn run<Input: InputIndexer>(
     start: State<Input::Position>,
 ) -> Result<Option<State<Input::Position>>, AllocError>
     requires inside { Input.Position.offset start.pos ≤ units (Input.text searched.now.input) }
-    requires answers { IsSome (search_from (tree_of searched.now.program.now) (Input.text searched.now.input) (Input.Position.offset at) (way forward) (state_of Input.Position.offset start)) }
-    ensures { IfOk result (λ r. option_map (λ s. state_of Input.Position.offset s) r ≡ end_of_search (search_from (tree_of searched.now.program.now) (Input.text searched.now.input) (Input.Position.offset at) (way forward) (state_of Input.Position.offset start))) }
+    requires answers { IsSome (search_at Input.Position.offset searched.now.program.now (Input.text searched.now.input) forward (Input.Position.offset at) start) }
+    ensures { IfOk result (HasRun Input.Position.offset searched.now.program.now (Input.text searched.now.input) forward (Input.Position.offset at) start) }
 {
     stack.clear();
     let insns = searched.program.insns();
@@ -145,7 +145,7 @@ fn preferred_end<Input: InputIndexer>(
     pos: Input::Position,
 ) -> Result<Option<State<Input::Position>>, AllocError>
     requires { IsBoundary (Input.text searched.now.input) (Input.Position.offset pos) }
-    ensures { IfOk result (λ r. option_map (λ s. end_of (state_of Input.Position.offset s)) r ≡ end_from (tree_of searched.now.program.now) (Input.text searched.now.input) (Input.Position.offset pos)) }
+    ensures { IfOk result (λ end. end_with Input.Position.offset end ≡ end_from (tree_of searched.now.program.now) (Input.text searched.now.input) (Input.Position.offset pos)) }
 {
     let start = initial_state(searched.program, pos)?;
     let end = run(searched, pos, true, stack, start)?;

@@ -1,16 +1,18 @@
 //! One turn: what the instruction at a state does.
 
-ghost use Rattle.std.specs.Prelude.{◌≡◌, ◌<◌, ◌≤◌, ◌^◌, ◌+◌, ℕ, Bool, IfOk, OnOk, IsTrue, IsSome, if◌then◌else◌, reverse, ◌++◌, Some, map, [], ◌∷◌, length, slice_get};
-ghost use Rattle.regex_meaning.specs.Offsets.{IsBoundary, place_at, units};
+ghost use Rattle.std.specs.Prelude.{◌≡◌, ◌<◌, ◌≤◌, ◌^◌, ◌+◌, IfOk, IsTrue, Some, map, [], ◌∷◌, length};
+ghost use Rattle.regex_meaning.specs.Offsets.{units};
 ghost use Rattle.regex_pattern_front.specs.TreeOf.{tree_of};
 ghost use Rattle.regress_input.specs.Reading.{way};
 ghost use Rattle.regress_program.specs.Code.{compiled};
 ghost use Rattle.regress_program.specs.Insns.{insn_of, loop_fields_of};
-ghost use Rattle.regress_machine.specs.Machine.{running, waiting, goes, asks, at_ip, next_ip, with_some, span, test_of, read_group, scan as scan_from, loop_turn, again_with, again_at, act, act_on};
-ghost use Rattle.regress_search.specs.States.{state_of, loop_of, next_of, range_of, groups_of};
-ghost use Rattle.regress_machine.specs.Turns.{opened, closed, reset, entered_at, behind_at, IsReached, CanTake, is_literal, is_reader};
+ghost use Rattle.regress_machine.specs.Machine.{running, waiting, goes, asks, at_ip, next_ip, span, loop_turn, again_with, again_at};
+ghost use Rattle.regress_search.specs.Acting.{turn_at, turn_by, turn_again, turn_back};
+ghost use Rattle.regress_search.specs.States.{state_of, loop_of, next_of};
+ghost use Rattle.regress_machine.specs.Turns.{opened, closed, reset, entered_at, CanTake, is_literal, is_reader};
 ghost use Rattle.regress_exec.specs.Passing.{IsInBytes};
 
+use super::runs::{Run, scan};
 use super::states::{LoopData, State, Turn, copy_of};
 use regress_exec::reading::{self, stands_again};
 use regress_exec::searched::Searched;
@@ -30,9 +32,9 @@ pub(crate) fn take_turn<Input: InputIndexer, Dir: Direction>(
     state: State<Input::Position>,
 ) -> Result<Turn<Input::Position>, AllocError>
     requires code { map insn_of insns.now ≡ (compiled (tree_of searched.now.program.now)).insns }
-    requires can { CanTake (act (compiled (tree_of searched.now.program.now)) (Input.text searched.now.input) (way Dir.FORWARD) (state_of Input.Position.offset state)) }
+    requires can { CanTake (turn_at Input.Position.offset searched.now.program.now (Input.text searched.now.input) Dir.FORWARD state) }
     requires inside { Input.Position.offset state.pos ≤ units (Input.text searched.now.input) }
-    ensures { IfOk result (λ t. next_of Input.Position.offset t ≡ act (compiled (tree_of searched.now.program.now)) (Input.text searched.now.input) (way Dir.FORWARD) (state_of Input.Position.offset state)) }
+    ensures { IfOk result (λ t. next_of Input.Position.offset t ≡ turn_at Input.Position.offset searched.now.program.now (Input.text searched.now.input) Dir.FORWARD state) }
 {
     let insn = insns[state.ip];
     perform(insn, searched, insns, dir, state)
@@ -47,11 +49,11 @@ fn perform<Input: InputIndexer, Dir: Direction>(
     mut state: State<Input::Position>,
 ) -> Result<Turn<Input::Position>, AllocError>
     requires code { map insn_of insns.now ≡ (compiled (tree_of searched.now.program.now)).insns }
-    requires can { CanTake (act_on (compiled (tree_of searched.now.program.now)) (Input.text searched.now.input) (way Dir.FORWARD) (Some (insn_of insn)) (state_of Input.Position.offset state)) }
+    requires can { CanTake (turn_by Input.Position.offset searched.now.program.now (Input.text searched.now.input) Dir.FORWARD insn state) }
     requires bytes { IsTrue (is_literal (insn_of insn)) → IsInBytes (Input.text searched.now.input) Input.Units.ARE_BYTES }
     requires inside { Input.Position.offset state.pos ≤ units (Input.text searched.now.input) }
     requires within { state.ip + 1 < 2 ^ 64 }
-    ensures { IfOk result (λ t. next_of Input.Position.offset t ≡ act_on (compiled (tree_of searched.now.program.now)) (Input.text searched.now.input) (way Dir.FORWARD) (Some (insn_of insn)) (state_of Input.Position.offset state)) }
+    ensures { IfOk result (λ t. next_of Input.Position.offset t ≡ turn_by Input.Position.offset searched.now.program.now (Input.text searched.now.input) Dir.FORWARD insn state) }
 {
     match insn {
         Insn::Goal => Ok(Turn::Done(state)),
@@ -73,8 +75,13 @@ fn perform<Input: InputIndexer, Dir: Direction>(
             max_iters,
             greedy,
         } => {
+            let run = Run {
+                min_iters,
+                max_iters,
+                greedy,
+            };
             let body = insns[state.ip + 1];
-            scan(min_iters, max_iters, greedy, body, searched, dir, state)
+            scan(run, body, searched, dir, state)
         }
         Insn::BeginCaptureGroup(id) => Ok(open_group(id, state)),
         Insn::EndCaptureGroup(id) => Ok(close_group(id, dir, state)),
@@ -102,12 +109,12 @@ fn read<Input: InputIndexer, Dir: Direction>(
     dir: Dir,
     mut state: State<Input::Position>,
 ) -> Turn<Input::Position>
-    requires can { CanTake (act_on (compiled (tree_of searched.now.program.now)) (Input.text searched.now.input) (way Dir.FORWARD) (Some (insn_of insn)) (state_of Input.Position.offset state)) }
+    requires can { CanTake (turn_by Input.Position.offset searched.now.program.now (Input.text searched.now.input) Dir.FORWARD insn state) }
     requires reader { IsTrue (is_reader (insn_of insn)) }
     requires bytes { IsTrue (is_literal (insn_of insn)) → IsInBytes (Input.text searched.now.input) Input.Units.ARE_BYTES }
     requires inside { Input.Position.offset state.pos ≤ units (Input.text searched.now.input) }
     requires within { state.ip + 1 < 2 ^ 64 }
-    ensures { next_of Input.Position.offset result ≡ act_on (compiled (tree_of searched.now.program.now)) (Input.text searched.now.input) (way Dir.FORWARD) (Some (insn_of insn)) (state_of Input.Position.offset state) }
+    ensures { next_of Input.Position.offset result ≡ turn_by Input.Position.offset searched.now.program.now (Input.text searched.now.input) Dir.FORWARD insn state }
 {
     if reading::passes(searched, insn, dir, &mut state.pos) {
         state.ip += 1;
@@ -207,9 +214,9 @@ fn read_back<Input: InputIndexer, Dir: Direction>(
     dir: Dir,
     state: State<Input::Position>,
 ) -> Turn<Input::Position>
-    requires can { CanTake (with_some (slice_get (groups_of Input.Position.offset state.groups.items) group) (λ range. read_group (Input.text searched.now.input) icase (way Dir.FORWARD) range (state_of Input.Position.offset state))) }
+    requires can { CanTake (turn_back Input.Position.offset (Input.text searched.now.input) Dir.FORWARD icase group state) }
     requires within { state.ip + 1 < 2 ^ 64 }
-    ensures { next_of Input.Position.offset result ≡ with_some (slice_get (groups_of Input.Position.offset state.groups.items) group) (λ range. read_group (Input.text searched.now.input) icase (way Dir.FORWARD) range (state_of Input.Position.offset state)) }
+    ensures { next_of Input.Position.offset result ≡ turn_back Input.Position.offset (Input.text searched.now.input) Dir.FORWARD icase group state }
 {
     let range = state.groups[group as usize];
     read_again(range, icase, searched, dir, state)
@@ -223,9 +230,9 @@ fn read_again<Input: InputIndexer, Dir: Direction>(
     dir: Dir,
     mut state: State<Input::Position>,
 ) -> Turn<Input::Position>
-    requires can { CanTake (read_group (Input.text searched.now.input) icase (way Dir.FORWARD) (range_of Input.Position.offset range) (state_of Input.Position.offset state)) }
+    requires can { CanTake (turn_again Input.Position.offset (Input.text searched.now.input) Dir.FORWARD icase range state) }
     requires within { state.ip + 1 < 2 ^ 64 }
-    ensures { next_of Input.Position.offset result ≡ read_group (Input.text searched.now.input) icase (way Dir.FORWARD) (range_of Input.Position.offset range) (state_of Input.Position.offset state) }
+    ensures { next_of Input.Position.offset result ≡ turn_again Input.Position.offset (Input.text searched.now.input) Dir.FORWARD icase range state }
 {
     let Some(span) = range else {
         state.ip += 1;
@@ -323,92 +330,4 @@ fn end_iteration<P: PositionType>(
     } else {
         begin_iteration(fields, begin, last.iters + 1, state)
     }
-}
-
-// ---- Loops over one character
-
-// One character after another: the ways behind so many of them to so many.
-fn scan<Input: InputIndexer, Dir: Direction>(
-    min_iters: usize,
-    max_iters: usize,
-    greedy: bool,
-    body: Insn,
-    searched: &Searched<'_, Input>,
-    dir: Dir,
-    state: State<Input::Position>,
-) -> Result<Turn<Input::Position>, AllocError>
-    requires can { CanTake (with_some (test_of (compiled (tree_of searched.now.program.now)) (Some (insn_of body))) (λ test. with_some (place_at (Input.text searched.now.input) (Input.Position.offset state.pos)) (λ p. scan_from (Input.text searched.now.input) min_iters max_iters greedy test (way Dir.FORWARD) p (state_of Input.Position.offset state)))) }
-    requires bytes { IsTrue (is_literal (insn_of body)) → IsInBytes (Input.text searched.now.input) Input.Units.ARE_BYTES }
-    requires within { state.ip + 2 < 2 ^ 64 }
-    ensures { IfOk result (λ t. next_of Input.Position.offset t ≡ with_some (test_of (compiled (tree_of searched.now.program.now)) (Some (insn_of body))) (λ test. with_some (place_at (Input.text searched.now.input) (Input.Position.offset state.pos)) (λ p. scan_from (Input.text searched.now.input) min_iters max_iters greedy test (way Dir.FORWARD) p (state_of Input.Position.offset state)))) }
-{
-    let (tries, states) = reached(min_iters, max_iters, body, searched, dir, &state)?;
-    Ok(Turn::Scan(tries, preferred_last(greedy, states)))
-}
-
-// The states behind rising counts, the preferred one last.
-fn preferred_last<P: PositionType>(greedy: bool, mut states: Vec<State<P>>) -> Vec<State<P>>
-    ensures { result.items ≡ (if greedy then states.items else reverse states.items) }
-{
-    if !greedy {
-        states.reverse();
-    }
-    states
-}
-
-// How many characters are tried, and the states behind them, the one behind the most last.
-fn reached<Input: InputIndexer, Dir: Direction>(
-    min_iters: usize,
-    max_iters: usize,
-    body: Insn,
-    searched: &Searched<'_, Input>,
-    dir: Dir,
-    state: &State<Input::Position>,
-) -> Result<(usize, Vec<State<Input::Position>>), AllocError>
-    requires test { IsSome (test_of (compiled (tree_of searched.now.program.now)) (Some (insn_of body))) }
-    requires boundary { IsBoundary (Input.text searched.now.input) (Input.Position.offset state.now.pos) }
-    requires bytes { IsTrue (is_literal (insn_of body)) → IsInBytes (Input.text searched.now.input) Input.Units.ARE_BYTES }
-    requires within { state.now.ip + 2 < 2 ^ 64 }
-    ensures { IfOk result (λ r. (test : ℕ → Bool) (p : ℕ) → test_of (compiled (tree_of searched.now.program.now)) (Some (insn_of body)) ≡ Some test → place_at (Input.text searched.now.input) (Input.Position.offset state.now.pos) ≡ Some p → IsReached (Input.text searched.now.input) test (way Dir.FORWARD) min_iters max_iters p (state_of Input.Position.offset state.now) r.0 (map (λ s. state_of Input.Position.offset s) r.1.items)) }
-{
-    let mut states = Vec::new(*state.groups.allocator());
-    let mut at = state.pos;
-    let mut count = 0;
-    'characters: loop {
-        keep(min_iters <= count, at, state, &mut states)?;
-        if count == max_iters {
-            return Ok((count, states));
-        }
-        if !reading::accepts_next(searched, body, dir, &mut at) {
-            return Ok((count + 1, states));
-        }
-        count += 1;
-    }
-}
-
-// One more state behind the loop, if it is wanted.
-fn keep<P: PositionType>(
-    wanted: bool,
-    at: P,
-    state: &State<P>,
-    states: &mut Vec<State<P>>,
-) -> Result<(), AllocError>
-    requires { state.now.ip + 2 < 2 ^ 64 }
-    ensures { OnOk result (map (λ s. state_of P.offset s) states.new.items ≡ (if wanted then map (λ s. state_of P.offset s) states.old.items ++ behind_at (P.offset at) (state_of P.offset state.now) ∷ [] else map (λ s. state_of P.offset s) states.old.items)) }
-{
-    if wanted {
-        states.push(behind(at, state)?)?;
-    }
-    Ok(())
-}
-
-// The state behind a loop over one character at a position.
-fn behind<P: PositionType>(at: P, state: &State<P>) -> Result<State<P>, AllocError>
-    requires { state.now.ip + 2 < 2 ^ 64 }
-    ensures { IfOk result (λ s. state_of P.offset s ≡ behind_at (P.offset at) (state_of P.offset state.now)) }
-{
-    let mut next = copy_of(state)?;
-    next.ip += 2;
-    next.pos = at;
-    Ok(next)
 }

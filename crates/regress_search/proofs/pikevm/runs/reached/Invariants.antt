@@ -7,7 +7,7 @@ use Rattle.regress_program.specs.Insns.{insn_of}
 use Rattle.regress_machine.specs.Machine.{test_of}
 use Rattle.regress_search.specs.States.{state_of}
 use Rattle.regress_exec.proofs.Reach.{IsReaching}
-use Rattle.regress_search.proofs.pikevm.actions.reached.Given as goal
+use Rattle.regress_search.proofs.pikevm.runs.reached.Given as goal
 
 abbrev pub invariant-characters : goal.invariant-characters
 invariant-characters g l =
@@ -15,11 +15,11 @@ invariant-characters g l =
     let offset = g.Input.Position.PositionType.offset in
     record {
       boundary : IsBoundary text (offset l.at);
-      fits : l.count ≤ l.max_iters;
+      fits : l.count ≤ l.run.max_iters;
       reaching :
           (test : ℕ → Bool) (p : ℕ) → test_of (compiled (tree_of l.searched.program.now)) (Some (insn_of l.body)) ≡ Some test → place_at text (offset l.state.pos) ≡ Some p
-          → IsReaching text test (way g.Dir.Direction.FORWARD) l.min_iters l.max_iters p (state_of offset l.state) l.count (offset l.at) (map (λ s. state_of offset s) l.states.items);
+          → IsReaching text test (way g.Dir.Direction.FORWARD) l.run.min_iters l.run.max_iters p (state_of offset l.state) l.count (offset l.at) (map (λ s. state_of offset s) l.states.items);
     }
 
 abbrev pub decreases-characters : goal.decreases-characters
-decreases-characters g l = l.max_iters - l.count
+decreases-characters g l = l.run.max_iters - l.count

@@ -6,11 +6,11 @@ use Rattle.regress_program.specs.Insns.{insn_of}
 use Rattle.regress_machine.specs.Machine.{test_of}
 use Rattle.regress_search.specs.States.{state_of}
 use Rattle.regress_search.proofs.Turns.{scanned}
-use Rattle.regress_search.proofs.pikevm.actions.scan.Goals as goal
+use Rattle.regress_search.proofs.pikevm.runs.scan.Goals as goal
 
 pub returns : goal.returns
 returns g c =
     let text = g.Input.InputIndexer.text c.args.searched.now.input in
     let offset = g.Input.Position.PositionType.offset in
     scanned offset text (test_of (compiled (tree_of c.args.searched.now.program.now)) (Some (insn_of c.args.body))) (way g.Dir.Direction.FORWARD) (state_of offset c.args.state)
-    c.args.min_iters c.args.max_iters c.args.greedy c.in_ok-tries.tries c.in_ok-tries.states.items _ c.requires.can c.in_ok-tries.ensures c.preferred_last.ensures
+    c.args.run.min_iters c.args.run.max_iters c.args.run.greedy c.in_ok-tries.tries c.in_ok-tries.states.items _ c.requires.can c.in_ok-tries.ensures c.preferred_last.ensures

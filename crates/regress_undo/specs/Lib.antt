@@ -10,3 +10,4 @@ pub mod Again
 pub mod Searches
 pub mod Planning
 pub mod Reached
+pub mod Starts

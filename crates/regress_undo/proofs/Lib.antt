@@ -25,3 +25,4 @@ pub mod Dispatch
 pub mod NextUnits
 pub mod Attempting
 pub mod Allowing
+pub mod Starting

@@ -24,3 +24,5 @@ pub mod Looking
 pub mod Dispatch
 pub mod NextUnits
 pub mod Attempting
+pub mod Allowing
+pub mod Starting

@@ -11,3 +11,4 @@ pub mod Searches
 pub mod Planning
 pub mod Reached
 pub mod Going
+pub mod Starts

@@ -9,6 +9,7 @@ use crate::here::Here;
 use crate::memory::Memory;
 use crate::planned::{PlannedProgram, PlannedSearch};
 use crate::run::run;
+use crate::starts::next_start;
 use crate::steps::{Free, Stop};
 use regress_exec::exec::{Executor, MatchProducer, SearchError, Searcher};
 use regress_exec::places::Attempts;
@@ -74,11 +75,15 @@ impl<'r, Input: InputIndexer> Attempts for BacktrackExecutor<'r, Input> {
     }
 
     fn place_from(&self, pos: Input::Position) -> Option<Input::Position> {
-        Some(pos)
+        if self.search.searched.is_anchored() {
+            return Some(pos);
+        }
+        next_start(&self.search, pos)
     }
 
     fn place_behind(&self, tried: Input::Position) -> Option<Input::Position> {
-        self.search.searched.next_try(tried)
+        let next = self.search.searched.next_try(tried)?;
+        next_start(&self.search, next)
     }
 }
 

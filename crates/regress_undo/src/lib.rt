@@ -4,6 +4,7 @@
 pub mod back;
 pub mod characters;
 pub mod classicalbacktrack;
+pub mod few;
 pub mod groups;
 pub mod here;
 pub mod loops;
@@ -16,5 +17,6 @@ pub mod run;
 pub mod runs;
 pub mod scans;
 pub mod sides;
+pub mod starts;
 pub mod steps;
 pub mod turn;

@@ -23,4 +23,5 @@ pub mod Stages
 pub mod Looking
 pub mod Dispatch
 pub mod NextUnits
+pub mod Narrow
 pub mod Attempting

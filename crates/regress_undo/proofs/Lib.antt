@@ -23,6 +23,7 @@ pub mod Stages
 pub mod Looking
 pub mod Dispatch
 pub mod NextUnits
+pub mod Narrow
 pub mod Attempting
 pub mod Allowing
 pub mod Starting

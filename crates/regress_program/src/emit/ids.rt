@@ -143,7 +143,11 @@ impl Ids {
                     loopee,
                     enclosed_groups,
                     ..
-                } => return self.gather_enclosed(enclosed_groups.start, enclosed_groups.end, loopee),
+                } => return self.gather_enclosed(
+                    enclosed_groups.start,
+                    enclosed_groups.end,
+                    loopee,
+                ),
                 Node::Loop1CharBody { loopee, .. } => rest = loopee,
                 _ => return true,
             }

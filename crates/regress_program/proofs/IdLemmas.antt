@@ -11,6 +11,9 @@ use Rattle.regex_meaning.specs.WellFormed.{encloses, each_id_stands_once, IsWell
 use Rattle.regex_meaning.proofs.WellFormedLemmas.{clauses, by_clauses}
 use Rattle.regex_meaning.proofs.Sound.{all-contains}
 use Rattle.regex_pattern_front.proofs.ByteLemmas.{contains-numbers_from}
+use Rattle.regress_program.specs.Nodes.{is_leaf}
+use Rattle.regress_program.specs.Spans.{as_span}
+use Rattle.regress_program.specs.declared.emit.ids.Span as spans
 use Rattle.regress_program.specs.Ids.{is_seen, are_fresh, least, past, Span, span_of, joined, is_sound_by_itself}
 use Rattle.regex_meaning.proofs.Booleans.{or-false-left, or-false-right, same-truth, and-left, and-right}
 use Rattle.std.proofs.Math.Bool.{or-false, or_assoc, and-true, and_assoc}
@@ -384,10 +387,6 @@ pub span-append : (xs ys : List ℕ) → joined (span_of xs) (span_of ys) ≡ sp
 span-append xs ys =
     same_span (joined (span_of xs) (span_of ys)) (span_of (xs ++ ys)) (omega (arith, length-append xs ys)) (sym (least-append xs ys)) (sym (past-append xs ys))
 
-pub span-one : (id : ℕ) → id < 2 ^ 16 → span_of (id ∷ []) ≡ record { count = 1; low = id; high = id + 1 }
-unfolding least past
-span-one id h = same_span (span_of (id ∷ [])) (record { count = 1; low = id; high = id + 1 }) (omega arith) (omega arith) (omega arith)
-
 -- ---- What is found of two parts
 
 pub found_both : (f : ℕ → Bool) (xs ys : List ℕ) (p q : Bool)
@@ -411,25 +410,12 @@ second_decides f g xs ys p q t h same e =
     e ∙ ap (λ b. b && q) (fresh-same g (λ k. f k || contains xs k) ys same)
     ∙ ap (λ b. b && (are_fresh (λ k. f k || contains xs k) ys && q)) h ∙ found_both f xs ys p q
 
-pub seen_both : (f g h : ℕ → Bool) (xs ys : List ℕ) → ((k : ℕ) → g k ≡ (f k || contains xs k)) → ((k : ℕ) → h k ≡ (g k || contains ys k))
-    → (k : ℕ) → h k ≡ (f k || contains (xs ++ ys) k)
-seen_both f g h xs ys a b k =
-    b k ∙ ap (λ t. t || contains ys k) (a k) ∙ or_assoc (f k) (contains xs k) (contains ys k) ∙ ap (λ t. f k || t) (sym (contains-append xs ys k))
-
-pub one_fresh : (f : ℕ → Bool) (id : ℕ) (ids : List ℕ) (p : Bool) (t : Bool) (g : ℕ → Bool) → true ≡ not (f id) → ((k : ℕ) → g k ≡ (f k || k == id))
-    → t ≡ (are_fresh g ids && p) → t ≡ (are_fresh f (id ∷ ids) && p)
+pub one_is_fresh : (f : ℕ → Bool) (id : ℕ) (t : Bool) → t ≡ not (f id) → t ≡ (are_fresh f (id ∷ []) && true)
 unfolding are_fresh
-one_fresh f id ids p t g h same e =
-    e ∙ ap (λ b. b && p) (fresh-same g (λ k. f k || k == id) ids same ∙ ap (λ b. b && are_fresh (λ k. f k || k == id) ids) h)
+one_is_fresh f id t e = e ∙ sym (and-true (not (f id))) ∙ sym (and-true (not (f id) && true))
 
-pub one_seen_before : (f : ℕ → Bool) (id : ℕ) (ids : List ℕ) (p : Bool) → false ≡ not (f id) → false ≡ (are_fresh f (id ∷ ids) && p)
-unfolding are_fresh
-one_seen_before f id ids p h = ap (λ b. (b && are_fresh (λ k. f k || k == id) ids) && p) h
-
-pub span-cons : (id : ℕ) (ids : List ℕ) → id < 2 ^ 16 → joined (record { count = 1; low = id; high = id + 1 }) (span_of ids) ≡ span_of (id ∷ ids)
-unfolding least past
-span-cons id ids h =
-    same_span (joined (record { count = 1; low = id; high = id + 1 }) (span_of ids)) (span_of (id ∷ ids)) (omega arith) refl refl
+pub one_contained : (f : ℕ → Bool) (id k : ℕ) → (f k || k == id) ≡ (f k || contains (id ∷ []) k)
+one_contained f id k = ap (λ t. f k || t) (sym (or-false (k == id)))
 
 pub joined_same : (a a' b b' : Span) → a ≡ a' → b ≡ b' → joined a b ≡ joined a' b'
 joined_same a a' b b' e f = ap (λ x. joined x b) e ∙ ap (joined a') f
@@ -533,6 +519,79 @@ pub seen_next : (f g h : ℕ → Bool) (xs ys all : List ℕ) → ((k : ℕ) →
     → (k : ℕ) → (g k || contains ys k) ≡ (h k || contains all k)
 seen_next f g h xs ys all a b k =
     ap (λ t. t || contains ys k) (a k) ∙ or_assoc (f k) (contains xs k) (contains ys k) ∙ ap (λ t. f k || t) (sym (contains-append xs ys k)) ∙ b k
+
+-- ---- A walk that sees ids
+
+-- What a walk over the rest of the ids comes to, from what is seen and their span so far, one over all of them comes to
+-- from the start. Tests go along with the ids.
+pub record IsLeft (at_first : ℕ → Bool) (first : Span) (all : List ℕ) (named : Bool) (f : ℕ → Bool) (s : Span) (ids : List ℕ) (p : Bool) : Type 0 where
+  pub found : (are_fresh f ids && p) ≡ (are_fresh at_first all && named)
+  pub span : joined s (span_of ids) ≡ joined first (span_of all)
+  pub seen : (k : ℕ) → (f k || contains ids k) ≡ (at_first k || contains all k)
+
+pub left-same : (at_first : ℕ → Bool) (first : Span) (all : List ℕ) (named : Bool) (f : ℕ → Bool) (s : Span) (n m : Node) → n ≡ m
+    → IsLeft at_first first all named f s (group_ids n) (every names_the_groups_inside n) → IsLeft at_first first all named f s (group_ids m) (every names_the_groups_inside m)
+left-same at_first first all named f s n m e l = record {
+  found = sym (ap (λ x. are_fresh f (group_ids x) && every names_the_groups_inside x) e) ∙ l.found;
+  span = sym (ap (λ x. joined s (span_of (group_ids x))) e) ∙ l.span;
+  seen = λ k. sym (ap (λ x. f k || contains (group_ids x) k) e) ∙ l.seen k;
+}
+
+-- the first ones have been seen
+pub left-next : (at_first : ℕ → Bool) (first : Span) (all : List ℕ) (named : Bool) (f g : ℕ → Bool) (s t : Span) (xs ys : List ℕ) (p q : Bool)
+    → IsLeft at_first first all named f s (xs ++ ys) (p && q) → true ≡ (are_fresh f xs && p) → t ≡ joined s (span_of xs) → ((k : ℕ) → g k ≡ (f k || contains xs k))
+    → IsLeft at_first first all named g t ys q
+left-next at_first first all named f g s t xs ys p q l went span seen = record {
+  found = second_decides f g xs ys p q (are_fresh g ys && q) went seen refl ∙ l.found;
+  span = joined_same t (joined s (span_of xs)) (span_of ys) (span_of ys) span refl ∙ joined-assoc s (span_of xs) (span_of ys) ∙ ap (joined s) (span-append xs ys) ∙ l.span;
+  seen = seen_next f g at_first xs ys all seen l.seen;
+}
+
+-- one of the first ones is not as it has to be
+pub left-fails : (at_first : ℕ → Bool) (first : Span) (all : List ℕ) (named : Bool) (f : ℕ → Bool) (s : Span) (xs ys : List ℕ) (p q : Bool)
+    → IsLeft at_first first all named f s (xs ++ ys) (p && q) → false ≡ (are_fresh f xs && p) → false ≡ (are_fresh at_first all && named)
+left-fails at_first first all named f s xs ys p q l fails = first_fails f xs ys p q fails ∙ l.found
+
+-- none is left
+pub left-found : (at_first : ℕ → Bool) (first : Span) (all : List ℕ) (named : Bool) (f : ℕ → Bool) (s : Span) → IsLeft at_first first all named f s [] true → true ≡ (are_fresh at_first all && named)
+unfolding are_fresh
+left-found at_first first all named f s l = l.found
+
+pub left-span : (at_first : ℕ → Bool) (first : Span) (all : List ℕ) (named : Bool) (f : ℕ → Bool) (s : Span) → s.count < 2 ^ 64 → s.low ≤ 65536
+    → IsLeft at_first first all named f s [] true → s ≡ joined first (span_of all)
+left-span at_first first all named f s c h l = sym (joined-last s c h) ∙ l.span
+
+pub left-seen : (at_first : ℕ → Bool) (first : Span) (all : List ℕ) (named : Bool) (f : ℕ → Bool) (s : Span) → IsLeft at_first first all named f s [] true
+    → (k : ℕ) → f k ≡ (at_first k || contains all k)
+left-seen at_first first all named f s l k = sym (or-false (f k)) ∙ l.seen k
+
+leaf-ids : (n : Node) → is_leaf n ≡ true → group_ids n ≡ []
+leaf-ids (cat a b) h = cc
+leaf-ids (alt a b) h = cc
+leaf-ids (capture_group id name n) h = cc
+leaf-ids (lookaround l n) h = cc
+leaf-ids (loop q s e n) h = cc
+leaf-ids (loop_1_char_body q n) h = cc
+leaf-ids n h = refl
+
+leaf-named : (n : Node) → is_leaf n ≡ true → every names_the_groups_inside n ≡ true
+leaf-named (cat a b) h = cc
+leaf-named (alt a b) h = cc
+leaf-named (capture_group id name n) h = cc
+leaf-named (lookaround l n) h = cc
+leaf-named (loop q s e n) h = cc
+leaf-named (loop_1_char_body q n) h = cc
+leaf-named n h = refl
+
+pub left-leaf : (at_first : ℕ → Bool) (first : Span) (all : List ℕ) (named : Bool) (f : ℕ → Bool) (s : Span) (n : Node) → is_leaf n ≡ true
+    → IsLeft at_first first all named f s (group_ids n) (every names_the_groups_inside n) → IsLeft at_first first all named f s [] true
+left-leaf at_first first all named f s n h l = rw (leaf-ids n h, leaf-named n h) at l
+
+-- what a walk from no id has seen is all
+pub all_ids : (s none t : spans.Span) (n : Node) → s ≡ t → as_span none ≡ span_of [] → as_span t ≡ joined (as_span none) (span_of (group_ids n)) → as_span s ≡ span_of (group_ids n)
+unfolding least past
+all_ids s none t n e from_none h =
+    ap as_span e ∙ h ∙ ap (λ x. joined x (span_of (group_ids n))) from_none ∙ joined-none (group_ids n)
 
 pub some_bytes : (bytes : List ℕ) (b : Bool) → b ≡ true → not (length bytes == 0) ≡ (nat_lt 0 (length bytes) && b)
 some_bytes [] b e = refl

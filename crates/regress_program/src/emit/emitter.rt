@@ -250,6 +250,7 @@ impl Emitter {
     }
 
     #[cycle(emit)]
+    #[inline(never)]
     fn emit_group(
         &mut self,
         mode: Mode,
@@ -325,6 +326,7 @@ impl Emitter {
     }
 
     #[cycle(emit)]
+    #[inline(never)]
     fn emit_loop_1_char(
         &mut self,
         mode: Mode,

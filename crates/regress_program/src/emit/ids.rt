@@ -1,7 +1,7 @@
 //! The ids of groups: each stands once, and loops and lookarounds name those inside them.
 #![tactic(auto, unfolding(regex_pattern_front::specs::TreeOf::node_of, crate::specs::Ids::are_fresh, crate::specs::Ids::least, crate::specs::Ids::past, crate::proofs::Weights::weight))]
 
-ghost use Rattle.std.specs.Prelude.{◌≡◌, ◌≤◌, ◌&&◌, ◌||◌, ◌+◌, ◌-◌, ◌∷◌, not, ◌==◌, ℕ, false, length, is_some, IfSome, OnSome, nat_le};
+ghost use Rattle.std.specs.Prelude.{◌≡◌, ◌≤◌, ◌<◌, ◌^◌, ◌&&◌, ◌||◌, ◌+◌, ◌-◌, ◌∷◌, [], not, ◌==◌, ℕ, false, length, IsTrue, nat_le};
 ghost use Rattle.regex_meaning.specs.Lists.{contains};
 ghost use Rattle.regex_meaning.specs.Tree.{alt, group_ids, every};
 ghost use Rattle.regex_meaning.specs.WellFormed.{names_the_groups_inside};
@@ -63,127 +63,132 @@ impl Span {
     }
 }
 
-/// Which ids have been seen.
+/// Which ids have been seen, and the span of those that stand inside the node at hand so far.
 #[derive(Drop)]
 pub(crate) struct Ids {
     bits: [u64; 1024],
+    inside: Span,
     ghost sized: { length bits ≡ 1024 },
+    ghost counted: { inside.count < 2 ^ 64 },
+    ghost low: { inside.low ≤ 65536 },
+    ghost high: { inside.high ≤ 65536 },
 }
 
 impl Ids {
     // None of them.
     pub(crate) fn none() -> Ids
-        ensures { (k : ℕ) → is_seen result.bits k ≡ false }
+        ensures seen { (k : ℕ) → is_seen result.bits k ≡ false }
+        ensures span { as_span result.inside ≡ span_of [] }
     {
-        Ids { bits: [0; 1024] }
+        Ids {
+            bits: [0; 1024],
+            inside: Span::NONE,
+        }
+    }
+
+    // The span of all that were seen.
+    pub(crate) fn span(&self) -> Span
+        ensures inside { result ≡ self.now.inside }
+        ensures high { result.high ≤ 65536 }
+    {
+        self.inside
     }
 
     // Sees an id; whether it was not seen before.
     fn see(&mut self, id: CaptureGroupID) -> bool
         ensures fresh { result ≡ not (is_seen self.old.bits id) }
         ensures seen { (k : ℕ) → is_seen self.new.bits k ≡ (is_seen self.old.bits k || k == id) }
+        ensures span { as_span self.new.inside ≡ joined_spans (as_span self.old.inside) (span_of (id ∷ [])) }
     {
         let word = usize::from(id / 64);
         let bit = id % 64;
         let before = self.bits[word];
         self.bits[word] = before | 1 << bit;
+        self.inside = self.inside.joined(Span::one(id));
         before >> bit & 1 == 0
     }
 
-    // The ids inside a node, where none of them is seen or stands twice, and each loop and each lookaround
-    // names those inside it.
+    // Sees the ids inside a node. Whether none of them was seen or stands twice, and each loop and each lookaround names
+    // those inside it. Along the last node inside each node it is a loop, and what it finds out stands in one place: so
+    // deep nesting costs little stack.
     #[cycle(gather)]
-    pub(crate) fn gather(&mut self, node: &Node) -> Option<Span>
-        ensures found { is_some result ≡ ids_stand (is_seen self.old.bits) (node_of node.now) }
-        ensures span { IfSome result (λ s. as_span s ≡ span_of (group_ids (node_of node.now))) }
-        ensures bounded { IfSome result (λ s. s.high ≤ 65536) }
-        ensures seen { OnSome result ((k : ℕ) → is_seen self.new.bits k ≡ (is_seen self.old.bits k || contains (group_ids (node_of node.now)) k)) }
+    pub(crate) fn gather(&mut self, root: &Node) -> bool
+        ensures found { result ≡ ids_stand (is_seen self.old.bits) (node_of root.now) }
+        ensures span { IsTrue result → as_span self.new.inside ≡ joined_spans (as_span self.old.inside) (span_of (group_ids (node_of root.now))) }
+        ensures seen { IsTrue result → (k : ℕ) → is_seen self.new.bits k ≡ (is_seen self.old.bits k || contains (group_ids (node_of root.now)) k) }
     {
-        match node {
-            Node::Cat(nodes) => self.gather_all(nodes),
-            Node::Alt(left, right) => self.gather_alternatives(left, right),
-            Node::CaptureGroup { id, contents, .. } => self.gather_group(*id, contents),
-            Node::LookaroundAssertion {
-                start_group,
-                end_group,
-                contents,
-                ..
-            } => self.gather_enclosed(*start_group, *end_group, contents),
-            Node::Loop {
-                loopee,
-                enclosed_groups,
-                ..
-            } => self.gather_enclosed(enclosed_groups.start, enclosed_groups.end, loopee),
-            Node::Loop1CharBody { loopee, .. } => self.gather(loopee),
-            _ => Some(Span::NONE),
+        let mut rest = root;
+        loop {
+            match rest {
+                Node::Cat(nodes) => return self.gather_row(nodes),
+                Node::Alt(left, right) => {
+                    if !self.gather(left) {
+                        return false;
+                    }
+                    rest = right;
+                }
+                Node::CaptureGroup { id, contents, .. } => {
+                    if !self.see(*id) {
+                        return false;
+                    }
+                    rest = contents;
+                }
+                Node::LookaroundAssertion {
+                    start_group,
+                    end_group,
+                    contents,
+                    ..
+                } => return self.gather_enclosed(*start_group, *end_group, contents),
+                Node::Loop {
+                    loopee,
+                    enclosed_groups,
+                    ..
+                } => return self.gather_enclosed(
+                    enclosed_groups.start,
+                    enclosed_groups.end,
+                    loopee,
+                ),
+                Node::Loop1CharBody { loopee, .. } => rest = loopee,
+                _ => return true,
+            }
         }
     }
 
-    #[cycle(gather)]
-    fn gather_all(&mut self, nodes: &[Node]) -> Option<Span>
-        ensures found { is_some result ≡ ids_stand (is_seen self.old.bits) (cat_of nodes.now) }
-        ensures span { IfSome result (λ s. as_span s ≡ span_of (group_ids (cat_of nodes.now))) }
-        ensures bounded { IfSome result (λ s. s.high ≤ 65536) }
-        ensures seen { OnSome result ((k : ℕ) → is_seen self.new.bits k ≡ (is_seen self.old.bits k || contains (group_ids (cat_of nodes.now)) k)) }
-    {
-        let mut inside = Span::NONE;
-        for node in nodes {
-            inside = inside.joined(self.gather(node)?);
-        }
-        Some(inside)
-    }
-
-    // Those of alternatives, of which the others may be alternatives again.
     #[cycle(gather)]
     #[inline(never)]
-    fn gather_alternatives(&mut self, first: &Node, others: &Node) -> Option<Span>
-        ensures found { is_some result ≡ ids_stand (is_seen self.old.bits) (alt (node_of first.now) (node_of others.now)) }
-        ensures span { IfSome result (λ s. as_span s ≡ span_of (group_ids (alt (node_of first.now) (node_of others.now)))) }
-        ensures bounded { IfSome result (λ s. s.high ≤ 65536) }
-        ensures seen { OnSome result ((k : ℕ) → is_seen self.new.bits k ≡ (is_seen self.old.bits k || contains (group_ids (alt (node_of first.now) (node_of others.now))) k)) }
+    fn gather_row(&mut self, nodes: &[Node]) -> bool
+        ensures found { result ≡ ids_stand (is_seen self.old.bits) (cat_of nodes.now) }
+        ensures span { IsTrue result → as_span self.new.inside ≡ joined_spans (as_span self.old.inside) (span_of (group_ids (cat_of nodes.now))) }
+        ensures seen { IsTrue result → (k : ℕ) → is_seen self.new.bits k ≡ (is_seen self.old.bits k || contains (group_ids (cat_of nodes.now)) k) }
     {
-        let mut inside = self.gather(first)?;
-        let mut rest = others;
-        while let Node::Alt(left, right) = rest {
-            inside = inside.joined(self.gather(left)?);
-            rest = right;
+        for node in nodes {
+            if !self.gather(node) {
+                return false;
+            }
         }
-        let last = self.gather(rest)?;
-        Some(inside.joined(last))
-    }
-
-    #[cycle(gather)]
-    fn gather_group(&mut self, id: CaptureGroupID, contents: &Node) -> Option<Span>
-        ensures found { is_some result ≡ (are_fresh (is_seen self.old.bits) (id ∷ group_ids (node_of contents.now)) && every names_the_groups_inside (node_of contents.now)) }
-        ensures span { IfSome result (λ s. as_span s ≡ span_of (id ∷ group_ids (node_of contents.now))) }
-        ensures bounded { IfSome result (λ s. s.high ≤ 65536) }
-        ensures seen { OnSome result ((k : ℕ) → is_seen self.new.bits k ≡ (is_seen self.old.bits k || contains (id ∷ group_ids (node_of contents.now)) k)) }
-    {
-        if !self.see(id) {
-            return None;
-        }
-        let inside = self.gather(contents)?;
-        Some(Span::one(id).joined(inside))
+        true
     }
 
     // Those of a loop or a lookaround, which names them.
     #[cycle(gather)]
+    #[inline(never)]
     fn gather_enclosed(
         &mut self,
         start: CaptureGroupID,
         end: CaptureGroupID,
         contents: &Node,
-    ) -> Option<Span>
-        ensures found { is_some result ≡ ids_stand_within (is_seen self.old.bits) start end (node_of contents.now) }
-        ensures span { IfSome result (λ s. as_span s ≡ span_of (group_ids (node_of contents.now))) }
-        ensures bounded { IfSome result (λ s. s.high ≤ 65536) }
-        ensures seen { OnSome result ((k : ℕ) → is_seen self.new.bits k ≡ (is_seen self.old.bits k || contains (group_ids (node_of contents.now)) k)) }
+    ) -> bool
+        ensures found { result ≡ ids_stand_within (is_seen self.old.bits) start end (node_of contents.now) }
+        ensures span { IsTrue result → as_span self.new.inside ≡ joined_spans (as_span self.old.inside) (span_of (group_ids (node_of contents.now))) }
+        ensures seen { IsTrue result → (k : ℕ) → is_seen self.new.bits k ≡ (is_seen self.old.bits k || contains (group_ids (node_of contents.now)) k) }
     {
-        let inside = self.gather(contents)?;
-        if inside.fills(start, end) {
-            Some(inside)
-        } else {
-            None
+        let before = self.inside;
+        self.inside = Span::NONE;
+        if !self.gather(contents) {
+            return false;
         }
+        let inside = self.inside;
+        self.inside = before.joined(inside);
+        inside.fills(start, end)
     }
 }

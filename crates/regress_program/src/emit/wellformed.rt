@@ -41,15 +41,14 @@ fn is_root_well_formed(root: &Node) -> bool
         return false;
     }
     let mut ids = Ids::none();
-    match ids.gather(root) {
-        None => false,
-        Some(span) => {
-            if span.high as usize > span.count {
-                return false;
-            }
-            is_sound(root, span.count)
-        }
+    if !ids.gather(root) {
+        return false;
     }
+    let span = ids.span();
+    if span.high as usize > span.count {
+        return false;
+    }
+    is_sound(root, span.count)
 }
 
 // Whether there is exactly one `Goal`, and it is last.

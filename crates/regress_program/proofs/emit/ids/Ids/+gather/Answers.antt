@@ -1,172 +1,166 @@
-use Rattle.std.proofs.Common.{◌≡◌, ℕ, ◌+◌, ◌<◌, ◌++◌, rules, ◌&&◌, ◌||◌, true, false, [], refl, ◌∙◌, ap, sym, arith, drop}
-use Rattle.std.specs.Prelude.{is_some}
+use Rattle.std.proofs.Common.{◌≡◌, ℕ, ◌+◌, ◌<◌, rules, ◌||◌, true, false, [], ◌∷◌, ◌∙◌, ap, sym, arith, drop}
 use Rattle.std.proofs.lemmas.List.{drop_all}
 use Rattle.regex_meaning.specs.Lists.{contains}
-use Rattle.regex_meaning.specs.Tree.{alt, group_ids, every}
+use Rattle.regex_meaning.specs.Tree.{alt, cat, end_of_cat, capture_group, group_ids, every}
 use Rattle.regex_meaning.specs.WellFormed.{names_the_groups_inside}
-use Rattle.regex_pattern_front.specs.TreeOf.{node_of}
+use Rattle.regex_pattern_front.specs.TreeOf.{node_of, name_of}
 use Rattle.regress_program.specs.Nodes.{cat_of}
-use Rattle.regress_program.specs.Ids.{is_seen, are_fresh, ids_stand, span_of, joined}
+use Rattle.regress_program.specs.Ids.{is_seen, ids_stand, span_of, joined}
 use Rattle.regress_program.specs.Spans.{as_span}
 use Rattle.regress_program.proofs.NodeLemmas.{node_of-Cat, cat_of-drop}
-use Rattle.regress_program.proofs.IdLemmas.{first_fails, second_decides, span-append, joined_same, joined-assoc, joined-none, joined-last, seen_next, fills-encloses}
+use Rattle.regress_program.proofs.LeafLemmas.{leaf-of}
+use Rattle.regress_program.proofs.IdLemmas.{left-same, left-next, left-fails, left-leaf, left-found, left-span, left-seen, fills-encloses, joined-none, one_is_fresh, one_contained}
 use Rattle.regress_program.proofs.Weights.{weight, weight-child}
 use Rattle.regress_program.proofs.emit.ids.Ids.+gather.Goals as goal
 
-pub gather-returns-in-Cat-clause-found : goal.gather-returns-in-Cat-clause-found
-gather-returns-in-Cat-clause-found t c = rw (c.in-Cat.is, node_of-Cat c.in-Cat.nodes, ← c.deref.ensures.value) c.gather_all.ensures.found
-
-pub gather-returns-in-Cat-clause-span : goal.gather-returns-in-Cat-clause-span
-gather-returns-in-Cat-clause-span t c = rw (c.in-Cat.is, node_of-Cat c.in-Cat.nodes, ← c.deref.ensures.value) c.gather_all.ensures.span
-
-pub gather-returns-in-Cat-clause-seen : goal.gather-returns-in-Cat-clause-seen
-gather-returns-in-Cat-clause-seen t c = rw (c.in-Cat.is, node_of-Cat c.in-Cat.nodes, ← c.deref.ensures.value) c.gather_all.ensures.seen
-
-pub gather-gather_all-requires : goal.gather-gather_all-requires
-gather-gather_all-requires t c =
-    let is : node_of c.args.node.now ≡ cat_of c.deref.result.now = ap node_of c.in-Cat.is ∙ node_of-Cat c.in-Cat.nodes ∙ ap cat_of (sym c.deref.ensures.value) in
-    let same : weight (node_of c.args.node.now) ≡ weight (cat_of c.deref.result.now) = ap weight is in
+pub gather-gather_row-requires : goal.gather-gather_row-requires
+gather-gather_row-requires t c =
+    let is : node_of c.loop-rest.rest.now ≡ cat_of c.deref.result.now = ap node_of c.in-Cat.is ∙ node_of-Cat c.in-Cat.nodes ∙ ap cat_of (sym c.deref.ensures.value) in
+    let same : weight (node_of c.loop-rest.rest.now) ≡ weight (cat_of c.deref.result.now) = ap weight is in
+    let within = c.loop-rest.invariant.within in
     search rules
 
-pub gather_all-gather-requires : goal.gather_all-gather-requires
-gather_all-gather-requires t c =
+pub gather-returns-in-Cat-clause-found : goal.gather-returns-in-Cat-clause-found
+gather-returns-in-Cat-clause-found t c =
+    let is : node_of c.loop-rest.rest.now ≡ cat_of c.deref.result.now = ap node_of c.in-Cat.is ∙ node_of-Cat c.in-Cat.nodes ∙ ap cat_of (sym c.deref.ensures.value) in
+    let l = left-same _ _ _ _ _ _ (node_of c.loop-rest.rest.now) (cat_of c.deref.result.now) is c.loop-rest.invariant.left in
+    c.gather_row.ensures.found ∙ l.found
+
+pub gather-returns-in-Cat-clause-span : goal.gather-returns-in-Cat-clause-span
+gather-returns-in-Cat-clause-span t c went =
+    let is : node_of c.loop-rest.rest.now ≡ cat_of c.deref.result.now = ap node_of c.in-Cat.is ∙ node_of-Cat c.in-Cat.nodes ∙ ap cat_of (sym c.deref.ensures.value) in
+    let l = left-same _ _ _ _ _ _ (node_of c.loop-rest.rest.now) (cat_of c.deref.result.now) is c.loop-rest.invariant.left in
+    c.gather_row.ensures.span went ∙ l.span
+
+pub gather-returns-in-Cat-clause-seen : goal.gather-returns-in-Cat-clause-seen
+gather-returns-in-Cat-clause-seen t c went k =
+    let is : node_of c.loop-rest.rest.now ≡ cat_of c.deref.result.now = ap node_of c.in-Cat.is ∙ node_of-Cat c.in-Cat.nodes ∙ ap cat_of (sym c.deref.ensures.value) in
+    let l = left-same _ _ _ _ _ _ (node_of c.loop-rest.rest.now) (cat_of c.deref.result.now) is c.loop-rest.invariant.left in
+    c.gather_row.ensures.seen went k ∙ l.seen k
+
+pub gather-returns-then-not-gather-clause-found : goal.gather-returns-then-not-gather-clause-found
+unfolding node_of
+gather-returns-then-not-gather-clause-found t c =
+    let a = node_of c.in-Alt.left.value in
+    let b = node_of c.in-Alt.right.value in
+    let f = is_seen c.loop-rest.self.bits in
+    let is : node_of c.loop-rest.rest.now ≡ alt a b = ap node_of c.in-Alt.is in
+    let l = left-same _ _ _ _ f (as_span c.loop-rest.self.inside) (node_of c.loop-rest.rest.now) (alt a b) is c.loop-rest.invariant.left in
+    let node : node_of c.deref-in-Alt.result.now ≡ a = ap node_of c.deref-in-Alt.ensures in
+    let fails : false ≡ ids_stand f a = sym c.if-not-gather.true ∙ c.gather.ensures.found ∙ ap (ids_stand f) node in
+    left-fails _ _ _ _ f (as_span c.loop-rest.self.inside) (group_ids a) (group_ids b) (every names_the_groups_inside a) (every names_the_groups_inside b) l fails
+
+pub gather-loop-rest-preserved-in-Alt : goal.gather-loop-rest-preserved-in-Alt
+unfolding node_of weight
+gather-loop-rest-preserved-in-Alt t c =
+    let a = node_of c.in-Alt.left.value in
+    let b = node_of c.in-Alt.right.value in
+    let f = is_seen c.loop-rest.self.bits in
+    let g = is_seen c.gather.new.self.bits in
+    let s = as_span c.loop-rest.self.inside in
+    let t = as_span c.gather.new.self.inside in
+    let is : node_of c.loop-rest.rest.now ≡ alt a b = ap node_of c.in-Alt.is in
+    let next : node_of c.deref-rest.result.now ≡ b = ap node_of c.deref-rest.ensures in
+    let smaller : weight (node_of c.loop-rest.rest.now) ≡ weight a + weight b + 1 = ap weight is in
+    let l = left-same _ _ _ _ f s (node_of c.loop-rest.rest.now) (alt a b) is c.loop-rest.invariant.left in
+    let went = sym c.if-not-gather.false in
+    let node : node_of c.deref-in-Alt.result.now ≡ a = ap node_of c.deref-in-Alt.ensures in
+    let found : true ≡ ids_stand f a = went ∙ c.gather.ensures.found ∙ ap (ids_stand f) node in
+    let span : t ≡ joined s (span_of (group_ids a)) = c.gather.ensures.span (sym went) ∙ ap (λ n. joined s (span_of (group_ids n))) node in
+    let seen : (k : ℕ) → g k ≡ (f k || contains (group_ids a) k) = λ k. c.gather.ensures.seen (sym went) k ∙ ap (λ n. f k || contains (group_ids n) k) node in
+    record {
+      within = omega (arith, ap weight next, smaller, c.loop-rest.invariant.within);
+      left = left-same _ _ _ _ g t b (node_of c.deref-rest.result.now) (sym next)
+          (left-next _ _ _ _ f g s t (group_ids a) (group_ids b) (every names_the_groups_inside a) (every names_the_groups_inside b) l found span seen);
+    }
+
+pub gather-loop-rest-preserved-in-CaptureGroup : goal.gather-loop-rest-preserved-in-CaptureGroup
+unfolding node_of weight
+gather-loop-rest-preserved-in-CaptureGroup t c =
+    let id = c.in-CaptureGroup.id in
+    let n = node_of c.in-CaptureGroup.contents.value in
+    let f = is_seen c.loop-rest.self.bits in
+    let g = is_seen c.see.new.self.bits in
+    let s = as_span c.loop-rest.self.inside in
+    let t = as_span c.see.new.self.inside in
+    let is : node_of c.loop-rest.rest.now ≡ capture_group id (name_of c.in-CaptureGroup.name) n = ap node_of c.in-CaptureGroup.is in
+    let next : node_of c.deref-rest-in-CaptureGroup.result.now ≡ n = ap node_of c.deref-rest-in-CaptureGroup.ensures in
+    let smaller : weight (node_of c.loop-rest.rest.now) ≡ weight n + 1 = ap weight is in
+    let l = left-same _ _ _ _ f s (node_of c.loop-rest.rest.now) (capture_group id (name_of c.in-CaptureGroup.name) n) is c.loop-rest.invariant.left in
+    record {
+      within = omega (arith, ap weight next, smaller, c.loop-rest.invariant.within);
+      left = left-same _ _ _ _ g t n (node_of c.deref-rest-in-CaptureGroup.result.now) (sym next)
+          (left-next _ _ _ _ f g s t (id ∷ []) (group_ids n) true (every names_the_groups_inside n) l (one_is_fresh f id true (sym c.if-not-see.false ∙ c.see.ensures.fresh)) c.see.ensures.span
+          (λ k. c.see.ensures.seen k ∙ one_contained f id k));
+    }
+
+pub gather-returns-in_default : goal.gather-returns-in_default
+gather-returns-in_default t c =
+    let d = c.in_default in
+    let leaf = leaf-of c.loop-rest.rest.now (record {
+      not_Cat = d.not-Cat;
+      not_Alt = d.not-Alt;
+      not_CaptureGroup = d.not-CaptureGroup;
+      not_LookaroundAssertion = d.not-LookaroundAssertion;
+      not_Loop = d.not-Loop;
+      not_Loop1CharBody = d.not-Loop1CharBody;
+    }) in
+    let f = is_seen c.loop-rest.self.bits in
+    let s = as_span c.loop-rest.self.inside in
+    let l = left-leaf _ _ _ _ f s (node_of c.loop-rest.rest.now) leaf c.loop-rest.invariant.left in
+    record {
+      found = left-found _ _ _ _ f s l;
+      span = λ h. left-span _ _ _ _ f s c.loop-rest.self.counted c.loop-rest.self.low l;
+      seen = λ h. left-seen _ _ _ _ f s l;
+    }
+
+pub gather_enclosed-returns-clause-found : goal.gather_enclosed-returns-clause-found
+gather_enclosed-returns-clause-found t c =
+    let n = node_of c.args.contents.now in
+    let i = c.gather.new.self.inside in
+    let went = sym c.if-not-gather.false in
+    let span : as_span i ≡ span_of (group_ids n) = c.gather.ensures.span (sym went) ∙ joined-none (group_ids n) in
+    fills-encloses n (is_seen c.args.self.now.bits) c.args.start c.args.end i.count i.low i.high c.fills.result (every names_the_groups_inside n) c.ranges.start.fits c.ranges.end.fits
+    (went ∙ c.gather.ensures.found) (ap (λ s. s.count) span) (ap (λ s. s.low) span) (ap (λ s. s.high) span) c.fills.ensures
+
+pub gather_row-gather-requires : goal.gather_row-gather-requires
+gather_row-gather-requires t c =
     let nodes = c.args.nodes.now in
     let n = c.node-item.result in
     let smaller : weight (node_of n) < weight (cat_of nodes) = weight-child nodes c.loop-node.node-index n c.loop-node-test.true c.node-item.is in
     search rules
 
-pub gather_alternatives-returns-in_err-inside-clause-found : goal.gather_alternatives-returns-in_err-inside-clause-found
-gather_alternatives-returns-in_err-inside-clause-found t c =
-    let a = node_of c.args.first.now in
-    let b = node_of c.args.others.now in
-    ap is_some c.from_residual.ensures
-    ∙ first_fails (is_seen c.args.self.now.bits) (group_ids a) (group_ids b) (every names_the_groups_inside a) (every names_the_groups_inside b) c.in_err-inside.ensures.found
-
-pub gather_alternatives-loop-rest-init : goal.gather_alternatives-loop-rest-init
-gather_alternatives-loop-rest-init t c =
-    let a = node_of c.args.first.now in
-    let b = node_of c.args.others.now in
-    let f = is_seen c.args.self.now.bits in
-    let g = is_seen c.gather.new.self.bits in
-    let e = c.in_ok-inside.ensures in
-    record {
-      within = omega arith;
-      found = second_decides f g (group_ids a) (group_ids b) (every names_the_groups_inside a) (every names_the_groups_inside b) (are_fresh g (group_ids b) && every names_the_groups_inside b) e.found e.seen refl;
-      span = joined_same (as_span c.in_ok-inside.inside) (span_of (group_ids a)) (span_of (group_ids b)) (span_of (group_ids b)) e.span refl ∙ span-append (group_ids a) (group_ids b);
-      bounded = e.bounded;
-      seen = seen_next f g f (group_ids a) (group_ids b) (group_ids a ++ group_ids b) e.seen (λ k. refl);
-    }
-
-pub gather_alternatives-returns-in_err-gather-clause-found : goal.gather_alternatives-returns-in_err-gather-clause-found
-unfolding node_of
-gather_alternatives-returns-in_err-gather-clause-found t c =
-    let a = node_of c.in-Alt.left.value in
-    let b = node_of c.in-Alt.right.value in
-    let f = is_seen c.loop-rest.self.bits in
-    let is : node_of c.loop-rest.rest.now ≡ alt a b = ap node_of c.in-Alt.is in
-    let fails : false ≡ ids_stand f a = rw c.deref.ensures at c.in_err-gather.ensures.found in
-    ap is_some c.from_residual-in_err-gather.ensures
-    ∙ first_fails f (group_ids a) (group_ids b) (every names_the_groups_inside a) (every names_the_groups_inside b) fails
-    ∙ sym (ap (ids_stand f) is) ∙ c.loop-rest.invariant.found
-
-pub gather_alternatives-loop-rest-preserved : goal.gather_alternatives-loop-rest-preserved
-unfolding node_of weight
-gather_alternatives-loop-rest-preserved t c =
-    let a = node_of c.in-Alt.left.value in
-    let b = node_of c.in-Alt.right.value in
-    let all = group_ids (alt (node_of c.args.first.now) (node_of c.args.others.now)) in
-    let f = is_seen c.loop-rest.self.bits in
-    let g = is_seen c.gather-in-Alt.new.self.bits in
-    let i = c.loop-rest.invariant in
-    let is : node_of c.loop-rest.rest.now ≡ alt a b = ap node_of c.in-Alt.is in
-    let next : node_of c.deref-rest.result.now ≡ b = ap node_of c.deref-rest.ensures in
-    let inside = as_span c.loop-rest.inside in
-    let one = as_span c.in_ok-gather.field-0 in
-    let found : true ≡ ids_stand f a = rw c.deref.ensures at c.in_ok-gather.ensures.found in
-    let span : one ≡ span_of (group_ids a) = rw c.deref.ensures at c.in_ok-gather.ensures.span in
-    let seen : (k : ℕ) → g k ≡ (f k || contains (group_ids a) k) = rw c.deref.ensures at c.in_ok-gather.ensures.seen in
-    let spans = c.joined-inside.ensures ∙ joined_same inside inside one (span_of (group_ids a)) refl span in
-    let smaller : weight (node_of c.loop-rest.rest.now) ≡ weight a + weight b + 1 = ap weight is in
-    record {
-      within = omega (arith, ap weight next, smaller, i.within);
-      found = ap (ids_stand g) next
-          ∙ second_decides f g (group_ids a) (group_ids b) (every names_the_groups_inside a) (every names_the_groups_inside b) (are_fresh g (group_ids b) && every names_the_groups_inside b) found seen refl
-          ∙ sym (ap (ids_stand f) is) ∙ i.found;
-      span = ap (λ n. joined (as_span c.joined-inside.result) (span_of (group_ids n))) next
-          ∙ joined_same (as_span c.joined-inside.result) (joined inside (span_of (group_ids a))) (span_of (group_ids b)) (span_of (group_ids b)) spans refl
-          ∙ joined-assoc inside (span_of (group_ids a)) (span_of (group_ids b)) ∙ ap (joined inside) (span-append (group_ids a) (group_ids b))
-          ∙ sym (ap (λ n. joined inside (span_of (group_ids n))) is) ∙ i.span;
-      bounded = omega (arith, ap (λ s. s.high) c.joined-inside.ensures, c.in_ok-gather.ensures.bounded, i.bounded);
-      seen = λ k. ap (λ n. g k || contains (group_ids n) k) next
-          ∙ seen_next f g (is_seen c.args.self.now.bits) (group_ids a) (group_ids b) all seen (λ j. sym (ap (λ n. f j || contains (group_ids n) j) is) ∙ i.seen j) k;
-    }
-
-pub gather_all-loop-node-init : goal.gather_all-loop-node-init
-gather_all-loop-node-init t c = record {
-  found = refl;
-  span = joined-none (group_ids (cat_of c.args.nodes.now));
-  bounded = omega arith;
-  low = omega arith;
-  counted = omega arith;
-  seen = λ k. refl;
-}
-
-pub gather_all-returns-in_err-gather-clause-found : goal.gather_all-returns-in_err-gather-clause-found
-gather_all-returns-in_err-gather-clause-found t c =
+pub gather_row-returns-then-not-gather-clause-found : goal.gather_row-returns-then-not-gather-clause-found
+gather_row-returns-then-not-gather-clause-found t c =
     let nodes = c.args.nodes.now in
     let n = node_of c.node-item.result in
     let rest = cat_of (drop (c.loop-node.node-index + 1) nodes) in
     let next = cat_of-drop nodes c.loop-node.node-index c.node-item.result c.loop-node-test.true c.node-item.is in
     let f = is_seen c.loop-node.self.bits in
-    ap is_some c.from_residual.ensures
-    ∙ first_fails f (group_ids n) (group_ids rest) (every names_the_groups_inside n) (every names_the_groups_inside rest) c.in_err-gather.ensures.found
-    ∙ sym (ap (λ m. are_fresh f (group_ids m) && every names_the_groups_inside m) next) ∙ c.loop-node.invariant.found
+    let s = as_span c.loop-node.self.inside in
+    let l = left-same _ _ _ _ f s (cat_of (drop c.loop-node.node-index nodes)) (cat n rest) next c.loop-node.invariant in
+    left-fails _ _ _ _ f s (group_ids n) (group_ids rest) (every names_the_groups_inside n) (every names_the_groups_inside rest) l (sym c.if-not-gather.true ∙ c.gather.ensures.found)
 
-pub gather_all-loop-node-preserved : goal.gather_all-loop-node-preserved
-gather_all-loop-node-preserved t c =
+pub gather_row-loop-node-preserved : goal.gather_row-loop-node-preserved
+gather_row-loop-node-preserved t c =
     let nodes = c.args.nodes.now in
     let n = node_of c.node-item.result in
     let rest = cat_of (drop (c.loop-node.node-index + 1) nodes) in
     let next = cat_of-drop nodes c.loop-node.node-index c.node-item.result c.loop-node-test.true c.node-item.is in
     let f = is_seen c.loop-node.self.bits in
     let g = is_seen c.gather.new.self.bits in
-    let inside = as_span c.loop-node.inside in
-    let one = c.in_ok-gather.field-0 in
-    let e = c.in_ok-gather.ensures in
-    let spans = c.joined-inside.ensures ∙ joined_same inside inside (as_span one) (span_of (group_ids n)) refl e.span in
-    record {
-      found = second_decides f g (group_ids n) (group_ids rest) (every names_the_groups_inside n) (every names_the_groups_inside rest) (are_fresh g (group_ids rest) && every names_the_groups_inside rest) e.found e.seen refl
-          ∙ sym (ap (λ m. are_fresh f (group_ids m) && every names_the_groups_inside m) next) ∙ c.loop-node.invariant.found;
-      span = joined_same (as_span c.joined-inside.result) (joined inside (span_of (group_ids n))) (span_of (group_ids rest)) (span_of (group_ids rest)) spans refl
-          ∙ joined-assoc inside (span_of (group_ids n)) (span_of (group_ids rest)) ∙ ap (joined inside) (span-append (group_ids n) (group_ids rest))
-          ∙ sym (ap (λ m. joined inside (span_of (group_ids m))) next) ∙ c.loop-node.invariant.span;
-      bounded = omega (arith, ap (λ s. s.high) c.joined-inside.ensures, e.bounded, c.loop-node.invariant.bounded);
-      low = omega (arith, ap (λ s. s.low) c.joined-inside.ensures, c.loop-node.invariant.low);
-      counted = omega (arith, ap (λ s. s.count) c.joined-inside.ensures);
-      seen = seen_next f g (is_seen c.args.self.now.bits) (group_ids n) (group_ids rest) (group_ids (cat_of nodes)) e.seen
-          (λ k. sym (ap (λ m. f k || contains (group_ids m) k) next) ∙ c.loop-node.invariant.seen k);
-    }
+    let s = as_span c.loop-node.self.inside in
+    let t = as_span c.gather.new.self.inside in
+    let l = left-same _ _ _ _ f s (cat_of (drop c.loop-node.node-index nodes)) (cat n rest) next c.loop-node.invariant in
+    let went = sym c.if-not-gather.false in
+    left-next _ _ _ _ f g s t (group_ids n) (group_ids rest) (every names_the_groups_inside n) (every names_the_groups_inside rest) l (went ∙ c.gather.ensures.found)
+    (c.gather.ensures.span (sym went)) (c.gather.ensures.seen (sym went))
 
-pub gather_all-returns-clause-span : goal.gather_all-returns-clause-span
-gather_all-returns-clause-span t c =
+pub gather_row-returns-clause-span : goal.gather_row-returns-clause-span
+gather_row-returns-clause-span t c h =
     let nodes = c.args.nodes.now in
-    let inside = as_span c.loop-node.inside in
     let none : drop c.loop-node.node-index nodes ≡ [] = drop_all c.loop-node.node-index nodes c.loop-node-test.false in
-    sym (joined-last inside c.loop-node.invariant.counted c.loop-node.invariant.low)
-    ∙ sym (ap (λ ns. joined inside (span_of (group_ids (cat_of ns)))) none) ∙ c.loop-node.invariant.span
-
-pub gather_enclosed-returns-then-fills-clause-found : goal.gather_enclosed-returns-then-fills-clause-found
-gather_enclosed-returns-then-fills-clause-found t c =
-    let n = node_of c.args.contents.now in
-    let i = c.in_ok-inside.inside in
-    let span = c.in_ok-inside.ensures.span in
-    fills-encloses n (is_seen c.args.self.now.bits) c.args.start c.args.end i.count i.low i.high true (every names_the_groups_inside n) c.ranges.start.fits c.ranges.end.fits
-    c.in_ok-inside.ensures.found (ap (λ s. s.count) span) (ap (λ s. s.low) span) (ap (λ s. s.high) span) c.if-fills.ensures
-
-pub gather_enclosed-returns-else-fills-clause-found : goal.gather_enclosed-returns-else-fills-clause-found
-gather_enclosed-returns-else-fills-clause-found t c =
-    let n = node_of c.args.contents.now in
-    let i = c.in_ok-inside.inside in
-    let span = c.in_ok-inside.ensures.span in
-    fills-encloses n (is_seen c.args.self.now.bits) c.args.start c.args.end i.count i.low i.high false (every names_the_groups_inside n) c.ranges.start.fits c.ranges.end.fits
-    c.in_ok-inside.ensures.found (ap (λ s. s.count) span) (ap (λ s. s.low) span) (ap (λ s. s.high) span) c.if-fills.ensures
+    let f = is_seen c.loop-node.self.bits in
+    let s = as_span c.loop-node.self.inside in
+    let l = left-same _ _ _ _ f s (cat_of (drop c.loop-node.node-index nodes)) end_of_cat (ap cat_of none) c.loop-node.invariant in
+    left-span _ _ _ _ f s c.loop-node.self.counted c.loop-node.self.low l

@@ -1,19 +1,9 @@
--- The groups of a name, one id after another, and lists of clones.
-use Rattle.std.proofs.Common.{◌≡◌, ℕ, ◌+◌, ◌<◌, Bool, true, false, List, [], ◌∷◌, length, map, take, drop, get_or, zero, suc, ◌≤◌, ◌++◌, slice_get, unwrap_or, ap₂, arith, refl, sym, ◌∙◌, ap, Option, Some, None, is_some, option_map, bytes_eq, if◌then◌else◌}
-use Rattle.std.specs.List.{AllZip}
+-- The groups of a name, one id after another.
+use Rattle.std.proofs.Common.{◌≡◌, ℕ, ◌+◌, ◌<◌, Bool, true, false, List, [], ◌∷◌, length, map, take, drop, get_or, zero, suc, ◌++◌, slice_get, unwrap_or, ap₂, arith, refl, sym, ◌∙◌, ap, Option, Some, None, is_some, option_map, bytes_eq, if◌then◌else◌}
 use Rattle.std.proofs.lemmas.List.{drop_more, drop-map}
 use Rattle.std.specs.Option.{option_or}
 use Rattle.regex_meaning.specs.Outcomes.{group_range}
 use Rattle.regex_meaning.specs.Names.{Answer, first_range, ids_named, ids_where}
-
--- lists of clones have the same images where a clone has
-pub map-clones : {X Y : Type 0} (f : X → Y) (R : X → X → Type 0) → ((x y : X) → R x y → f y ≡ f x)
-    → (xs ys : List X) → AllZip R xs ys → map f ys ≡ map f xs
-map-clones f R same [] [] a = refl
-map-clones f R same [] (y ∷ ys) a = absurd a
-map-clones f R same (x ∷ xs) [] a = absurd a
-map-clones f R same (x ∷ xs) (y ∷ ys) a =
-    ap (λ z. z ∷ map f ys) (same x y a.0) ∙ ap (λ zs. f x ∷ zs) (map-clones f R same xs ys a.1)
 
 -- an image is there exactly where its source is
 pub is_some-image : {A B : Type 0} (f : A → B) (a : Option A) (b : Option B) (there : Bool) → option_map f a ≡ b

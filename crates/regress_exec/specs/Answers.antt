@@ -1,5 +1,5 @@
 -- What a match says.
-use Rattle.std.specs.Prelude.{ℕ, List, map, option_map, string_bytes}
+use Rattle.std.specs.Prelude.{ℕ, List, map, option_map}
 use Rattle.std.specs.declared.ops.Range.{Range}
 use Rattle.regex_meaning.specs.Names.{Answer}
 use Rattle.regex_meaning.specs.Outcomes.{Groups}
@@ -13,7 +13,7 @@ abbrev pub answer_of : Match → Answer
 answer_of m = record {
   range = range_of m.range;
   captures = map (option_map range_of) m.captures.items;
-  names = map string_bytes m.names.items;
+  names = m.names;
 }
 
 -- the answer with this range, these groups and these names

@@ -13,7 +13,7 @@ ghost use Rattle.regress_exec.specs.Spends.{GoesOn, Spends};
 ghost use Rattle.regress_exec.specs.ToCome.{ToCome, coming, Gives, items_left};
 
 use regress_input::position::PositionType;
-use regress_program::insn::CompiledRegex;
+use regress_program::insn::{CompiledRegex, GroupNames};
 use std::alloc::AllocError;
 use std::marker::Model;
 use std::ops::Range;
@@ -49,7 +49,7 @@ pub struct Match {
     pub range: Range<usize>,
     /// The ranges of the groups by id, `None` where a group did not match.
     pub captures: Vec<Option<Range<usize>>>,
-    names: Vec<String>,
+    names: GroupNames,
 }
 
 impl Match {
@@ -62,6 +62,17 @@ impl Match {
         names: Vec<String>,
     ) -> Self
         ensures { answer_of result ≡ record { range = range_of range; captures = map (option_map range_of) captures.items; names = map string_bytes names.items } }
+    {
+        Match::with_names(range, captures, GroupNames::owned(names))
+    }
+
+    // The same with names that others may hold too.
+    pub(crate) fn with_names(
+        range: Range<usize>,
+        captures: Vec<Option<Range<usize>>>,
+        names: GroupNames,
+    ) -> Self
+        ensures { answer_of result ≡ record { range = range_of range; captures = map (option_map range_of) captures.items; names = names } }
     {
         Match {
             range,

@@ -1,13 +1,12 @@
 //! The walk over the places of a text, once for all executors.
 
-ghost use Rattle.std.specs.Prelude.{◌≡◌, ◌+◌, ◌≤◌, ℕ, IfOk, IsSome, None, Option, map, option_map, string_bytes, length};
+ghost use Rattle.std.specs.Prelude.{◌≡◌, ◌+◌, ◌≤◌, ℕ, IfOk, IsSome, None, Option, map, option_map, length};
 ghost use Rattle.regex_meaning.specs.Tree.{Tree};
 ghost use Rattle.regex_meaning.specs.Text.{Text};
 ghost use Rattle.regex_meaning.specs.Offsets.{IsText, IsBoundary};
 ghost use Rattle.regex_meaning.specs.Outcomes.{Groups, group_range};
 ghost use Rattle.regex_meaning.specs.Names.{names_by_id};
 ghost use Rattle.regex_pattern_front.specs.TreeOf.{tree_of};
-ghost use Rattle.regress_program.specs.Code.{compiled};
 ghost use Rattle.regress_exec.specs.Answers.{answer_by, answer_of, range_of};
 ghost use Rattle.regress_exec.specs.Attempts.{IsNextTry, IsVain, ends_with, end_from, first_tried, next_tried, offset_behind, ticks_from};
 ghost use Rattle.regress_exec.specs.Positions.{span_of};
@@ -119,18 +118,6 @@ fn captures_of<A: Attempts>(executor: &A) -> Result<Vec<Option<Range<usize>>>, A
     Ok(captures)
 }
 
-// The names of a program's groups once more.
-fn names_of(program: &Program) -> Result<Vec<String>, AllocError>
-    ensures { IfOk result (λ v. map string_bytes v.items ≡ (compiled (tree_of program.now)).group_names) }
-{
-    let alloc = program.allocator();
-    let mut names = Vec::new(alloc);
-    for name in program.group_names() {
-        names.push(String::from_str(alloc, name.as_str())?)?;
-    }
-    Ok(names)
-}
-
 // The match that begins at a position and ends at another, with the groups of the last attempt.
 fn successful_match<A: Attempts>(
     executor: &A,
@@ -140,10 +127,10 @@ fn successful_match<A: Attempts>(
     ensures { IfOk result (λ m. answer_of m ≡ answer_by (A.Input.Position.offset start) (A.Input.Position.offset end) (A.groups executor.now) (names_by_id (A.tree executor.now).root)) }
 {
     let captures = captures_of(executor)?;
-    let names = names_of(executor.program())?;
+    let names = executor.program().shared_names().clone()?;
     let input = executor.input();
     let range = input.pos_to_offset(start)..input.pos_to_offset(end);
-    Ok(Match::from_parts(range, captures, names))
+    Ok(Match::with_names(range, captures, names))
 }
 
 // The position from which the list goes on behind a match: its end, or one character on where it is empty.

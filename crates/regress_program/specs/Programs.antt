@@ -1,5 +1,5 @@
 -- What a program's fields are.
-use Rattle.std.specs.Prelude.{◌≡◌, map, Bool, true, false, IsTrue, string_bytes}
+use Rattle.std.specs.Prelude.{◌≡◌, map, Bool, true, false, IsTrue}
 use Rattle.regex_meaning.specs.WellFormed.{is_well_formed}
 use Rattle.regex_pattern_front.specs.TreeOf.{tree_of, flags_of, contents_of}
 use Rattle.regex_meaning.specs.Layout.{reads_bytes}
@@ -19,7 +19,7 @@ pub record IsProgram (p : Inside) : Type 0 where
   pub loops : p.loops ≡ (compiled (tree_of p.tree.value)).loops
   pub groups : p.groups ≡ (compiled (tree_of p.tree.value)).groups
   pub flags : flags_of p.flags ≡ (compiled (tree_of p.tree.value)).flags
-  pub group_names : map string_bytes p.group_names.items ≡ (compiled (tree_of p.tree.value)).group_names
+  pub group_names : p.group_names ≡ (compiled (tree_of p.tree.value)).group_names
   pub well_formed : IsTrue (is_well_formed (tree_of p.tree.value).root)
 
 -- the plan is that of the tree's program, for units of 8 or of 16 bits

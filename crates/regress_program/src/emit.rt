@@ -25,7 +25,7 @@ use crate::emit::emitter::{Emitter, Mode};
 use crate::emit::names::names_by_id;
 use crate::emit::tally::Tally;
 pub use crate::emit::wellformed::is_well_formed;
-use crate::insn::{CompiledRegex, CompiledUnits, Program};
+use crate::insn::{CompiledRegex, CompiledUnits, GroupNames, Program};
 use crate::startpredicate::predicate_for_re;
 use regex_pattern_front::ir;
 use regex_pattern_front::types::{LoopID, MAX_CAPTURE_GROUPS};
@@ -129,7 +129,7 @@ fn compile(alloc: Global, re: &ir::Regex, bytes_in_units: bool) -> Result<Progra
         brackets,
         loops,
     } = emitter;
-    let group_names = names_by_id(alloc, &re.node, groups)?;
+    let group_names = GroupNames::shared(names_by_id(alloc, &re.node, groups)?)?;
     Ok(Program {
         insns,
         brackets,

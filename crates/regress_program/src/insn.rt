@@ -1,10 +1,12 @@
 //! Instructions, and programs made of them.
 
 mod compiled;
+mod names;
 mod predicates;
 mod programs;
 
 pub use crate::insn::compiled::{CompiledRegex, CompiledUnits};
+pub use crate::insn::names::GroupNames;
 pub use crate::insn::predicates::StartPredicate;
 pub use crate::insn::programs::Program;
 pub use regex_pattern_front::types::MAX_CHAR_SET_LENGTH;

@@ -34,32 +34,32 @@ impl Match {
             id: 0,
         }
     }
+}
 
-    // The first name from an id on that stands at none before, and the id behind it.
-    fn new_name_from(&self, from: usize) -> Option<(usize, &str)>
-        ensures { let names = map string_bytes self.now.names.items in MatchOption result (new_names names from ≡ []) (λ found. new_names names from ≡ found.1.now ∷ new_names names found.0) }
-    {
-        for id in from..self.names.len() {
-            let name = self.names[id].as_str();
-            if is_new(name, &self.names[..id]) {
-                return Some((id + 1, name));
-            }
+// The first name from an id on that stands at none before, and the id behind it.
+fn new_name_from(names: &[String], from: usize) -> Option<(usize, &str)>
+    ensures { let names = map string_bytes names.now in MatchOption result (new_names names from ≡ []) (λ found. new_names names from ≡ found.1.now ∷ new_names names found.0) }
+{
+    for id in from..names.len() {
+        let name = names[id].as_str();
+        if is_new(name, &names[..id]) {
+            return Some((id + 1, name));
         }
-        None
     }
+    None
+}
 
-    // How many names from an id on stand at none before.
-    fn new_names_from(&self, from: usize) -> usize
-        ensures { result ≡ length (new_names (map string_bytes self.now.names.items) from) }
-    {
-        let mut left = 0;
-        for id in from..self.names.len() {
-            if is_new(self.names[id].as_str(), &self.names[..id]) {
-                left += 1;
-            }
+// How many names from an id on stand at none before.
+fn new_names_from(names: &[String], from: usize) -> usize
+    ensures { result ≡ length (new_names (map string_bytes names.now) from) }
+{
+    let mut left = 0;
+    for id in from..names.len() {
+        if is_new(names[id].as_str(), &names[..id]) {
+            left += 1;
         }
-        left
     }
+    left
 }
 
 // Whether a name is one, and none of those before it.
@@ -182,7 +182,7 @@ impl<'m> Iterator for NamedGroups<'m> {
     /// The next name, and its range, which is none where none of its groups matched.
     fn next(&mut self) -> Option<(&'m str, Option<Range<usize>>)> {
         let matched = self.matched;
-        let (behind, name) = matched.new_name_from(self.id)?;
+        let (behind, name) = new_name_from(matched.names.as_slice(), self.id)?;
         self.id = behind;
         Some((name, matched.first_named(name)))
     }
@@ -200,7 +200,7 @@ impl<'m> Iterator for NamedGroups<'m> {
 impl<'m> ExactSizeIterator for NamedGroups<'m> {
     /// How many names are left. It looks for each of them.
     fn len(&self) -> usize {
-        self.matched.new_names_from(self.id)
+        new_names_from(self.matched.names.as_slice(), self.id)
     }
 }
 

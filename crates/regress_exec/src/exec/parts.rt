@@ -70,7 +70,8 @@ impl Match {
     pub(super) fn first_named(&self, name: &str) -> Option<Range<usize>>
         ensures { option_map range_of result ≡ first_range (answer_of self.now) (ids_named (answer_of self.now) name.now) }
     {
-        for (id, other) in self.names.iter().enumerate() {
+        let names = self.names.as_slice();
+        for (id, other) in names.iter().enumerate() {
             if name == other.as_str() {
                 let range = range_at(&self.captures, id);
                 if range.is_some() {

@@ -9,6 +9,7 @@ ghost use Rattle.regress_program.specs.Programs.{IsPlanFor};
 ghost use Rattle.regress_plan.specs.Keys.{wide_of};
 
 use crate::carried::Carried;
+use crate::insn::names::GroupNames;
 use regex_pattern_front::flags::Flags;
 use regex_pattern_front::types::BracketContents;
 use regress_insn::insn::Insn;
@@ -25,7 +26,7 @@ pub struct Program {
     pub(crate) brackets: Vec<BracketContents>,
     pub(crate) loops: u32,
     pub(crate) groups: u32,
-    pub(crate) group_names: Vec<String>,
+    pub(crate) group_names: GroupNames,
     pub(crate) flags: Flags,
     pub(crate) tree: Carried,
 }
@@ -85,6 +86,14 @@ impl Program {
     pub fn group_names(&self) -> &[String]
         ensures { map string_bytes result.now ≡ (compiled (tree_of self.now)).group_names }
     {
+        self.group_names.as_slice()
+    }
+
+    /// The same names, as what is made of the program can share them.
+    #[inline(always)]
+    pub fn shared_names(&self) -> &GroupNames
+        ensures { result.now ≡ (compiled (tree_of self.now)).group_names }
+    {
         &self.group_names
     }
 
@@ -93,7 +102,7 @@ impl Program {
     pub fn group_name(&self, id: usize) -> &str
         ensures { result.now ≡ get_or (compiled (tree_of self.now)).group_names id [] }
     {
-        match self.group_names.get(id) {
+        match self.group_names().get(id) {
             Some(name) => name.as_str(),
             None => "",
         }
@@ -121,7 +130,7 @@ impl Program {
             brackets: copy_of_brackets(alloc, &self.brackets)?,
             loops: self.loops,
             groups: self.groups,
-            group_names: Vec::from_clones(alloc, &self.group_names)?,
+            group_names: self.group_names.clone()?,
             flags: self.flags,
             tree: self.tree.again(),
         })

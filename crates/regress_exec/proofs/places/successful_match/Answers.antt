@@ -7,7 +7,7 @@ use Rattle.regress_exec.proofs.places.successful_match.Goals as goal
 
 pub returns : goal.returns
 returns g c =
-    c.from_parts.ensures
+    c.with_names.ensures
     ∙ same-answer _ _ _ _ _ _ _ _ c.pos_to_offset.ensures c.pos_to_offset-2.ensures
     c.in_ok-captures.ensures
-    (c.in_ok-names.ensures ∙ names-compiled (tree_of c.program.result.now) ∙ ap (λ (t : Tree). names_by_id t.root) c.program.ensures)
+    (c.in_ok-names.ensures ∙ c.shared_names.ensures ∙ names-compiled (tree_of c.program.result.now) ∙ ap (λ (t : Tree). names_by_id t.root) c.program.ensures)

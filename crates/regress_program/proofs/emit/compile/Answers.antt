@@ -33,6 +33,6 @@ invariant_of-result c =
       loops = rw of (omega (arith, c.from.ensures, ap (λ s. s.loops) made));
       groups = rw of c.in_ok-groups.ensures.groups;
       flags = rw of refl;
-      group_names = rw of c.in_ok-group_names.ensures;
+      group_names = rw of (c.in_ok-group_names.ensures ∙ c.in_ok-names_by_id.ensures);
       well_formed = rw of fits.well_formed;
     }

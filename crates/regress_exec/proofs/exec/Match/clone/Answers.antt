@@ -1,10 +1,11 @@
-use Rattle.std.proofs.Common.{rules, string_bytes}
+use Rattle.std.proofs.Common.{ap, map, option_map, rules}
 use Rattle.std.proofs.lemmas.List.Elements.{same_from_all_zip}
-use Rattle.regress_exec.proofs.Groups.{map-clones}
+use Rattle.regress_exec.specs.Answers.{range_of}
+use Rattle.regress_exec.proofs.FirstMatch.{same-answer}
 use Rattle.regress_exec.proofs.exec.Match.clone.Goals as goal
 
 pub returns : goal.returns
 returns c =
-    let names = map-clones string_bytes _ (λ x y h. h) _ _ c.in_ok-clone-2.ensures.cases.0 in
     let captures = same_from_all_zip _ _ _ c.in_ok-clone.ensures.cases.0 (λ x y h. search rules) in
-    cc (captures, names)
+    same-answer _ _ _ _ _ _ _ _ (ap (λ r. r.start) c.range.ensures) (ap (λ r. r.end) c.range.ensures)
+    (ap (map (option_map range_of)) captures) c.in_ok-clone-2.ensures

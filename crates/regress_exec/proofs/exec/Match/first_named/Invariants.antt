@@ -7,4 +7,4 @@ use Rattle.regress_exec.proofs.exec.Match.first_named.Given as goal
 abbrev pub invariant-loop-id : goal.invariant-loop-id
 invariant-loop-id l =
     first_range (answer_of l.self) (ids_named (answer_of l.self) l.name)
-    ≡ first_range (answer_of l.self) (ids_where (bytes_eq l.name) l.id (drop l.id (map string_bytes l.self.names.items)))
+    ≡ first_range (answer_of l.self) (ids_where (bytes_eq l.name) l.id (drop l.id (map string_bytes l.names)))

@@ -1,7 +1,6 @@
-use Rattle.std.proofs.Common.{◌∙◌, ap, map, string_bytes}
+use Rattle.std.proofs.Common.{◌∙◌, ap, map}
 use Rattle.regex_pattern_front.specs.TreeOf.{contents_of}
 use Rattle.regress_program.specs.Insns.{insn_of}
-use Rattle.regress_program.proofs.FilingLemmas.{same_texts}
 use Rattle.regress_program.proofs.insn.programs.Program.clone.Goals as goal
 
 pub invariant_of-result : goal.invariant_of-result
@@ -14,6 +13,6 @@ invariant_of-result c =
       loops = rw tree held.loops;
       groups = rw tree held.groups;
       flags = rw tree held.flags;
-      group_names = rw tree (same_texts string_bytes _ _ c.in_ok-from_clones.ensures.items ∙ ap (map string_bytes) c.deref-3.ensures.value ∙ held.group_names);
+      group_names = rw tree (c.in_ok-clone.ensures ∙ held.group_names);
       well_formed = rw tree held.well_formed;
     }

@@ -1,7 +1,9 @@
+pub mod CallerLemmas
 pub mod Closures
 pub mod EscapeLemmas
 pub mod Expansion
 pub mod FlagLemmas
 pub mod RefusalLemmas
 pub mod Replacing
+pub mod SearchLemmas
 pub mod Starts

@@ -5,4 +5,5 @@ pub mod Programs
 pub mod Parts
 pub mod Refusals
 pub mod Replacements
+pub mod Searches
 pub mod Trees

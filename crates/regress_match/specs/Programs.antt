@@ -28,6 +28,19 @@ pub record IsCompiledWith (wanted : Flags) (re : Regex) : Type 0 where
   pub optimized : byte_tree re ≡ tree_to_run (unit_tree re)
   pub bytes : IsByteCodeOf (compiled (byte_tree re)) (byte_tree re)
 
+-- what is read in these bytes, or these 16-bit units, by the pattern's flags
+abbrev pub as_utf8 : Regex → (bytes : List ℕ) → Text
+as_utf8 re bytes = utf8_text bytes (byte_tree re).flags.unicode
+
+abbrev pub as_ascii : Regex → (bytes : List ℕ) → Text
+as_ascii re bytes = ascii_text bytes (byte_tree re).flags.unicode
+
+abbrev pub as_utf16 : Regex → (units : List ℕ) → Text
+as_utf16 re units = utf16_text units (unit_tree re).flags.unicode
+
+abbrev pub as_ucs2 : Regex → (units : List ℕ) → Text
+as_ucs2 re units = ucs2_text units (unit_tree re).flags.unicode
+
 -- the answers in a text in UTF-8 from an offset on
 abbrev pub utf8_answers : Regex → (bytes : List ℕ) → (start : ℕ) → List Answer
 utf8_answers re bytes start = answers_from (byte_tree re).root (utf8_text bytes (byte_tree re).flags.unicode) start

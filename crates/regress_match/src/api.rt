@@ -3,6 +3,7 @@
 mod error;
 mod escaping;
 mod flags;
+mod laws;
 mod regex;
 mod replace;
 mod units;
@@ -10,6 +11,7 @@ mod units;
 pub use self::error::{Error, ReplaceError};
 pub use self::escaping::escape;
 pub use self::flags::Flags;
+pub use self::laws::{matches_stand_in_text, searches_answer_in_turn};
 pub use self::regex::{AsciiMatches, Matches, Regex};
 pub use self::replace::whole_matches_give_back;
 pub use regress_exec::exec::{Groups, Match, NamedGroups, SearchError};

@@ -1,11 +1,11 @@
 //! The executors, and what is below a pattern that is compiled: parsing, optimizing, emitting.
 
 ghost use Rattle.std.specs.Prelude.{◌≡◌, IfErr, IfOk, false, nat_le, not};
-ghost use Rattle.regex_meaning.specs.Names.{answers_from};
 ghost use Rattle.regex_meaning.specs.Offsets.{units};
 ghost use Rattle.regex_pattern_front.specs.TreeOf.{tree_of};
 ghost use Rattle.regress_match.specs.Programs.{IsStart, byte_tree};
 ghost use Rattle.regress_match.specs.Refusals.{IsMemory};
+ghost use Rattle.regress_match.specs.Searches.{YieldsMatches};
 
 use crate::api::{Regex, SearchError};
 pub use regex_pattern_front::optimizer::optimize;
@@ -37,9 +37,8 @@ pub(crate) fn search_from<'r, S: Searcher<'r>>(
 ) -> Result<Matches<S>, SearchError>
     requires can { S.can_search text }
     requires start { IsStart (S.text_of text (tree_of re.now).flags.unicode) start }
-    ensures answers { IfOk result (λ it. it.answers ≡ answers_from (tree_of re.now).root (S.text_of text (tree_of re.now).flags.unicode) start) }
+    ensures answers { IfOk result (YieldsMatches (tree_of re.now) (S.text_of text (tree_of re.now).flags.unicode) start) }
     ensures ended { IfOk result (λ it. it.ended ≡ not (nat_le start (units (S.text_of text (tree_of re.now).flags.unicode)))) }
-    ensures unlimited { IfOk result (λ it. it.limited ≡ false) }
     ensures refused { IfErr result IsMemory }
 {
     let executor = S::new(re, text)?;
@@ -59,9 +58,8 @@ pub fn find<'a, E: Executor<'a, 'a>>(
 ) -> Result<Matches<E>, SearchError>
     requires can { E.can_search text }
     requires start { IsStart (E.text_of text (byte_tree re.now).flags.unicode) start }
-    ensures answers { IfOk result (λ it. it.answers ≡ answers_from (byte_tree re.now).root (E.text_of text.entry (byte_tree re.now).flags.unicode) start) }
+    ensures answers { IfOk result (YieldsMatches (byte_tree re.now) (E.text_of text.entry (byte_tree re.now).flags.unicode) start) }
     ensures ended { IfOk result (λ it. it.ended ≡ not (nat_le start (units (E.text_of text.entry (byte_tree re.now).flags.unicode)))) }
-    ensures unlimited { IfOk result (λ it. it.limited ≡ false) }
     ensures refused { IfErr result IsMemory }
 {
     search_from::<E>(re.byte_program(), text, start)
@@ -81,9 +79,8 @@ where
     E::AsAscii: Executor<'a, 'a>,
     requires can { E.AsAscii.can_search text }
     requires start { IsStart (E.AsAscii.text_of text (byte_tree re.now).flags.unicode) start }
-    ensures answers { IfOk result (λ it. it.answers ≡ answers_from (byte_tree re.now).root (E.AsAscii.text_of text.entry (byte_tree re.now).flags.unicode) start) }
+    ensures answers { IfOk result (YieldsMatches (byte_tree re.now) (E.AsAscii.text_of text.entry (byte_tree re.now).flags.unicode) start) }
     ensures ended { IfOk result (λ it. it.ended ≡ not (nat_le start (units (E.AsAscii.text_of text.entry (byte_tree re.now).flags.unicode)))) }
-    ensures unlimited { IfOk result (λ it. it.limited ≡ false) }
     ensures refused { IfErr result IsMemory }
 {
     search_from::<E::AsAscii>(re.byte_program(), text, start)

@@ -5,6 +5,7 @@ ghost use Rattle.regex_meaning.specs.Flags.{flags_of_text};
 ghost use Rattle.regex_pattern_front.specs.TreeOf.{tree_of};
 ghost use Rattle.regress_exec.specs.Answers.{answer_of};
 ghost use Rattle.regress_match.specs.Refusals.{CanRefuse, IsMemory};
+ghost use Rattle.regress_match.specs.Searches.{YieldsMatches};
 ghost use Rattle.regress_match.specs.Trees.{tree_to_run};
 
 use crate::api::{Error, Flags};
@@ -46,7 +47,7 @@ pub struct Regex {
 
 impl Regex {
     ghost use Rattle.regress_match.specs.Flags.{flags_of};
-    ghost use Rattle.regress_match.specs.Programs.{IsCompiledWith, ascii_answers, byte_tree, unit_tree, utf8_answers};
+    ghost use Rattle.regress_match.specs.Programs.{IsCompiledWith, as_ascii, as_utf8, ascii_answers, byte_tree, unit_tree, utf8_answers};
 
     /// Compiles a pattern with the default flags.
     ///
@@ -162,9 +163,8 @@ impl Regex {
     ///
     /// `Memory` where there is no memory for the search.
     pub fn find_iter<'r, 't>(&'r self, text: &'t str) -> Result<Matches<'r, 't>, SearchError>
-        ensures answers { IfOk result (λ it. it.answers ≡ utf8_answers self.now text.now 0) }
+        ensures answers { IfOk result (YieldsMatches (byte_tree self.now) (as_utf8 self.now text.now) 0) }
         ensures live { IfOk result (λ it. it.ended ≡ false) }
-        ensures unlimited { IfOk result (λ it. it.limited ≡ false) }
         ensures refused { IfErr result IsMemory }
     {
         self.find_from(text, 0)
@@ -184,9 +184,8 @@ impl Regex {
         start: usize,
     ) -> Result<Matches<'r, 't>, SearchError>
         requires { IsCharBoundary text.now start ⊎ (length text.now < start) }
-        ensures answers { IfOk result (λ it. it.answers ≡ utf8_answers self.now text.now start) }
+        ensures answers { IfOk result (YieldsMatches (byte_tree self.now) (as_utf8 self.now text.now) start) }
         ensures ended { IfOk result (λ it. it.ended ≡ not (nat_le start (length text.now))) }
-        ensures unlimited { IfOk result (λ it. it.limited ≡ false) }
         ensures refused { IfErr result IsMemory }
     {
         search_from::<DefaultExecutor<'r, 't>>(&self.cr, text, start)
@@ -215,9 +214,8 @@ impl Regex {
         text: &'t str,
     ) -> Result<AsciiMatches<'r, 't>, SearchError>
         requires { IsAscii text.now }
-        ensures answers { IfOk result (λ it. it.answers ≡ ascii_answers self.now text.now 0) }
+        ensures answers { IfOk result (YieldsMatches (byte_tree self.now) (as_ascii self.now text.now) 0) }
         ensures live { IfOk result (λ it. it.ended ≡ false) }
-        ensures unlimited { IfOk result (λ it. it.limited ≡ false) }
         ensures refused { IfErr result IsMemory }
     {
         self.find_from_ascii(text, 0)
@@ -234,9 +232,8 @@ impl Regex {
         start: usize,
     ) -> Result<AsciiMatches<'r, 't>, SearchError>
         requires { IsAscii text.now }
-        ensures answers { IfOk result (λ it. it.answers ≡ ascii_answers self.now text.now start) }
+        ensures answers { IfOk result (YieldsMatches (byte_tree self.now) (as_ascii self.now text.now) start) }
         ensures ended { IfOk result (λ it. it.ended ≡ not (nat_le start (length text.now))) }
-        ensures unlimited { IfOk result (λ it. it.limited ≡ false) }
         ensures refused { IfErr result IsMemory }
     {
         search_from::<DefaultAsciiExecutor<'r, 't>>(&self.cr, text, start)

@@ -2,8 +2,9 @@
 
 ghost use Rattle.std.specs.Prelude.{◌≡◌, ◌<◌, ◌⊎◌, IfErr, IfOk, IsTrue, false, length, nat_le, not};
 ghost use Rattle.regex_meaning.specs.Text.{is_unit_boundary as is_boundary_of};
-ghost use Rattle.regress_match.specs.Programs.{ucs2_answers, utf16_answers};
+ghost use Rattle.regress_match.specs.Programs.{as_ucs2, as_utf16, unit_tree};
 ghost use Rattle.regress_match.specs.Refusals.{IsMemory};
+ghost use Rattle.regress_match.specs.Searches.{YieldsMatches};
 
 use crate::api::{Regex, SearchError};
 use crate::backends::{DefaultUcs2Executor, DefaultUtf16Executor};
@@ -24,9 +25,8 @@ impl Regex {
         start: usize,
     ) -> Result<Matches<DefaultUtf16Executor<'r, 't>>, SearchError>
         requires { IsTrue (is_boundary_of text.now start) ⊎ (length text.now < start) }
-        ensures answers { IfOk result (λ it. it.answers ≡ utf16_answers self.now text.now start) }
+        ensures answers { IfOk result (YieldsMatches (unit_tree self.now) (as_utf16 self.now text.now) start) }
         ensures ended { IfOk result (λ it. it.ended ≡ not (nat_le start (length text.now))) }
-        ensures unlimited { IfOk result (λ it. it.limited ≡ false) }
         ensures refused { IfErr result IsMemory }
     {
         let executor = DefaultUtf16Executor::new_utf16(self.unit_program(), text)?;
@@ -44,9 +44,8 @@ impl Regex {
         text: &'t [u16],
         start: usize,
     ) -> Result<Matches<DefaultUcs2Executor<'r, 't>>, SearchError>
-        ensures answers { IfOk result (λ it. it.answers ≡ ucs2_answers self.now text.now start) }
+        ensures answers { IfOk result (YieldsMatches (unit_tree self.now) (as_ucs2 self.now text.now) start) }
         ensures ended { IfOk result (λ it. it.ended ≡ not (nat_le start (length text.now))) }
-        ensures unlimited { IfOk result (λ it. it.limited ≡ false) }
         ensures refused { IfErr result IsMemory }
     {
         let executor = DefaultUcs2Executor::new_ucs2(self.unit_program(), text)?;

@@ -4,7 +4,8 @@ use Rattle.regex_meaning.specs.Replace.{replaced}
 use Rattle.regress_exec.specs.Answers.{answer_of}
 use Rattle.regress_exec.specs.ToCome.{ToCome}
 use Rattle.regress_match.specs.Replacements.{StandFrom, expanded}
-use Rattle.regress_match.proofs.Replacing.{gives-limit, gives-ok, stands-first, expanded-more, expanded-end}
+use Rattle.regress_match.proofs.CallerLemmas.{gives-limit, gives-ok, stands-first}
+use Rattle.regress_match.proofs.Replacing.{expanded-more, expanded-end}
 use Rattle.regress_match.proofs.api.replace.expand_each.Goals as goal
 
 pub loop-item-init : goal.loop-item-init

@@ -3,7 +3,8 @@ use Rattle.std.proofs.lemmas.Str.{IsCharBoundary-start}
 use Rattle.regex_meaning.specs.Replace.{replaced}
 use Rattle.regress_exec.specs.Answers.{answer_of}
 use Rattle.regress_match.specs.Replacements.{expanded}
-use Rattle.regress_match.proofs.Replacing.{gives-ok, stands-first, expanded-more, expanded-end}
+use Rattle.regress_match.proofs.CallerLemmas.{gives-ok, stands-first}
+use Rattle.regress_match.proofs.Replacing.{expanded-more, expanded-end}
 use Rattle.regress_match.proofs.api.replace.expand_first.Goals as goal
 
 pub finish-requires : goal.finish-requires

@@ -4,7 +4,8 @@ use Rattle.regress_exec.specs.Answers.{answer_of}
 use Rattle.regress_exec.specs.ToCome.{ToCome}
 use Rattle.regress_match.specs.Replacements.{StandFrom}
 use Rattle.regress_match.proofs.Closures.{begins, ends, goes-answered, refuses-answered}
-use Rattle.regress_match.proofs.Replacing.{callable-all, callable-next, callable-rest, gives-limit, gives-ok, stands-first}
+use Rattle.regress_match.proofs.CallerLemmas.{gives-limit, gives-ok, stands-first}
+use Rattle.regress_match.proofs.Replacing.{callable-all, callable-next, callable-rest}
 use Rattle.regress_match.proofs.api.replace.closures.write_each.Goals as goal
 
 pub loop-item-init : goal.loop-item-init

@@ -2,7 +2,7 @@ use Rattle.std.proofs.Common.{ap, refl, string_bytes, take, []}
 use Rattle.std.proofs.lemmas.Str.{IsCharBoundary-start}
 use Rattle.regress_exec.specs.Answers.{answer_of}
 use Rattle.regress_match.proofs.Closures.{begins, ends, goes-answered, refuses-answered}
-use Rattle.regress_match.proofs.Replacing.{gives-ok}
+use Rattle.regress_match.proofs.CallerLemmas.{gives-ok}
 use Rattle.regress_match.proofs.api.replace.closures.write_first.Goals as goal
 
 pub finish-requires : goal.finish-requires

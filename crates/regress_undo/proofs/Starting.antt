@@ -1,23 +1,23 @@
 -- Scans for the first place at which a table allows what stands next.
 use Rattle.std.proofs.Common.{◌≡◌, ℕ, zero, suc, ◌+◌, ◌-◌, ◌<◌, ◌≤◌, Bool, true, false, not, List, [], ◌∷◌, length, drop, take, get_or, Option, Some, None, refl, ap, sym, ◌∙◌, subst, arith, slice_get, le_refl}
-use Rattle.std.specs.Prelude.{option_map, slice_index, slice_index_or, is_some, nat_lt, nat_le, nat_eq, ◌&&◌, ◌||◌}
+use Rattle.std.specs.Prelude.{option_map, slice_index, nat_lt, nat_le, nat_eq, ◌&&◌, ◌||◌}
 use Rattle.std.proofs.lemmas.Bool.{cases_lt, lt-ltb, le-ltb, lt-leb, leb-true, eqb-true}
-use Rattle.std.proofs.lemmas.Option.{slice_get_past, slice_get-get_or}
+use Rattle.std.proofs.lemmas.Option.{slice_get-get_or}
 use Rattle.std.proofs.lemmas.List.{get_or-drop, length-drop}
 use Rattle.std.proofs.Math.Bool.{and-false}
 use mathlib.Core.Logic.{inl, inr}
 use Rattle.regex_meaning.specs.Lists.{contains}
-use Rattle.regex_meaning.specs.Text.{Text, rightwards, last_place}
-use Rattle.regex_meaning.specs.Offsets.{IsText, IsBoundary, offset, units, read}
-use Rattle.regex_meaning.specs.Units.{Encoding, utf8, utf16, ucs2, spelled_in, units_in, IsSpelledIn}
+use Rattle.regex_meaning.specs.Text.{Text, rightwards}
+use Rattle.regex_meaning.specs.Offsets.{IsText, IsBoundary, units, read}
+use Rattle.regex_meaning.specs.Units.{Encoding, utf8, utf16, ucs2, units_in, IsSpelledIn}
 use Rattle.regex_meaning.proofs.Booleans.{and-left}
-use Rattle.regex_meaning.proofs.TextLemmas.{IsBoundary-place, place-less}
-use Rattle.regex_pattern_front.specs.Searching.{FindsFirst, IsFirst, holds_at}
+use Rattle.regex_meaning.proofs.TextLemmas.{place-less}
+use Rattle.regex_pattern_front.specs.Searching.{FindsFirst, holds_at}
 use Rattle.memchr.specs.Find.{IsFirstByte, is_byte3}
 use Rattle.regress_input.specs.Reading.{past, bytes_of, bytes_if, is_of_bytes, IsFoundFrom}
 use Rattle.regress_input.specs.Utf8.{continues}
 use Rattle.regress_input.proofs.Boundaries.{boundary-byte, units-length}
-use Rattle.regress_input.proofs.Places.{end_boundary, past_ahead, past_boundary, boundary_inside, place_of_boundary, StepRight, step_right}
+use Rattle.regress_input.proofs.Places.{end_boundary, past_ahead, past_boundary, boundary_inside, place_of_boundary, step_right}
 use Rattle.regress_input.proofs.UnitsIn.{utf8-units}
 use Rattle.regress_serves.specs.Tables.{Table, HasUnits, allows, key_at}
 use Rattle.regress_plan.specs.Keys.{key, is_wide, is_lead}
@@ -268,7 +268,7 @@ few-found w has us len from bytes low inside found f = by f.0 f.1 found f.2
         ap (λ at. contains (take len us) (get_or all at 0)) there ∙ sym (tested i) ∙ first.passes in
         let small = few-below us len (get_or all to 0) low has_it in (
           boundary-lead w.encoding w.text has table (few-leads us len (is_wide w.encoding) low) to (get_or all to 0)
-          (byte-key w.encoding w.text bytes to ∙ slice_get-get_or all to 0 less) (omega (arith, small)) has_it (λ wide. absurd (wide-none w.encoding bytes wide)),
+              (byte-key w.encoding w.text bytes to ∙ slice_get-get_or all to 0 less) (omega (arith, small)) has_it (λ wide. absurd (wide-none w.encoding bytes wide)),
           omega (arith, there),
           allowed to less ∙ has_it,
           λ x on le before. barred x le (omega (arith, before, less)) (first.none_before (x - from) (omega (arith, le, before, there))),

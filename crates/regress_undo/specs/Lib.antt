@@ -11,3 +11,4 @@ pub mod Searches
 pub mod Planning
 pub mod Reached
 pub mod Starts
+pub mod LeftOut

@@ -12,3 +12,4 @@ pub mod Planning
 pub mod Reached
 pub mod Going
 pub mod Starts
+pub mod LeftOut

@@ -9,6 +9,7 @@ pub mod groups;
 pub mod here;
 pub mod loops;
 pub mod memory;
+pub mod peeks;
 pub mod planned;
 pub mod reads;
 #[cfg(test)]

@@ -8,6 +8,8 @@ mod backends;
 #[cfg(test)]
 mod closures;
 #[cfg(test)]
+mod deep;
+#[cfg(test)]
 mod flags;
 #[cfg(test)]
 mod groups;

@@ -1,0 +1,72 @@
+//! Wide and deep patterns are searched, on texts with a match and without one.
+
+use regress_match::api::Regex;
+use std::alloc::{AllocError, Global};
+use std::process::Abort;
+use std::test::Fail;
+
+// Each line is a count, so many openings and as many closings round what is inside, a text, and whether there is a match.
+const NESTS: &str = "\
+100000 a|…b… xb found
+100000 a|…b… xc none
+100000 (?=b)…b… xb found
+100000 a…b… xab none
+5000 (…a…) xa found
+5000 (…a…) xb none
+5000 a|(…b…) xb found
+5000 a|(…b…) xc none
+5000 (…a…|b) xb found
+5000 (…a…|b) xc none
+5000 (?:…a…)+? xa found
+5000 (?:…a…)+? xb none
+5000 (?=…a…) xa found
+5000 (?=…a…) xb none
+5000 (?!…a…) xa found
+5000 (?!…a…) xb none
+5000 (?<=…a…) xa found
+5000 (?<=…a…) xb none
+5000 (?<!…a…) xa found
+5000 (?<!…a…) xb none";
+
+// Adds a piece of a pattern so many times.
+fn add(pattern: &mut String, piece: &str, count: usize) -> Result<(), AllocError> {
+    for _ in 0..count {
+        pattern.push_str(piece)?;
+    }
+    Ok(())
+}
+
+// The pattern of a nest, which has `…` before and behind what is inside.
+fn pattern_of(alloc: Global, nest: &str, count: usize) -> Result<String, AllocError> {
+    let mut pattern = String::new(alloc);
+    let (opening, rest) = nest.split_once('…').unwrap_or((nest, ""));
+    let (inside, closing) = rest.split_once('…').unwrap_or((rest, ""));
+    add(&mut pattern, opening, count)?;
+    pattern.push_str(inside)?;
+    add(&mut pattern, closing, count)?;
+    Ok(pattern)
+}
+
+// What comes of a search.
+fn found(alloc: Global, pattern: &str, text: &str) -> &'static str {
+    let Ok(re) = Regex::new(alloc, pattern) else {
+        return "no pattern";
+    };
+    match re.find(text) {
+        Ok(Some(_)) => "found",
+        Ok(None) => "none",
+        Err(_) => "refused",
+    }
+}
+
+#[test]
+fn wide_and_deep_patterns_are_searched(rt: HostRuntime) -> Result<(), Fail> {
+    for line in NESTS.lines() {
+        let (count, row) = line.split_once(' ').unwrap_or((line, ""));
+        let (nest, asked) = row.split_once(' ').unwrap_or((row, ""));
+        let (text, wanted) = asked.split_once(' ').unwrap_or((asked, ""));
+        let pattern = pattern_of(rt.alloc(), nest, count.parse::<usize>().unwrap_or(0))?;
+        assert!(rt; found(rt.alloc(), pattern.as_str(), text) == wanted, "{line}");
+    }
+    Ok(())
+}

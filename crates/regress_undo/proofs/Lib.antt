@@ -24,3 +24,4 @@ pub mod Looking
 pub mod Dispatch
 pub mod NextUnits
 pub mod Attempting
+pub mod TriedPlaces

@@ -9,4 +9,6 @@ pub mod Iterations
 pub mod Again
 pub mod Searches
 pub mod Planning
+pub mod Searched
+pub mod Tried
 pub mod Reached

@@ -14,6 +14,8 @@ mod flags;
 #[cfg(test)]
 mod groups;
 #[cfg(test)]
+mod limits;
+#[cfg(test)]
 mod lines;
 #[cfg(test)]
 mod programs;

@@ -77,6 +77,23 @@ pub fn write_all_of_ucs2<'r, 't>(
     write_items(line, matches)
 }
 
+// Writes all matches that come before the end or a limit, and the limit. Behind it there is none for good.
+pub fn write_all_limited<'r, 't>(
+    line: &mut String,
+    matches: &mut api::LimitedMatches<'r, 't>,
+) -> Result<(), SearchError> {
+    match write_items(line, matches) {
+        Err(SearchError::StepLimit) => {
+            line.push_str(if line.is_empty() { "limit" } else { "; limit" })?;
+            match matches.next() {
+                Some(_) => Ok(line.push_str("; and more behind the limit")?),
+                None => Ok(()),
+            }
+        }
+        other => other,
+    }
+}
+
 // Writes one match, or nothing.
 pub fn write_one(line: &mut String, found: &Option<Match>) -> Result<(), SearchError> {
     match found {

@@ -1,10 +1,11 @@
 -- The trees whose programs a `Regex` holds, and what it finds.
-use Rattle.std.specs.Prelude.{◌≡◌, ◌<◌, ◌⊎◌, ℕ, List, IsTrue}
+use Rattle.std.specs.Prelude.{◌≡◌, ◌<◌, ◌⊎◌, ℕ, Bool, List, Some, IsTrue}
 use Rattle.regex_meaning.specs.Tree.{Tree, Flags}
 use Rattle.regex_meaning.specs.Text.{Text, utf8_text, ascii_text, utf16_text, ucs2_text}
 use Rattle.regex_meaning.specs.Offsets.{IsBoundary, units}
 use Rattle.regex_meaning.specs.Layout.{IsByteCodeOf, IsUnitCodeOf}
 use Rattle.regex_meaning.specs.Names.{Answer, answers_from}
+use Rattle.regex_meaning.specs.Steps.{answers_within, end_within}
 use Rattle.regex_meaning.specs.WellFormed.{is_well_formed}
 use Rattle.regex_pattern_front.specs.TreeOf.{tree_of}
 use Rattle.regress_program.specs.Code.{compiled}
@@ -44,6 +45,13 @@ as_ucs2 re units = ucs2_text units (unit_tree re).flags.unicode
 -- the answers in a text in UTF-8 from an offset on
 abbrev pub utf8_answers : Regex → (bytes : List ℕ) → (start : ℕ) → List Answer
 utf8_answers re bytes start = answers_from (byte_tree re).root (utf8_text bytes (byte_tree re).flags.unicode) start
+
+-- those of them that so many steps are enough for, and whether they are enough for the end, too
+abbrev pub utf8_answers_within : (steps : ℕ) → Regex → (bytes : List ℕ) → (start : ℕ) → List Answer
+utf8_answers_within steps re bytes start = answers_within (byte_tree re) (utf8_text bytes (byte_tree re).flags.unicode) (Some steps) start
+
+abbrev pub is_utf8_end_within : (steps : ℕ) → Regex → (bytes : List ℕ) → (start : ℕ) → Bool
+is_utf8_end_within steps re bytes start = end_within (byte_tree re) (utf8_text bytes (byte_tree re).flags.unicode) (Some steps) start
 
 -- the answers in a text of ASCII from an offset on
 abbrev pub ascii_answers : Regex → (bytes : List ℕ) → (start : ℕ) → List Answer

@@ -12,7 +12,7 @@ pub use self::error::{Error, ReplaceError};
 pub use self::escaping::escape;
 pub use self::flags::Flags;
 pub use self::laws::{matches_stand_in_text, searches_answer_in_turn};
-pub use self::regex::{AsciiMatches, Matches, Regex};
+pub use self::regex::{AsciiMatches, LimitedMatches, Matches, Regex};
 pub use self::replace::whole_matches_give_back;
 pub use regress_exec::exec::{Groups, Match, NamedGroups, SearchError};
 pub use regress_input::indexing::is_unit_boundary;

@@ -15,7 +15,7 @@ use regress_input::indexing::{AsciiInput, Ucs2Input, Utf8Input, Utf16Input};
 pub use regress_program::emit::{emit, emit_units};
 use regress_program::insn::CompiledRegex;
 pub use regress_search::pikevm::PikeVMExecutor;
-pub use regress_undo::classicalbacktrack::BacktrackExecutor;
+pub use regress_undo::classicalbacktrack::{BacktrackExecutor, LimitedExecutor};
 
 /// What searches texts in UTF-8.
 pub type DefaultExecutor<'r, 't> = BacktrackExecutor<'r, Utf8Input<'t>>;

@@ -9,6 +9,6 @@ pub mod backends;
 pub mod program;
 
 pub use crate::api::{
-    AsciiMatches, Error, Flags, Groups, Match, Matches, NamedGroups, Range, Regex, ReplaceError,
-    SearchError, escape, is_unit_boundary,
+    AsciiMatches, Error, Flags, Groups, LimitedMatches, Match, Matches, NamedGroups, Range, Regex,
+    ReplaceError, SearchError, escape, is_unit_boundary,
 };

@@ -29,3 +29,4 @@ pub mod NextUnits
 pub mod Narrow
 pub mod Attempting
 pub mod Starting
+pub mod TriedPlaces

@@ -9,6 +9,8 @@ pub mod Iterations
 pub mod Again
 pub mod Searches
 pub mod Planning
+pub mod Searched
+pub mod Tried
 pub mod Reached
 pub mod Going
 pub mod Starts

@@ -5,12 +5,12 @@ ghost use Rattle.regex_meaning.specs.Text.{ascii_text, utf8_text, utf16_text, uc
 ghost use Rattle.regex_pattern_front.specs.TreeOf.{tree_of};
 ghost use Rattle.regress_undo.specs.Memory.{state_of};
 
-use crate::here::Here;
+use crate::attempts::attempt;
+pub use crate::limited::LimitedExecutor;
 use crate::memory::Memory;
 use crate::planned::{PlannedProgram, PlannedSearch};
-use crate::run::run;
 use crate::starts::next_start;
-use crate::steps::{Free, Stop};
+use crate::steps::Free;
 use regress_exec::exec::{Executor, MatchProducer, SearchError, Searcher};
 use regress_exec::places::Attempts;
 use regress_exec::searched::Searched;
@@ -21,9 +21,9 @@ use std::alloc::AllocError;
 /// Runs a program's plan over a text. It keeps one state, and undoes what it did to it when a way has failed.
 #[derive(Drop)]
 pub struct BacktrackExecutor<'r, Input: InputIndexer> {
-    search: PlannedSearch<'r, Input>,
+    pub(crate) search: PlannedSearch<'r, Input>,
     // with the groups of the last attempt that found an end
-    memory: Memory,
+    pub(crate) memory: Memory,
     // Where the last attempt began. A position shows the text's lifetime in this type, which calls that are generic in
     // the executor need to have.
     tried: Option<Input::Position>,
@@ -50,15 +50,7 @@ impl<'r, Input: InputIndexer> Attempts for BacktrackExecutor<'r, Input> {
 
     fn attempt(&mut self, pos: Input::Position) -> Result<Option<Input::Position>, SearchError> {
         self.tried = Some(pos);
-        let at = self.search.searched.input.pos_to_offset(pos);
-        let (groups, loops) = self.search.program.slots();
-        self.memory.begin(groups, loops, at)?;
-        let start = Here { ip: 0, pos };
-        let mut steps = Free;
-        match run(&self.search, true, start, &mut self.memory, &mut steps) {
-            Ok(end) => Ok(end),
-            Err(Stop) => Err(SearchError::Memory),
-        }
+        attempt(&self.search, pos, &mut self.memory, &mut Free)
     }
 
     fn group_count(&self) -> usize {

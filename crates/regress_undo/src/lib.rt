@@ -1,23 +1,26 @@
 //! The executor that keeps one state and undoes its changes.
 #![tactic(auto)]
 
-pub mod back;
-pub mod characters;
+mod attempts;
+mod back;
+mod characters;
 pub mod classicalbacktrack;
-pub mod few;
-pub mod groups;
-pub mod here;
-pub mod loops;
-pub mod memory;
-pub mod peeks;
-pub mod planned;
-pub mod reads;
+mod few;
+mod groups;
+mod here;
+mod limited;
+mod loops;
+mod memory;
+mod peeks;
+mod planned;
+mod reads;
 #[cfg(test)]
 mod rows;
-pub mod run;
-pub mod runs;
-pub mod scans;
-pub mod sides;
-pub mod starts;
-pub mod steps;
-pub mod turn;
+mod run;
+mod runs;
+mod scans;
+mod sides;
+mod starts;
+mod steps;
+mod tried;
+mod turn;

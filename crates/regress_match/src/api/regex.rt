@@ -9,7 +9,7 @@ ghost use Rattle.regress_match.specs.Searches.{YieldsMatches};
 ghost use Rattle.regress_match.specs.Trees.{tree_to_run};
 
 use crate::api::{Error, Flags};
-use crate::backends::{DefaultAsciiExecutor, DefaultExecutor, search_from};
+use crate::backends::{DefaultAsciiExecutor, DefaultExecutor, LimitedExecutor, search_from};
 use regex_pattern_front::ir;
 use regex_pattern_front::optimizer::optimize;
 use regex_pattern_front::parse::try_parse;
@@ -24,6 +24,10 @@ pub type Matches<'r, 't> = exec::Matches<DefaultExecutor<'r, 't>>;
 
 /// The matches of a pattern in a text of ASCII. Contracts see the answers still to come.
 pub type AsciiMatches<'r, 't> = exec::Matches<DefaultAsciiExecutor<'r, 't>>;
+
+/// The matches of a pattern in a text in UTF-8, found in a limited number of steps. Contracts see the answers still to
+/// come, and whether the limit stands behind them in place of the end.
+pub type LimitedMatches<'r, 't> = exec::Matches<LimitedExecutor<'r, 't>>;
 
 // The tree that is run in place of a parsed one.
 fn to_run(mut tree: ir::Regex) -> ir::Regex
@@ -47,7 +51,7 @@ pub struct Regex {
 
 impl Regex {
     ghost use Rattle.regress_match.specs.Flags.{flags_of};
-    ghost use Rattle.regress_match.specs.Programs.{IsCompiledWith, as_ascii, as_utf8, ascii_answers, byte_tree, unit_tree, utf8_answers};
+    ghost use Rattle.regress_match.specs.Programs.{IsCompiledWith, as_ascii, as_utf8, ascii_answers, byte_tree, is_utf8_end_within, unit_tree, utf8_answers, utf8_answers_within};
 
     /// Compiles a pattern with the default flags.
     ///
@@ -189,6 +193,31 @@ impl Regex {
         ensures refused { IfErr result IsMemory }
     {
         search_from::<DefaultExecutor<'r, 't>>(&self.cr, text, start)
+    }
+
+    /// What `find_from` yields, in at most so many steps for all of it together.
+    ///
+    /// A match comes exactly where the steps are enough for it and for those before it, and `None` where they are enough
+    /// for the end of the list, too. Else an item is `StepLimit`, and none follows. How many steps are needed is said by
+    /// the pattern's tree alone, and not by the time that a search takes; it may be more than any number of steps.
+    ///
+    /// # Errors
+    ///
+    /// `Memory` where there is no memory for the search.
+    pub fn find_from_limited<'r, 't>(
+        &'r self,
+        text: &'t str,
+        start: usize,
+        steps: u64,
+    ) -> Result<LimitedMatches<'r, 't>, SearchError>
+        requires { IsCharBoundary text.now start ⊎ (length text.now < start) }
+        ensures answers { IfOk result (λ it. it.answers ≡ utf8_answers_within steps self.now text.now start) }
+        ensures limited { IfOk result (λ it. it.limited ≡ not (is_utf8_end_within steps self.now text.now start)) }
+        ensures ended { IfOk result (λ it. it.ended ≡ not (nat_le start (length text.now))) }
+        ensures refused { IfErr result IsMemory }
+    {
+        let executor = LimitedExecutor::new(&self.cr, text, steps)?;
+        Ok(exec::Matches::new(executor, start))
     }
 
     /// The first match in a text of ASCII (`is_ascii`), none exactly where there is none.

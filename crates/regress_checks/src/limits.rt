@@ -1,0 +1,171 @@
+//! Searches whose steps are limited.
+
+use crate::lines::write_all_limited;
+use crate::starts::is_start;
+use regress_match::backends::{LimitedExecutor, emit};
+use regress_match::{Flags, Regex, SearchError};
+use regress_program::insn::CompiledRegex;
+use regress_search::exec::Matches;
+use regress_trees::tree_of;
+use std::alloc::Global;
+use std::process::Abort;
+use std::test::Fail;
+
+// Rows of seven fields, with `~` between them: a pattern, `no_opt` or nothing, a text, a start, the least and the greatest
+// number of steps, and what the search finds with each number of steps from the one to the other. `limit` stands where
+// the limit is reached. For `tree` in the second field the first one is a tree in words.
+const ROWS: &str = r#"cat:2 a goal~tree~a~0~0~1~limit
+cat:2 a goal~tree~a~0~2~2~0..1; limit
+cat:2 a goal~tree~a~0~3~20~0..1
+cat:2 alt a b goal~tree~b~0~0~4~limit
+cat:2 alt a b goal~tree~b~0~5~8~0..1; limit
+cat:2 alt a b goal~tree~b~0~9~20~0..1
+cat:3 loop1:0 a a goal~tree~aa~0~0~7~limit
+cat:3 loop1:0 a a goal~tree~aa~0~8~10~0..2; limit
+cat:3 loop1:0 a a goal~tree~aa~0~11~20~0..2
+cat:2 loop:0,1,0,1 group:0 a goal~tree~a~0~0~6~limit
+cat:2 loop:0,1,0,1 group:0 a goal~tree~a~0~7~12~0..1 0..1; limit
+cat:2 loop:0,1,0,1 group:0 a goal~tree~a~0~13~20~0..1 0..1; 1..1 -
+cat:2 bytes:61,62 goal~tree~aab~0~0~1~limit
+cat:2 bytes:61,62 goal~tree~aab~0~2~20~1..3
+cat:2 bytes:C3,A9 goal~tree~éaé~2~0~1~limit
+cat:2 bytes:C3,A9 goal~tree~éaé~2~2~20~3..5
+cat:2 byteset:61,62 goal~tree~éa€b~0~0~1~limit
+cat:2 byteset:61,62 goal~tree~éa€b~0~2~3~2..3; limit
+cat:2 byteset:61,62 goal~tree~éa€b~0~4~20~2..3; 6..7
+^a~~aa~1~0~0~limit
+^a~~aa~1~1~20~
+[b]c~~aabbc~0~0~4~limit
+[b]c~~aabbc~0~5~20~3..5
+cat:2 a goal~tree~a~1~0~0~limit
+cat:2 a goal~tree~a~1~1~20~
+cat:2 a goal~tree~a~2~0~2~
+cat:2 alt a b goal~tree~b~2~0~2~
+cat:2 bytes:61,62 goal~tree~aab~4~0~2~
+^a~~aa~18446744073709551615~0~2~
+(?:a|a)*~~aaaaaaaaaaaaaaaaaaaaaaaaaaaaaaaaaaaaaaaa~0~0~166~limit
+(?:a|a)*~~aaaaaaaaaaaaaaaaaaaaaaaaaaaaaaaaaaaaaaaa~0~167~173~0..40; limit
+(?:a|a)*~~aaaaaaaaaaaaaaaaaaaaaaaaaaaaaaaaaaaaaaaa~0~174~1000~0..40; 40..40
+(?:a|a)*~no_opt~aaaaaaaaaaaaaaaaaaaaaaaaaaaaaaaaaaaaaaaa~0~166~166~limit
+(?:a|a)*~no_opt~aaaaaaaaaaaaaaaaaaaaaaaaaaaaaaaaaaaaaaaa~0~167~173~0..40; limit
+(?:a|a)*~no_opt~aaaaaaaaaaaaaaaaaaaaaaaaaaaaaaaaaaaaaaaa~0~174~1000~0..40; 40..40
+(?:a|a)*b~no_opt~aaaaaaaaaaaaaaaaaaaaaaaaaaaaaaaaaaaaaaaa~0~10000~10000~limit
+(?:a|a)*b~~aaaaaaaaaaaaaaaaaaaaaaaaaaaaaaaaaaaaaaaa~0~10000~10000~limit
+(?:a|a)*~~aaaaaaaaaaaaaaaaaaaaaaaaaaaaaaaaaaaaaaaa~41~0~0~
+"#;
+
+// What is searched.
+#[derive(Clone, Copy)]
+struct Search<'a> {
+    text: &'a str,
+    start: usize,
+    steps: u64,
+}
+
+// Writes what is found of a program within so many steps.
+fn write_emitted(
+    line: &mut String,
+    re: &CompiledRegex,
+    search: Search<'_>,
+) -> Result<(), SearchError> {
+    if !is_start(search.text, search.start) {
+        return Ok(line.push_str("no start")?);
+    }
+    let executor = LimitedExecutor::new(re, search.text, search.steps)?;
+    write_all_limited(line, &mut Matches::new(executor, search.start))
+}
+
+// Writes what is found of a pattern within so many steps.
+fn write_found(line: &mut String, re: &Regex, search: Search<'_>) -> Result<(), SearchError> {
+    if !is_start(search.text, search.start) {
+        return Ok(line.push_str("no start")?);
+    }
+    write_all_limited(
+        line,
+        &mut re.find_from_limited(search.text, search.start, search.steps)?,
+    )
+}
+
+fn write_of_tree(
+    alloc: Global,
+    line: &mut String,
+    words: &str,
+    search: Search<'_>,
+) -> Result<(), SearchError> {
+    let Some(tree) = tree_of(alloc, words) else {
+        return Ok(line.push_str("no tree")?);
+    };
+    match emit(alloc, &tree) {
+        Ok(re) => write_emitted(line, &re, search),
+        Err(_) => Ok(line.push_str("no program")?),
+    }
+}
+
+fn write_of_pattern(
+    alloc: Global,
+    line: &mut String,
+    pattern: &str,
+    no_opt: bool,
+    search: Search<'_>,
+) -> Result<(), SearchError> {
+    let flags = Flags {
+        no_opt,
+        ..Flags::default()
+    };
+    match Regex::with_flags(alloc, pattern, flags) {
+        Ok(re) => write_found(line, &re, search),
+        Err(_) => Ok(line.push_str("no pattern")?),
+    }
+}
+
+// Writes what the search of a row, which is its first four fields, finds within so many steps.
+fn write_row(alloc: Global, line: &mut String, asked: &str, steps: u64) -> Result<(), SearchError> {
+    let fields: Vec<&str> = asked.split('~').collect(alloc)?;
+    let [pattern, kind, text, start] = *fields.as_slice() else {
+        return Ok(line.push_str("other than seven fields")?);
+    };
+    let Ok(start) = start.parse::<usize>() else {
+        return Ok(line.push_str("no start")?);
+    };
+    let search = Search { text, start, steps };
+    match kind {
+        "tree" => write_of_tree(alloc, line, pattern, search),
+        _ => write_of_pattern(alloc, line, pattern, kind == "no_opt", search),
+    }
+}
+
+// The fields before the last one, and the number in that.
+fn split_number(fields: &str) -> (&str, u64) {
+    match fields.rsplit_once('~') {
+        Some((before, number)) => (before, number.parse::<u64>().unwrap_or(0)),
+        None => (fields, 0),
+    }
+}
+
+#[test]
+fn limits_are_exact(rt: HostRuntime) -> Result<(), Fail> {
+    for line in ROWS.lines() {
+        let (bounds, wanted) = line.rsplit_once('~').unwrap_or((line, "no answer"));
+        let (before, most) = split_number(bounds);
+        let (asked, least) = split_number(before);
+        assert!(rt; least <= most, "no steps at {line}");
+        for steps in least..=most {
+            let mut found = String::new(rt.alloc());
+            write_row(rt.alloc(), &mut found, asked, steps)?;
+            assert!(rt;
+                found.as_str() == wanted,
+                "{found} at {line}, with {steps} steps"
+            );
+        }
+    }
+    Ok(())
+}
+
+#[test]
+fn steps_that_are_left_are_told(rt: HostRuntime) -> Result<(), Fail> {
+    let tree = tree_of(rt.alloc(), "cat:2 a goal").ok_or("no tree")?;
+    let re = emit(rt.alloc(), &tree)?;
+    let executor = LimitedExecutor::new(&re, "a", 5)?;
+    assert_eq!(rt; executor.steps_left(), 5);
+    Ok(())
+}

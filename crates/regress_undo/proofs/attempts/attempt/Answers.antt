@@ -1,0 +1,67 @@
+use Rattle.std.proofs.Common.{ap, sym, subst, refl, ◌∙◌}
+use Rattle.std.specs.Prelude.{IsSome, true, option_map, Option, Err}
+use Rattle.regress_input.proofs.Places.{boundary_inside}
+use Rattle.regress_program.specs.Code.{compiled}
+use Rattle.regress_exec.proofs.Searchable.{can-search}
+use Rattle.regress_exec.specs.Attempts.{ticks_from}
+use Rattle.regress_exec.specs.Spends.{Spends}
+use Rattle.regress_undo.specs.Memory.{state_of}
+use Rattle.regress_undo.specs.Searching.{program_of}
+use Rattle.regress_undo.specs.Searches.{searched_from}
+use Rattle.regress_undo.specs.Steps.{limit_of}
+use Rattle.regress_undo.proofs.Attempting.{first-state, begins, attempt-ends, attempt-spends, attempt-stops, found-with}
+use Rattle.regress_undo.proofs.attempts.attempt.Goals as goal
+
+pub run-requires-clause-inside : goal.run-requires-clause-inside
+run-requires-clause-inside g c =
+    boundary_inside (g.W.Planned.searching c.args.planned.now).text (g.met.W.Planned.is_text c.args.planned.now) (g.W.Input.Position.PositionType.offset c.args.pos) c.requires.at
+
+pub run-requires-clause-answers : goal.run-requires-clause-answers
+run-requires-clause-answers g c =
+    let w = g.W.Planned.searching c.args.planned.now in
+    let at = g.W.Input.Position.PositionType.offset c.args.pos in
+    let b = begins w at (can-search w.tree w.text c.requires.can.well_formed (g.met.W.Planned.is_text c.args.planned.now) c.requires.can.unicode c.requires.can.bytes) c.requires.at in
+    let groups = c.groups-groups.ensures ∙ ap (λ t. (compiled t).groups) c.program-program.ensures in
+    let loops = c.loops-loops.ensures ∙ ap (λ t. (compiled t).loops) c.program-program.ensures in
+    let first = ap (λ h. state_of h 0 at) c.in_ok-begin.ensures ∙ first-state (program_of w) c.groups-groups.result c.loops-loops.result _ at c.pos_to_offset-at.ensures groups loops in
+    subst IsSome (sym (ap (searched_from w true) first ∙ b.searches)) refl
+
+pub returns-in-Ok-clause-found : goal.returns-in-Ok-clause-found
+returns-in-Ok-clause-found g c =
+    let w = g.W.Planned.searching c.args.planned.now in
+    let offset = g.W.Input.Position.PositionType.offset in
+    let at = offset c.args.pos in
+    let b = begins w at (can-search w.tree w.text c.requires.can.well_formed (g.met.W.Planned.is_text c.args.planned.now) c.requires.can.unicode c.requires.can.bytes) c.requires.at in
+    let groups = c.groups-groups.ensures ∙ ap (λ t. (compiled t).groups) c.program-program.ensures in
+    let loops = c.loops-loops.ensures ∙ ap (λ t. (compiled t).loops) c.program-program.ensures in
+    let first = ap (λ h. state_of h 0 at) c.in_ok-begin.ensures ∙ first-state (program_of w) c.groups-groups.result c.loops-loops.result _ at c.pos_to_offset-at.ensures groups loops in
+    found-with offset c.in-Ok.end (state_of c.run.new.memory 0 0).groups
+    ∙ attempt-ends w at c.begin.new.self c.run.new.memory _ _ _ (option_map offset c.in-Ok.end) b first c.in-Ok.ensures.ran
+
+pub returns-in-Ok-clause-steps : goal.returns-in-Ok-clause-steps
+returns-in-Ok-clause-steps g c =
+    let w = g.W.Planned.searching c.args.planned.now in
+    let offset = g.W.Input.Position.PositionType.offset in
+    let at = offset c.args.pos in
+    let b = begins w at (can-search w.tree w.text c.requires.can.well_formed (g.met.W.Planned.is_text c.args.planned.now) c.requires.can.unicode c.requires.can.bytes) c.requires.at in
+    let groups = c.groups-groups.ensures ∙ ap (λ t. (compiled t).groups) c.program-program.ensures in
+    let loops = c.loops-loops.ensures ∙ ap (λ t. (compiled t).loops) c.program-program.ensures in
+    let first = ap (λ h. state_of h 0 at) c.in_ok-begin.ensures ∙ first-state (program_of w) c.groups-groups.result c.loops-loops.result _ at c.pos_to_offset-at.ensures groups loops in
+    let budget = g.S.Steps.budget in
+    attempt-spends w at c.begin.new.self (budget c.args.steps.now) (budget c.run.new.steps) g.S.Steps.COUNTS b first c.run.new.memory (option_map offset c.in-Ok.end) c.in-Ok.end c.in-Ok.ensures.ran
+
+pub returns-in-Err-clause-steps : goal.returns-in-Err-clause-steps
+returns-in-Err-clause-steps g c =
+    let w = g.W.Planned.searching c.args.planned.now in
+    let offset = g.W.Input.Position.PositionType.offset in
+    let at = offset c.args.pos in
+    let b = begins w at (can-search w.tree w.text c.requires.can.well_formed (g.met.W.Planned.is_text c.args.planned.now) c.requires.can.unicode c.requires.can.bytes) c.requires.at in
+    let groups = c.groups-groups.ensures ∙ ap (λ t. (compiled t).groups) c.program-program.ensures in
+    let loops = c.loops-loops.ensures ∙ ap (λ t. (compiled t).loops) c.program-program.ensures in
+    let first = ap (λ h. state_of h 0 at) c.in_ok-begin.ensures ∙ first-state (program_of w) c.groups-groups.result c.loops-loops.result _ at c.pos_to_offset-at.ensures groups loops in
+    let budget = g.S.Steps.budget in
+    let counts = g.S.Steps.COUNTS in
+    let before = budget c.args.steps.now in
+    let after = budget c.run.new.steps in
+    subst (λ e. Spends {X = Option g.row.W-Input-Position.Denot} (ticks_from w.tree w.text at) (limit_of counts before) (Err e) (limit_of counts after)) (sym c.cause.ensures)
+    (attempt-stops w at c.begin.new.self before after counts b first (Option g.row.W-Input-Position.Denot) c.requires.fresh c.in-Err.ensures.stopped)

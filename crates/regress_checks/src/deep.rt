@@ -66,7 +66,10 @@ fn wide_and_deep_patterns_are_searched(rt: HostRuntime) -> Result<(), Fail> {
         let (nest, asked) = row.split_once(' ').unwrap_or((row, ""));
         let (text, wanted) = asked.split_once(' ').unwrap_or((asked, ""));
         let pattern = pattern_of(rt.alloc(), nest, count.parse::<usize>().unwrap_or(0))?;
-        assert!(rt; found(rt.alloc(), pattern.as_str(), text) == wanted, "{line}");
+        assert!(rt;
+            found(rt.alloc(), pattern.as_str(), text) == wanted,
+            "{line}"
+        );
     }
     Ok(())
 }

@@ -72,7 +72,8 @@ fn write_emitted(
         return Ok(line.push_str("no start")?);
     }
     let executor = LimitedExecutor::new(re, search.text, search.steps)?;
-    write_all_limited(line, &mut Matches::new(executor, search.start))
+    let mut matches = Matches::new(executor, search.start);
+    write_all_limited(line, &mut matches)
 }
 
 // Writes what is found of a pattern within so many steps.

@@ -217,7 +217,8 @@ impl Regex {
         ensures refused { IfErr result IsMemory }
     {
         let executor = LimitedExecutor::new(&self.cr, text, steps)?;
-        Ok(exec::Matches::new(executor, start))
+        let matches = exec::Matches::new(executor, start);
+        Ok(matches)
     }
 
     /// The first match in a text of ASCII (`is_ascii`), none exactly where there is none.

@@ -50,6 +50,21 @@ loop-item-preserved g c =
           c.loop-item.item-iterator.answers c.next.new.self.answers (answer_of c.in_ok-found.found) c.loop-item.invariant.begun next c.in_ok-from.ensures.made c.in_ok-expand.ensures c.in_ok-from.ensures.behind;
     }
 
+pub loop-item-preserved-in_ok-expand : goal.loop-item-preserved-in_ok-expand
+loop-item-preserved-in_ok-expand g c =
+    let next = gives-ok c.loop-item.item-iterator c.next.new.self _ c.in_ok-found.found c.in-Some.ensures.steps c.in_ok-found.was in
+    let stands = stands-first c.args.text.now c.loop-item.from c.loop-item.item-iterator.answers c.next.new.self.answers (answer_of c.in_ok-found.found) c.loop-item.invariant.stand next in
+    record {
+      can = tt;
+      finite = tt;
+      boundary = subst (IsCharBoundary c.args.text.now) (sym c.in_ok-from.ensures.behind) stands.1.whole.2;
+      stand = subst (λ to. StandFrom c.args.text.now to c.next.new.self.answers) (sym c.in_ok-from.ensures.behind) stands.2;
+      limited = gives-limit c.loop-item.item-iterator c.next.new.self _ c.in_ok-found.found c.in-Some.ensures.steps c.in_ok-found.was ∙ c.loop-item.invariant.limited;
+      begun =
+          expanded-more c.args.text.now c.args.replacement.now (string_bytes c.loop-item.made) (string_bytes c.reach.new.made) (string_bytes c.expand.new.out) _ c.loop-item.from c.in_ok-from.from
+          c.loop-item.item-iterator.answers c.next.new.self.answers (answer_of c.in_ok-found.found) c.loop-item.invariant.begun next c.in_ok-from.ensures.made c.in_ok-expand.ensures c.in_ok-from.ensures.behind;
+    }
+
 pub returns-clause-made : goal.returns-clause-made
 returns-clause-made g c =
     expanded-end c.args.text.now c.args.replacement.now (string_bytes c.loop-item.made) _ _ c.loop-item.from c.loop-item.item-iterator.answers c.loop-item.invariant.begun

@@ -50,6 +50,23 @@ loop-item-preserved g c =
           c.in_ok-from.from (string_bytes c.reach.new.made) (string_bytes c.write_answer.new.made) c.in_ok-from.ensures.made c.in_ok-write_answer.ensures.made c.in_ok-from.ensures.behind;
     }
 
+pub loop-item-preserved-in_ok-write_answer : goal.loop-item-preserved-in_ok-write_answer
+loop-item-preserved-in_ok-write_answer g c =
+    let next = gives-ok c.loop-item.item-iterator c.next.new.self _ c.in_ok-found.found c.in-Some.ensures.steps c.in_ok-found.was in
+    let stands = stands-first c.args.text.now c.loop-item.from c.loop-item.item-iterator.answers c.next.new.self.answers (answer_of c.in_ok-found.found) c.loop-item.invariant.stand next in
+    record {
+      can = tt;
+      finite = tt;
+      boundary = subst (IsCharBoundary c.args.text.now) (sym c.in_ok-from.ensures.behind) stands.1.whole.2;
+      stand = subst (λ to. StandFrom c.args.text.now to c.next.new.self.answers) (sym c.in_ok-from.ensures.behind) stands.2;
+      callable = callable-rest _ c.loop-item.item-iterator.answers c.next.new.self.answers (answer_of c.in_ok-found.found) c.loop-item.invariant.callable next;
+      limited = gives-limit c.loop-item.item-iterator c.next.new.self _ c.in_ok-found.found c.in-Some.ensures.steps c.in_ok-found.was ∙ c.loop-item.invariant.limited;
+      begun =
+          goes-answered _ c.args.text.now c.args.matches.answers c.loop-item.item-iterator.answers c.loop-item.from (string_bytes c.loop-item.made) c.loop-item.invariant.begun
+          c.next.new.self.answers (answer_of c.in_ok-found.found) c.with.result next (_, refl, c.with.ensures)
+          c.in_ok-from.from (string_bytes c.reach.new.made) (string_bytes c.write_answer.new.made) c.in_ok-from.ensures.made c.in_ok-write_answer.ensures.made c.in_ok-from.ensures.behind;
+    }
+
 pub returns-clause-made : goal.returns-clause-made
 returns-clause-made g c =
     ends _ c.args.text.now c.args.matches.answers c.loop-item.item-iterator.answers c.loop-item.from (string_bytes c.loop-item.made) c.loop-item.invariant.begun

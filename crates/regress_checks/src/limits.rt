@@ -66,13 +66,15 @@ struct Search<'a> {
 fn write_emitted(
     line: &mut String,
     re: &CompiledRegex,
-    search: Search<'_>,
+    text: &str,
+    start: usize,
+    steps: u64,
 ) -> Result<(), SearchError> {
-    if !is_start(search.text, search.start) {
+    if !is_start(text, start) {
         return Ok(line.push_str("no start")?);
     }
-    let executor = LimitedExecutor::new(re, search.text, search.steps)?;
-    let mut matches = Matches::new(executor, search.start);
+    let executor = LimitedExecutor::new(re, text, steps)?;
+    let mut matches = Matches::new(executor, start);
     write_all_limited(line, &mut matches)
 }
 
@@ -97,7 +99,7 @@ fn write_of_tree(
         return Ok(line.push_str("no tree")?);
     };
     match emit(alloc, &tree) {
-        Ok(re) => write_emitted(line, &re, search),
+        Ok(re) => write_emitted(line, &re, search.text, search.start, search.steps),
         Err(_) => Ok(line.push_str("no program")?),
     }
 }

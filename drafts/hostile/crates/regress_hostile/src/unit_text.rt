@@ -1,0 +1,51 @@
+//! Texts of 16-bit units, which take no memory.
+
+/// How many units fit.
+const MOST: usize = 64;
+
+/// At most so many units.
+#[derive(Clone, Copy)]
+pub struct UnitText {
+    units: [u16; MOST],
+    len: usize,
+}
+
+impl UnitText {
+    // No units.
+    fn new() -> Self {
+        UnitText {
+            units: [0; MOST],
+            len: 0,
+        }
+    }
+
+    // One unit more, if it fits.
+    fn push(&mut self, unit: u16) {
+        if let Some(place) = self.units.get_mut(self.len) {
+            *place = unit;
+            self.len = self.len.saturating_add(1);
+        }
+    }
+
+    /// The units of a text.
+    pub fn of(text: &str) -> Self {
+        let mut made = UnitText::new();
+        for unit in text.encode_utf16() {
+            made.push(unit);
+        }
+        made
+    }
+
+    /// The units of these numbers in hexadecimal.
+    pub fn of_numbers(numbers: &str) -> Self {
+        let mut made = UnitText::new();
+        for number in numbers.split(' ') {
+            made.push(u16::from_str_radix(number, 16).unwrap_or(0));
+        }
+        made
+    }
+
+    pub fn units(&self) -> &[u16] {
+        self.units.get(..self.len).unwrap_or(&[])
+    }
+}

@@ -4,6 +4,7 @@ use Rattle.regex_meaning.specs.Lists.{contains}
 use Rattle.regex_meaning.specs.Text.{Text}
 use Rattle.regex_meaning.specs.Offsets.{IsBoundary, units}
 use Rattle.regress_plan.specs.Keys.{key, is_wide, is_lead}
+use Rattle.regress_plan.specs.Plans.{tried}
 use Rattle.regress_serves.specs.Tables.{Table, allows, key_at}
 use Rattle.regress_undo.specs.Searching.{Searching}
 
@@ -34,3 +35,7 @@ pub record IsPast (text : Text) (are_bytes : Bool) (at to : ℕ) : Type 0 where
   pub inside : to ≤ units text
   pub alone : (x : ℕ) → IsBoundary text x → at < x → x < to → ⊥
   pub boundary : are_bytes ≡ false → IsBoundary text to
+
+-- where a search tries, by its plan
+abbrev pub tried_from : Searching → Table
+tried_from w = tried w.plan w.plan.start

@@ -5,10 +5,10 @@ ghost use Rattle.regex_meaning.specs.Offsets.{IsBoundary, units};
 ghost use Rattle.regress_exec.specs.Attempts.{IsNextTry};
 ghost use Rattle.regress_machine.specs.Finds.{CanSearch};
 ghost use Rattle.regress_plan.specs.Keys.{is_wide};
-ghost use Rattle.regress_plan.specs.Plans.{numbered, tried};
+ghost use Rattle.regress_plan.specs.Plans.{numbered};
 ghost use Rattle.regress_serves.specs.Tables.{Table};
 ghost use Rattle.regress_undo.specs.Searching.{program_of};
-ghost use Rattle.regress_undo.specs.Starts.{IsFirstAllowed, AllowsLeads, IsPast, few_allowed};
+ghost use Rattle.regress_undo.specs.Starts.{IsFirstAllowed, AllowsLeads, IsPast, few_allowed, tried_from};
 
 use crate::characters::key_here;
 use crate::few::Few;
@@ -126,7 +126,7 @@ fn next_of_few<W: Planned>(planned: &W, few: Few, from: At<W>) -> Option<At<W>>
 #[inline(always)]
 fn first_try<W: Planned>(planned: &W, from: At<W>) -> Option<At<W>>
     requires { IsBoundary (W.searching planned.now).text (W.Input.Position.offset from) }
-    ensures { IsFirstAllowed (W.searching planned.now) (tried (W.searching planned.now).plan (W.searching planned.now).plan.start) (W.Input.Position.offset from) (option_map (λ p. W.Input.Position.offset p) result) }
+    ensures { IsFirstAllowed (W.searching planned.now) (tried_from (W.searching planned.now)) (W.Input.Position.offset from) (option_map (λ p. W.Input.Position.offset p) result) }
 {
     planned.is_of_program();
     match *planned.start() {

@@ -1,6 +1,6 @@
 use Rattle.std.proofs.Common.{refl, sym}
-use Rattle.std.specs.Prelude.{slice_index_or, false}
-use Rattle.regress_undo.specs.Memory.{without_range, no_slot}
+use Rattle.std.specs.Prelude.{false}
+use Rattle.regress_undo.specs.Memory.{without_range}
 use Rattle.regress_undo.proofs.Slots.{ok-more, becomes, keeps}
 use Rattle.regress_undo.proofs.memory.Memory.reset_group.Goals as goal
 

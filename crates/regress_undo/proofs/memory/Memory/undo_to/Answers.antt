@@ -1,4 +1,4 @@
-use Rattle.std.proofs.Common.{◌≡◌, ◌<◌, ◌≤◌, ◌-◌, ap, ap₂, ◌∙◌, length, take, drop, arith}
+use Rattle.std.proofs.Common.{◌≡◌, ◌<◌, ◌-◌, ap, ap₂, ◌∙◌, length, take, drop, arith}
 use Rattle.std.proofs.lemmas.List.{length-take-le, take-take}
 use Rattle.regress_undo.specs.Memory.{undone}
 use Rattle.regress_undo.proofs.Undoing.{undone-in-two}

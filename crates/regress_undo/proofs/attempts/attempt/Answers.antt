@@ -1,4 +1,4 @@
-use Rattle.std.proofs.Common.{ap, sym, subst, refl, ◌∙◌}
+use Rattle.std.proofs.Common.{◌≡◌, ap, sym, subst, refl, ◌∙◌}
 use Rattle.std.specs.Prelude.{IsSome, true, option_map, Option, Err}
 use Rattle.regress_input.proofs.Places.{boundary_inside}
 use Rattle.regress_program.specs.Code.{compiled}
@@ -9,8 +9,28 @@ use Rattle.regress_undo.specs.Memory.{state_of}
 use Rattle.regress_undo.specs.Searching.{program_of}
 use Rattle.regress_undo.specs.Searches.{searched_from}
 use Rattle.regress_undo.specs.Steps.{limit_of}
-use Rattle.regress_undo.proofs.Attempting.{first-state, begins, attempt-ends, attempt-spends, attempt-stops, found-with}
+use Rattle.regress_machine.specs.Finds.{initial}
+use Rattle.regress_undo.proofs.Attempting.{Begins, first-state, begins, attempt-ends, attempt-spends, attempt-stops, found-with}
+use Rattle.regress_undo.proofs.attempts.attempt.Given.{Over}
+use Rattle.regress_undo.proofs.attempts.attempt.Goals.{In_ok-begin}
 use Rattle.regress_undo.proofs.attempts.attempt.Goals as goal
+
+-- the search from the first state at the place
+search-here : (g : Over) (c : In_ok-begin g) → Begins (g.W.Planned.searching c.args.planned.now) (g.W.Input.Position.PositionType.offset c.args.pos)
+search-here g c =
+    let w = g.W.Planned.searching c.args.planned.now in
+    begins w (g.W.Input.Position.PositionType.offset c.args.pos)
+    (can-search w.tree w.text c.requires.can.well_formed (g.met.W.Planned.is_text c.args.planned.now) c.requires.can.unicode c.requires.can.bytes) c.requires.at
+
+-- what is remembered begins as that state
+state-here : (g : Over) (c : In_ok-begin g)
+    → state_of c.begin.new.self 0 (g.W.Input.Position.PositionType.offset c.args.pos) ≡ initial (program_of (g.W.Planned.searching c.args.planned.now)) (g.W.Input.Position.PositionType.offset c.args.pos)
+state-here g c =
+    let w = g.W.Planned.searching c.args.planned.now in
+    let at = g.W.Input.Position.PositionType.offset c.args.pos in
+    let groups = c.groups-groups.ensures ∙ ap (λ t. (compiled t).groups) c.program-program.ensures in
+    let loops = c.loops-loops.ensures ∙ ap (λ t. (compiled t).loops) c.program-program.ensures in
+    ap (λ h. state_of h 0 at) c.in_ok-begin.ensures ∙ first-state (program_of w) c.groups-groups.result c.loops-loops.result _ at c.pos_to_offset-at.ensures groups loops
 
 pub run-requires-clause-inside : goal.run-requires-clause-inside
 run-requires-clause-inside g c =
@@ -20,10 +40,8 @@ pub run-requires-clause-answers : goal.run-requires-clause-answers
 run-requires-clause-answers g c =
     let w = g.W.Planned.searching c.args.planned.now in
     let at = g.W.Input.Position.PositionType.offset c.args.pos in
-    let b = begins w at (can-search w.tree w.text c.requires.can.well_formed (g.met.W.Planned.is_text c.args.planned.now) c.requires.can.unicode c.requires.can.bytes) c.requires.at in
-    let groups = c.groups-groups.ensures ∙ ap (λ t. (compiled t).groups) c.program-program.ensures in
-    let loops = c.loops-loops.ensures ∙ ap (λ t. (compiled t).loops) c.program-program.ensures in
-    let first = ap (λ h. state_of h 0 at) c.in_ok-begin.ensures ∙ first-state (program_of w) c.groups-groups.result c.loops-loops.result _ at c.pos_to_offset-at.ensures groups loops in
+    let b = search-here g (goal.at.run-requires-clause-answers g c).In_ok-begin in
+    let first = state-here g (goal.at.run-requires-clause-answers g c).In_ok-begin in
     subst IsSome (sym (ap (searched_from w true) first ∙ b.searches)) refl
 
 pub returns-in-Ok-clause-found : goal.returns-in-Ok-clause-found
@@ -31,10 +49,8 @@ returns-in-Ok-clause-found g c =
     let w = g.W.Planned.searching c.args.planned.now in
     let offset = g.W.Input.Position.PositionType.offset in
     let at = offset c.args.pos in
-    let b = begins w at (can-search w.tree w.text c.requires.can.well_formed (g.met.W.Planned.is_text c.args.planned.now) c.requires.can.unicode c.requires.can.bytes) c.requires.at in
-    let groups = c.groups-groups.ensures ∙ ap (λ t. (compiled t).groups) c.program-program.ensures in
-    let loops = c.loops-loops.ensures ∙ ap (λ t. (compiled t).loops) c.program-program.ensures in
-    let first = ap (λ h. state_of h 0 at) c.in_ok-begin.ensures ∙ first-state (program_of w) c.groups-groups.result c.loops-loops.result _ at c.pos_to_offset-at.ensures groups loops in
+    let b = search-here g (goal.at.returns-in-Ok-clause-found g c).In_ok-begin in
+    let first = state-here g (goal.at.returns-in-Ok-clause-found g c).In_ok-begin in
     found-with offset c.in-Ok.end (state_of c.run.new.memory 0 0).groups
     ∙ attempt-ends w at c.begin.new.self c.run.new.memory _ _ _ (option_map offset c.in-Ok.end) b first c.in-Ok.ensures.ran
 
@@ -43,10 +59,8 @@ returns-in-Ok-clause-steps g c =
     let w = g.W.Planned.searching c.args.planned.now in
     let offset = g.W.Input.Position.PositionType.offset in
     let at = offset c.args.pos in
-    let b = begins w at (can-search w.tree w.text c.requires.can.well_formed (g.met.W.Planned.is_text c.args.planned.now) c.requires.can.unicode c.requires.can.bytes) c.requires.at in
-    let groups = c.groups-groups.ensures ∙ ap (λ t. (compiled t).groups) c.program-program.ensures in
-    let loops = c.loops-loops.ensures ∙ ap (λ t. (compiled t).loops) c.program-program.ensures in
-    let first = ap (λ h. state_of h 0 at) c.in_ok-begin.ensures ∙ first-state (program_of w) c.groups-groups.result c.loops-loops.result _ at c.pos_to_offset-at.ensures groups loops in
+    let b = search-here g (goal.at.returns-in-Ok-clause-steps g c).In_ok-begin in
+    let first = state-here g (goal.at.returns-in-Ok-clause-steps g c).In_ok-begin in
     let budget = g.S.Steps.budget in
     attempt-spends w at c.begin.new.self (budget c.args.steps.now) (budget c.run.new.steps) g.S.Steps.COUNTS b first c.run.new.memory (option_map offset c.in-Ok.end) c.in-Ok.end c.in-Ok.ensures.ran
 
@@ -55,10 +69,8 @@ returns-in-Err-clause-steps g c =
     let w = g.W.Planned.searching c.args.planned.now in
     let offset = g.W.Input.Position.PositionType.offset in
     let at = offset c.args.pos in
-    let b = begins w at (can-search w.tree w.text c.requires.can.well_formed (g.met.W.Planned.is_text c.args.planned.now) c.requires.can.unicode c.requires.can.bytes) c.requires.at in
-    let groups = c.groups-groups.ensures ∙ ap (λ t. (compiled t).groups) c.program-program.ensures in
-    let loops = c.loops-loops.ensures ∙ ap (λ t. (compiled t).loops) c.program-program.ensures in
-    let first = ap (λ h. state_of h 0 at) c.in_ok-begin.ensures ∙ first-state (program_of w) c.groups-groups.result c.loops-loops.result _ at c.pos_to_offset-at.ensures groups loops in
+    let b = search-here g (goal.at.returns-in-Err-clause-steps g c).In_ok-begin in
+    let first = state-here g (goal.at.returns-in-Err-clause-steps g c).In_ok-begin in
     let budget = g.S.Steps.budget in
     let counts = g.S.Steps.COUNTS in
     let before = budget c.args.steps.now in

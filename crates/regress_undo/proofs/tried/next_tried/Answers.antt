@@ -2,14 +2,23 @@ use Rattle.std.proofs.Common.{ap, sym, ◌∙◌}
 use Rattle.std.specs.Prelude.{option_map}
 use Rattle.regress_program.specs.Insns.{start_of}
 use Rattle.regress_undo.proofs.TriedPlaces.{next-anchored, next-none, next-open, reads-bytes}
+use Rattle.regress_machine.specs.Bytes.{ReadsBytes}
+use Rattle.regress_undo.proofs.tried.next_tried.Given.{Over}
+use Rattle.regress_undo.proofs.tried.next_tried.Goals.{After-is_anchored}
 use Rattle.regress_undo.proofs.tried.next_tried.Goals as goal
+
+-- the text is one of bytes
+reads-here : (g : Over) (c : After-is_anchored g) → ReadsBytes (g.Input.InputIndexer.text c.args.input.now)
+reads-here g c =
+    let input = c.args.input.now in
+    reads-bytes g.Input.Units.CodeUnits.encoding g.Input.Units.CodeUnits.ARE_BYTES (g.Input.InputIndexer.text input) g.Input.Units.CodeUnits.by_encoding c.requires.bytes (g.met.Input.InputIndexer.characters input) (g.met.Input.InputIndexer.in_utf8 input)
 
 pub returns-then-is_anchored : goal.returns-then-is_anchored
 returns-then-is_anchored g c =
     let input = c.args.input.now in
     let text = g.Input.InputIndexer.text input in
     let is = g.met.Input.InputIndexer.is_text input in
-    let reads = reads-bytes g.Input.Units.CodeUnits.encoding g.Input.Units.CodeUnits.ARE_BYTES text g.Input.Units.CodeUnits.by_encoding c.requires.bytes (g.met.Input.InputIndexer.characters input) (g.met.Input.InputIndexer.in_utf8 input) in
+    let reads = reads-here g (goal.at.returns-then-is_anchored g c).After-is_anchored in
     let offset = g.Input.Position.PositionType.offset in
     next-anchored (start_of c.args.start.now) text is reads.scalars (offset c.args.tried) c.requires.at (sym c.is_anchored.ensures ∙ c.if-is_anchored.true)
 
@@ -18,7 +27,7 @@ returns-in-None g c =
     let input = c.args.input.now in
     let text = g.Input.InputIndexer.text input in
     let is = g.met.Input.InputIndexer.is_text input in
-    let reads = reads-bytes g.Input.Units.CodeUnits.encoding g.Input.Units.CodeUnits.ARE_BYTES text g.Input.Units.CodeUnits.by_encoding c.requires.bytes (g.met.Input.InputIndexer.characters input) (g.met.Input.InputIndexer.in_utf8 input) in
+    let reads = reads-here g (goal.at.returns-in-None g c).After-is_anchored in
     let offset = g.Input.Position.PositionType.offset in
     next-none (start_of c.args.start.now) text is reads.scalars (offset c.args.tried) c.requires.at (sym c.is_anchored.ensures ∙ c.if-is_anchored.false)
     (sym c.next_right_pos.ensures.read ∙ ap (option_map offset) c.in-None.is)
@@ -28,7 +37,7 @@ returns-in-Some g c =
     let input = c.args.input.now in
     let text = g.Input.InputIndexer.text input in
     let is = g.met.Input.InputIndexer.is_text input in
-    let reads = reads-bytes g.Input.Units.CodeUnits.encoding g.Input.Units.CodeUnits.ARE_BYTES text g.Input.Units.CodeUnits.by_encoding c.requires.bytes (g.met.Input.InputIndexer.characters input) (g.met.Input.InputIndexer.in_utf8 input) in
+    let reads = reads-here g (goal.at.returns-in-Some g c).After-is_anchored in
     let offset = g.Input.Position.PositionType.offset in
     next-open (start_of c.args.start.now) text is reads.scalars (offset c.args.tried) (offset c.in-Some.next) (option_map offset c.first_tried.result) c.requires.at (sym c.is_anchored.ensures ∙ c.if-is_anchored.false)
     (sym c.next_right_pos.ensures.read ∙ ap (option_map offset) c.in-Some.is) c.first_tried.ensures

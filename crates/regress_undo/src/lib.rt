@@ -14,8 +14,6 @@ mod memory;
 mod peeks;
 mod planned;
 mod reads;
-#[cfg(test)]
-mod rows;
 mod run;
 mod runs;
 mod scans;

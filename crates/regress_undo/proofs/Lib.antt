@@ -29,4 +29,5 @@ pub mod NextUnits
 pub mod Narrow
 pub mod Attempting
 pub mod Starting
+pub mod Barring
 pub mod TriedPlaces

@@ -23,11 +23,12 @@ use Rattle.regress_serves.specs.Tables.{Table, HasUnits, allows, key_at}
 use Rattle.regress_plan.specs.Keys.{key, is_wide, is_lead}
 use Rattle.regress_undo.specs.Searching.{Searching}
 use Rattle.regress_undo.proofs.Allowing.{no-key}
+use Rattle.regress_undo.proofs.NextUnits.{unit-fits}
 use Rattle.regress_undo.specs.Starts.{allows_at, AllowsNone, IsFirstAllowed, AllowsLeads, IsPast, few_allowed}
 
 -- ---- Past a unit
 
-none-between : (text : Text) → IsText text → (at to : ℕ) → past text rightwards at ≡ Some to → (x : ℕ) → IsBoundary text x → at < x → x < to → ⊥
+pub none-between : (text : Text) → IsText text → (at to : ℕ) → past text rightwards at ≡ Some to → (x : ℕ) → IsBoundary text x → at < x → x < to → ⊥
 none-between text is at to led x on more less = by (read text rightwards at) refl led
   where
     by : (o : Option (ℕ × ℕ)) → read text rightwards at ≡ o → option_map {T = ℕ × ℕ} (λ r. r.1) o ≡ Some to → ⊥
@@ -185,24 +186,35 @@ found-three us bytes found sized f = by found f
           ∙ not-true (is_byte3 (get_or us 0 0) (get_or us 1 0) (get_or us 2 0) (slice_index bytes k)) (first.0.before k (omega arith) less);
     }
 
-few-below : (us : List ℕ) (len u : ℕ) → ((k : ℕ) → k < len → get_or us k 0 < 128) → contains (take len us) u ≡ true → u < 128
-few-below us zero u low h = cc
-few-below [] (suc len) u low h = cc
-few-below (x ∷ us) (suc len) u low h = by (nat_eq u x) refl (λ rest. few-below us len u (λ k less. low (suc k) (omega (arith, less))) rest) h
+-- what passes a test that a few units pass
+few-pass : (p : ℕ → Bool) (us : List ℕ) (len u : ℕ) → ((k : ℕ) → k < len → p (get_or us k 0) ≡ true) → contains (take len us) u ≡ true → p u ≡ true
+few-pass p us zero u each h = cc
+few-pass p [] (suc len) u each h = cc
+few-pass p (x ∷ us) (suc len) u each h = by (nat_eq u x) refl (λ rest. few-pass p us len u (λ k less. each (suc k) (omega (arith, less))) rest) h
   where
-    by : (b : Bool) → nat_eq u x ≡ b → (contains (take len us) u ≡ true → u < 128) → (b || contains (take len us) u) ≡ true → u < 128
-    by true e rest h = let same = eqb-true u x e in let first = low 0 (omega arith) in omega (arith, same, first)
+    by : (b : Bool) → nat_eq u x ≡ b → (contains (take len us) u ≡ true → p u ≡ true) → (b || contains (take len us) u) ≡ true → p u ≡ true
+    by true e rest h = ap p (eqb-true u x e) ∙ each 0 (omega arith)
     by false e rest h = rest h
 
+pub few-leads : (us : List ℕ) (len : ℕ) (wide : Bool) → ((k : ℕ) → k < len → is_lead (get_or us k 0) ≡ true) → AllowsLeads wide (few_allowed us len)
+few-leads us len wide each narrow k small allowed = few-pass is_lead us len k each allowed
+
 -- units below 128 are bytes that begin characters
-pub few-leads : (us : List ℕ) (len : ℕ) (wide : Bool) → ((k : ℕ) → k < len → get_or us k 0 < 128) → AllowsLeads wide (few_allowed us len)
-few-leads us len wide low narrow k small allowed =
-    ap (λ (b : Bool). b || (nat_le 0xC2 k && nat_le k 0xF4)) (lt-ltb k 0x80 (few-below us len k low allowed))
+low-lead : (k : ℕ) → k < 128 → is_lead k ≡ true
+low-lead k low = ap (λ (b : Bool). b || (nat_le 0xC2 k && nat_le k 0xF4)) (lt-ltb k 0x80 low)
+
+pub low-leads : (us : List ℕ) (len : ℕ) (wide : Bool) → ((k : ℕ) → k < len → get_or us k 0 < 128) → AllowsLeads wide (few_allowed us len)
+low-leads us len wide low = few-leads us len wide (λ k less. low-lead (get_or us k 0) (low k less))
 
 byte-key : (e : Encoding) (text : Text) → is_of_bytes e ≡ true → (at : ℕ) → key_at e (key (is_wide e)) text at ≡ slice_get (bytes_of text) at
 byte-key utf8 text bytes at = own-key (slice_get (units_in utf8 text) at) ∙ ap (λ (us : List ℕ). slice_get us at) (utf8-units text.characters)
 byte-key utf16 text bytes at = cc
 byte-key ucs2 text bytes at = cc
+
+byte-small : (e : Encoding) (text : Text) → HasUnits e text → is_of_bytes e ≡ true → (at k : ℕ) → key_at e (key (is_wide e)) text at ≡ Some k → k < 256
+byte-small utf8 text has bytes at k there = unit-fits utf8 text has at k (sym (own-key (slice_get (units_in utf8 text) at)) ∙ there)
+byte-small utf16 text has bytes at k there = cc
+byte-small ucs2 text has bytes at k there = cc
 
 byte-count : (e : Encoding) (text : Text) → is_of_bytes e ≡ true → IsSpelledIn e text → units text ≡ length (bytes_of text)
 byte-count utf8 text bytes spelled = units-length utf8 text spelled ∙ ap length (utf8-units text.characters)
@@ -220,10 +232,10 @@ bytes-there true text all e = refl
 bytes-there false text all e = cc
 
 -- the first of a few units, found in bytes
-pub few-found : (w : Searching) → HasUnits w.encoding w.text → (us : List ℕ) (len from : ℕ) → is_of_bytes w.encoding ≡ true → ((k : ℕ) → k < len → get_or us k 0 < 128)
+pub few-found : (w : Searching) → HasUnits w.encoding w.text → (us : List ℕ) (len from : ℕ) → is_of_bytes w.encoding ≡ true → AllowsLeads (is_wide w.encoding) (few_allowed us len)
     → from ≤ units w.text → (found : Option ℕ) → IsFoundFrom true (λ bytes. holds_at (take len us) bytes) (bytes_of w.text) from found
     → IsFirstAllowed w (few_allowed us len) from found
-few-found w has us len from bytes low inside found f = by f.0 f.1 found f.2
+few-found w has us len from bytes leads inside found f = by f.0 f.1 found f.2
   where
     all : List ℕ
     all = bytes_of w.text
@@ -266,9 +278,9 @@ few-found w has us len from bytes low inside found f = by f.0 f.1 found f.2
         let less : to < length all = omega (arith, there, within, length-rest) in
         let has_it : contains (take len us) (get_or all to 0) ≡ true =
         ap (λ at. contains (take len us) (get_or all at 0)) there ∙ sym (tested i) ∙ first.passes in
-        let small = few-below us len (get_or all to 0) low has_it in (
-          boundary-lead w.encoding w.text has table (few-leads us len (is_wide w.encoding) low) to (get_or all to 0)
-              (byte-key w.encoding w.text bytes to ∙ slice_get-get_or all to 0 less) (omega (arith, small)) has_it (λ wide. absurd (wide-none w.encoding bytes wide)),
+        let keyed = byte-key w.encoding w.text bytes to ∙ slice_get-get_or all to 0 less in (
+          boundary-lead w.encoding w.text has table leads to (get_or all to 0)
+              keyed (byte-small w.encoding w.text has bytes to (get_or all to 0) keyed) has_it (λ wide. absurd (wide-none w.encoding bytes wide)),
           omega (arith, there),
           allowed to less ∙ has_it,
           λ x on le before. barred x le (omega (arith, before, less)) (first.none_before (x - from) (omega (arith, le, before, there))),

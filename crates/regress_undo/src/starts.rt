@@ -109,11 +109,11 @@ fn next_among<W: Planned>(planned: &W, number: u32, from: At<W>) -> Option<At<W>
     }
 }
 
-// The first place from one on where one of a few units stands.
+/// The first place from one on where one of a few units stands.
 #[inline(never)]
-fn next_of_few<W: Planned>(planned: &W, few: Few, from: At<W>) -> Option<At<W>>
+pub(crate) fn next_of_few<W: Planned>(planned: &W, few: Few, from: At<W>) -> Option<At<W>>
     requires at { IsBoundary (W.searching planned.now).text (W.Input.Position.offset from) }
-    requires below { (k : ℕ) → k < few.len → slice_index_or few.units k 0 < 128 }
+    requires leads { AllowsLeads (is_wide (W.searching planned.now).encoding) (few_allowed few.units few.len) }
     ensures { IsFirstAllowed (W.searching planned.now) (few_allowed few.units few.len) (W.Input.Position.offset from) (option_map (λ p. W.Input.Position.offset p) result) }
 {
     match planned.input().as_bytes() {

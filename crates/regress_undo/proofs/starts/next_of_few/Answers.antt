@@ -23,6 +23,6 @@ returns-in-Some g c =
     let yes = bytes-there g.W.Input.Units.CodeUnits.ARE_BYTES (g.W.Input.InputIndexer.text c.input.result.now) c.in-Some.field-0.now c.in-Some.ensures in
     let bytes : is_of_bytes w.encoding ≡ true = ap is_of_bytes c.input.ensures.encoding ∙ sym g.W.Input.Units.CodeUnits.by_encoding ∙ yes in
     let inside = boundary_inside w.text (g.met.W.Planned.is_text c.args.planned.now) from c.requires.at in
-    few-found w (g.met.W.Planned.has_units c.args.planned.now) few.units few.len from bytes c.requires.below inside found
+    few-found w (g.met.W.Planned.has_units c.args.planned.now) few.units few.len from bytes c.requires.leads inside found
     (subst (λ t. IsFoundFrom true (λ bs. holds_at (take few.len few.units) bs) (bytes_of t) from found) c.input-in-Some.ensures.text
     (subst (λ b. IsFoundFrom b (λ bs. holds_at (take few.len few.units) bs) (bytes_of (g.W.Input.InputIndexer.text c.input-in-Some.result.now)) from found) yes c.find_bytes.ensures))

@@ -17,6 +17,9 @@ pub mod Allowing
 pub mod Peeking
 pub mod RunTurns
 pub mod RunMarks
+pub mod FurtherPlaces
+pub mod FurtherTurns
+pub mod LazyClass
 pub mod Above
 pub mod Taking
 pub mod Remaining

@@ -15,3 +15,4 @@ pub mod Reached
 pub mod Going
 pub mod Starts
 pub mod LeftOut
+pub mod Further

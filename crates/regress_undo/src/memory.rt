@@ -30,6 +30,8 @@ pub enum Kind {
     One,
     /// Those of the characters from `next` to `last`, in this order.
     Run,
+    /// `next`, and those behind it, each one more character of the lazy run before the instruction on; `last` of them at most.
+    Lazy,
 }
 
 /// A way still to try: an instruction and offsets from which to go on, and how long the log of changes was.

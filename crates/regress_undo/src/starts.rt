@@ -136,12 +136,13 @@ fn first_try<W: Planned>(planned: &W, from: At<W>) -> Option<At<W>>
     }
 }
 
-/// The first place to try from one on; none where no match begins from there on.
+/// The first place to try from one on, by the plan; none where no match begins from there on.
 #[inline(always)]
 pub(crate) fn next_start<W: Planned>(planned: &W, from: At<W>) -> Option<At<W>>
     requires at { IsBoundary (W.searching planned.now).text (W.Input.Position.offset from) }
     requires can { CanSearch (program_of (W.searching planned.now)) (W.searching planned.now).tree (W.searching planned.now).text }
-    ensures { IsNextTry (W.searching planned.now).tree (W.searching planned.now).text (W.Input.Position.offset from) (option_map (λ p. W.Input.Position.offset p) result) }
+    ensures first { IsFirstAllowed (W.searching planned.now) (tried_from (W.searching planned.now)) (W.Input.Position.offset from) (option_map (λ p. W.Input.Position.offset p) result) }
+    ensures next { IsNextTry (W.searching planned.now).tree (W.searching planned.now).text (W.Input.Position.offset from) (option_map (λ p. W.Input.Position.offset p) result) }
 {
     planned.is_of_program();
     first_try(planned, from)

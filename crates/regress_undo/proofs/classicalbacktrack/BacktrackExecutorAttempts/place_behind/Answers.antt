@@ -22,4 +22,4 @@ returns-clause-next g c =
     let behind = offset c.args.tried + 1 in
     let next = offset c.in_ok-next.next in
     next-further w behind next (option_map offset c.next_start.result)
-    (subst (λ re. IsNextTry (tree_of re) text behind (Some next)) (sym search.same) c.in_ok-next.ensures) c.next_start.ensures
+    (subst (λ re. IsNextTry (tree_of re) text behind (Some next)) (sym search.same) c.in_ok-next.ensures) c.next_start.ensures.next

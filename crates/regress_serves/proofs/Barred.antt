@@ -233,7 +233,7 @@ module _ (program : Program) (text : Text) (is : IsText text) (may : ℕ → Boo
     nothing-insn (Some (Lookbehind negate start_group end_group continuation)) bar =
         λ k g e few. nothing-resumed negate (at_ip continuation s) g.end refl bar
 
-    insn-nothing : may_at program text s.pos may (slice_get program.insns s.ip) s.ip ≡ false → NothingBelow program text (suc n) rightwards 1 (running s ∷ [])
+    pub insn-nothing : may_at program text s.pos may (slice_get program.insns s.ip) s.ip ≡ false → NothingBelow program text (suc n) rightwards 1 (running s ∷ [])
     insn-nothing bar =
         turn-nothing program text n rightwards s (act program text rightwards s) refl (nothing-insn (slice_get program.insns s.ip) bar)
 

@@ -12,4 +12,5 @@ pub mod Loops
 pub mod Looks
 pub mod Ends
 pub mod Checks
+pub mod Fronts
 pub mod Arms

@@ -12,7 +12,7 @@ use Rattle.regress_serves.specs.Starts.{CoveredStartsBar}
 use Rattle.regress_serves.proofs.Serves.{nothing-ends}
 use Rattle.regress_serves.proofs.Tables.{covered-nothing}
 
-no-match : (text : Text) (o : Option Match) → None ≡ option_map (match_in_offsets text) o → o ≡ None
+pub no-match : (text : Text) (o : Option Match) → None ≡ option_map (match_in_offsets text) o → o ≡ None
 no-match text None e = refl
 no-match text (Some m) e = cc
 

@@ -5,6 +5,7 @@
 #![tactic(auto)]
 
 ghost use Rattle.regress_serves.specs.Barred.{ClosedSetsBar};
+ghost use Rattle.regress_serves.specs.Fronts.{FrontsBar};
 ghost use Rattle.regress_serves.specs.Serves.{DroppingKeepsTheEnd, ServingEndsAlike};
 ghost use Rattle.regress_serves.specs.Starts.{CoveredStartsBar};
 ghost use Rattle.regress_serves.specs.Tables.{CoveredTablesBar};
@@ -34,4 +35,9 @@ pub fn covered_tables_bar()
 /// No match begins where the table of the first instruction bars what stands there.
 pub fn covered_starts_bar()
     ensures { CoveredStartsBar }
+{}
+
+/// No match begins where a unit may not stand that must stand so many units on.
+pub fn fronts_bar()
+    ensures { FrontsBar }
 {}

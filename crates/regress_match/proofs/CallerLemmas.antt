@@ -1,12 +1,15 @@
--- What callers of searches need: where matches stand, and what one call of an iterator leaves.
-use Rattle.std.proofs.Common.{◌≡◌, ℕ, zero, suc, ◌+◌, ◌≤◌, List, [], ◌∷◌, refl, max, sym, ◌∙◌, ap, subst, arith}
-use Rattle.std.specs.Prelude.{Bool, Result, Ok, Option, Some, None, IsUtf8, IfSome, map, slice_get, unwrap_or}
+-- What callers of searches need: where matches stand, and what a loop over them knows.
+use Rattle.std.proofs.Common.{◌≡◌, ℕ, zero, suc, ◌+◌, ◌≤◌, List, [], ◌∷◌, max, sym, ◌∙◌, ap, subst, arith, IsCharBoundary}
+use Rattle.std.proofs.lemmas.Str.{IsCharBoundary-start}
+use Rattle.std.specs.Prelude.{Bool, true, false, nat_le, if◌then◌else◌, IsAscii, Result, Ok, Option, Some, None, IsUtf8, IfSome, map, option_map, slice_get, unwrap_or}
 use Rattle.std.specs.Option.{option_or}
 use Rattle.regex_meaning.specs.Tree.{Node}
 use Rattle.regex_meaning.specs.Text.{utf8_text}
 use Rattle.regex_meaning.specs.Laws.{Each, StandInOrder, IsAnswerOf, IsRange}
 use Rattle.regex_meaning.specs.Outcomes.{group_range}
 use Rattle.regex_meaning.specs.Names.{Answer, answers_from, first_appearances, first_range, ids_named, named_groups}
+use Rattle.regex_meaning.specs.Steps.{those_within}
+use Rattle.regex_meaning.proofs.Encodings.{ascii-utf8}
 use Rattle.regex_meaning.proofs.Ordered.{answers-IsAnswerOf, answers-StandInOrder}
 use Rattle.regex_meaning.proofs.TextLemmas.{utf8_text-IsText}
 use Rattle.regress_input.proofs.Utf8Slices.{char_boundary}
@@ -15,7 +18,7 @@ use Rattle.regress_exec.specs.ToCome.{ToCome, Gives}
 use Rattle.regress_exec.specs.declared.exec.Match.{Match}
 use Rattle.regress_exec.specs.declared.exec.SearchError.{SearchError}
 use Rattle.regress_match.specs.Laws.{MatchesStandInText}
-use Rattle.regress_match.specs.Programs.{byte_tree, utf8_answers}
+use Rattle.regress_match.specs.Programs.{byte_tree, ascii_answers}
 use Rattle.regress_match.specs.Replacements.{IsSlice, FitsText, StandFrom}
 use Rattle.regress_match.specs.declared.api.regex.Regex.{Regex}
 
@@ -44,13 +47,27 @@ module _ (bytes : List ℕ) (unicode : Bool) (is_utf8 : IsUtf8 bytes) where
 pub matches-stand : MatchesStandInText
 matches-stand re text start is_utf8 = answers-stand text (byte_tree re).flags.unicode is_utf8 (byte_tree re).root start
 
--- and so does the first one
-pub first-fits : (re : Regex) (text : List ℕ) (start : ℕ) (m : Answer) → IsUtf8 text → slice_get (utf8_answers re text start) 0 ≡ Some m → FitsText text m
-first-fits re text start m is_utf8 e = by (utf8_answers re text start) (matches-stand re text start is_utf8) e
+-- so do those of a text of ASCII
+pub ascii-stand : (re : Regex) (text : List ℕ) (start : ℕ) → IsUtf8 text → IsAscii text → StandFrom text start (ascii_answers re text start)
+ascii-stand re text start is_utf8 ascii =
+    subst (StandFrom text start) (sym (ascii-utf8 (byte_tree re).root text (byte_tree re).flags.unicode ascii start)) (matches-stand re text start is_utf8)
+
+-- and those that so many steps are enough for
+pub within-stand : (text : List ℕ) (from steps : ℕ) (needs : List ℕ) (ms : List Answer) → StandFrom text from ms → StandFrom text from (those_within steps needs ms)
+within-stand text from steps [] ms h = tt
+within-stand text from steps (n ∷ needs) [] h = tt
+within-stand text from steps (n ∷ needs) (m ∷ ms) h = by (nat_le n steps) (within-stand text m.range.1 steps needs ms h.2)
   where
-    by : (ms : List Answer) → StandFrom text start ms → slice_get ms 0 ≡ Some m → FitsText text m
-    by [] h e = absurd (cc e)
-    by (n ∷ ms) h e = let same : n ≡ m = cc e in subst (FitsText text) same h.1
+    by : (b : Bool) → StandFrom text m.range.1 (those_within steps needs ms) → StandFrom text from (if b then m ∷ those_within steps needs ms else [])
+    by true rest = (h.0, h.1, rest)
+    by false rest = tt
+
+-- and the first one
+pub first-fits : (text : List ℕ) (start : ℕ) (ms : List Answer) (first : Option Match) → StandFrom text start ms → option_map answer_of first ≡ slice_get ms 0
+    → IfSome first (λ m. FitsText text (answer_of m))
+first-fits text start ms None h e = tt
+first-fits text start [] (Some m) h e = absurd (cc e)
+first-fits text start (n ∷ ms) (Some m) h e = let same : n ≡ answer_of m = cc e in subst (FitsText text) same h.1
 
 -- ---- Its groups by name
 
@@ -81,14 +98,43 @@ module _ (P : ℕ × ℕ → Type 0) where
 pub named-fit : (text : List ℕ) (m : Answer) → FitsText text m → Each (λ (named : List ℕ × Option (ℕ × ℕ)). IfSome named.1 (IsSlice text)) (named_groups m)
 named-fit text m fits = named-each (IsSlice text) m (first_appearances [] m.names) fits.groups
 
--- ---- The match that comes next
+-- ---- A loop over matches
 
-pub gives-ok : (s t : ToCome) (r : Result Match SearchError) (m : Match) → Gives s (Some r) t → r ≡ Ok m → s.answers ≡ answer_of m ∷ t.answers
-gives-ok s t r m h e = (subst (λ x. Gives s (Some x) t) e h).0
+-- What a loop over matches knows of those that are left: they stand in the text from an offset on, which is a boundary, and a
+-- limit of steps stands behind them or does not.
+pub record IsReached (text : List ℕ) (limited : Bool) (from : ℕ) (left : ToCome) : Type 0 where
+  pub boundary : IsCharBoundary text from
+  pub stand : StandFrom text from left.answers
+  pub limit : left.limited ≡ limited
 
-pub gives-limit : (s t : ToCome) (r : Result Match SearchError) (m : Match) → Gives s (Some r) t → r ≡ Ok m → t.limited ≡ s.limited
-gives-limit s t r m h e = sym (subst (λ x. Gives s (Some x) t) e h).1
+-- What one turn knows of the match that it takes: it is the next one, it stands in the text behind the offset reached, and so
+-- do those that it leaves behind its end.
+pub record TakesNext (text : List ℕ) (limited : Bool) (from : ℕ) (left rest : ToCome) (m : Answer) : Type 0 where
+  pub next : left.answers ≡ m ∷ rest.answers
+  pub before : IsSlice text (from, m.range.0)
+  pub fits : FitsText text m
+  pub reached : (to : ℕ) → to ≡ m.range.1 → IsReached text limited to rest
 
-pub stands-first : (text : List ℕ) (from : ℕ) (left rest : List Answer) (m : Answer) → StandFrom text from left → left ≡ m ∷ rest
-    → (from ≤ m.range.0) × FitsText text m × StandFrom text m.range.1 rest
-stands-first text from left rest m h e = subst (StandFrom text from) e h
+stand-lower : (text : List ℕ) (low from : ℕ) (ms : List Answer) → low ≤ from → StandFrom text from ms → StandFrom text low ms
+stand-lower text low from [] le h = tt
+stand-lower text low from (m ∷ ms) le h = (omega (arith, h.0), h.1, h.2)
+
+-- before the first turn the left end is reached
+pub reached-none : (text : List ℕ) (start : ℕ) (all left : ToCome) → IsUtf8 text → StandFrom text start all.answers → left ≡ all → IsReached text all.limited 0 left
+reached-none text start all left is_utf8 h e = record {
+  boundary = IsCharBoundary-start text is_utf8;
+  stand = stand-lower text 0 start left.answers (omega arith) (subst (λ (it : ToCome). StandFrom text start it.answers) (sym e) h);
+  limit = ap (λ (it : ToCome). it.limited) e;
+}
+
+pub takes-next : (text : List ℕ) (limited : Bool) (from : ℕ) (left rest : ToCome) (r : Result Match SearchError) (m : Match)
+    → IsReached text limited from left → Gives left (Some r) rest → r ≡ Ok m → TakesNext text limited from left rest (answer_of m)
+takes-next text limited from left rest r m reached gives is =
+    let h : Gives left (Some (Ok m)) rest = subst (λ x. Gives left (Some x) rest) is gives in
+    let stands = subst (StandFrom text from) h.0 reached.stand in
+    record {
+      next = h.0;
+      before = (stands.0, reached.boundary, stands.1.whole.1);
+      fits = stands.1;
+      reached = λ to e. subst (λ n. IsReached text limited n rest) (sym e) record { boundary = stands.1.whole.2; stand = stands.2; limit = sym h.1 ∙ reached.limit };
+    }

@@ -1,8 +1,7 @@
 -- What calls of an iterator answer in a row.
-use Rattle.std.proofs.Common.{◌≡◌, List, [], ◌∷◌, Bool, true, false, refl, sym, ap, ◌∙◌, subst}
+use Rattle.std.proofs.Common.{◌≡◌, List, [], ◌∷◌, true, false, refl, sym, ap, ◌∙◌, subst}
 use Rattle.std.specs.Prelude.{Some, None, Ok, Err}
-use Rattle.regex_meaning.specs.Names.{Answer}
-use Rattle.regress_exec.specs.ToCome.{ToCome, Gives, ended_for_good}
+use Rattle.regress_exec.specs.ToCome.{ToCome}
 use Rattle.regress_exec.specs.declared.exec.SearchError.TheVariants.{Memory, StepLimit}
 use Rattle.regress_match.specs.Searches.{Answered, Calls, AllNone, AnswerInTurn, SearchesAnswerInTurn}
 

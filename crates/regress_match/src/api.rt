@@ -1,4 +1,4 @@
-//! What a user of regular expressions calls. The crate's root hands all of it on.
+//! What a user of regular expressions calls. The crate's root hands all of it on but the laws.
 
 mod error;
 mod escaping;

@@ -1,10 +1,11 @@
 //! Patterns that are compiled, and their searches.
 
-ghost use Rattle.std.specs.Prelude.{◌≡◌, ◌<◌, ◌⊎◌, IfErr, IfOk, IsAscii, IsCharBoundary, false, length, nat_le, not, option_map, slice_get, []};
+ghost use Rattle.std.specs.Prelude.{◌≡◌, ◌<◌, ◌⊎◌, IfErr, IfOk, IfSome, IsAscii, IsCharBoundary, false, length, nat_le, not, option_map, slice_get, []};
 ghost use Rattle.regex_meaning.specs.Flags.{flags_of_text};
 ghost use Rattle.regex_pattern_front.specs.TreeOf.{tree_of};
 ghost use Rattle.regress_exec.specs.Answers.{answer_of};
 ghost use Rattle.regress_match.specs.Refusals.{CanRefuse, IsMemory};
+ghost use Rattle.regress_match.specs.Replacements.{FitsText, StandFrom};
 ghost use Rattle.regress_match.specs.Searches.{YieldsMatches};
 ghost use Rattle.regress_match.specs.Trees.{tree_to_run};
 
@@ -156,6 +157,7 @@ impl Regex {
     /// `Memory` where there is no memory for the search.
     pub fn find(&self, text: &str) -> Result<Option<Match>, SearchError>
         ensures first { IfOk result (λ m. option_map answer_of m ≡ slice_get (utf8_answers self.now text.now 0) 0) }
+        ensures fits { IfOk result (λ m. IfSome m (λ found. FitsText text.now (answer_of found))) }
         ensures refused { IfErr result IsMemory }
     {
         first(self.find_iter(text)?)
@@ -168,6 +170,7 @@ impl Regex {
     /// `Memory` where there is no memory for the search.
     pub fn find_iter<'r, 't>(&'r self, text: &'t str) -> Result<Matches<'r, 't>, SearchError>
         ensures answers { IfOk result (YieldsMatches (byte_tree self.now) (as_utf8 self.now text.now) 0) }
+        ensures stand { IfOk result (λ it. StandFrom text.now 0 it.answers) }
         ensures live { IfOk result (λ it. it.ended ≡ false) }
         ensures refused { IfErr result IsMemory }
     {
@@ -189,6 +192,7 @@ impl Regex {
     ) -> Result<Matches<'r, 't>, SearchError>
         requires { IsCharBoundary text.now start ⊎ (length text.now < start) }
         ensures answers { IfOk result (YieldsMatches (byte_tree self.now) (as_utf8 self.now text.now) start) }
+        ensures stand { IfOk result (λ it. StandFrom text.now start it.answers) }
         ensures ended { IfOk result (λ it. it.ended ≡ not (nat_le start (length text.now))) }
         ensures refused { IfErr result IsMemory }
     {
@@ -212,6 +216,7 @@ impl Regex {
     ) -> Result<LimitedMatches<'r, 't>, SearchError>
         requires { IsCharBoundary text.now start ⊎ (length text.now < start) }
         ensures answers { IfOk result (λ it. it.answers ≡ utf8_answers_within steps self.now text.now start) }
+        ensures stand { IfOk result (λ it. StandFrom text.now start it.answers) }
         ensures limited { IfOk result (λ it. it.limited ≡ not (is_utf8_end_within steps self.now text.now start)) }
         ensures ended { IfOk result (λ it. it.ended ≡ not (nat_le start (length text.now))) }
         ensures refused { IfErr result IsMemory }
@@ -229,6 +234,7 @@ impl Regex {
     pub fn find_ascii(&self, text: &str) -> Result<Option<Match>, SearchError>
         requires { IsAscii text.now }
         ensures first { IfOk result (λ m. option_map answer_of m ≡ slice_get (ascii_answers self.now text.now 0) 0) }
+        ensures fits { IfOk result (λ m. IfSome m (λ found. FitsText text.now (answer_of found))) }
         ensures refused { IfErr result IsMemory }
     {
         first(self.find_iter_ascii(text)?)
@@ -245,6 +251,7 @@ impl Regex {
     ) -> Result<AsciiMatches<'r, 't>, SearchError>
         requires { IsAscii text.now }
         ensures answers { IfOk result (YieldsMatches (byte_tree self.now) (as_ascii self.now text.now) 0) }
+        ensures stand { IfOk result (λ it. StandFrom text.now 0 it.answers) }
         ensures live { IfOk result (λ it. it.ended ≡ false) }
         ensures refused { IfErr result IsMemory }
     {
@@ -263,6 +270,7 @@ impl Regex {
     ) -> Result<AsciiMatches<'r, 't>, SearchError>
         requires { IsAscii text.now }
         ensures answers { IfOk result (YieldsMatches (byte_tree self.now) (as_ascii self.now text.now) start) }
+        ensures stand { IfOk result (λ it. StandFrom text.now start it.answers) }
         ensures ended { IfOk result (λ it. it.ended ≡ not (nat_le start (length text.now))) }
         ensures refused { IfErr result IsMemory }
     {

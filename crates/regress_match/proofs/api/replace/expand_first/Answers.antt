@@ -3,7 +3,7 @@ use Rattle.std.proofs.lemmas.Str.{IsCharBoundary-start}
 use Rattle.regex_meaning.specs.Replace.{replaced}
 use Rattle.regress_exec.specs.Answers.{answer_of}
 use Rattle.regress_match.specs.Replacements.{expanded}
-use Rattle.regress_match.proofs.CallerLemmas.{gives-ok, stands-first}
+use Rattle.regress_match.proofs.CallerLemmas.{reached-none, takes-next}
 use Rattle.regress_match.proofs.Replacing.{expanded-more, expanded-end}
 use Rattle.regress_match.proofs.api.replace.expand_first.Goals as goal
 
@@ -17,22 +17,22 @@ returns-in_default-clause-made g c =
 
 pub reach-requires-clause-rising : goal.reach-requires-clause-rising
 reach-requires-clause-rising g c =
-    (stands-first c.args.text.now 0 c.args.matches.answers c.next.new.self.answers (answer_of c.in_ok-found.found) c.requires (gives-ok c.args.matches c.next.new.self _ c.in_ok-found.found c.in-Some.ensures.steps c.in_ok-found.was)).0
+    (takes-next _ _ _ _ _ _ c.in_ok-found.found (reached-none c.args.text.now 0 c.args.matches c.args.matches c.utf8.text c.requires refl) c.in-Some.ensures.steps c.in_ok-found.was).before.0
 
 pub reach-requires-clause-boundary : goal.reach-requires-clause-boundary
 reach-requires-clause-boundary g c = IsCharBoundary-start c.args.text.now c.utf8.text
 
 pub reach-requires-clause-fits : goal.reach-requires-clause-fits
 reach-requires-clause-fits g c =
-    (stands-first c.args.text.now 0 c.args.matches.answers c.next.new.self.answers (answer_of c.in_ok-found.found) c.requires (gives-ok c.args.matches c.next.new.self _ c.in_ok-found.found c.in-Some.ensures.steps c.in_ok-found.was)).1
+    (takes-next _ _ _ _ _ _ c.in_ok-found.found (reached-none c.args.text.now 0 c.args.matches c.args.matches c.utf8.text c.requires refl) c.in-Some.ensures.steps c.in_ok-found.was).fits
 
 pub returns-clause-made : goal.returns-clause-made
 returns-clause-made g c =
-    let next = gives-ok c.args.matches c.next.new.self _ c.in_ok-found.found c.in-Some.ensures.steps c.in_ok-found.was in
+    let takes = takes-next c.args.text.now _ _ c.args.matches c.next.new.self _ c.in_ok-found.found (reached-none c.args.text.now 0 c.args.matches c.args.matches c.utf8.text c.requires refl) c.in-Some.ensures.steps c.in_ok-found.was in
     let text = c.args.text.now in
     let replacement = c.args.replacement.now in
     let all = take 1 c.args.matches.answers in
     let made = c.in_ok-from.ensures.made ∙ ap (λ bs. bs ++ slice_range text 0 c.in_ok-found.found.range.start) c.new-made.ensures.bytes in
     let more = expanded-more text replacement [] (string_bytes c.reach.new.made) (string_bytes c.expand.new.out) (replaced text 0 (expanded text replacement all)) 0 c.in_ok-from.from all []
-    (answer_of c.in_ok-found.found) refl (ap (take 1) next) made c.in_ok-expand.ensures c.in_ok-from.ensures.behind in
+    (answer_of c.in_ok-found.found) refl (ap (take 1) takes.next) made c.in_ok-expand.ensures c.in_ok-from.ensures.behind in
     expanded-end text replacement (string_bytes c.expand.new.out) _ (replaced text 0 (expanded text replacement all)) c.in_ok-from.from [] more refl c.in_ok-finish-2.ensures

@@ -1,6 +1,6 @@
-use Rattle.std.proofs.Common.{◌≡◌, string_bytes, IsCharBoundary}
+use Rattle.std.proofs.Common.{string_bytes}
 use Rattle.regress_match.specs.Closures.{CanBeCalled}
-use Rattle.regress_match.specs.Replacements.{StandFrom}
+use Rattle.regress_match.proofs.CallerLemmas.{IsReached}
 use Rattle.regress_match.proofs.Closures.{IsBegun}
 use Rattle.regress_match.proofs.api.replace.closures.write_each.Given as goal
 
@@ -8,9 +8,7 @@ abbrev pub invariant-loop-item : goal.invariant-loop-item
 invariant-loop-item g l = record {
   can : (goal.iterator-loop-item g).can_next l.item-iterator;
   finite : (goal.iterator-loop-item g).is_finite l.item-iterator;
-  boundary : IsCharBoundary l.text l.from;
-  stand : StandFrom l.text l.from l.item-iterator.answers;
+  reached : IsReached l.text l.fn.matches.limited l.from l.item-iterator;
   callable : CanBeCalled (goal.F-pre g l.with) l.item-iterator.answers;
-  limited : l.item-iterator.limited ≡ l.fn.matches.limited;
   begun : IsBegun (goal.F-post g l.with) l.text l.fn.matches.answers l.item-iterator.answers l.from (string_bytes l.made);
 }

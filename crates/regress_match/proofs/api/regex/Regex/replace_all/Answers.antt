@@ -1,8 +1,0 @@
-use Rattle.std.proofs.Common.{sym, subst}
-use Rattle.regress_match.specs.Replacements.{StandFrom}
-use Rattle.regress_match.proofs.CallerLemmas.{matches-stand}
-use Rattle.regress_match.proofs.api.regex.Regex.replace_all.Goals as goal
-
-pub expand_each-requires : goal.expand_each-requires
-expand_each-requires c =
-    subst (StandFrom c.args.text.now 0) (sym c.in_ok-find_iter.ensures.answers.answers) (matches-stand c.args.self.now c.args.text.now 0 c.utf8.text)

@@ -13,6 +13,7 @@ pub mod Searched
 pub mod Tried
 pub mod Reached
 pub mod Going
+pub mod Attempted
 pub mod Starts
 pub mod LeftOut
 pub mod Further

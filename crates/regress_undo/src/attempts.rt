@@ -2,11 +2,8 @@
 
 ghost use Rattle.std.specs.Prelude.{◌≡◌, IfOk, false, if◌then◌else◌};
 ghost use Rattle.regex_meaning.specs.Offsets.{IsBoundary};
-ghost use Rattle.regress_exec.specs.Attempts.{end_from, ends_with, ticks_from};
-ghost use Rattle.regress_exec.specs.Spends.{Spends};
-ghost use Rattle.regress_undo.specs.Memory.{state_of};
+ghost use Rattle.regress_undo.specs.Attempted.{IsEndFrom, SpendsAt};
 ghost use Rattle.regress_undo.specs.Searched.{CanBeSearched};
-ghost use Rattle.regress_undo.specs.Steps.{limit_of};
 
 use crate::here::Here;
 use crate::memory::Memory;
@@ -38,8 +35,8 @@ pub(crate) fn attempt<W: Planned, S: Steps>(
     requires can { let w = W.searching planned.now in CanBeSearched w.tree w.text }
     requires at { IsBoundary (W.searching planned.now).text (W.Input.Position.offset pos) }
     requires fresh { (S.budget steps.old).out ≡ false }
-    ensures found { let w = W.searching planned.now in IfOk result (λ end. ends_with W.Input.Position.offset end (state_of memory.new 0 0).groups ≡ end_from w.tree w.text (W.Input.Position.offset pos)) }
-    ensures steps { let w = W.searching planned.now in Spends (ticks_from w.tree w.text (W.Input.Position.offset pos)) (limit_of S.COUNTS (S.budget steps.old)) result (limit_of S.COUNTS (S.budget steps.new)) }
+    ensures found { IfOk result (IsEndFrom W.Input.Position.offset (W.searching planned.now) (W.Input.Position.offset pos) memory.new) }
+    ensures steps { SpendsAt (W.searching planned.now) (W.Input.Position.offset pos) S.COUNTS (S.budget steps.old) result (S.budget steps.new) }
 {
     let at = planned.input().pos_to_offset(pos);
     let program = planned.program();

@@ -5,7 +5,11 @@ use Rattle.std.specs.Prelude.{option_map, IsTrue, IsSome, slice_get}
 use Rattle.regex_meaning.specs.Text.{Text, Direction}
 use Rattle.regex_meaning.specs.Offsets.{IsText, units}
 use Rattle.regex_meaning.specs.Layout.{Program, Insn}
-use Rattle.regress_machine.specs.Bytes.{ReadsBytes}
+use Rattle.regex_meaning.specs.Tree.{Tree}
+use Rattle.regress_exec.specs.Passing.{IsInBytes}
+use Rattle.regress_exec.proofs.Literals.{literal-reads}
+use Rattle.regress_program.specs.Code.{compiled}
+use Rattle.regress_machine.specs.Bytes.{ReadsBytes, reads_bytes}
 use Rattle.regress_machine.specs.Machine as machine
 use Rattle.regress_machine.specs.Machine.{Thread, running, waiting, in_turn, Next, goes, scans, ends, asks, resumed, act, search}
 use Rattle.regress_machine.specs.Finds.{initial, end_of}
@@ -64,52 +68,66 @@ initial-is P offset program s groups loops i g st ls eg el =
 
 -- ---- Turns of the executor
 
-module _ {P : Type 0} (offset : P → ℕ) (program : Program) (text : Text) (turns : ℕ) (d : Direction) (top : ℕ) (end : Option machine.State) (is : IsText text) (reads : (i : ℕ) (insn : Insn) → slice_get program.insns i ≡ Some insn → IsTrue (is_literal insn) → ReadsBytes text) where
-  module _ (ts : List Thread) (r : Remains program text turns d top end ts) (s : State P) (rest : List (State P)) (up : TakesUp offset ts (Some s) rest) where
-    abbrev taken_up : List Thread
-    taken_up = running (state_of offset s) ∷ waiting_of offset rest
+-- what the code of a tree reads as bytes stands in a text of bytes
+pub reads-literals : (tree : Tree) (text : Text) {are_bytes : Bool} → (IsTrue (reads_bytes tree.root) → IsInBytes text are_bytes)
+    → (i : ℕ) (insn : Insn) → slice_get (compiled tree).insns i ≡ Some insn → IsTrue (is_literal insn) → ReadsBytes text
+reads-literals tree text bytes i insn q l = (bytes (literal-reads tree i insn q l)).reads
 
-    -- the state that was taken up runs
-    record Taken : Type 0 where
-      remains : Remains program text turns d top end (running (state_of offset s) ∷ waiting_of offset rest)
-      no_more : steps_left program text turns d (running (state_of offset s) ∷ waiting_of offset rest) ≤ steps_left program text turns d ts
+-- The state that was taken up runs, and these wait behind it.
+pub record TakenUp {P : Type 0} (offset : P → ℕ) (program : Program) (text : Text) (turns : ℕ) (d : Direction) (top : ℕ) (end : Option machine.State) (ts : List Thread) (s : State P) (rest : List (State P)) : Type 0 where
+  is : IsText text
+  reads : (i : ℕ) (insn : Insn) → slice_get program.insns i ≡ Some insn → IsTrue (is_literal insn) → ReadsBytes text
+  few : steps_left program text turns d ts ≤ top
+  remains : Remains program text turns d top end (running (state_of offset s) ∷ waiting_of offset rest)
+  no_more : steps_left program text turns d (running (state_of offset s) ∷ waiting_of offset rest) ≤ steps_left program text turns d ts
 
-    taken : Taken
-    taken = by up
-      where
-        by : TakesUp offset ts (Some s) rest → Taken
-        by (inl e) = record {
-          remains = subst (Remains program text turns d top end) e r;
-          no_more = let same = ap (steps_left program text turns d) e in omega (arith, same);
-        }
-        by (inr e) =
-            let w = left-waits program text turns d top end (state_of offset s) (waiting_of offset rest) (subst (Remains program text turns d top end) e r) in
-            let same = ap (steps_left program text turns d) e in
-            record { remains = w.remains; no_more = omega (arith, same, w.fewer) }
+-- What these lemmas speak of is what their first premise does.
+module _ {program : Program} {text : Text} {turns : ℕ} {d : Direction} {top : ℕ} {end : Option machine.State} {ts : List Thread} where
+  pub taken-up : {P : Type 0} (offset : P → ℕ) → Remains program text turns d top end ts → IsText text
+      → ((i : ℕ) (insn : Insn) → slice_get program.insns i ≡ Some insn → IsTrue (is_literal insn) → ReadsBytes text)
+      → (s : State P) (rest : List (State P)) → TakesUp offset ts (Some s) rest → TakenUp offset program text turns d top end ts s rest
+  taken-up offset r is reads s rest (inl e) = record {
+    is = is;
+    reads = reads;
+    few = r.few;
+    remains = subst (Remains program text turns d top end) e r;
+    no_more = let same = ap (steps_left program text turns d) e in omega (arith, same);
+  }
+  taken-up offset r is reads s rest (inr e) =
+      let w = left-waits program text turns d top end (state_of offset s) (waiting_of offset rest) (subst (Remains program text turns d top end) e r) in
+      let same = ap (steps_left program text turns d) e in
+      record { is = is; reads = reads; few = r.few; remains = w.remains; no_more = omega (arith, same, w.fewer) }
 
-    then-left : (after : List Thread) → Left program text turns d top end taken_up after → Left program text turns d top end ts after
-    then-left after l = record { remains = l.remains; fewer = let a = l.fewer in let b = taken.no_more in omega (arith, a, b) }
+  pub turn-none : Remains program text turns d top end ts → ts ≡ [] → None ≡ end
+  turn-none r e = remains-none program text turns d top end (subst (Remains program text turns d top end) e r)
+
+  module _ {P : Type 0} {offset : P → ℕ} {s : State P} {rest : List (State P)} (up : TakenUp offset program text turns d top end ts s rest) where
+    abbrev taken : List Thread
+    taken = running (state_of offset s) ∷ waiting_of offset rest
+
+    then-left : (after : List Thread) → Left program text turns d top end taken after → Left program text turns d top end ts after
+    then-left after l = record { remains = l.remains; fewer = let a = l.fewer in let b = up.no_more in omega (arith, a, b) }
 
     pub turn-can : CanTake (act program text d (state_of offset s))
-    turn-can = remains-can program text turns d top end (state_of offset s) (waiting_of offset rest) taken.remains
+    turn-can = remains-can program text turns d top end (state_of offset s) (waiting_of offset rest) up.remains
 
     pub turn-inside : offset s.pos ≤ units text
-    turn-inside = remains-inside program text turns d top end (state_of offset s) (waiting_of offset rest) taken.remains
+    turn-inside = remains-inside program text turns d top end (state_of offset s) (waiting_of offset rest) up.remains
 
-    pub turn-goes : (n : Next) (ss after : List Thread) → n ≡ act program text d (state_of offset s) → goes ss ≡ n → after ≡ ss ++ waiting_of offset rest
+    pub turn-goes : {n : Next} (ss : List Thread) {after : List Thread} → n ≡ act program text d (state_of offset s) → goes ss ≡ n → after ≡ ss ++ waiting_of offset rest
         → Left program text turns d top end ts after
-    turn-goes n ss after e g a =
-        then-left after (subst (Left program text turns d top end taken_up) (sym a)
-        (left-goes program text turns d top end is reads (state_of offset s) ss (waiting_of offset rest) taken.remains (sym (g ∙ e))))
+    turn-goes ss {after = after} e g a =
+        then-left after (subst (Left program text turns d top end taken) (sym a)
+        (left-goes program text turns d top end up.is up.reads (state_of offset s) ss (waiting_of offset rest) up.remains (sym (g ∙ e))))
 
-    pub turn-scans : (n : Next) (tries : ℕ) (ss after : List Thread) → n ≡ act program text d (state_of offset s) → scans tries ss ≡ n → after ≡ ss ++ waiting_of offset rest
+    pub turn-scans : {n : Next} (tries : ℕ) (ss : List Thread) {after : List Thread} → n ≡ act program text d (state_of offset s) → scans tries ss ≡ n → after ≡ ss ++ waiting_of offset rest
         → Left program text turns d top end ts after
-    turn-scans n tries ss after e g a =
-        then-left after (subst (Left program text turns d top end taken_up) (sym a)
-        (left-scans program text turns d top end is reads (state_of offset s) tries ss (waiting_of offset rest) taken.remains (sym (g ∙ e))))
+    turn-scans tries ss {after = after} e g a =
+        then-left after (subst (Left program text turns d top end taken) (sym a)
+        (left-scans program text turns d top end up.is up.reads (state_of offset s) tries ss (waiting_of offset rest) up.remains (sym (g ∙ e))))
 
-    pub turn-ends : (n : Next) (t : machine.State) → n ≡ act program text d (state_of offset s) → ends t ≡ n → Some t ≡ end
-    turn-ends n t e g = remains-ends program text turns d top end (state_of offset s) t (waiting_of offset rest) taken.remains (sym (g ∙ e))
+    pub turn-ends : {n : Next} (t : machine.State) → n ≡ act program text d (state_of offset s) → ends t ≡ n → Some t ≡ end
+    turn-ends t e g = remains-ends program text turns d top end (state_of offset s) t (waiting_of offset rest) up.remains (sym (g ∙ e))
 
     -- a search that is asked for
     pub record AskedOf (inner : Direction) (negate : Bool) (u w : machine.State) : Type 0 where
@@ -118,19 +136,20 @@ module _ {P : Type 0} (offset : P → ℕ) (program : Program) (text : Text) (tu
       pub fewer : steps_of (search program text turns inner (running u ∷ [])) < top
       pub behind : Left program text turns d top end ts (resumed negate w (end_of_search (search program text turns inner (running u ∷ []))) ++ waiting_of offset rest)
 
-    pub turn-asks : (n : Next) (u w : machine.State) (inner : Direction) (negate : Bool) → n ≡ act program text d (state_of offset s) → asks inner negate u w ≡ n
+    pub turn-asks : {n : Next} (u w : machine.State) (inner : Direction) (negate : Bool) → n ≡ act program text d (state_of offset s) → asks inner negate u w ≡ n
         → AskedOf inner negate u w
-    turn-asks n u w inner negate e g =
-        let a = left-asks program text turns d top end is reads (state_of offset s) u w inner negate (waiting_of offset rest) taken.remains (sym (g ∙ e)) in
+    turn-asks u w inner negate e g =
+        let a = left-asks program text turns d top end up.is up.reads (state_of offset s) u w inner negate (waiting_of offset rest) up.remains (sym (g ∙ e)) in
         record {
           answers = a.answers;
           inside = a.inside;
-          fewer = let f = a.fewer in let m = taken.no_more in omega (arith, f, m, r.few);
+          fewer = let f = a.fewer in let m = up.no_more in let few = up.few in omega (arith, f, m, few);
           behind = then-left _ a.behind;
         }
 
-  pub turn-none : (ts : List Thread) → Remains program text turns d top end ts → ts ≡ [] → None ≡ end
-  turn-none ts r e = remains-none program text turns d top end (subst (Remains program text turns d top end) e r)
+    pub asked-left : {inner : Direction} {negate : Bool} {u w : machine.State} {l : List Thread} → AskedOf inner negate u w
+        → l ≡ resumed negate w (end_of_search (search program text turns inner (running u ∷ []))) → Left program text turns d top end ts (l ++ waiting_of offset rest)
+    asked-left a e = subst (λ l. Left program text turns d top end ts (l ++ waiting_of offset rest)) (sym e) a.behind
 
 pub map-end : {P : Type 0} (offset : P → ℕ) (o : Option (State P)) → option_map (λ s. end_of (state_of offset s)) o ≡ option_map end_of (option_map (λ s. state_of offset s) o)
 map-end offset None = refl

@@ -6,9 +6,8 @@ use Rattle.regress_machine.specs.Machine.{running, waiting, in_turn, resumed}
 use Rattle.regress_search.specs.States.{state_of, next_of, running_of, waiting_of, preferred_last}
 use Rattle.regress_exec.specs.Attempts.{turns_from, search_from}
 use Rattle.regress_machine.specs.Turns.{end_of_search}
-use Rattle.regress_machine.proofs.Remains.{Remains, Left, steps_of, remains-begin}
-use Rattle.regress_search.proofs.Remains.{less-by, waiting-push, turn-can, turn-inside, turn-goes, turn-scans, turn-ends, turn-asks, turn-none}
-use Rattle.regress_exec.proofs.Literals.{literal-reads}
+use Rattle.regress_machine.proofs.Remains.{Remains, steps_of, remains-begin}
+use Rattle.regress_search.proofs.Remains.{less-by, waiting-push, turn-can, turn-inside, turn-goes, turn-scans, taken-up, reads-literals, turn-ends, turn-asks, turn-none, asked-left}
 use Rattle.regress_search.proofs.pikevm.+run.Goals as goal
 
 pub search-init : goal.search-init
@@ -28,217 +27,123 @@ search-init g n c =
 
 pub returns-in_default : goal.returns-in_default
 returns-in_default g n c =
-    let searched = c.args.searched.now in
-    let tree = tree_of searched.program.now in
-    let program = compiled tree in
-    let text = g.Input.InputIndexer.text searched.input in
-    let is = g.met.Input.InputIndexer.is_text searched.input in
-    let offset = g.Input.Position.PositionType.offset in
-    let turns = turns_from tree text (offset c.args.at) in
-    let d = way c.args.forward in
-    let top = steps_of (search_from tree text (offset c.args.at) d (state_of offset c.args.start)) in
-    let end = end_of_search (search_from tree text (offset c.args.at) d (state_of offset c.args.start)) in
-    turn-none offset program text turns d top end is (λ i insn q l. (searched.bytes (literal-reads tree i insn q l)).reads) (running_of offset c.search.next ++ waiting_of offset c.search.stack.items) c.search.invariant c.in_default.ensures
+    turn-none c.search.invariant c.in_default.ensures
 
 pub turn_in-requires-clause-can : goal.turn_in-requires-clause-can
 turn_in-requires-clause-can g n c =
     let searched = c.args.searched.now in
-    let tree = tree_of searched.program.now in
-    let program = compiled tree in
-    let text = g.Input.InputIndexer.text searched.input in
-    let is = g.met.Input.InputIndexer.is_text searched.input in
     let offset = g.Input.Position.PositionType.offset in
-    let turns = turns_from tree text (offset c.args.at) in
-    let d = way c.args.forward in
-    let top = steps_of (search_from tree text (offset c.args.at) d (state_of offset c.args.start)) in
-    let end = end_of_search (search_from tree text (offset c.args.at) d (state_of offset c.args.start)) in
-    turn-can offset program text turns d top end is (λ i insn q l. (searched.bytes (literal-reads tree i insn q l)).reads) (running_of offset c.search.next ++ waiting_of offset c.search.stack.items) c.search.invariant c.in-Some.state c.take_up.new.stack.items c.in-Some.ensures
+    let is = g.met.Input.InputIndexer.is_text searched.input in
+    let up = taken-up offset c.search.invariant is (reads-literals (tree_of searched.program.now) _ searched.bytes) c.in-Some.state c.take_up.new.stack.items c.in-Some.ensures in
+    turn-can up
 
 pub turn_in-requires-clause-inside : goal.turn_in-requires-clause-inside
 turn_in-requires-clause-inside g n c =
     let searched = c.args.searched.now in
-    let tree = tree_of searched.program.now in
-    let program = compiled tree in
-    let text = g.Input.InputIndexer.text searched.input in
-    let is = g.met.Input.InputIndexer.is_text searched.input in
     let offset = g.Input.Position.PositionType.offset in
-    let turns = turns_from tree text (offset c.args.at) in
-    let d = way c.args.forward in
-    let top = steps_of (search_from tree text (offset c.args.at) d (state_of offset c.args.start)) in
-    let end = end_of_search (search_from tree text (offset c.args.at) d (state_of offset c.args.start)) in
-    turn-inside offset program text turns d top end is (λ i insn q l. (searched.bytes (literal-reads tree i insn q l)).reads) (running_of offset c.search.next ++ waiting_of offset c.search.stack.items) c.search.invariant c.in-Some.state c.take_up.new.stack.items c.in-Some.ensures
+    let is = g.met.Input.InputIndexer.is_text searched.input in
+    let up = taken-up offset c.search.invariant is (reads-literals (tree_of searched.program.now) _ searched.bytes) c.in-Some.state c.take_up.new.stack.items c.in-Some.ensures in
+    turn-inside up
 
 pub search-preserved-in-Dead : goal.search-preserved-in-Dead
 search-preserved-in-Dead g n c =
     let searched = c.args.searched.now in
-    let tree = tree_of searched.program.now in
-    let program = compiled tree in
-    let text = g.Input.InputIndexer.text searched.input in
-    let is = g.met.Input.InputIndexer.is_text searched.input in
     let offset = g.Input.Position.PositionType.offset in
-    let turns = turns_from tree text (offset c.args.at) in
-    let d = way c.args.forward in
-    let top = steps_of (search_from tree text (offset c.args.at) d (state_of offset c.args.start)) in
-    let end = end_of_search (search_from tree text (offset c.args.at) d (state_of offset c.args.start)) in
-    (turn-goes offset program text turns d top end is (λ i insn q l. (searched.bytes (literal-reads tree i insn q l)).reads) (running_of offset c.search.next ++ waiting_of offset c.search.stack.items) c.search.invariant c.in-Some.state c.take_up.new.stack.items c.in-Some.ensures _ [] (waiting_of offset c.take_up.new.stack.items) c.in_ok-turn_in.ensures (ap (next_of offset) (sym c.in-Dead.is)) refl).remains
+    let is = g.met.Input.InputIndexer.is_text searched.input in
+    let up = taken-up offset c.search.invariant is (reads-literals (tree_of searched.program.now) _ searched.bytes) c.in-Some.state c.take_up.new.stack.items c.in-Some.ensures in
+    (turn-goes up [] c.in_ok-turn_in.ensures (ap (next_of offset) (sym c.in-Dead.is)) refl).remains
 
 pub search-smaller-in-Dead : goal.search-smaller-in-Dead
 search-smaller-in-Dead g n c =
     let searched = c.args.searched.now in
-    let tree = tree_of searched.program.now in
-    let program = compiled tree in
-    let text = g.Input.InputIndexer.text searched.input in
-    let is = g.met.Input.InputIndexer.is_text searched.input in
     let offset = g.Input.Position.PositionType.offset in
-    let turns = turns_from tree text (offset c.args.at) in
-    let d = way c.args.forward in
-    let top = steps_of (search_from tree text (offset c.args.at) d (state_of offset c.args.start)) in
-    let end = end_of_search (search_from tree text (offset c.args.at) d (state_of offset c.args.start)) in
-    (turn-goes offset program text turns d top end is (λ i insn q l. (searched.bytes (literal-reads tree i insn q l)).reads) (running_of offset c.search.next ++ waiting_of offset c.search.stack.items) c.search.invariant c.in-Some.state c.take_up.new.stack.items c.in-Some.ensures _ [] (waiting_of offset c.take_up.new.stack.items) c.in_ok-turn_in.ensures (ap (next_of offset) (sym c.in-Dead.is)) refl).fewer
+    let is = g.met.Input.InputIndexer.is_text searched.input in
+    let up = taken-up offset c.search.invariant is (reads-literals (tree_of searched.program.now) _ searched.bytes) c.in-Some.state c.take_up.new.stack.items c.in-Some.ensures in
+    (turn-goes up [] c.in_ok-turn_in.ensures (ap (next_of offset) (sym c.in-Dead.is)) refl).fewer
 
 pub search-preserved-in-Go : goal.search-preserved-in-Go
 search-preserved-in-Go g n c =
     let searched = c.args.searched.now in
-    let tree = tree_of searched.program.now in
-    let program = compiled tree in
-    let text = g.Input.InputIndexer.text searched.input in
-    let is = g.met.Input.InputIndexer.is_text searched.input in
     let offset = g.Input.Position.PositionType.offset in
-    let turns = turns_from tree text (offset c.args.at) in
-    let d = way c.args.forward in
-    let top = steps_of (search_from tree text (offset c.args.at) d (state_of offset c.args.start)) in
-    let end = end_of_search (search_from tree text (offset c.args.at) d (state_of offset c.args.start)) in
-    (turn-goes offset program text turns d top end is (λ i insn q l. (searched.bytes (literal-reads tree i insn q l)).reads) (running_of offset c.search.next ++ waiting_of offset c.search.stack.items) c.search.invariant c.in-Some.state c.take_up.new.stack.items c.in-Some.ensures _ (running (state_of offset c.in-Go.state) ∷ []) (running (state_of offset c.in-Go.state) ∷ waiting_of offset c.take_up.new.stack.items) c.in_ok-turn_in.ensures (ap (next_of offset) (sym c.in-Go.is)) refl).remains
+    let is = g.met.Input.InputIndexer.is_text searched.input in
+    let up = taken-up offset c.search.invariant is (reads-literals (tree_of searched.program.now) _ searched.bytes) c.in-Some.state c.take_up.new.stack.items c.in-Some.ensures in
+    (turn-goes up (running (state_of offset c.in-Go.state) ∷ []) c.in_ok-turn_in.ensures (ap (next_of offset) (sym c.in-Go.is)) refl).remains
 
 pub search-smaller-in-Go : goal.search-smaller-in-Go
 search-smaller-in-Go g n c =
     let searched = c.args.searched.now in
-    let tree = tree_of searched.program.now in
-    let program = compiled tree in
-    let text = g.Input.InputIndexer.text searched.input in
-    let is = g.met.Input.InputIndexer.is_text searched.input in
     let offset = g.Input.Position.PositionType.offset in
-    let turns = turns_from tree text (offset c.args.at) in
-    let d = way c.args.forward in
-    let top = steps_of (search_from tree text (offset c.args.at) d (state_of offset c.args.start)) in
-    let end = end_of_search (search_from tree text (offset c.args.at) d (state_of offset c.args.start)) in
-    (turn-goes offset program text turns d top end is (λ i insn q l. (searched.bytes (literal-reads tree i insn q l)).reads) (running_of offset c.search.next ++ waiting_of offset c.search.stack.items) c.search.invariant c.in-Some.state c.take_up.new.stack.items c.in-Some.ensures _ (running (state_of offset c.in-Go.state) ∷ []) (running (state_of offset c.in-Go.state) ∷ waiting_of offset c.take_up.new.stack.items) c.in_ok-turn_in.ensures (ap (next_of offset) (sym c.in-Go.is)) refl).fewer
+    let is = g.met.Input.InputIndexer.is_text searched.input in
+    let up = taken-up offset c.search.invariant is (reads-literals (tree_of searched.program.now) _ searched.bytes) c.in-Some.state c.take_up.new.stack.items c.in-Some.ensures in
+    (turn-goes up (running (state_of offset c.in-Go.state) ∷ []) c.in_ok-turn_in.ensures (ap (next_of offset) (sym c.in-Go.is)) refl).fewer
 
 pub search-preserved-in-Fork : goal.search-preserved-in-Fork
 search-preserved-in-Fork g n c =
     let searched = c.args.searched.now in
-    let tree = tree_of searched.program.now in
-    let program = compiled tree in
-    let text = g.Input.InputIndexer.text searched.input in
-    let is = g.met.Input.InputIndexer.is_text searched.input in
     let offset = g.Input.Position.PositionType.offset in
-    let turns = turns_from tree text (offset c.args.at) in
-    let d = way c.args.forward in
-    let top = steps_of (search_from tree text (offset c.args.at) d (state_of offset c.args.start)) in
-    let end = end_of_search (search_from tree text (offset c.args.at) d (state_of offset c.args.start)) in
-    (turn-goes offset program text turns d top end is (λ i insn q l. (searched.bytes (literal-reads tree i insn q l)).reads) (running_of offset c.search.next ++ waiting_of offset c.search.stack.items) c.search.invariant c.in-Some.state c.take_up.new.stack.items c.in-Some.ensures _ (running (state_of offset c.in-Fork.preferred) ∷ waiting (state_of offset c.in-Fork.other) ∷ []) (running (state_of offset c.in-Fork.preferred) ∷ waiting_of offset c.push.new.self.items) c.in_ok-turn_in.ensures (ap (next_of offset) (sym c.in-Fork.is))
+    let is = g.met.Input.InputIndexer.is_text searched.input in
+    let up = taken-up offset c.search.invariant is (reads-literals (tree_of searched.program.now) _ searched.bytes) c.in-Some.state c.take_up.new.stack.items c.in-Some.ensures in
+    (turn-goes up (running (state_of offset c.in-Fork.preferred) ∷ waiting (state_of offset c.in-Fork.other) ∷ []) c.in_ok-turn_in.ensures (ap (next_of offset) (sym c.in-Fork.is))
     (ap (λ l. running (state_of offset c.in-Fork.preferred) ∷ l) (ap (waiting_of offset) c.in_ok-push-in-Fork.ensures.items ∙ waiting-push offset c.take_up.new.stack.items c.in-Fork.other))).remains
 
 pub search-smaller-in-Fork : goal.search-smaller-in-Fork
 search-smaller-in-Fork g n c =
     let searched = c.args.searched.now in
-    let tree = tree_of searched.program.now in
-    let program = compiled tree in
-    let text = g.Input.InputIndexer.text searched.input in
-    let is = g.met.Input.InputIndexer.is_text searched.input in
     let offset = g.Input.Position.PositionType.offset in
-    let turns = turns_from tree text (offset c.args.at) in
-    let d = way c.args.forward in
-    let top = steps_of (search_from tree text (offset c.args.at) d (state_of offset c.args.start)) in
-    let end = end_of_search (search_from tree text (offset c.args.at) d (state_of offset c.args.start)) in
-    (turn-goes offset program text turns d top end is (λ i insn q l. (searched.bytes (literal-reads tree i insn q l)).reads) (running_of offset c.search.next ++ waiting_of offset c.search.stack.items) c.search.invariant c.in-Some.state c.take_up.new.stack.items c.in-Some.ensures _ (running (state_of offset c.in-Fork.preferred) ∷ waiting (state_of offset c.in-Fork.other) ∷ []) (running (state_of offset c.in-Fork.preferred) ∷ waiting_of offset c.push.new.self.items) c.in_ok-turn_in.ensures (ap (next_of offset) (sym c.in-Fork.is))
+    let is = g.met.Input.InputIndexer.is_text searched.input in
+    let up = taken-up offset c.search.invariant is (reads-literals (tree_of searched.program.now) _ searched.bytes) c.in-Some.state c.take_up.new.stack.items c.in-Some.ensures in
+    (turn-goes up (running (state_of offset c.in-Fork.preferred) ∷ waiting (state_of offset c.in-Fork.other) ∷ []) c.in_ok-turn_in.ensures (ap (next_of offset) (sym c.in-Fork.is))
     (ap (λ l. running (state_of offset c.in-Fork.preferred) ∷ l) (ap (waiting_of offset) c.in_ok-push-in-Fork.ensures.items ∙ waiting-push offset c.take_up.new.stack.items c.in-Fork.other))).fewer
 
 pub search-preserved-in-Scan : goal.search-preserved-in-Scan
 search-preserved-in-Scan g n c =
     let searched = c.args.searched.now in
-    let tree = tree_of searched.program.now in
-    let program = compiled tree in
-    let text = g.Input.InputIndexer.text searched.input in
-    let is = g.met.Input.InputIndexer.is_text searched.input in
     let offset = g.Input.Position.PositionType.offset in
-    let turns = turns_from tree text (offset c.args.at) in
-    let d = way c.args.forward in
-    let top = steps_of (search_from tree text (offset c.args.at) d (state_of offset c.args.start)) in
-    let end = end_of_search (search_from tree text (offset c.args.at) d (state_of offset c.args.start)) in
-    (turn-scans offset program text turns d top end is (λ i insn q l. (searched.bytes (literal-reads tree i insn q l)).reads) (running_of offset c.search.next ++ waiting_of offset c.search.stack.items) c.search.invariant c.in-Some.state c.take_up.new.stack.items c.in-Some.ensures _ c.in-Scan.field-0 (in_turn (preferred_last offset c.in-Scan.states.items)) _ c.in_ok-turn_in.ensures (ap (next_of offset) (sym c.in-Scan.is)) c.in_ok-next-in-Scan.ensures).remains
+    let is = g.met.Input.InputIndexer.is_text searched.input in
+    let up = taken-up offset c.search.invariant is (reads-literals (tree_of searched.program.now) _ searched.bytes) c.in-Some.state c.take_up.new.stack.items c.in-Some.ensures in
+    (turn-scans up c.in-Scan.field-0 (in_turn (preferred_last offset c.in-Scan.states.items)) c.in_ok-turn_in.ensures (ap (next_of offset) (sym c.in-Scan.is)) c.in_ok-next-in-Scan.ensures).remains
 
 pub search-smaller-in-Scan : goal.search-smaller-in-Scan
 search-smaller-in-Scan g n c =
     let searched = c.args.searched.now in
-    let tree = tree_of searched.program.now in
-    let program = compiled tree in
-    let text = g.Input.InputIndexer.text searched.input in
-    let is = g.met.Input.InputIndexer.is_text searched.input in
     let offset = g.Input.Position.PositionType.offset in
-    let turns = turns_from tree text (offset c.args.at) in
-    let d = way c.args.forward in
-    let top = steps_of (search_from tree text (offset c.args.at) d (state_of offset c.args.start)) in
-    let end = end_of_search (search_from tree text (offset c.args.at) d (state_of offset c.args.start)) in
-    (turn-scans offset program text turns d top end is (λ i insn q l. (searched.bytes (literal-reads tree i insn q l)).reads) (running_of offset c.search.next ++ waiting_of offset c.search.stack.items) c.search.invariant c.in-Some.state c.take_up.new.stack.items c.in-Some.ensures _ c.in-Scan.field-0 (in_turn (preferred_last offset c.in-Scan.states.items)) _ c.in_ok-turn_in.ensures (ap (next_of offset) (sym c.in-Scan.is)) c.in_ok-next-in-Scan.ensures).fewer
+    let is = g.met.Input.InputIndexer.is_text searched.input in
+    let up = taken-up offset c.search.invariant is (reads-literals (tree_of searched.program.now) _ searched.bytes) c.in-Some.state c.take_up.new.stack.items c.in-Some.ensures in
+    (turn-scans up c.in-Scan.field-0 (in_turn (preferred_last offset c.in-Scan.states.items)) c.in_ok-turn_in.ensures (ap (next_of offset) (sym c.in-Scan.is)) c.in_ok-next-in-Scan.ensures).fewer
 
 pub run-requires : goal.run-requires
 run-requires g n c =
     let searched = c.args.searched.now in
-    let tree = tree_of searched.program.now in
-    let program = compiled tree in
-    let text = g.Input.InputIndexer.text searched.input in
-    let is = g.met.Input.InputIndexer.is_text searched.input in
     let offset = g.Input.Position.PositionType.offset in
-    let turns = turns_from tree text (offset c.args.at) in
-    let d = way c.args.forward in
-    let top = steps_of (search_from tree text (offset c.args.at) d (state_of offset c.args.start)) in
-    let end = end_of_search (search_from tree text (offset c.args.at) d (state_of offset c.args.start)) in
-    let asked = turn-asks offset program text turns d top end is (λ i insn q l. (searched.bytes (literal-reads tree i insn q l)).reads) (running_of offset c.search.next ++ waiting_of offset c.search.stack.items) c.search.invariant c.in-Some.state c.take_up.new.stack.items c.in-Some.ensures _ (state_of offset c.in-Ask.inner) (state_of offset c.in-Ask.after) (way c.in-Ask.forward) c.in-Ask.negate c.in_ok-turn_in.ensures (ap (next_of offset) (sym c.in-Ask.is)) in
-    λ κs h. (less-by _ top n asked.fewer c.decreases, (h.0, (h.1.0, (h.1.1.0, (h.1.1.1.0, (h.1.1.1.1, (asked.inside, asked.answers)))))))
+    let is = g.met.Input.InputIndexer.is_text searched.input in
+    let up = taken-up offset c.search.invariant is (reads-literals (tree_of searched.program.now) _ searched.bytes) c.in-Some.state c.take_up.new.stack.items c.in-Some.ensures in
+    let asked = turn-asks up (state_of offset c.in-Ask.inner) (state_of offset c.in-Ask.after) (way c.in-Ask.forward) c.in-Ask.negate c.in_ok-turn_in.ensures (ap (next_of offset) (sym c.in-Ask.is)) in
+    λ κs h. (less-by _ _ n asked.fewer c.decreases, (h.0, (h.1.0, (h.1.1.0, (h.1.1.1.0, (h.1.1.1.1, (asked.inside, asked.answers)))))))
 
 pub search-preserved : goal.search-preserved
 search-preserved g n c =
     let searched = c.args.searched.now in
-    let tree = tree_of searched.program.now in
-    let program = compiled tree in
-    let text = g.Input.InputIndexer.text searched.input in
-    let is = g.met.Input.InputIndexer.is_text searched.input in
     let offset = g.Input.Position.PositionType.offset in
-    let turns = turns_from tree text (offset c.args.at) in
-    let d = way c.args.forward in
-    let top = steps_of (search_from tree text (offset c.args.at) d (state_of offset c.args.start)) in
-    let end = end_of_search (search_from tree text (offset c.args.at) d (state_of offset c.args.start)) in
-    let asked = turn-asks offset program text turns d top end is (λ i insn q l. (searched.bytes (literal-reads tree i insn q l)).reads) (running_of offset c.search.next ++ waiting_of offset c.search.stack.items) c.search.invariant c.in-Some.state c.take_up.new.stack.items c.in-Some.ensures _ (state_of offset c.in-Ask.inner) (state_of offset c.in-Ask.after) (way c.in-Ask.forward) c.in-Ask.negate c.in_ok-turn_in.ensures (ap (next_of offset) (sym c.in-Ask.is)) in
+    let is = g.met.Input.InputIndexer.is_text searched.input in
+    let up = taken-up offset c.search.invariant is (reads-literals (tree_of searched.program.now) _ searched.bytes) c.in-Some.state c.take_up.new.stack.items c.in-Some.ensures in
+    let asked = turn-asks up (state_of offset c.in-Ask.inner) (state_of offset c.in-Ask.after) (way c.in-Ask.forward) c.in-Ask.negate c.in_ok-turn_in.ensures (ap (next_of offset) (sym c.in-Ask.is)) in
     let next = c.resume-next.ensures ∙ ap (resumed c.in-Ask.negate (state_of offset c.in-Ask.after)) c.in_ok-found-in-Ask.ensures in
-    (subst (λ l. Left program text turns d top end (running_of offset c.search.next ++ waiting_of offset c.search.stack.items) (l ++ waiting_of offset c.take_up.new.stack.items)) (sym next) asked.behind).remains
+    (asked-left up asked next).remains
 
 pub search-smaller : goal.search-smaller
 search-smaller g n c =
     let searched = c.args.searched.now in
-    let tree = tree_of searched.program.now in
-    let program = compiled tree in
-    let text = g.Input.InputIndexer.text searched.input in
-    let is = g.met.Input.InputIndexer.is_text searched.input in
     let offset = g.Input.Position.PositionType.offset in
-    let turns = turns_from tree text (offset c.args.at) in
-    let d = way c.args.forward in
-    let top = steps_of (search_from tree text (offset c.args.at) d (state_of offset c.args.start)) in
-    let end = end_of_search (search_from tree text (offset c.args.at) d (state_of offset c.args.start)) in
-    let asked = turn-asks offset program text turns d top end is (λ i insn q l. (searched.bytes (literal-reads tree i insn q l)).reads) (running_of offset c.search.next ++ waiting_of offset c.search.stack.items) c.search.invariant c.in-Some.state c.take_up.new.stack.items c.in-Some.ensures _ (state_of offset c.in-Ask.inner) (state_of offset c.in-Ask.after) (way c.in-Ask.forward) c.in-Ask.negate c.in_ok-turn_in.ensures (ap (next_of offset) (sym c.in-Ask.is)) in
+    let is = g.met.Input.InputIndexer.is_text searched.input in
+    let up = taken-up offset c.search.invariant is (reads-literals (tree_of searched.program.now) _ searched.bytes) c.in-Some.state c.take_up.new.stack.items c.in-Some.ensures in
+    let asked = turn-asks up (state_of offset c.in-Ask.inner) (state_of offset c.in-Ask.after) (way c.in-Ask.forward) c.in-Ask.negate c.in_ok-turn_in.ensures (ap (next_of offset) (sym c.in-Ask.is)) in
     let next = c.resume-next.ensures ∙ ap (resumed c.in-Ask.negate (state_of offset c.in-Ask.after)) c.in_ok-found-in-Ask.ensures in
-    (subst (λ l. Left program text turns d top end (running_of offset c.search.next ++ waiting_of offset c.search.stack.items) (l ++ waiting_of offset c.take_up.new.stack.items)) (sym next) asked.behind).fewer
+    (asked-left up asked next).fewer
 
 pub returns-in-Done : goal.returns-in-Done
 returns-in-Done g n c =
     let searched = c.args.searched.now in
-    let tree = tree_of searched.program.now in
-    let program = compiled tree in
-    let text = g.Input.InputIndexer.text searched.input in
-    let is = g.met.Input.InputIndexer.is_text searched.input in
     let offset = g.Input.Position.PositionType.offset in
-    let turns = turns_from tree text (offset c.args.at) in
-    let d = way c.args.forward in
-    let top = steps_of (search_from tree text (offset c.args.at) d (state_of offset c.args.start)) in
-    let end = end_of_search (search_from tree text (offset c.args.at) d (state_of offset c.args.start)) in
-    turn-ends offset program text turns d top end is (λ i insn q l. (searched.bytes (literal-reads tree i insn q l)).reads) (running_of offset c.search.next ++ waiting_of offset c.search.stack.items) c.search.invariant c.in-Some.state c.take_up.new.stack.items c.in-Some.ensures _ (state_of offset c.in-Done.end) c.in_ok-turn_in.ensures (ap (next_of offset) (sym c.in-Done.is))
+    let is = g.met.Input.InputIndexer.is_text searched.input in
+    let up = taken-up offset c.search.invariant is (reads-literals (tree_of searched.program.now) _ searched.bytes) c.in-Some.state c.take_up.new.stack.items c.in-Some.ensures in
+    turn-ends up (state_of offset c.in-Done.end) c.in_ok-turn_in.ensures (ap (next_of offset) (sym c.in-Done.is))

@@ -1,9 +1,9 @@
-use Rattle.std.proofs.Common.{ap, sym, subst, refl, ◌∙◌, ◌++◌, ◌∷◌, []}
+use Rattle.std.proofs.Common.{ap, sym, subst, refl, ◌∙◌, ◌∷◌, []}
 use Rattle.regex_pattern_front.specs.TreeOf.{tree_of}
 use Rattle.regress_input.specs.Reading.{way}
 use Rattle.regress_program.specs.Code.{compiled}
 use Rattle.regress_machine.specs.Machine.{running, waiting, in_turn, resumed}
-use Rattle.regress_search.specs.States.{state_of, next_of, running_of, waiting_of, preferred_last}
+use Rattle.regress_search.specs.States.{state_of, next_of, waiting_of, preferred_last}
 use Rattle.regress_exec.specs.Attempts.{turns_from, search_from}
 use Rattle.regress_machine.specs.Turns.{end_of_search}
 use Rattle.regress_machine.proofs.Remains.{Remains, steps_of, remains-begin}

@@ -1,0 +1,4 @@
+mod Finding
+mod Held
+mod Spans
+mod Values

@@ -1,0 +1,42 @@
+-- The codes of refusals, and which refusal of the crates below is which.
+use Rattle.std.specs.Prelude.{ℕ}
+use Rattle.regex_pattern_front.specs.declared.parse.ParseError.TheVariants as parse
+use Rattle.regress_program.specs.declared.emit.EmitError.TheVariants as emit
+use Rattle.regress_exec.specs.declared.exec.SearchError.{SearchError}
+use Rattle.regress_exec.specs.declared.exec.SearchError.TheVariants as search
+use Rattle.regress_match.specs.declared.api.error.Error.{Error}
+use Rattle.regress_match.specs.declared.api.error.Error.TheVariants as error
+use Rattle.regress_c.specs.declared.refusal.Refusal.{Refusal}
+use Rattle.regress_c.specs.declared.refusal.Refusal.TheVariants.{Empty, Full, NotUtf8, NotBoundary, ShortBuffer, Memory, StepLimit, Syntax, TooManyGroups, TooManyLoops, TooManyInstructions}
+
+-- a pattern is compiled, or a match is found
+abbrev pub done : ℕ
+done = 0
+
+abbrev pub no_match : ℕ
+no_match = 1
+
+abbrev pub code_of : Refusal → ℕ
+code_of Empty = 2
+code_of Full = 3
+code_of NotUtf8 = 4
+code_of NotBoundary = 5
+code_of ShortBuffer = 6
+code_of Memory = 7
+code_of StepLimit = 8
+code_of Syntax = 9
+code_of TooManyGroups = 10
+code_of TooManyLoops = 11
+code_of TooManyInstructions = 12
+
+-- of the errors that a pattern can be refused with; what is left is want of memory
+abbrev pub refused_as : Error → Refusal
+refused_as (error.Parse parse.Syntax) = Syntax
+refused_as (error.Emit emit.TooManyGroups) = TooManyGroups
+refused_as (error.Emit emit.TooManyLoops) = TooManyLoops
+refused_as (error.Emit emit.TooManyInstructions) = TooManyInstructions
+refused_as _ = Memory
+
+abbrev pub of_search : SearchError → Refusal
+of_search search.Memory = Memory
+of_search search.StepLimit = StepLimit

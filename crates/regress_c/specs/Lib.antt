@@ -1,0 +1,5 @@
+pub mod Codes
+pub mod Compiling
+pub mod Held
+pub mod Replies
+pub mod Searching

@@ -1,0 +1,40 @@
+-- The reply to what was found, and what it leaves in the caller's buffer.
+use Rattle.std.specs.Prelude.{ℕ, ◌-◌, ◌^◌, ◌++◌, List, Option, Some, None, Result, Ok, Err, drop, length, map, nat_le, if◌then◌else◌}
+use Rattle.regex_meaning.specs.Names.{Answer}
+use Rattle.regress_exec.specs.Answers.{answer_of}
+use Rattle.regress_exec.specs.InTurn.{all_groups}
+use Rattle.regress_exec.specs.declared.exec.Match.{Match}
+use Rattle.regress_c.specs.Codes.{code_of, done, no_match}
+use Rattle.regress_c.specs.declared.refusal.Refusal.{Refusal}
+use Rattle.regress_c.specs.declared.refusal.Refusal.TheVariants.{ShortBuffer}
+use Rattle.regress_c.specs.declared.reply.Reply.{Reply}
+use Rattle.regress_c.specs.declared.reply.Span.{Span}
+
+abbrev pub greatest : ℕ
+greatest = 2 ^ 64 - 1
+
+-- a range, or the greatest number twice where a group did not match
+abbrev pub span_of : Option (ℕ × ℕ) → Span
+span_of (Some r) = record { start = r.0; end = r.1 }
+span_of None = record { start = greatest; end = greatest }
+
+-- the whole match, and then each group by number
+abbrev pub spans_of : Answer → List Span
+spans_of m = map span_of (all_groups m)
+
+-- these in place of as many at the front
+abbrev pub written_over : (new old : List Span) → List Span
+written_over new old = new ++ drop (length new) old
+
+-- a match is a reply of its own only where there is room for its ranges
+abbrev pub reply_to : Result (Option Match) Refusal → (room : ℕ) → Reply
+reply_to (Ok (Some m)) room = let count = length (spans_of (answer_of m)) in
+    record { code = if nat_le count room then done else code_of ShortBuffer; count = count }
+reply_to (Ok None) room = record { code = no_match; count = 0 }
+reply_to (Err refusal) room = record { code = code_of refusal; count = 0 }
+
+abbrev pub left_by : Result (Option Match) Refusal → (before : List Span) → List Span
+left_by (Ok (Some m)) before = let spans = spans_of (answer_of m) in
+    if nat_le (length spans) (length before) then written_over spans before else before
+left_by (Ok None) before = before
+left_by (Err refusal) before = before

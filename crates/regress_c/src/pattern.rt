@@ -1,0 +1,77 @@
+//! The handle of a C caller: a pointer to a pattern on the heap, or null.
+
+ghost use Rattle.std.specs.Prelude.{◌≡◌, None, Option, Some, option_map};
+ghost use Rattle.std.specs.Coded.{coded_option};
+ghost use Rattle.std.specs.Option.{MatchOption};
+ghost use Rattle.regress_c.specs.Held.{held_owns};
+ghost use Rattle.regress_match.specs.contracts.api.regex.Regex.{the_row};
+ghost use Rattle.regress_match.specs.declared.api.regex.Regex.{Regex as Compiled};
+
+use crate::loose::Loose;
+use regress_match::Regex;
+use std::alloc::Global;
+use std::marker::Model;
+use std::mem::replace;
+use std::ptr::null_mut;
+
+/// A pattern that a C caller holds, or none, where the pointer is null. It is dropped by `take` alone, since that asks for
+/// the allocator.
+#[repr(C)]
+#[derive(Drop)]
+pub struct Pattern {
+    at: *mut u8,
+    pub ghost held: { Option Compiled } by { coded_option the_row.coded },
+}
+
+impl Model for Pattern {
+    ghost also_owns = { λ p. held_owns the_row p.at p.held };
+}
+
+impl Pattern {
+    fn of(loose: Loose<Regex, Global>) -> Pattern
+        ensures { result.held ≡ Some loose.value }
+    {
+        let Loose { at, alloc: _ } = loose;
+        Pattern { at: at as *mut u8 }
+    }
+
+    /// A handle that holds nothing.
+    pub(crate) fn empty() -> Pattern
+        ensures { result.held ≡ None }
+    {
+        Pattern { at: null_mut() }
+    }
+
+    fn into_loose(self, alloc: Global) -> Option<Loose<Regex, Global>>
+        ensures { MatchOption result (self.held ≡ None) (λ l. self.held ≡ Some l.value) }
+    {
+        let Pattern { at } = self;
+        if at.is_null() {
+            None
+        } else {
+            Some(Loose {
+                at: at as *mut Regex,
+                alloc,
+            })
+        }
+    }
+
+    /// Takes out what it holds.
+    pub(crate) fn take(&mut self, alloc: Global) -> Option<Box<Regex>>
+        ensures taken { option_map (λ b. b.value) result ≡ self.old.held }
+        ensures empty { self.new.held ≡ None }
+    {
+        match replace(self, Pattern::empty()).into_loose(alloc) {
+            Some(loose) => Some(loose.into_box()),
+            None => None,
+        }
+    }
+
+    /// Puts a pattern into an empty handle.
+    pub(crate) fn put(&mut self, re: Box<Regex>)
+        requires { self.old.held ≡ None }
+        ensures { self.new.held ≡ Some re.value }
+    {
+        *self = Pattern::of(Loose::of(re));
+    }
+}

@@ -1,0 +1,113 @@
+//! Why a call is refused, and the codes that C sees.
+
+ghost use Rattle.std.specs.Prelude.{◌≡◌};
+ghost use Rattle.regress_c.specs.Codes.{code_of, refused_as};
+ghost use Rattle.regress_match.specs.Refusals.{CanRefuse};
+
+use regex_pattern_front::parse::ParseError;
+use regress_match::{Error, SearchError};
+use regress_program::emit::EmitError;
+use std::alloc::AllocFailed;
+use std::str::Utf8Error;
+
+/// The code of a call that did what it was called for: a pattern is compiled, or a match is found.
+pub(crate) const DONE: u32 = 0;
+
+/// The code of a search that came to the end of the text without a match.
+pub(crate) const NO_MATCH: u32 = 1;
+
+/// Why a call is refused.
+#[derive(Clone, Copy, Debug, PartialEq, Eq)]
+pub(crate) enum Refusal {
+    /// The handle holds no pattern.
+    Empty,
+    /// The handle holds a pattern already.
+    Full,
+    /// A text is not UTF-8.
+    NotUtf8,
+    /// The start cuts a character.
+    NotBoundary,
+    /// The buffer has less room than the match has ranges.
+    ShortBuffer,
+    /// There was no memory.
+    Memory,
+    /// The steps that were allowed are used up.
+    StepLimit,
+    /// The text is no pattern.
+    Syntax,
+    /// The pattern has too many groups.
+    TooManyGroups,
+    /// The pattern has too many loops.
+    TooManyLoops,
+    /// The program of the pattern has too many instructions.
+    TooManyInstructions,
+}
+
+impl Refusal {
+    /// Its code, as the header has it.
+    pub(crate) fn code(self) -> u32
+        ensures { result ≡ code_of self }
+    {
+        match self {
+            Refusal::Empty => 2,
+            Refusal::Full => 3,
+            Refusal::NotUtf8 => 4,
+            Refusal::NotBoundary => 5,
+            Refusal::ShortBuffer => 6,
+            Refusal::Memory => 7,
+            Refusal::StepLimit => 8,
+            Refusal::Syntax => 9,
+            Refusal::TooManyGroups => 10,
+            Refusal::TooManyLoops => 11,
+            Refusal::TooManyInstructions => 12,
+        }
+    }
+
+    /// What a pattern is refused for.
+    pub(crate) fn of_error(error: Error) -> Refusal
+        requires { CanRefuse error }
+        ensures { result ≡ refused_as error }
+    {
+        match error {
+            Error::Memory => Refusal::Memory,
+            Error::Parse(ParseError::Syntax) => Refusal::Syntax,
+            Error::Emit(EmitError::TooManyGroups) => Refusal::TooManyGroups,
+            Error::Emit(EmitError::TooManyLoops) => Refusal::TooManyLoops,
+            Error::Emit(EmitError::TooManyInstructions) => Refusal::TooManyInstructions,
+            _ => unreachable!(),
+        }
+    }
+}
+
+impl From<SearchError> for Refusal {
+    ghost use Rattle.regress_c.specs.Codes.{of_search};
+
+    ghost from_gives = { λ error refusal. refusal ≡ of_search error };
+
+    fn from(error: SearchError) -> Refusal {
+        match error {
+            SearchError::Memory => Refusal::Memory,
+            SearchError::StepLimit => Refusal::StepLimit,
+        }
+    }
+}
+
+impl From<Utf8Error> for Refusal {
+    ghost use Rattle.regress_c.specs.declared.refusal.Refusal.TheVariants.{NotUtf8};
+
+    ghost from_gives = { λ _ refusal. refusal ≡ NotUtf8 };
+
+    fn from(_: Utf8Error) -> Refusal {
+        Refusal::NotUtf8
+    }
+}
+
+impl<T: Drop> From<AllocFailed<T>> for Refusal {
+    ghost use Rattle.regress_c.specs.declared.refusal.Refusal.TheVariants.{Memory};
+
+    ghost from_gives = { λ _ refusal. refusal ≡ Memory };
+
+    fn from(_: AllocFailed<T>) -> Refusal {
+        Refusal::Memory
+    }
+}

@@ -1,0 +1,82 @@
+//! What a search answers, and what it writes into the caller's buffer.
+
+ghost use Rattle.std.specs.Prelude.{◌≡◌, ◌≤◌, Ok, Some, length, option_map};
+ghost use Rattle.regress_c.specs.Replies.{left_by, reply_to, span_of, spans_of, written_over};
+ghost use Rattle.regress_exec.specs.Answers.{answer_of, range_of};
+
+use crate::refusal::{DONE, NO_MATCH, Refusal};
+use regress_match::{Match, Range};
+
+/// A range of the text in units. Both ends are the greatest number where a group did not match.
+#[repr(C)]
+#[derive(Clone, Copy)]
+pub struct Span {
+    pub start: usize,
+    pub end: usize,
+}
+
+/// The code of a search, and how many ranges the match has, 0 where there is none.
+#[repr(C)]
+#[derive(Clone, Copy)]
+pub struct Reply {
+    pub code: u32,
+    pub count: usize,
+}
+
+fn to_span(range: Option<Range<usize>>) -> Span
+    ensures { result ≡ span_of (option_map range_of range) }
+{
+    match range {
+        Some(range) => Span {
+            start: range.start,
+            end: range.end,
+        },
+        None => Span {
+            start: usize::MAX,
+            end: usize::MAX,
+        },
+    }
+}
+
+// Writes the ranges of a match over the first of the buffer.
+fn write(found: &Match, count: usize, spans: &mut [Span])
+    requires all { count ≡ length (spans_of (answer_of found.now)) }
+    requires room { count ≤ length spans.old }
+    ensures { spans.new ≡ written_over (spans_of (answer_of found.now)) spans.old }
+{
+    for number in 0..count {
+        spans[number] = to_span(found.group(number));
+    }
+}
+
+/// The reply to what was found, whose ranges are written into the buffer if there is room for all.
+pub(crate) fn reply_with(found: Result<Option<Match>, Refusal>, spans: &mut [Span]) -> Reply
+    ensures reply { result ≡ reply_to found (length spans.old) }
+    ensures written { spans.new ≡ left_by found spans.old }
+{
+    match found {
+        Ok(Some(found)) => matched(&found, spans),
+        Ok(None) => Reply {
+            code: NO_MATCH,
+            count: 0,
+        },
+        Err(refusal) => Reply {
+            code: refusal.code(),
+            count: 0,
+        },
+    }
+}
+
+#[tactic(auto, using(crate::proofs::Spans::count_is, crate::proofs::Spans::done_reply, crate::proofs::Spans::short_reply, crate::proofs::Spans::done_left, crate::proofs::Spans::short_left))]
+fn matched(found: &Match, spans: &mut [Span]) -> Reply
+    ensures reply { result ≡ reply_to (Ok (Some found.now)) (length spans.old) }
+    ensures written { spans.new ≡ left_by (Ok (Some found.now)) spans.old }
+{
+    let count = found.captures.len() + 1;
+    if spans.len() < count {
+        let code = Refusal::ShortBuffer.code();
+        return Reply { code, count };
+    }
+    write(found, count, spans);
+    Reply { code: DONE, count }
+}

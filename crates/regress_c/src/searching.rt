@@ -1,0 +1,43 @@
+//! Searches by a handle.
+
+ghost use Rattle.std.specs.Prelude.{◌≡◌};
+ghost use Rattle.regress_c.specs.Searching.{FindsBy, Replies};
+
+use crate::pattern::Pattern;
+use crate::refusal::Refusal;
+use crate::reply::{Reply, Span, reply_with};
+use crate::subject::Subject;
+use regress_match::Match;
+use std::alloc::Global;
+
+/// The reply to a search: the ranges of the first match are written, if there is room.
+pub(crate) fn search<S: Subject>(
+    alloc: Global,
+    pattern: &mut Pattern,
+    subject: &S,
+    start: usize,
+    spans: &mut [Span],
+) -> Reply
+    ensures replies { Replies pattern.old.held (S.is_text subject.now) (S.can_start subject.now start) (λ re. S.coming subject.now re start) spans.old spans.new result }
+    ensures kept { pattern.new.held ≡ pattern.old.held }
+{
+    reply_with(find(alloc, pattern, subject, start), spans)
+}
+
+// The first match by the pattern of the handle, which holds it again afterwards.
+fn find<S: Subject>(
+    alloc: Global,
+    pattern: &mut Pattern,
+    subject: &S,
+    start: usize,
+) -> Result<Option<Match>, Refusal>
+    ensures finds { FindsBy pattern.old.held (S.is_text subject.now) (S.can_start subject.now start) (λ re. S.coming subject.now re start) result }
+    ensures kept { pattern.new.held ≡ pattern.old.held }
+{
+    let Some(re) = pattern.take(alloc) else {
+        return Err(Refusal::Empty);
+    };
+    let found = subject.first(&re, start);
+    pattern.put(re);
+    found
+}

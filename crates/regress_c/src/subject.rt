@@ -1,0 +1,102 @@
+//! What is searched: a text in an encoding, with a limit of steps or without.
+
+ghost use Rattle.std.specs.Prelude.{◌≡◌, ◌<◌, ◌↔◌, ◌⊎◌, ℕ, IsTrue, IsUtf8, length};
+ghost use Rattle.regex_meaning.specs.Text.{is_unit_boundary as is_boundary_of};
+ghost use Rattle.regress_c.specs.Searching.{Coming, Finds, IsFirst, Starts, can_start_utf16, can_start_utf8, utf16_coming, utf8_coming, utf8_coming_within};
+ghost use Rattle.regress_match.specs.declared.api.regex.Regex.{Regex as Compiled};
+
+use crate::refusal::Refusal;
+use regress_exec::exec::{MatchProducer, Matches};
+use regress_match::{Match, Regex, is_unit_boundary};
+
+/// What is searched. Contracts see whether it is a text, where a search may start, and what is to come from there.
+pub(crate) trait Subject {
+    ghost is_text: { Self → Type 0 };
+
+    ghost can_start: { Self → ℕ → Type 0 };
+
+    ghost coming: { Self → Compiled → ℕ → Coming };
+
+    /// The first match from an offset in units on. What is no text is refused, and a start that cuts a character.
+    fn first(&self, re: &Regex, start: usize) -> Result<Option<Match>, Refusal>
+        ensures { Finds (is_text self.now) (can_start self.now start) (coming self.now re.now start) result };
+}
+
+// The first of the matches to come.
+fn first_of<P: MatchProducer + Drop>(mut matches: Matches<P>) -> Result<Option<Match>, Refusal>
+    ensures { IsFirst (record { answers = matches.answers; limited = matches.limited }) result }
+{
+    Ok(matches.next().transpose()?)
+}
+
+// The text of these bytes, in which a search may start there.
+fn text_from(bytes: &[u8], start: usize) -> Result<&str, Refusal>
+    ensures { Starts bytes.now start result }
+{
+    let text = str::from_utf8(bytes)?;
+    if text.is_char_boundary(start) || text.len() < start {
+        Ok(text)
+    } else {
+        Err(Refusal::NotBoundary)
+    }
+}
+
+/// A text in UTF-8.
+#[derive(Drop)]
+pub(crate) struct Utf8<'t> {
+    pub(crate) bytes: &'t [u8],
+}
+
+impl Subject for Utf8<'_> {
+    ghost is_text = { λ s. IsUtf8 s.bytes.now };
+
+    ghost can_start = { λ s start. can_start_utf8 s.bytes.now start };
+
+    ghost coming = { λ s re start. utf8_coming s.bytes.now re start };
+
+    fn first(&self, re: &Regex, start: usize) -> Result<Option<Match>, Refusal> {
+        let text = text_from(self.bytes, start)?;
+        first_of(re.find_from(text, start)?)
+    }
+}
+
+/// A text in UTF-8 that is searched in a limited number of steps.
+#[derive(Drop)]
+pub(crate) struct LimitedUtf8<'t> {
+    pub(crate) bytes: &'t [u8],
+    pub(crate) steps: u64,
+}
+
+impl Subject for LimitedUtf8<'_> {
+    ghost is_text = { λ s. IsUtf8 s.bytes.now };
+
+    ghost can_start = { λ s start. can_start_utf8 s.bytes.now start };
+
+    ghost coming = { λ s re start. utf8_coming_within s.steps s.bytes.now re start };
+
+    fn first(&self, re: &Regex, start: usize) -> Result<Option<Match>, Refusal> {
+        let text = text_from(self.bytes, start)?;
+        first_of(re.find_from_limited(text, start, self.steps)?)
+    }
+}
+
+/// A text in UTF-16. Any units are one: a surrogate without its other half is a character.
+#[derive(Drop)]
+pub(crate) struct Utf16<'t> {
+    pub(crate) units: &'t [u16],
+}
+
+impl Subject for Utf16<'_> {
+    ghost is_text = { λ _. Unit {0} };
+
+    ghost can_start = { λ s start. can_start_utf16 s.units.now start };
+
+    ghost coming = { λ s re start. utf16_coming s.units.now re start };
+
+    fn first(&self, re: &Regex, start: usize) -> Result<Option<Match>, Refusal> {
+        if !is_unit_boundary(self.units, start) && start <= self.units.len() {
+            return Err(Refusal::NotBoundary);
+        }
+        first_of(re.find_from_utf16(self.units, start)?)
+    }
+}

@@ -1,11 +1,16 @@
 -- What a handle owns: nothing at null, and else the value on the heap.
 use Rattle.std.specs.Prelude.{◌≡◌, Option, Some, None}
 use Rattle.std.specs.Box.Ownership.{box_owns}
-use Rattle.libc.specs.Heap.{chunk}
+use Rattle.std.specs.declared.alloc.Global.{Global}
+use Rattle.std.specs.contracts.impls.GlobalAllocator.TheImpl.{ghosts}
 use base.Fml.{Fml, ftrue, fex}
 use denote.RattleType.{RattleType}
 use denote.RawPtr.{Ptr, null_ptr}
 
+-- the one value of the allocator, whose token is the right to free a block
+abbrev pub global : Global
+global = record { memory = record { seal = tt } }
+
 abbrev pub held_owns : (R : RattleType) → Ptr → Option R.Denot → Fml
-held_owns R p (Some x) = box_owns chunk R p x
+held_owns R p (Some x) = box_owns (ghosts.dealloc_token global) R p x
 held_owns R p None = fex (p ≡ null_ptr) (λ _. ftrue)

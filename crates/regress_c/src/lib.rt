@@ -16,8 +16,6 @@ mod refusal;
 mod reply;
 mod searching;
 mod subject;
-#[cfg(test)]
-mod tests;
 
 use crate::pattern::Pattern;
 use crate::reply::{Reply, Span};

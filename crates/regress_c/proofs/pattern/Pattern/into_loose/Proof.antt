@@ -2,7 +2,6 @@
 use Rattle.std.proofs.Common.{◌≡◌, List, [], ◌∷◌, ◌++◌, refl, sym, ap, ◌∙◌, subst, lit<}
 use mir.Val.{Val, vptr, vstruct, vcons, vnil, of_list}
 use base.Logic.{SProp, ent, id⊢, emp}
-use base.Fml.{ftrue}
 use prog.Wp.{WpFn}
 use types.Kit.{‵, raw, at_ret, ◌⊛◌, ◌$◌, ◌∵◌, !, qed, by, move, keep, drop, split, fsplit, fjoin, fpick, suffices, use0, use1, feq_l, rewrite}
 use types.Run.{stop, fld, lit, of_opd, bin, no_more, and_then, first, branches, exec, returns, enter}
@@ -14,7 +13,7 @@ use contract.Running.{tables}
 use denote.Exit.{yes}
 use denote.RattleType.{RattleType, owns}
 use denote.Signature.{types_at, type_at, plain}
-use denote.RawPtr.{Ptr, block_ptr, null_ptr, ptr_val, tests_null}
+use denote.RawPtr.{block_ptr, null_ptr, ptr_val, tests_null}
 use denote.Steps.{nothing}
 use denote.Param.{layout}
 use denote.Triple.Entry.{alive}

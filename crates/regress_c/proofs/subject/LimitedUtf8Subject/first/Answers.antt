@@ -1,6 +1,6 @@
 use Rattle.std.proofs.Common.{◌≡◌, not, ap, subst, ◌∙◌}
 use Rattle.regress_match.specs.Programs.{is_utf8_end_within, utf8_answers_within}
-use Rattle.regress_c.specs.Searching.{Coming, IsFirst, utf8_coming_within}
+use Rattle.regress_c.specs.Searching.{IsFirst, utf8_coming_within}
 use Rattle.regress_c.proofs.Finding.{finds}
 use Rattle.regress_c.proofs.subject.LimitedUtf8Subject.first.Goals as goal
 

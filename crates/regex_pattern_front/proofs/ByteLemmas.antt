@@ -60,6 +60,29 @@ contains-bytes_where test b h =
     with_true true = refl
     with_true false = refl
 
+-- no number is in a row of lesser ones
+contains-before : (b first count : ℕ) → first + count ≤ b → contains (numbers_from first count) b ≡ false
+contains-before b first zero h = refl
+contains-before b first (suc count) h =
+    rw (ne_eqb b first (omega arith)) (contains-before b (first + 1) count (omega arith))
+
+-- what is no byte is among none
+pub contains-beyond : (test : ℕ → Bool) (b : ℕ) → 256 ≤ b → contains (bytes_where test) b ≡ false
+unfolding bytes_where
+contains-beyond test b h = contains-filter test b 0 256 ∙ rw (contains-before b 0 256 (omega arith)) (with_false (test b))
+  where
+    with_false : (t : Bool) → (t && false) ≡ false
+    with_false true = refl
+    with_false false = refl
+
+-- what is not of ASCII is in no set of bytes below 128
+pub ascii-beyond : (bits : List ℕ) (b : ℕ) → 128 ≤ b → contains (bytes_where (is_set bits)) b ≡ false
+ascii-beyond bits b h =
+    elim (cases_lt b 256) [
+      | inl below ↦ rw (contains-bytes_where (is_set bits) b below, le-ltb b 128 h)
+      | inr beyond ↦ contains-beyond (is_set bits) b beyond
+    ]
+
 filter-same : (f g : ℕ → Bool) (first count : ℕ) → ((b : ℕ) → first ≤ b → b < first + count → f b ≡ g b)
     → filter f (numbers_from first count) ≡ filter g (numbers_from first count)
 filter-same f g first zero h = refl

@@ -12,6 +12,10 @@ pub trait ByteSet: Copy {
     /// Whether a byte is in the set.
     fn contains(&self, byte: u8) -> bool
         ensures { result ≡ contains (members self.now) byte };
+
+    /// Whether a character is in the set, which one that is no byte is not.
+    fn has_char(&self, c: u32) -> bool
+        ensures { result ≡ contains (members self.now) c };
 }
 
 /// A set of bytes that is an array of at most four.
@@ -64,6 +68,11 @@ impl ByteSet for AsciiBitmap {
     fn contains(&self, byte: u8) -> bool {
         byte < 128 && self.bits[usize::from(byte / 64)] >> (byte % 64) & 1 != 0
     }
+
+    #[inline(always)]
+    fn has_char(&self, c: u32) -> bool {
+        c < 128 && self.contains(c as u8)
+    }
 }
 
 /// A set of bytes: for each byte, whether it is in the set.
@@ -105,6 +114,11 @@ impl ByteSet for ByteBitmap {
     fn contains(&self, byte: u8) -> bool {
         self.table[usize::from(byte)]
     }
+
+    #[inline(always)]
+    fn has_char(&self, c: u32) -> bool {
+        c < 256 && self.contains(c as u8)
+    }
 }
 
 /// A set of a few bytes: an array of 2 to 4, some of which may be the same.
@@ -118,6 +132,11 @@ impl<ArraySet: SmallArraySet> ByteSet for ByteArraySet<ArraySet> {
     fn contains(&self, byte: u8) -> bool {
         self.0.contains(byte)
     }
+
+    #[inline(always)]
+    fn has_char(&self, c: u32) -> bool {
+        self.0.has_char(c)
+    }
 }
 
 impl ByteSet for [u8; 1] {
@@ -127,6 +146,12 @@ impl ByteSet for [u8; 1] {
     fn contains(&self, byte: u8) -> bool {
         let [a] = *self;
         byte == a
+    }
+
+    #[inline(always)]
+    fn has_char(&self, c: u32) -> bool {
+        let [first] = *self;
+        c == first as u32
     }
 }
 
@@ -138,6 +163,12 @@ impl ByteSet for [u8; 2] {
         let [a, b] = *self;
         byte == a || byte == b
     }
+
+    #[inline(always)]
+    fn has_char(&self, c: u32) -> bool {
+        let [first, second] = *self;
+        c == first as u32 || c == second as u32
+    }
 }
 
 impl ByteSet for [u8; 3] {
@@ -148,6 +179,12 @@ impl ByteSet for [u8; 3] {
         let [a, b, c] = *self;
         byte == a || byte == b || byte == c
     }
+
+    #[inline(always)]
+    fn has_char(&self, c: u32) -> bool {
+        let [first, second, third] = *self;
+        c == first as u32 || c == second as u32 || c == third as u32
+    }
 }
 
 impl ByteSet for [u8; 4] {
@@ -157,6 +194,12 @@ impl ByteSet for [u8; 4] {
     fn contains(&self, byte: u8) -> bool {
         let [a, b, c, d] = *self;
         byte == a || byte == b || byte == c || byte == d
+    }
+
+    #[inline(always)]
+    fn has_char(&self, c: u32) -> bool {
+        let [first, second, third, fourth] = *self;
+        c == first as u32 || c == second as u32 || c == third as u32 || c == fourth as u32
     }
 }
 

@@ -24,6 +24,8 @@ fn sets_are_searched(rt: HostRuntime) {
         &mut bytes,
     );
     assert!(rt; bytes.contains(0x7F) && bytes.contains(0xC2) && !bytes.contains(0xC3));
+    assert!(rt; ascii.has_char(0x61) && !ascii.has_char(0xE1) && !ascii.has_char(0x161));
+    assert!(rt; bytes.has_char(0x7F) && bytes.has_char(0xC2) && !bytes.has_char(0x1C2));
     assert!(rt; utf8_first_byte(0x20AC) == 0xE2);
     let found = [
         bytes.find_in(&[0x41, 0xC2, 0xA0]),
@@ -32,7 +34,9 @@ fn sets_are_searched(rt: HostRuntime) {
         [b'x', b'y', b'z'].find_in(b"abc"),
     ];
     assert_eq!(rt; found, [Some(1), Some(2), Some(1), None]);
-    assert!(rt; ByteArraySet([b'a', b'a', b'b', b'c']).contains(b'c'));
+    let few = ByteArraySet([b'a', b'a', b'b', b'c']);
+    assert!(rt; few.contains(b'c') && few.has_char(0x63) && !few.has_char(0x163));
+    assert!(rt; [b'a'].has_char(0x61) && [b'a', b'b'].has_char(0x62) && [1, 2, 3].has_char(3));
 }
 
 #[test]

@@ -24,7 +24,7 @@ use Rattle.regex_meaning.proofs.TextLemmas.{len_utf8-positive}
 
 -- ---- Sets of ASCII bytes
 
-pub contains-high : (members : List ℕ) → All (λ b. b < 128) members → (b : ℕ) → 128 ≤ b → contains members b ≡ false
+contains-high : (members : List ℕ) → All (λ b. b < 128) members → (b : ℕ) → 128 ≤ b → contains members b ≡ false
 contains-high [] h b l = refl
 contains-high (m ∷ members) h b l =
     let differs : nat_eq b m ≡ false = ne_eqb b m (λ e. absurd (omega (arith, h 0 0 (omega arith)))) in

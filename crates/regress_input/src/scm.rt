@@ -65,8 +65,9 @@ impl<'a, Input: InputIndexer, Dir: Direction> SingleCharMatcher<Input, Dir> for 
     }
 }
 
+/// Whether a character is one of four.
 #[inline(always)]
-fn contains_char(chars: &[u32; MAX_CHAR_SET_LENGTH], c: u32) -> bool
+pub fn contains_char(chars: &[u32; MAX_CHAR_SET_LENGTH], c: u32) -> bool
     ensures { result ≡ contains chars.now c }
 {
     let [first, second, third, fourth] = *chars;
@@ -186,18 +187,10 @@ fn matches_ascii<Bytes: ByteSet, Input: InputIndexer, Dir: Direction>(
         }
     } else {
         match cursor::next(input, dir, pos) {
-            Some(c) => contains_number(bytes, c.as_u32()),
+            Some(c) => bytes.has_char(c.as_u32()),
             None => false,
         }
     }
-}
-
-#[inline(always)]
-fn contains_number<Bytes: ByteSet>(bytes: &Bytes, c: u32) -> bool
-    requires { All (λ b. b < 128) (Bytes.members bytes.now) }
-    ensures { result ≡ contains (Bytes.members bytes.now) c }
-{
-    c < 0x80 && bytes.contains(c as u8)
 }
 
 /// The character of which these are the bytes in UTF-8.

@@ -11,3 +11,4 @@ pub mod Groups
 pub mod InTurn
 pub mod Skips
 pub mod Budget
+pub mod Walking

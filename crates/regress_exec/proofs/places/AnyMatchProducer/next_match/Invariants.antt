@@ -1,7 +1,6 @@
 use Rattle.std.proofs.Common.{◌≡◌, option_map}
-use Rattle.regex_meaning.specs.Steps.{need_from}
-use Rattle.regress_exec.proofs.Budget.{IsSpent}
-use Rattle.regress_exec.proofs.Skips.{Walks, untried}
+use Rattle.regress_exec.proofs.Skips.{untried}
+use Rattle.regress_exec.proofs.Walking.{Walk}
 use Rattle.regress_exec.proofs.places.AnyMatchProducer.next_match.Given as goal
 
 abbrev pub invariant-places : goal.invariant-places
@@ -9,12 +8,9 @@ invariant-places g l =
     let a = g.A.Attempts in
     let offset = g.A.Input.Position.PositionType.offset in
     record {
-      walks : Walks (a.tree l.initial.self) (a.text l.initial.self) (offset l.fn.pos) (option_map offset l.next);
+      walk : Walk (a.tree l.initial.self) (a.text l.initial.self) (offset l.fn.pos) (a.budget l.initial.self) (a.budget l.self) (option_map offset l.next);
       same_tree : a.tree l.self ≡ a.tree l.initial.self;
       same_text : a.text l.self ≡ a.text l.initial.self;
-      spent :
-          IsSpent (a.tree l.initial.self) (a.text l.initial.self) (a.budget l.initial.self) (a.budget l.self)
-          (need_from (a.tree l.initial.self) (a.text l.initial.self) (offset l.fn.pos)) (option_map offset l.next);
       next_start : l.next_start ≡ l.initial.next_start;
     }
 

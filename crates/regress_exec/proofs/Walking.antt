@@ -1,0 +1,93 @@
+-- One place of a walk: what an attempt there says of the whole walk.
+use Rattle.std.proofs.Common.{◌≡◌, ◌+◌, ◌<◌, ℕ, Option, Some, None, Err, ap, ap₂, sym, ◌∙◌, subst, option_map}
+use Rattle.std.specs.Prelude.{IsTrue, is_some}
+use Rattle.regex_meaning.specs.Tree.{Tree}
+use Rattle.regex_meaning.specs.Text.{Text}
+use Rattle.regex_meaning.specs.Offsets.{IsText, IsBoundary}
+use Rattle.regex_meaning.specs.Outcomes.{Groups}
+use Rattle.regex_meaning.specs.Names.{names_by_id}
+use Rattle.regex_meaning.specs.Answers.{first_answer, next_start}
+use Rattle.regex_meaning.specs.Steps.{is_within, left_of, need_from}
+use Rattle.regress_exec.specs.Answers.{answer_by}
+use Rattle.regress_exec.specs.Attempts.{IsNextTry, IsVain, ends_with, end_from, next_tried, offset_behind, ticks_from}
+use Rattle.regress_exec.specs.Spends.{Spends}
+use Rattle.regress_exec.specs.declared.exec.SearchError.{SearchError}
+use Rattle.regress_exec.proofs.Budget.{IsSpent, refused, spent-found, spent-goes, taken}
+use Rattle.regress_exec.proofs.FirstMatch.{found-first}
+use Rattle.regress_exec.proofs.Skips.{Walks, untried, walk-goes}
+
+-- Before the next place: the search goes on from there, and so much of the budget is left.
+pub record Walk (tree : Tree) (text : Text) (first : ℕ) (at_first now : Option ℕ) (next : Option ℕ) : Type 0 where
+  pub walks : Walks tree text first next
+  pub spent : IsSpent tree text at_first now (need_from tree text first) next
+
+-- An attempt at the next place ended so, with so much left of the budget.
+pub record Attempt (tree : Tree) (text : Text) (first : ℕ) (at_first now after : Option ℕ) (at : ℕ) (end : Option (ℕ × Groups)) : Type 0 where
+  pub walk : Walk tree text first at_first now (Some at)
+  pub ends : end ≡ end_from tree text at
+  pub took : IsTrue (is_within now (ticks_from tree text at)) × (after ≡ left_of now (ticks_from tree text at))
+
+-- the match that was found is the first, and the list goes on behind it
+pub record Found (tree : Tree) (text : Text) (first : ℕ) (at_first after : Option ℕ) (at end : ℕ) (groups : Groups) : Type 0 where
+  pub answer : Some (answer_by at end groups (names_by_id tree.root)) ≡ first_answer tree.root text first
+  pub behind : offset_behind text at end ≡ next_start tree.root text first
+  pub boundary : IsBoundary text end
+  pub spends : IsTrue (is_within at_first (need_from tree text first)) × (after ≡ left_of at_first (need_from tree text first))
+
+-- the walk goes on, with less text that is left to try
+pub record Goes (tree : Tree) (text : Text) (first : ℕ) (at_first after : Option ℕ) (at : ℕ) (next : Option ℕ) : Type 0 where
+  pub walk : Walk tree text first at_first after next
+  pub less : untried text next < untried text (Some at)
+
+-- What is known of trees and texts that are the same.
+module _ {tree : Tree} {text : Text} {first : ℕ} {at_first now : Option ℕ} where
+  pub walk-at : {P : Type 0} (offset : P → ℕ) {next : Option P} {at : P} → Walk tree text first at_first now (option_map offset next) → next ≡ Some at → Walk tree text first at_first now (Some (offset at))
+  walk-at offset w is = subst (λ o. Walk tree text first at_first now (option_map offset o)) is w
+
+  pub attempt-at : {tree' : Tree} {text' : Text} {after : Option ℕ} {at : ℕ} {end : Option (ℕ × Groups)} → Walk tree text first at_first now (Some at) → tree' ≡ tree → text' ≡ text
+      → end ≡ end_from tree' text' at → IsTrue (is_within now (ticks_from tree' text' at)) × (after ≡ left_of now (ticks_from tree' text' at))
+      → Attempt tree text first at_first now after at end
+  attempt-at {tree' = tree'} {text' = text'} {after = after} {at = at} w t x ends took = record {
+    walk = w;
+    ends = ends ∙ ap₂ (λ t x. end_from t x at) t x;
+    took = taken tree text tree' text' now after at t x took;
+  }
+
+  module _ {after : Option ℕ} {at : ℕ} where
+    pub attempt-found : {P : Type 0} (offset : P → ℕ) (groups : Groups) {o : Option P} {end : P} → IsText text → o ≡ Some end
+        → Attempt tree text first at_first now after at (ends_with offset o groups) → Found tree text first at_first after at (offset end) groups
+    attempt-found offset groups {end = end} is some a =
+        let here : end_from tree text at ≡ Some (offset end, groups) = sym a.ends ∙ ap (λ o. ends_with offset o groups) some in
+        let found = found-first tree text is first at (offset end) groups a.walk.walks here in
+        record {
+          answer = found.0;
+          behind = found.1;
+          boundary = found.2;
+          spends = spent-found tree text is at_first now after (need_from tree text first) at (offset end, groups) a.walk.spent a.took.0 a.took.1 here;
+        }
+
+    pub attempt-vain : {P : Type 0} (offset : P → ℕ) (groups : Groups) {o : Option P} → o ≡ None → Attempt tree text first at_first now after at (ends_with offset o groups)
+        → IsVain tree text at
+    attempt-vain offset groups none a = sym a.ends ∙ ap (λ o. ends_with offset o groups) none
+
+    pub attempt-goes : {end : Option (ℕ × Groups)} {tree' : Tree} {text' : Text} {next : Option ℕ} → IsText text → Attempt tree text first at_first now after at end → IsVain tree text at → tree' ≡ tree → text' ≡ text
+        → IsNextTry tree' text' (at + 1) next → (IsTrue (is_some after) → next ≡ next_tried tree' text' at) → Goes tree text first at_first after at next
+    attempt-goes {tree' = tree'} {text' = text'} {next = next} is a vain t x tries counted =
+        let same = subst (λ t. IsNextTry t text (at + 1) next) t (subst (λ x. IsNextTry tree' x (at + 1) next) x tries) in
+        let goes = walk-goes tree text is first at next a.walk.walks vain same in
+        record {
+          walk = record {
+            walks = goes.0;
+            spent =
+                spent-goes tree text is at_first now after (need_from tree text first) at next a.walk.spent a.took.0 a.took.1 vain
+                (λ some. counted some ∙ ap₂ (λ t x. next_tried t x at) t x);
+          };
+          less = goes.1;
+        }
+
+  -- an attempt that was refused is a search that is
+  pub attempt-refused : {tree' : Tree} {text' : Text} {at : ℕ} → IsText text → (X : Type 0) (after : Option ℕ) (e : SearchError) → Walk tree text first at_first now (Some at) → tree' ≡ tree → text' ≡ text
+      → Spends {X = X} (ticks_from tree' text' at) now (Err e) after → Spends {X = X} (need_from tree text first) at_first (Err e) after
+  attempt-refused {tree' = tree'} {text' = text'} {at = at} is X after e w t x spends =
+      refused tree text is at_first now after (need_from tree text first) at X X e w.spent
+      (subst (λ t. Spends {X = X} (ticks_from t text at) now (Err e) after) t (subst (λ x. Spends {X = X} (ticks_from tree' x at) now (Err e) after) x spends))

@@ -50,6 +50,35 @@ program cat:10001 loops goal → TooManyLoops
 units cat:10001 groups goal → TooManyGroups
 units cat:10001 loops goal → TooManyLoops
 units bytes:61 → NotWellFormed
+units a → NotWellFormed
+units cat:2 goal a → NotWellFormed
+units alt goal goal → NotWellFormed
+units cat:2 goal goal → NotWellFormed
+units cat:0 → NotWellFormed
+units cat:3 any cat:2 group:0 empty group:0 empty goal → NotWellFormed
+units cat:3 any cat:2 group:0 empty group:2 empty goal → NotWellFormed
+units cat:3 any loop:0,0,0 group:0 a goal → NotWellFormed
+units cat:3 any loop:0,1,0 a goal → NotWellFormed
+units cat:3 any loop:1,0,0 a goal → NotWellFormed
+units cat:3 any ahead:0,1 a goal → NotWellFormed
+units cat:3 any ref:1 goal → NotWellFormed
+units cat:3 any cat:2 group:0 empty ref:0 goal → NotWellFormed
+units cat:3 any cat:2 group:0 empty ref:2 goal → NotWellFormed
+units cat:3 any loop:0,0,2,1 a goal → NotWellFormed
+units cat:3 any loop1:2,1 a goal → NotWellFormed
+units cat:3 any loop:0,0,3,2 a goal → NotWellFormed
+units cat:3 any loop1:3,2 a goal → NotWellFormed
+units cat:3 any loop1:0 cat:1 a goal → NotWellFormed
+units cat:3 any loop1:0 empty goal → NotWellFormed
+units cat:3 any loop1:0 bytes:61,62 goal → NotWellFormed
+units cat:3 any bytes goal → NotWellFormed
+units cat:3 any bytes:C3 goal → NotWellFormed
+units cat:3 any bytes:C0,80 goal → NotWellFormed
+units cat:3 any bytes:ED,A0,80 goal → NotWellFormed
+units cat:3 any byteset:61,62,63,64,65 goal → NotWellFormed
+units cat:3 any byteset:80 goal → NotWellFormed
+units cat:3 any set:1,2,3,4,5 goal → NotWellFormed
+units cat:3 any strings:1 set:110000 goal → NotWellFormed
 units cat:2 bytes:61 goal → BytesInUnits
 units cat:2 behind:0,0 alt x byteset:61,62 goal → BytesInUnits
 units cat:2 a goal → Char 97, Goal

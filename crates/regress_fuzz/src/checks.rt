@@ -1,0 +1,111 @@
+//! What must hold of the searches of any pattern in any text.
+
+ghost use Rattle.std.specs.Prelude.{IsAscii};
+
+use crate::fault::Fault;
+use crate::limits::is_limited;
+use crate::lists::{all, are_same, are_same_places, is_start};
+use regress_input::indexing::Utf8Input;
+use regress_match::backends::{PikeVMExecutor, find, find_ascii};
+use regress_match::{Flags, Match, Regex};
+use std::alloc::Global;
+
+/// A pattern with flags, and a text.
+#[derive(Clone, Copy)]
+pub struct Case<'a> {
+    pub pattern: &'a str,
+    pub flags: &'a str,
+    pub text: &'a str,
+}
+
+// All matches.
+fn found(alloc: Global, re: &Regex, text: &str) -> Result<Vec<Match>, Fault> {
+    Ok(all(alloc, re.find_iter(text)?)?)
+}
+
+// The tree as it was parsed has the same matches.
+fn is_same_unoptimized(alloc: Global, case: Case<'_>, list: &[Match]) -> Result<bool, Fault> {
+    let flags = Flags {
+        no_opt: true,
+        ..Flags::from(case.flags)
+    };
+    let re = Regex::with_flags(alloc, case.pattern, flags)?;
+    Ok(are_same(list, &found(alloc, &re, case.text)?))
+}
+
+// The copying executor finds the same.
+fn is_copied(alloc: Global, re: &Regex, text: &str, list: &[Match]) -> Result<bool, Fault> {
+    let others = find::<PikeVMExecutor<Utf8Input>>(re, text, 0)?;
+    Ok(are_same(list, &all(alloc, others)?))
+}
+
+// Over ASCII the same is found.
+fn is_same_in_ascii(alloc: Global, re: &Regex, text: &str, list: &[Match]) -> Result<bool, Fault>
+    requires { IsAscii text.now }
+{
+    Ok(are_same(list, &all(alloc, re.find_iter_ascii(text)?)?))
+}
+
+// So it is by the copying executor.
+fn is_copied_in_ascii(alloc: Global, re: &Regex, text: &str, list: &[Match]) -> Result<bool, Fault>
+    requires { IsAscii text.now }
+{
+    let others = find_ascii::<PikeVMExecutor<Utf8Input>>(re, text, 0)?;
+    Ok(are_same(list, &all(alloc, others)?))
+}
+
+// In UTF-16 the same places are found.
+fn is_same_in_utf16(alloc: Global, re: &Regex, text: &str, list: &[Match]) -> Result<bool, Fault> {
+    let units: Vec<u16> = text.encode_utf16().collect(alloc)?;
+    let others = all(alloc, re.find_from_utf16(&units, 0)?)?;
+    Ok(are_same_places(text, list, &others))
+}
+
+// From the end of a match that is not empty, the rest is found.
+fn is_resumed(alloc: Global, re: &Regex, text: &str, list: &[Match]) -> Result<bool, Fault> {
+    let mut same = true;
+    for (id, found) in list.iter().enumerate() {
+        if found.start() < found.end() && is_start(text, found.end()) {
+            let rest = all(alloc, re.find_from(text, found.end())?)?;
+            same &= are_same(list.get(id.saturating_add(1)..).unwrap_or(&[]), &rest);
+        }
+    }
+    Ok(same)
+}
+
+// In place of each match, and of the first, the match gives the text back.
+fn is_given_back(re: &Regex, text: &str) -> Result<bool, Fault> {
+    let each = re.replace_all(text, "$0")?.as_str() == text;
+    Ok(each && re.replace(text, "$0")?.as_str() == text)
+}
+
+// That something holds, or what does not.
+fn want(holds: bool, fault: Fault) -> Result<(), Fault> {
+    if holds { Ok(()) } else { Err(fault) }
+}
+
+// That all holds of the matches of a pattern.
+fn check(alloc: Global, re: &Regex, case: Case<'_>, list: &[Match]) -> Result<(), Fault> {
+    let text = case.text;
+    want(is_same_unoptimized(alloc, case, list)?, Fault::Unoptimized)?;
+    want(is_copied(alloc, re, text, list)?, Fault::Copied)?;
+    if text.is_ascii() {
+        want(is_same_in_ascii(alloc, re, text, list)?, Fault::Ascii)?;
+        want(
+            is_copied_in_ascii(alloc, re, text, list)?,
+            Fault::CopiedAscii,
+        )?;
+    }
+    want(is_same_in_utf16(alloc, re, text, list)?, Fault::Utf16)?;
+    want(is_resumed(alloc, re, text, list)?, Fault::Resumed)?;
+    want(is_limited(alloc, re, case, list)?, Fault::Limited)?;
+    want(is_given_back(re, text)?, Fault::GivenBack)
+}
+
+/// How many matches a case has, or what does not hold of them.
+pub fn try_case(alloc: Global, case: Case<'_>) -> Result<usize, Fault> {
+    let re = Regex::with_flags(alloc, case.pattern, Flags::from(case.flags))?;
+    let list = found(alloc, &re, case.text)?;
+    check(alloc, &re, case, &list)?;
+    Ok(list.len())
+}

@@ -1,0 +1,47 @@
+//! What may not hold of a case.
+
+use regress_match::{Error, SearchError};
+use std::alloc::AllocError;
+
+/// What does not hold of a case.
+#[derive(Clone, Copy, Debug)]
+pub enum Fault {
+    /// That the pattern is one.
+    Pattern,
+    /// That there is memory for all.
+    Refused,
+    /// That the tree as it was parsed has the same matches.
+    Unoptimized,
+    /// That the copying executor finds them.
+    Copied,
+    /// That they are found over ASCII.
+    Ascii,
+    /// That the copying executor finds them there.
+    CopiedAscii,
+    /// That the same places are found in UTF-16.
+    Utf16,
+    /// That from the end of a match the rest is found.
+    Resumed,
+    /// That a limit on steps is exact.
+    Limited,
+    /// That `$0` in place of matches gives the text back.
+    GivenBack,
+}
+
+impl From<AllocError> for Fault {
+    fn from(_: AllocError) -> Fault {
+        Fault::Refused
+    }
+}
+
+impl From<SearchError> for Fault {
+    fn from(_: SearchError) -> Fault {
+        Fault::Refused
+    }
+}
+
+impl From<Error> for Fault {
+    fn from(_: Error) -> Fault {
+        Fault::Pattern
+    }
+}

@@ -1,0 +1,114 @@
+//! Patterns of a few pieces.
+
+use crate::seed::Seed;
+use std::alloc::{AllocError, Global};
+
+/// How many groups and lookarounds may be open.
+const DEPTH: u32 = 4;
+
+/// What takes a quantifier.
+const ATOMS: [&str; 16] = [
+    "a", "b", "k", "é", "😀", ".", "[ab]", "[^a]", "[^b-é]", "\\w", "\\W", "\\d", "\\s", "[\\s\\S]",
+    "ab", "K",
+];
+
+/// What does not.
+const LOOKS: [&str; 6] = ["^", "$", "\\b", "\\B", "(?=a)", "(?<!b)"];
+
+/// How often.
+const QUANTIFIERS: [&str; 9] = ["*", "+", "?", "*?", "+?", "??", "{2}", "{1,2}", "{0,2}?"];
+
+/// What is opened: what behaves as an atom once it is closed, and what does not.
+const GROUPS: [&str; 3] = ["(", "(?:", "("];
+
+const LOOKAROUNDS: [&str; 4] = ["(?=", "(?!", "(?<=", "(?<!"];
+
+// A pattern as far as it is written.
+#[derive(Drop)]
+struct Draft {
+    text: String,
+    // how many groups were opened that capture
+    groups: u32,
+    // how many parentheses are open, and for each, the last in the lowest bit, whether it is one of a group
+    open: u32,
+    kinds: u32,
+    // whether a quantifier may stand next
+    counts: bool,
+}
+
+impl Draft {
+    fn write(&mut self, piece: &str, counts: bool) -> Result<(), AllocError> {
+        self.counts = counts;
+        self.text.push_str(piece)
+    }
+
+    fn open(&mut self, piece: &str, is_group: bool) -> Result<(), AllocError> {
+        if self.open >= DEPTH {
+            return Ok(());
+        }
+        self.open += 1;
+        self.kinds = (self.kinds & 0xFFFF) * 2 + u32::from(is_group);
+        if piece == "(" {
+            self.groups = self.groups.saturating_add(1);
+        }
+        self.write(piece, false)
+    }
+
+    fn close(&mut self) -> Result<(), AllocError> {
+        if self.open == 0 {
+            return Ok(());
+        }
+        self.open -= 1;
+        let is_group = self.kinds % 2 == 1;
+        self.kinds /= 2;
+        self.write(")", is_group)
+    }
+
+    // Some piece that may stand next.
+    fn add(&mut self, seed: &mut Seed) -> Result<(), AllocError> {
+        if self.counts && seed.is(4) {
+            return self.write(seed.pick(&QUANTIFIERS), false);
+        }
+        if seed.is(5) {
+            return self.write(seed.pick(&ATOMS), true);
+        }
+        if seed.is(4) {
+            return self.open(seed.pick(&GROUPS), true);
+        }
+        if seed.is(4) {
+            return self.close();
+        }
+        self.add_rare(seed)
+    }
+
+    fn add_rare(&mut self, seed: &mut Seed) -> Result<(), AllocError> {
+        if seed.is(3) {
+            return self.open(seed.pick(&LOOKAROUNDS), false);
+        }
+        if seed.is(4) {
+            return self.write("|", false);
+        }
+        if self.groups > 0 && seed.is(4) {
+            return self.write("\\1", true);
+        }
+        self.write(seed.pick(&LOOKS), false)
+    }
+}
+
+/// A pattern of at most so many pieces, with what closes it.
+pub fn pattern(alloc: Global, seed: &mut Seed, pieces: u32) -> Result<String, AllocError> {
+    let mut draft = Draft {
+        text: String::new(alloc),
+        groups: 0,
+        open: 0,
+        kinds: 0,
+        counts: false,
+    };
+    for _ in 0..pieces {
+        draft.add(seed)?;
+    }
+    for _ in 0..DEPTH {
+        draft.close()?;
+    }
+    Ok(draft.text)
+}

@@ -1,0 +1,23 @@
+//! Texts of a few characters.
+
+use crate::seed::Seed;
+use std::alloc::{AllocError, Global};
+
+const ASCII: [&str; 7] = ["a", "b", "a", "k", "K", " ", "\n"];
+
+const ANY: [&str; 8] = ["a", "b", "a", "é", "😀", "\u{212A}", "k", "\u{2028}"];
+
+/// A text of so many characters; of ASCII in half of the cases.
+pub fn text(alloc: Global, seed: &mut Seed, characters: u32) -> Result<String, AllocError> {
+    let mut text = String::new(alloc);
+    let ascii = seed.is(5);
+    for _ in 0..characters {
+        let c = if ascii {
+            seed.pick(&ASCII)
+        } else {
+            seed.pick(&ANY)
+        };
+        text.push_str(c)?;
+    }
+    Ok(text)
+}

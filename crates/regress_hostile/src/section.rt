@@ -1,0 +1,72 @@
+//! The sections.
+
+use crate::calls::{are_constructed, is_escaped};
+use crate::fault::Fault;
+use crate::replacements::is_replaced;
+use crate::tool::is_run;
+use crate::{searches, table};
+use std::alloc::Global;
+
+/// Rows, and what is tried with each.
+#[derive(Clone, Copy)]
+pub enum Section {
+    Searches,
+    Odd,
+    Constructors,
+    Replacements,
+    Escapes,
+    Tool,
+}
+
+/// Each of them.
+pub const SECTIONS: [Section; 6] = [
+    Section::Searches,
+    Section::Odd,
+    Section::Constructors,
+    Section::Replacements,
+    Section::Escapes,
+    Section::Tool,
+];
+
+impl Section {
+    pub fn name(self) -> &'static str {
+        match self {
+            Section::Searches => "searches",
+            Section::Odd => "odd",
+            Section::Constructors => "constructors",
+            Section::Replacements => "replacements",
+            Section::Escapes => "escapes",
+            Section::Tool => "tool",
+        }
+    }
+
+    pub fn rows(self) -> &'static str {
+        match self {
+            Section::Searches => table::SEARCHES,
+            Section::Odd => table::ODD,
+            Section::Constructors => table::CONSTRUCTORS,
+            Section::Replacements => table::REPLACEMENTS,
+            Section::Escapes => table::ESCAPES,
+            Section::Tool => table::TOOL,
+        }
+    }
+
+    fn try_row(self, alloc: Global, line: &str) -> Result<bool, Fault> {
+        match self {
+            Section::Searches | Section::Odd => searches::agree(alloc, line),
+            Section::Constructors => are_constructed(alloc, line),
+            Section::Replacements => is_replaced(alloc, line),
+            Section::Escapes => is_escaped(alloc, line),
+            Section::Tool => is_run(alloc, line),
+        }
+    }
+
+    /// Whether a row agrees, which is tried once more where memory is refused.
+    pub fn agrees(self, alloc: Global, line: &str) -> bool {
+        let mut tried = self.try_row(alloc, line);
+        if matches!(tried, Err(Fault::Refused)) {
+            tried = self.try_row(alloc, line);
+        }
+        matches!(tried, Ok(true))
+    }
+}

@@ -1,5 +1,6 @@
 //! Which patterns have programs that are tried at the left end alone.
 
+use crate::rows::{Row, compare};
 use regex_pattern_front::flags::Flags;
 use regex_pattern_front::ir::Regex;
 use regex_pattern_front::parse::try_parse;
@@ -7,32 +8,38 @@ use regress_program::emit::emit;
 use regress_program::insn::StartPredicate;
 use std::alloc::{AllocError, Global};
 
-fn write_of_tree(alloc: Global, line: &mut String, tree: &Regex) -> Result<(), AllocError> {
+// Rows of three fields: a pattern, `m` or nothing for its flags, and whether its program is tried there alone.
+pub const ANCHORED: &str = "\
+^a~~true
+^a~m~false
+^a|b~~false
+(^a)b~~true";
+
+// Whether the program of a tree is one.
+fn anchored(alloc: Global, tree: &Regex) -> &'static str {
     match emit(alloc, tree) {
         Ok(program) => match program.start_pred() {
-            StartPredicate::StartAnchored => line.push_str("true"),
-            _ => line.push_str("false"),
+            StartPredicate::StartAnchored => "true",
+            _ => "false",
         },
-        Err(_) => line.push_str("no program"),
+        Err(_) => "no program",
     }
 }
 
-// Writes whether the program of a pattern of two letters is one.
-pub fn write_anchored(
+pub fn check_anchored(
     alloc: Global,
-    line: &mut String,
-    pattern: &str,
-    multiline: bool,
+    differing: &mut String,
+    row: Row<'_>,
 ) -> Result<(), AllocError> {
-    let [first, second] = *pattern.as_bytes() else {
-        return line.push_str("other than two letters");
-    };
+    let (pattern, letters) = row.asked.split_once('~').unwrap_or((row.asked, ""));
+    let points: Vec<u32> = pattern.chars().map(u32::from).collect(alloc)?;
     let flags = Flags {
-        multiline,
+        multiline: letters == "m",
         ..Flags::default()
     };
-    match try_parse(alloc, &[u32::from(first), u32::from(second)], flags) {
-        Ok(tree) => write_of_tree(alloc, line, &tree),
-        Err(_) => line.push_str("no pattern"),
-    }
+    let found = match try_parse(alloc, &points, flags) {
+        Ok(tree) => anchored(alloc, &tree),
+        Err(_) => "no pattern",
+    };
+    compare(differing, row, found, "")
 }

@@ -2,49 +2,66 @@
 
 ghost use Rattle.std.specs.Prelude.{IsAscii};
 
-use crate::lines::{write_all, write_all_of_ascii};
+use crate::lines::{write_ascii, write_copied, write_copied_of_ascii, write_utf8};
 use crate::starts::is_start;
-use regress_match::backends::{DefaultExecutor, find, find_ascii};
+use regress_input::indexing::Utf8Input;
+use regress_match::backends::{DefaultExecutor, PikeVMExecutor, find, find_ascii};
 use regress_match::{Regex, SearchError};
-use std::process::Abort;
-use std::test::Fail;
 
-fn write_from(line: &mut String, re: &Regex, text: &str, start: usize) -> Result<(), SearchError> {
+type Copying<'a> = PikeVMExecutor<'a, Utf8Input<'a>>;
+
+pub fn write_by_name(
+    line: &mut String,
+    re: &Regex,
+    text: &str,
+    start: usize,
+    first: bool,
+) -> Result<(), SearchError> {
     if is_start(text, start) {
-        write_all(line, &mut find::<DefaultExecutor>(re, text, start)?)
+        write_utf8(line, &mut find::<DefaultExecutor>(re, text, start)?, first)
     } else {
         Ok(line.push_str("no start")?)
     }
 }
 
-fn write_from_in_ascii(
+pub fn write_by_name_in_ascii(
     line: &mut String,
     re: &Regex,
     text: &str,
     start: usize,
+    first: bool,
 ) -> Result<(), SearchError>
     requires { IsAscii text.now }
 {
-    write_all_of_ascii(line, &mut find_ascii::<DefaultExecutor>(re, text, start)?)
+    write_ascii(
+        line,
+        &mut find_ascii::<DefaultExecutor>(re, text, start)?,
+        first,
+    )
 }
 
-#[test]
-fn a_named_executor_searches(rt: HostRuntime) -> Result<(), Fail> {
-    let re = Regex::new(rt.alloc(), "b|é")?;
-    let mut line = String::new(rt.alloc());
-    write_from(&mut line, &re, "abéb", 2)?;
-    assert!(rt; line.as_str() == "2..4; 4..5", "{line}");
-    Ok(())
-}
-
-#[test]
-fn its_kind_over_ascii_searches(rt: HostRuntime) -> Result<(), Fail> {
-    let re = Regex::new(rt.alloc(), "b|é")?;
-    let text = "abab";
-    let mut line = String::new(rt.alloc());
-    if text.is_ascii() {
-        write_from_in_ascii(&mut line, &re, text, 2)?;
+pub fn write_by_copying(
+    line: &mut String,
+    re: &Regex,
+    text: &str,
+    start: usize,
+    first: bool,
+) -> Result<(), SearchError> {
+    if is_start(text, start) {
+        write_copied(line, &mut find::<Copying>(re, text, start)?, first)
+    } else {
+        Ok(line.push_str("no start")?)
     }
-    assert!(rt; line.as_str() == "3..4", "{line}");
-    Ok(())
+}
+
+pub fn write_by_copying_in_ascii(
+    line: &mut String,
+    re: &Regex,
+    text: &str,
+    start: usize,
+    first: bool,
+) -> Result<(), SearchError>
+    requires { IsAscii text.now }
+{
+    write_copied_of_ascii(line, &mut find_ascii::<Copying>(re, text, start)?, first)
 }

@@ -1,9 +1,25 @@
 //! Texts with what closures answer in place of matches.
 
+use crate::patterns::refusal;
+use crate::rows::{Row, compare};
 use regress_match::{Match, Regex, ReplaceError};
 use std::alloc::{AllocError, Global};
 use std::cell::Cell;
-use std::test::Fail;
+
+// Rows of five fields: a pattern, a text, which matches are replaced, what the closure answers, and how often it is called
+// and the text that is made. The closure answers for the number that is matched: `twice`, `tenfold` in brackets, or `x`
+// `below ten` while any other one is refused.
+pub const CLOSURES: &str = r#"\d+~Price: $123~first~twice~1 Price: $246
+\d+~1, or 4~first~twice~1 2, or 4
+\d+~none~first~twice~0 none
+\d+~none~all~twice~0 none
+\d+~Items: 5, 10, 15~all~tenfold~3 Items: [50], [100], [150]
+\d+~Items: 5, 10, 15~first~tenfold~1 Items: [50], 10, 15
+\d+~Items: 5, 10, 15~all~below ten~2 refused 10
+\d+~1, 2, 3~all~below ten~3 x, x, x
+\d+~x 12~first~below ten~1 refused 12
+\d+~5, 12~first~below ten~1 x, 12
+"#;
 
 // The number that is matched in a text; 0 where none is.
 fn number_of(text: &str, found: &Match) -> u32 {
@@ -15,73 +31,73 @@ fn number_of(text: &str, found: &Match) -> u32 {
     }
 }
 
-// So many times the number that is matched, in brackets.
-fn times(alloc: Global, text: &str, found: &Match, count: u32) -> Result<String, AllocError> {
-    let number = number_of(text, found).wrapping_mul(count);
-    let mut made = String::new(alloc);
-    write!(made, "[{number}]")?;
-    Ok(made)
+// What the closure answers for a number.
+fn answer_to(alloc: Global, number: u32, answers: &str) -> Result<String, u32> {
+    let answer = match answers {
+        "twice" => format!(in alloc; "{}", number.wrapping_mul(2)),
+        "tenfold" => format!(in alloc; "[{}]", number.wrapping_mul(10)),
+        _ if number < 10 => String::from_str(alloc, "x"),
+        _ => return Err(number),
+    };
+    answer.map_err(|_| number)
 }
 
-// `x` for a number below ten; any other one is refused.
-fn below_ten(alloc: Global, text: &str, found: &Match) -> Result<String, u32> {
-    match number_of(text, found) {
-        small @ 0..=9 => String::from_str(alloc, "x").map_err(|_| small),
-        number => Err(number),
+fn write_made(
+    line: &mut String,
+    calls: u32,
+    made: Result<String, ReplaceError<u32>>,
+) -> Result<(), AllocError> {
+    match made {
+        Ok(text) => write!(line, "{calls} {text}"),
+        Err(ReplaceError::Closure(number)) => write!(line, "{calls} refused {number}"),
+        Err(ReplaceError::Search(_)) => line.push_str("no memory"),
     }
 }
 
-#[test]
-fn the_first_match_is_replaced(rt: HostRuntime) -> Result<(), Fail> {
-    let alloc = rt.alloc();
-    let re = Regex::new(alloc, r"\d+")?;
-    let text = "Price: $123, or 4";
-    let made = re.replace_with(text, |found| times(alloc, text, found, 2))?;
-    assert_eq!(rt; made.as_str(), "Price: $[246], or 4");
-    Ok(())
+fn write_replaced(
+    alloc: Global,
+    line: &mut String,
+    re: &Regex,
+    text: &str,
+    answers: &str,
+) -> Result<(), AllocError> {
+    let calls = Cell::new(0u32);
+    let made = re.replace_with(text, |found| {
+        calls.set(calls.get().wrapping_add(1));
+        answer_to(alloc, number_of(text, found), answers)
+    });
+    write_made(line, calls.get(), made)
 }
 
-#[test]
-fn each_match_is_replaced(rt: HostRuntime) -> Result<(), Fail> {
-    let alloc = rt.alloc();
-    let re = Regex::new(alloc, r"\d+")?;
-    let text = "Items: 5, 10, 15";
-    let made = re.replace_all_with(text, |found| times(alloc, text, found, 10))?;
-    assert_eq!(rt; made.as_str(), "Items: [50], [100], [150]");
-    Ok(())
-}
-
-#[test]
-fn a_closure_refuses_once(rt: HostRuntime) -> Result<(), Fail> {
-    let alloc = rt.alloc();
-    let re = Regex::new(alloc, r"\d+")?;
-    let text = "Items: 5, 10, 15";
+fn write_all_replaced(
+    alloc: Global,
+    line: &mut String,
+    re: &Regex,
+    text: &str,
+    answers: &str,
+) -> Result<(), AllocError> {
     let calls = Cell::new(0u32);
     let made = re.replace_all_with(text, |found| {
         calls.set(calls.get().wrapping_add(1));
-        below_ten(alloc, text, found)
+        answer_to(alloc, number_of(text, found), answers)
     });
-    assert_eq!(rt; calls.get(), 2);
-    assert!(rt; matches!(made, Err(ReplaceError::Closure(10))));
-    assert!(rt;
-        matches!(
-            re.replace_with("x 12", |found| below_ten(alloc, "x 12", found)),
-            Err(ReplaceError::Closure(12))
-        )
-    );
-    Ok(())
+    write_made(line, calls.get(), made)
 }
 
-#[test]
-fn no_match_calls_no_closure(rt: HostRuntime) -> Result<(), Fail> {
-    let alloc = rt.alloc();
-    let re = Regex::new(alloc, r"\d+")?;
-    let calls = Cell::new(0u32);
-    let made = re.replace_with("none", |found| {
-        calls.set(calls.get().wrapping_add(1));
-        below_ten(alloc, "none", found)
-    })?;
-    assert_eq!(rt; made.as_str(), "none");
-    assert_eq!(rt; calls.get(), 0);
-    Ok(())
+pub fn check_closure(
+    alloc: Global,
+    differing: &mut String,
+    row: Row<'_>,
+) -> Result<(), AllocError> {
+    let fields: Vec<&str> = row.asked.split('~').collect(alloc)?;
+    let [pattern, text, which, answers] = *fields.as_slice() else {
+        return compare(differing, row, "other than five fields", "");
+    };
+    let mut found = String::new(alloc);
+    match Regex::new(alloc, pattern) {
+        Ok(re) if which == "all" => write_all_replaced(alloc, &mut found, &re, text, answers)?,
+        Ok(re) => write_replaced(alloc, &mut found, &re, text, answers)?,
+        Err(error) => found.push_str(refusal(&error))?,
+    }
+    compare(differing, row, &found, "")
 }

@@ -1,32 +1,32 @@
 //! Wide and deep patterns are searched, on texts with a match and without one.
 
-use regress_match::api::Regex;
+use crate::rows::{Row, compare};
+use regress_match::Regex;
 use std::alloc::{AllocError, Global};
-use std::process::Abort;
-use std::test::Fail;
 
-// Each line is a count, so many openings and as many closings round what is inside, a text, and whether there is a match.
-const NESTS: &str = "\
-100000 a|…b… xb found
-100000 a|…b… xc none
-100000 (?=b)…b… xb found
-100000 a…b… xab none
-5000 (…a…) xa found
-5000 (…a…) xb none
-5000 a|(…b…) xb found
-5000 a|(…b…) xc none
-5000 (…a…|b) xb found
-5000 (…a…|b) xc none
-5000 (?:…a…)+? xa found
-5000 (?:…a…)+? xb none
-5000 (?=…a…) xa found
-5000 (?=…a…) xb none
-5000 (?!…a…) xa found
-5000 (?!…a…) xb none
-5000 (?<=…a…) xa found
-5000 (?<=…a…) xb none
-5000 (?<!…a…) xa found
-5000 (?<!…a…) xb none";
+// Rows of four fields: a count, so many openings and as many closings round what is inside, a text, and whether there is a
+// match.
+pub const NESTS: &str = "\
+100000~a|…b…~xb~found
+100000~a|…b…~xc~none
+100000~(?=b)…b…~xb~found
+100000~a…b…~xab~none
+5000~(…a…)~xa~found
+5000~(…a…)~xb~none
+5000~a|(…b…)~xb~found
+5000~a|(…b…)~xc~none
+5000~(…a…|b)~xb~found
+5000~(…a…|b)~xc~none
+5000~(?:…a…)+?~xa~found
+5000~(?:…a…)+?~xb~none
+5000~(?=…a…)~xa~found
+5000~(?=…a…)~xb~none
+5000~(?!…a…)~xa~found
+5000~(?!…a…)~xb~none
+5000~(?<=…a…)~xa~found
+5000~(?<=…a…)~xb~none
+5000~(?<!…a…)~xa~found
+5000~(?<!…a…)~xb~none";
 
 // Adds a piece of a pattern so many times.
 fn add(pattern: &mut String, piece: &str, count: usize) -> Result<(), AllocError> {
@@ -59,17 +59,11 @@ fn found(alloc: Global, pattern: &str, text: &str) -> &'static str {
     }
 }
 
-#[test]
-fn wide_and_deep_patterns_are_searched(rt: HostRuntime) -> Result<(), Fail> {
-    for line in NESTS.lines() {
-        let (count, row) = line.split_once(' ').unwrap_or((line, ""));
-        let (nest, asked) = row.split_once(' ').unwrap_or((row, ""));
-        let (text, wanted) = asked.split_once(' ').unwrap_or((asked, ""));
-        let pattern = pattern_of(rt.alloc(), nest, count.parse::<usize>().unwrap_or(0))?;
-        assert!(rt;
-            found(rt.alloc(), pattern.as_str(), text) == wanted,
-            "{line}"
-        );
-    }
-    Ok(())
+pub fn check_nest(alloc: Global, differing: &mut String, row: Row<'_>) -> Result<(), AllocError> {
+    let fields: Vec<&str> = row.asked.split('~').collect(alloc)?;
+    let [count, nest, text] = *fields.as_slice() else {
+        return compare(differing, row, "other than four fields", "");
+    };
+    let pattern = pattern_of(alloc, nest, count.parse::<usize>().unwrap_or(0))?;
+    compare(differing, row, found(alloc, &pattern, text), "")
 }

@@ -1,134 +1,154 @@
-//! What a match answers: by number, by name, in turn, and once it was cut or cloned.
+//! What a match answers: by number, in turn and by name, also once it was changed or cloned.
 
-use regress_match::api::Regex;
-use regress_search::exec::Match;
-use std::alloc::Global;
+use crate::patterns::{refusal, regex_of};
+use crate::rows::{Row, compare};
+use regress_match::{Match, Regex, SearchError};
+use std::alloc::{AllocError, Global};
 use std::ops::Range;
-use std::test::Fail;
 
-fn write_group(line: &mut String, range: Option<Range<usize>>) -> Result<(), Fail> {
+// Rows of five fields: a pattern, the letters of its flags, or `tree` where it is a tree in words, a text, what is done to
+// the first match in it, and what that answers then. These are the groups of the first four numbers, what five calls of
+// `groups` yield, and what four of `named_groups` do, with the number of those that are left before each, its range, and
+// the text there.
+pub const MATCHES: &str = "\
+(a)(b)?~~a~nothing~ 0..1 0..1 - - | 3 0..1 2 0..1 1 - 0 end 0 end | 0 end 0 end 0 end 0 end | 0..1 a
+(a)(b)?~~a~push~ 0..1 0..1 - - | 4 0..1 3 0..1 2 - 1 - 0 end | 0 end 0 end 0 end 0 end | 0..1 a
+(?<=(?<a>x)(?<b>y))z~~xyz~nothing~ 2..3 0..1 1..2 - | 3 2..3 2 0..1 1 1..2 0 end 0 end | 2 a 0..1 1 b 1..2 0 end 0 end | 2..3 z
+(?<=(?<b>y)|(?<a>x))z~~xyz~nothing~ 2..3 1..2 - - | 3 2..3 2 1..2 1 - 0 end 0 end | 2 b 1..2 1 a - 0 end 0 end | 2..3 z
+(?<n>a)~~a~clear~ 0..1 - - - | 1 0..1 0 end 0 end 0 end 0 end | 1 n - 0 end 0 end 0 end | 0..1 a
+cat:2 alt named:0,6E a named:1,6E b goal~tree~b~nothing~ 0..1 - 0..1 - | 3 0..1 2 - 1 0..1 0 end 0 end | 1 n 0..1 0 end 0 end 0 end | 0..1 b
+cat:2 alt named:0,6E a named:1,6E b goal~tree~b~cut~ 0..1 - - - | 2 0..1 1 - 0 end 0 end 0 end | 1 n - 0 end 0 end 0 end | 0..1 b
+cat:2 alt named:0,6E a named:1,6E b goal~tree~b~clear~ 0..1 - - - | 1 0..1 0 end 0 end 0 end 0 end | 1 n - 0 end 0 end 0 end | 0..1 b
+cat:3 named:0,6E a named:1,6E b goal~tree~ab~nothing~ 0..2 0..1 1..2 - | 3 0..2 2 0..1 1 1..2 0 end 0 end | 1 n 0..1 0 end 0 end 0 end | 0..2 ab
+cat:3 group:0 a alt named:1,6E b named:2,6E c goal~tree~xac~nothing~ 1..3 1..2 - 2..3 | 4 1..3 3 1..2 2 - 1 2..3 0 end | 1 n 2..3 0 end 0 end 0 end | 1..3 ac
+cat:3 group:0 a alt named:1,6E b named:2,6E c goal~tree~xac~clone~ 1..3 1..2 - 2..3 | 4 1..3 3 1..2 2 - 1 2..3 0 end | 1 n 2..3 0 end 0 end 0 end | 1..3 ac
+\\d+~~Price: $123~nothing~ 8..11 - - - | 1 8..11 0 end 0 end 0 end 0 end | 0 end 0 end 0 end 0 end | 8..11 123
+b~~ébe~nothing~ 2..3 - - - | 1 2..3 0 end 0 end 0 end 0 end | 0 end 0 end 0 end 0 end | 2..3 b
+b~~ébe~parts~ 1..3 1..2 - - | 3 1..3 2 1..2 1 - 0 end 0 end | 1 year 1..2 0 end 0 end 0 end | 1..3 -";
+
+fn write_group(line: &mut String, range: &Option<Range<usize>>) -> Result<(), AllocError> {
     match range {
         Some(range) => {
             let start = range.start;
             let end = range.end;
-            Ok(write!(line, " {start}..{end}")?)
+            write!(line, " {start}..{end}")
         }
-        None => Ok(line.push_str(" -")?),
+        None => line.push_str(" -"),
     }
 }
 
-// The groups of the first four numbers.
-fn by_number(alloc: Global, found: &Match) -> Result<String, Fail> {
-    let mut line = String::new(alloc);
+fn write_by_number(line: &mut String, found: &Match) -> Result<(), AllocError> {
     for idx in 0..4 {
-        write_group(&mut line, found.group(idx))?;
+        write_group(line, &found.group(idx))?;
     }
-    Ok(line)
+    Ok(())
 }
 
-// Five calls of the iterator over the groups, and before each how many are left.
-fn in_turn(alloc: Global, found: &Match) -> Result<String, Fail> {
-    let mut line = String::new(alloc);
+fn write_in_turn(line: &mut String, found: &Match) -> Result<(), AllocError> {
     let mut groups = found.groups();
     for _ in 0..5 {
-        let left = groups.len();
-        write!(line, "; {left}:")?;
+        write!(line, " {}", groups.len())?;
         match groups.next() {
-            Some(range) => write_group(&mut line, range)?,
+            Some(range) => write_group(line, &range)?,
             None => line.push_str(" end")?,
         }
     }
-    Ok(line)
+    Ok(())
 }
 
-// The same of the names, by a clone that is taken before each call.
-fn names_in_turn(alloc: Global, found: &Match) -> Result<String, Fail> {
-    let mut line = String::new(alloc);
+// By a clone that is taken before each call. A name that is asked for stands for the same range.
+fn write_names(line: &mut String, found: &Match) -> Result<(), AllocError> {
     let mut names = found.named_groups();
     for _ in 0..4 {
-        let left = names.len();
+        write!(line, " {}", names.len())?;
         let mut rest = names.clone();
-        write!(line, "; {left}:")?;
         match rest.next() {
-            Some((name, range)) => {
-                write!(line, " {name}")?;
-                write_group(&mut line, range)?;
-            }
+            Some((name, range)) => write_named(line, found, name, &range)?,
             None => line.push_str(" end")?,
         }
         names = rest;
     }
-    Ok(line)
+    Ok(())
 }
 
-// A name on the last two of three groups, of which the last matched.
-fn with_names(alloc: Global) -> Result<Match, Fail> {
-    let captures = vec![in alloc; Some(1..2), None, Some(2..4)]?;
-    let mut names = Vec::new(alloc);
-    for name in ["", "n", "n"] {
-        names.push(String::from_str(alloc, name)?)?;
+fn write_named(
+    line: &mut String,
+    found: &Match,
+    name: &str,
+    range: &Option<Range<usize>>,
+) -> Result<(), AllocError> {
+    write!(line, " {name}")?;
+    write_group(line, range)?;
+    if found.named_group(name) == *range && found.named_group("").is_none() {
+        Ok(())
+    } else {
+        line.push_str(" and another")
     }
-    Ok(Match::from_parts(1..4, captures, names))
 }
 
-#[test]
-fn groups_are_told_by_number_and_in_turn(rt: HostRuntime) -> Result<(), Fail> {
-    let alloc = rt.alloc();
-    let re = Regex::new(alloc, "(a)(b)?")?;
-    let mut found = re.find("a")?.ok_or("no match")?;
-    assert_eq!(rt; by_number(alloc, &found)?.as_str(), " 0..1 0..1 - -");
-    assert_eq!(rt;
-        in_turn(alloc, &found)?.as_str(),
-        "; 3: 0..1; 2: 0..1; 1: -; 0: end; 0: end"
-    );
-    found.captures.push(None)?;
-    assert_eq!(rt;
-        in_turn(alloc, &found)?.as_str(),
-        "; 4: 0..1; 3: 0..1; 2: -; 1: -; 0: end"
-    );
-    Ok(())
+// The text of its range, `-` where that is none of the text.
+fn write_text(line: &mut String, found: &Match, text: &str) -> Result<(), AllocError> {
+    write_group(line, &Some(found.range()))?;
+    let (start, end) = (found.start(), found.end());
+    if start <= end && text.is_char_boundary(start) && text.is_char_boundary(end) {
+        write!(line, " {}", found.as_str(text))
+    } else {
+        line.push_str(" -")
+    }
 }
 
-#[test]
-fn a_name_is_told_once_by_its_first_group_that_matched(rt: HostRuntime) -> Result<(), Fail> {
-    let alloc = rt.alloc();
-    let mut found = with_names(alloc)?;
-    assert_eq!(rt; found.named_group("n"), Some(2..4));
-    assert_eq!(rt; found.named_group(""), None);
-    assert_eq!(rt;
-        names_in_turn(alloc, &found)?.as_str(),
-        "; 1: n 2..4; 0: end; 0: end; 0: end"
-    );
-    found.captures.clear();
-    assert_eq!(rt; found.named_group("n"), None);
-    assert_eq!(rt; by_number(alloc, &found)?.as_str(), " 1..4 - - -");
-    assert_eq!(rt;
-        names_in_turn(alloc, &found)?.as_str(),
-        "; 1: n -; 0: end; 0: end; 0: end"
-    );
-    Ok(())
+// A match of two groups, of which the first one has a name and matched.
+fn match_of_parts(alloc: Global) -> Result<Match, AllocError> {
+    let captures = vec![in alloc; Some(1..2), None]?;
+    let names = vec![in alloc; String::from_str(alloc, "year")?, String::new(alloc)]?;
+    Ok(Match::from_parts(1..3, captures, names))
 }
 
-#[test]
-fn a_clone_answers_as_its_source(rt: HostRuntime) -> Result<(), Fail> {
-    let alloc = rt.alloc();
-    let found = with_names(alloc)?.clone()?;
-    assert_eq!(rt; (found.range(), found.start(), found.end()), (1..4, 1, 4));
-    assert_eq!(rt; by_number(alloc, &found)?.as_str(), " 1..4 1..2 - 2..4");
-    assert_eq!(rt;
-        names_in_turn(alloc, &found)?.as_str(),
-        "; 1: n 2..4; 0: end; 0: end; 0: end"
-    );
-    Ok(())
+fn changed(alloc: Global, mut found: Match, change: &str) -> Result<Match, AllocError> {
+    match change {
+        "push" => found.captures.push(None)?,
+        "cut" => found.captures.truncate(1),
+        "clear" => found.captures.clear(),
+        "clone" => return found.clone(),
+        "parts" => return match_of_parts(alloc),
+        _ => {}
+    }
+    Ok(found)
 }
 
-#[test]
-fn the_text_of_a_match_is_its_range(rt: HostRuntime) -> Result<(), Fail> {
-    let re = Regex::new(rt.alloc(), "b")?;
-    let text = "ébe";
-    let found = re.find(text)?.ok_or("no match")?;
-    let fits = found.start() <= found.end();
-    assert!(rt; fits && text.is_char_boundary(found.start()) && text.is_char_boundary(found.end()));
-    assert_eq!(rt; found.as_str(text), "b");
-    Ok(())
+fn write_answers(line: &mut String, found: &Match, text: &str) -> Result<(), AllocError> {
+    write_by_number(line, found)?;
+    line.push_str(" |")?;
+    write_in_turn(line, found)?;
+    line.push_str(" |")?;
+    write_names(line, found)?;
+    line.push_str(" |")?;
+    write_text(line, found, text)
+}
+
+// Writes what the first match in a text answers once it was changed.
+fn write_found(
+    alloc: Global,
+    line: &mut String,
+    re: &Regex,
+    text: &str,
+    change: &str,
+) -> Result<(), SearchError> {
+    match re.find(text)? {
+        Some(found) => Ok(write_answers(line, &changed(alloc, found, change)?, text)?),
+        None => Ok(line.push_str("no match")?),
+    }
+}
+
+pub fn check_match(alloc: Global, differing: &mut String, row: Row<'_>) -> Result<(), SearchError> {
+    let fields: Vec<&str> = row.asked.split('~').collect(alloc)?;
+    let [pattern, flags, text, change] = *fields.as_slice() else {
+        return Ok(compare(differing, row, "other than five fields", "")?);
+    };
+    let mut found = String::new(alloc);
+    match regex_of(alloc, pattern, flags, false) {
+        Ok(re) => write_found(alloc, &mut found, &re, text, change)?,
+        Err(error) => found.push_str(refusal(&error))?,
+    }
+    Ok(compare(differing, row, &found, "")?)
 }

@@ -6,6 +6,8 @@ mod anchored;
 #[cfg(test)]
 mod backends;
 #[cfg(test)]
+mod calls;
+#[cfg(test)]
 mod closures;
 #[cfg(test)]
 mod deep;
@@ -18,20 +20,22 @@ mod limits;
 #[cfg(test)]
 mod lines;
 #[cfg(test)]
-mod programs;
-#[cfg(test)]
-mod public;
+mod patterns;
 #[cfg(test)]
 mod replace;
 #[cfg(test)]
 mod rows;
 #[cfg(test)]
+mod searches;
+#[cfg(test)]
 mod starts;
 #[cfg(test)]
 mod table;
 #[cfg(test)]
+mod tests;
+#[cfg(test)]
 mod tool;
 #[cfg(test)]
-mod trees;
-#[cfg(test)]
 mod units;
+#[cfg(test)]
+mod ways;

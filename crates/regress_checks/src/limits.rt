@@ -1,6 +1,7 @@
 //! Searches whose steps are limited.
 
-use crate::lines::write_all_limited;
+use crate::lines::write_limited;
+use crate::rows::{Row, compare};
 use crate::starts::is_start;
 use regress_match::backends::{LimitedExecutor, emit};
 use regress_match::{Flags, Regex, SearchError};
@@ -8,13 +9,11 @@ use regress_program::insn::CompiledRegex;
 use regress_search::exec::Matches;
 use regress_trees::tree_of;
 use std::alloc::Global;
-use std::process::Abort;
-use std::test::Fail;
 
-// Rows of seven fields, with `~` between them: a pattern, `no_opt` or nothing, a text, a start, the least and the greatest
-// number of steps, and what the search finds with each number of steps from the one to the other. `limit` stands where
-// the limit is reached. For `tree` in the second field the first one is a tree in words.
-const ROWS: &str = r#"cat:2 a goal~tree~a~0~0~1~limit
+// Rows of seven fields: a pattern, `no_opt` or nothing, a text, a start, the least and the greatest number of steps, and
+// what the search finds with each number of steps from the one to the other. `limit` stands where the limit is reached.
+// For `tree` in the second field the first one is a tree in words.
+pub const LIMITS: &str = r#"cat:2 a goal~tree~a~0~0~1~limit
 cat:2 a goal~tree~a~0~2~2~0..1; limit
 cat:2 a goal~tree~a~0~3~20~0..1
 cat:2 alt a b goal~tree~b~0~0~4~limit
@@ -42,16 +41,20 @@ cat:2 a goal~tree~a~1~1~20~
 cat:2 a goal~tree~a~2~0~2~
 cat:2 alt a b goal~tree~b~2~0~2~
 cat:2 bytes:61,62 goal~tree~aab~4~0~2~
+cat:3 loop1:0 a a goal~tree~aa~3~0~2~
+cat:2 loop:0,1,0,1 group:0 a goal~tree~a~2~0~2~
+(?:a|a)*b~no_opt~aaaaaaaaaaaaaaaaaaaaaaaaaaaaaaaaaaaaaaaa~41~0~0~
 ^a~~aa~18446744073709551615~0~2~
 (?:a|a)*~~aaaaaaaaaaaaaaaaaaaaaaaaaaaaaaaaaaaaaaaa~0~0~166~limit
 (?:a|a)*~~aaaaaaaaaaaaaaaaaaaaaaaaaaaaaaaaaaaaaaaa~0~167~173~0..40; limit
 (?:a|a)*~~aaaaaaaaaaaaaaaaaaaaaaaaaaaaaaaaaaaaaaaa~0~174~1000~0..40; 40..40
-(?:a|a)*~no_opt~aaaaaaaaaaaaaaaaaaaaaaaaaaaaaaaaaaaaaaaa~0~166~166~limit
+(?:a|a)*~no_opt~aaaaaaaaaaaaaaaaaaaaaaaaaaaaaaaaaaaaaaaa~0~0~166~limit
 (?:a|a)*~no_opt~aaaaaaaaaaaaaaaaaaaaaaaaaaaaaaaaaaaaaaaa~0~167~173~0..40; limit
 (?:a|a)*~no_opt~aaaaaaaaaaaaaaaaaaaaaaaaaaaaaaaaaaaaaaaa~0~174~1000~0..40; 40..40
 (?:a|a)*b~no_opt~aaaaaaaaaaaaaaaaaaaaaaaaaaaaaaaaaaaaaaaa~0~10000~10000~limit
 (?:a|a)*b~~aaaaaaaaaaaaaaaaaaaaaaaaaaaaaaaaaaaaaaaa~0~10000~10000~limit
 (?:a|a)*~~aaaaaaaaaaaaaaaaaaaaaaaaaaaaaaaaaaaaaaaa~41~0~0~
+(?:a|a)*~no_opt~aaaaaaaaaaaaaaaaaaaaaaaaaaaaaaaaaaaaaaaa~41~0~0~
 "#;
 
 // What is searched.
@@ -74,8 +77,11 @@ fn write_emitted(
         return Ok(line.push_str("no start")?);
     }
     let executor = LimitedExecutor::new(re, text, steps)?;
+    if executor.steps_left() != steps {
+        line.push_str("other steps")?;
+    }
     let mut matches = Matches::new(executor, start);
-    write_all_limited(line, &mut matches)
+    write_limited(line, &mut matches, false)
 }
 
 // Writes what is found of a pattern within so many steps.
@@ -83,9 +89,10 @@ fn write_found(line: &mut String, re: &Regex, search: Search<'_>) -> Result<(), 
     if !is_start(search.text, search.start) {
         return Ok(line.push_str("no start")?);
     }
-    write_all_limited(
+    write_limited(
         line,
         &mut re.find_from_limited(search.text, search.start, search.steps)?,
+        false,
     )
 }
 
@@ -145,30 +152,21 @@ fn split_number(fields: &str) -> (&str, u64) {
     }
 }
 
-#[test]
-fn limits_are_exact(rt: HostRuntime) -> Result<(), Fail> {
-    for line in ROWS.lines() {
-        let (bounds, wanted) = line.rsplit_once('~').unwrap_or((line, "no answer"));
-        let (before, most) = split_number(bounds);
-        let (asked, least) = split_number(before);
-        assert!(rt; least <= most, "no steps at {line}");
-        for steps in least..=most {
-            let mut found = String::new(rt.alloc());
-            write_row(rt.alloc(), &mut found, asked, steps)?;
-            assert!(rt;
-                found.as_str() == wanted,
-                "{found} at {line}, with {steps} steps"
-            );
-        }
+pub fn check_limits(
+    alloc: Global,
+    differing: &mut String,
+    row: Row<'_>,
+) -> Result<(), SearchError> {
+    let (before, most) = split_number(row.asked);
+    let (asked, least) = split_number(before);
+    if most < least {
+        compare(differing, row, "no steps", "")?;
     }
-    Ok(())
-}
-
-#[test]
-fn steps_that_are_left_are_told(rt: HostRuntime) -> Result<(), Fail> {
-    let tree = tree_of(rt.alloc(), "cat:2 a goal").ok_or("no tree")?;
-    let re = emit(rt.alloc(), &tree)?;
-    let executor = LimitedExecutor::new(&re, "a", 5)?;
-    assert_eq!(rt; executor.steps_left(), 5);
+    for steps in least..=most {
+        let mut found = String::new(alloc);
+        write_row(alloc, &mut found, asked, steps)?;
+        let way = format!(in alloc; "within {steps} steps")?;
+        compare(differing, row, &found, &way)?;
+    }
     Ok(())
 }

@@ -1,8 +1,9 @@
 //! Matches as they are written in rows: the range, and behind it those of the groups, `-` for a group that did not
 //! match; `; ` stands between matches.
 
+use regress_input::indexing::{AsciiInput, Utf8Input};
 use regress_match::api;
-use regress_match::backends::{DefaultUcs2Executor, DefaultUtf16Executor};
+use regress_match::backends::{DefaultUcs2Executor, DefaultUtf16Executor, PikeVMExecutor};
 use regress_search::exec::{Match, MatchProducer, Matches, SearchError};
 use std::alloc::AllocError;
 use std::ops::Range;
@@ -13,7 +14,7 @@ fn write_range(line: &mut String, range: &Range<usize>) -> Result<(), AllocError
     write!(line, "{start}..{end}")
 }
 
-pub fn write_match(line: &mut String, found: &Match) -> Result<(), AllocError> {
+fn write_match(line: &mut String, found: &Match) -> Result<(), AllocError> {
     write_range(line, &found.range)?;
     for group in &found.captures {
         line.push(' ')?;
@@ -33,13 +34,17 @@ fn write_item(line: &mut String, item: Result<Match, SearchError>) -> Result<(),
     Ok(write_match(line, &found)?)
 }
 
-// Writes all matches that are to come. Behind their end there is none for good.
+// Writes the first match that is to come, or else all. Behind their end there is none for good.
 fn write_items<P: MatchProducer + Drop>(
     line: &mut String,
     matches: &mut Matches<P>,
+    first: bool,
 ) -> Result<(), SearchError> {
     for item in &mut *matches {
         write_item(line, item)?;
+        if first {
+            return Ok(());
+        }
     }
     match matches.next() {
         Some(_) => Ok(line.push_str("; and more behind the end")?),
@@ -49,40 +54,61 @@ fn write_items<P: MatchProducer + Drop>(
 
 // Each input is named once, since a call of a generic function at it is costly to prove.
 
-pub fn write_all<'r, 't>(
+pub fn write_utf8<'r, 't>(
     line: &mut String,
     matches: &mut api::Matches<'r, 't>,
+    first: bool,
 ) -> Result<(), SearchError> {
-    write_items(line, matches)
+    write_items(line, matches, first)
 }
 
-pub fn write_all_of_ascii<'r, 't>(
+pub fn write_ascii<'r, 't>(
     line: &mut String,
     matches: &mut api::AsciiMatches<'r, 't>,
+    first: bool,
 ) -> Result<(), SearchError> {
-    write_items(line, matches)
+    write_items(line, matches, first)
 }
 
-pub fn write_all_of_utf16<'r, 't>(
+pub fn write_utf16<'r, 't>(
     line: &mut String,
     matches: &mut Matches<DefaultUtf16Executor<'r, 't>>,
+    first: bool,
 ) -> Result<(), SearchError> {
-    write_items(line, matches)
+    write_items(line, matches, first)
 }
 
-pub fn write_all_of_ucs2<'r, 't>(
+pub fn write_ucs2<'r, 't>(
     line: &mut String,
     matches: &mut Matches<DefaultUcs2Executor<'r, 't>>,
+    first: bool,
 ) -> Result<(), SearchError> {
-    write_items(line, matches)
+    write_items(line, matches, first)
 }
 
-// Writes all matches that come before the end or a limit, and the limit. Behind it there is none for good.
-pub fn write_all_limited<'r, 't>(
+pub fn write_copied<'r, 't>(
+    line: &mut String,
+    matches: &mut Matches<PikeVMExecutor<'r, Utf8Input<'t>>>,
+    first: bool,
+) -> Result<(), SearchError> {
+    write_items(line, matches, first)
+}
+
+pub fn write_copied_of_ascii<'r, 't>(
+    line: &mut String,
+    matches: &mut Matches<PikeVMExecutor<'r, AsciiInput<'t>>>,
+    first: bool,
+) -> Result<(), SearchError> {
+    write_items(line, matches, first)
+}
+
+// Writes what comes before the end or a limit, and the limit. Behind it there is none for good.
+pub fn write_limited<'r, 't>(
     line: &mut String,
     matches: &mut api::LimitedMatches<'r, 't>,
+    first: bool,
 ) -> Result<(), SearchError> {
-    match write_items(line, matches) {
+    match write_items(line, matches, first) {
         Err(SearchError::StepLimit) => {
             line.push_str(if line.is_empty() { "limit" } else { "; limit" })?;
             match matches.next() {

@@ -1,11 +1,9 @@
-//! The table of rows.
+//! The table of searches.
 
-// Rows of five fields, with `~` between them: a pattern, the letters of its flags, a text in which `␤` stands for a
-// line feed, a call, and what the call finds. The calls are `all`, `first`, an offset for all matches from there, and
-// `anchored` for whether the pattern's program is tried at the left end alone.
-// For `new` in place of flags the pattern is read without them, and for `tree` the first field is a tree in words, which
-// may be no pattern's.
-pub const ROWS: &str = r#"a|ab~~abc~all~0..1
+// Rows of five fields: a pattern, the letters of its flags, a text in which `␤` stands for a line feed, a call, and what the
+// call finds. The calls are `all`, `first`, or an offset for all matches from there. In place of flags stand those of
+// `regex_of`, as `tree` where the first field is a tree in words, which may be no pattern's.
+pub const SEARCHES: &str = r#"a|ab~~abc~all~0..1
 ((a)|(ab))((c)|(bc))~~abc~all~0..3 0..1 0..1 - 1..3 - 1..3
 (?<=x)y~~yxy~all~2..3
 (?<=x)y~~xyxy~1~1..2; 3..4
@@ -104,8 +102,13 @@ a*a~~aa~all~0..2
 \b(\w)(\w+)~~hello world~all~0..5 0..1 1..5; 6..11 6..7 7..11
 b~new~aBb~first~2..3
 b~new~é~first~
-^a~~~anchored~true
-^a~m~~anchored~false
+b~from_str~ab~first~1..2
+(~from_str~~all~no pattern
+aé~points~xaé~first~1..4
+cat:2 a goal/cat:2 b goal~pair~ab~first~0..1
+cat:2 a goal/cat:2 b goal~pair~ab~all~0..1
+b|é~~abéb~2~2..4; 4..5
+b|é~~abab~2~3..4
 cat:2 char:110000 goal~tree~a~0~
 cat:2 set goal~tree~a~0~
 cat:3 loop1:0 char:D800 a goal~tree~a~0~0..1

@@ -1,31 +1,30 @@
 //! What the program prints and answers.
 
+use crate::rows::{Row, compare};
 use regress_match::program::run;
 use std::alloc::{AllocError, Global};
 use std::io;
 use std::io::Write;
-use std::process::Abort;
-use std::test::Fail;
 
-// How many writes of output and of errors are good, words with `~` between them, and what the program answers, prints
-// and tells where it is given the words. `-` stands for any number of writes, `␀` for a word that is not UTF-8.
-const ROWS: &str = r#"-- a|ab~~abc → 0 "0..1\n" ""
--- ab|a~~aab → 0 "0..1\n1..3\n" ""
--- ~~ab → 0 "0..0\n1..1\n2..2\n" ""
--- ~~ → 0 "0..0\n" ""
--- é~~aé → 0 "1..3\n" ""
--- z~~abc → 1 "" ""
--- a*~~a → 0 "0..1\n1..1\n" ""
--- (a)|b~~ab → 0 "0..1 0..1\n1..2 -\n" ""
--- (~~ → 2 "" "pattern refused\n"
--- a → 2 "" "usage: regress-tool PATTERN FLAGS TEXT\n"
--- a~~a~a → 2 "" "usage: regress-tool PATTERN FLAGS TEXT\n"
--- a~~␀ → 2 "" "usage: regress-tool PATTERN FLAGS TEXT\n"
-0- a~~aaa → 2 "cut" ""
-1- a~~aaa → 2 "cut" ""
-2- a~~aaa → 2 "cut" ""
-5- a~~aaa → 2 "cut" ""
--0 (~~ → 2 "" "cut"
+// How many writes of output and of errors are good, the words that the program is given, each a field, and what it then
+// answers, prints and tells. `-` stands for any number of writes, `␀` for a word that is not UTF-8.
+pub const RUNS: &str = r#"-- a|ab~~abc~0 "0..1\n" ""
+-- ab|a~~aab~0 "0..1\n1..3\n" ""
+-- ~~ab~0 "0..0\n1..1\n2..2\n" ""
+-- ~~~0 "0..0\n" ""
+-- é~~aé~0 "1..3\n" ""
+-- z~~abc~1 "" ""
+-- a*~~a~0 "0..1\n1..1\n" ""
+-- (a)|b~~ab~0 "0..1 0..1\n1..2 -\n" ""
+-- (~~~2 "" "pattern refused\n"
+-- a~2 "" "usage: regress-tool PATTERN FLAGS TEXT\n"
+-- a~~a~a~2 "" "usage: regress-tool PATTERN FLAGS TEXT\n"
+-- a~~␀~2 "" "usage: regress-tool PATTERN FLAGS TEXT\n"
+0- a~~aaa~2 "cut" ""
+1- a~~aaa~2 "cut" ""
+2- a~~aaa~2 "cut" ""
+5- a~~aaa~2 "cut" ""
+-0 (~~~2 "" "cut"
 "#;
 
 // Takes so many writes, fails the next one, and counts all that are tried.
@@ -103,13 +102,8 @@ fn ran(alloc: Global, goods: &str, words: &str) -> Result<String, AllocError> {
     format!(in alloc; "{status} {printed:?} {told:?}")
 }
 
-#[test]
-fn words_have_these_answers(rt: HostRuntime) -> Result<(), Fail> {
-    for line in ROWS.lines() {
-        let (asked, wanted) = line.split_once(" → ").unwrap_or((line, "no answer"));
-        let (goods, words) = asked.split_once(' ').unwrap_or((asked, ""));
-        let found = ran(rt.alloc(), goods, words)?;
-        assert!(rt; found.as_str() == wanted, "{found} at {line}");
-    }
-    Ok(())
+pub fn check_run(alloc: Global, differing: &mut String, row: Row<'_>) -> Result<(), AllocError> {
+    let (goods, words) = row.asked.split_once(' ').unwrap_or((row.asked, ""));
+    let found = ran(alloc, goods, words)?;
+    compare(differing, row, &found, "")
 }

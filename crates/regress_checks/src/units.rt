@@ -1,43 +1,74 @@
 //! Searches over 16-bit units.
 
-use crate::lines::{write_all_of_ucs2, write_all_of_utf16};
-use regress_match::backends::{emit, emit_units};
-use regress_match::{Error, Flags, Regex, SearchError, is_unit_boundary};
-use regress_trees::tree_of;
+use crate::calls::Asked;
+use crate::lines::{write_ucs2, write_utf16};
+use crate::patterns::{refusal, regex_of};
+use crate::rows::{Row, compare};
+use regress_match::{Regex, SearchError, is_unit_boundary};
 use std::alloc::{AllocError, Global};
-use std::process::Abort;
-use std::test::Fail;
 
-// Rows of six fields, with `~` between them: a pattern, the letters of its flags, or `tree` where the pattern is a tree in
-// words, the units in hexadecimal, their encoding, where the search starts, and all matches from there.
-const ROWS: &str = r#".~~61 D83D DE00 61~utf16~0~0..1; 1..3; 3..4
+// Rows of six fields: a pattern, the letters of its flags, or `tree` where the pattern is a tree in words, the units in
+// hexadecimal, their encoding, or `both`, where the search starts, and all matches from there. In `utf16` or `ucs2` alone
+// stand those in which the two differ.
+pub const UNITS: &str = r#".~~61 D83D DE00 61~utf16~0~0..1; 1..3; 3..4
 .~~61 D83D DE00 61~ucs2~0~0..1; 1..2; 2..3; 3..4
 .~~D83D DE00~utf16~0~0..2
 .~~D83D DE00~ucs2~0~0..1; 1..2
-.~~DE00 D83D~utf16~0~0..1; 1..2
-.~~DE00 D83D~ucs2~0~0..1; 1..2
+.~~DE00 D83D~both~0~0..1; 1..2
 (.)\1~~D83D D83D DE00~utf16~0~
 (.)\1~~D83D D83D DE00~ucs2~0~0..2 0..1
 (?<=(.))$~~D83D DE00~utf16~0~2..2 0..2
 (?<=(.))$~~D83D DE00~ucs2~0~2..2 1..2
-[a-z]~~161~utf16~0~
-[a-z]~~161~ucs2~0~
+[a-z]~~161~both~0~
 .~~D83D DE00~ucs2~1~1..2
 .~~D83D DE00~utf16~1~no start
-.~~D83D DE00~utf16~2~
-.~~DE00~utf16~1~
-$~~DE00~utf16~1~1..1
-(k)\1~iu~6B 212A~utf16~0~0..2 0..1
-(k)\1~iu~6B 212A~ucs2~0~0..2 0..1
-a*~~61 61 62~utf16~1~1..2; 2..2; 3..3
-a*~~61 61 62~ucs2~4~
-a~~61~utf16~18446744073709551615~
-a~~61~ucs2~18446744073709551615~
-cat:2 char:D800 goal~tree~D800~utf16~0~0..1
-cat:2 char:D800 goal~tree~D800~ucs2~0~0..1
-cat:2 char:110000 goal~tree~61~utf16~0~
-cat:2 char:110000 goal~tree~61~ucs2~0~
+.~~D83D DE00~both~2~
+.~~DE00~both~1~
+$~~DE00~both~1~1..1
+(k)\1~iu~6B 212A~both~0~0..2 0..1
+.*b~~62 E9~both~0~0..1
+.*b~~62 D83D DE00~both~0~0..1
+[^a]~~61 E9~both~0~1..2
+[^a]~~61 D83D DE00~utf16~0~1..3
+[^a]~~61 D83D DE00~ucs2~0~1..2; 2..3
+a.{1,2}~~61 E9 E9 20AC~both~0~0..3
+é.*?[ü;]~~61 E9 DF FC 20 E9 3B E9 62 A FC~both~0~1..4; 5..7
+b~~61 62 E9 62~both~first~1..2
+b~~61 62 E9 62~both~all~1..2; 3..4
+b~~61 62 E9 62~both~2~3..4
+b~~61 62 E9 62~both~3~3..4
+b~~61 62 E9 62~both~4~
+b~~61 62 E9 62~both~5~
+b|é~~61 62 E9 62~both~2~2..3; 3..4
+b~~E9~both~first~
+b~new~E9~both~first~
+cat:2 any goal~tree~E9 20AC~both~0~0..1; 1..2
+cat:2 any goal~tree~E9 20AC~both~2~
+cat:2 any goal~tree~E9 20AC~both~3~
+cat:2 empty goal~tree~E9 20AC~both~0~0..0; 1..1; 2..2
+cat:2 empty goal~tree~E9 20AC~both~2~2..2
+cat:2 empty goal~tree~E9 20AC~both~3~
+é~points~78 61 E9~both~all~2..3
+a*~~61 61 62~both~1~1..2; 2..2; 3..3
+a*~~61 61 62~both~4~
+a~~61~both~18446744073709551615~
+cat:2 char:D800 goal~tree~D800~both~0~0..1
+cat:2 char:110000 goal~tree~61~both~0~
+cat:2 a goal/cat:2 b goal~pair~61 62~both~0~1..2
 "#;
+
+// Rows of two fields: units in hexadecimal, and of each offset from 0 to 3 whether it is a boundary.
+pub const BOUNDARIES: &str = "\
+D83D DE00~true false true false
+DE00~true true false false";
+
+// Units that are read in an encoding, from where on, and how many matches are wanted.
+#[derive(Clone, Copy)]
+struct Search<'a> {
+    units: &'a [u16],
+    encoding: &'a str,
+    asked: Asked,
+}
 
 fn units_of(alloc: Global, written: &str) -> Result<Vec<u16>, AllocError> {
     let mut units = Vec::new(alloc);
@@ -47,78 +78,83 @@ fn units_of(alloc: Global, written: &str) -> Result<Vec<u16>, AllocError> {
     Ok(units)
 }
 
-// The pattern of a tree in words, if it has programs.
-fn regex_of_tree(alloc: Global, words: &str) -> Result<Regex, Error> {
-    match tree_of(alloc, words) {
-        Some(tree) => Ok(Regex::from_programs(emit(alloc, &tree)?, emit_units(alloc, &tree)?)),
-        None => Err(Error::Memory),
-    }
-}
-
-fn regex_of(alloc: Global, pattern: &str, flags: &str) -> Result<Regex, Error> {
-    if flags == "tree" {
-        regex_of_tree(alloc, pattern)
-    } else {
-        Regex::with_flags(alloc, pattern, Flags::from(flags))
-    }
-}
-
-fn write_from_utf16(
+pub fn write_of_utf16(
     line: &mut String,
     re: &Regex,
     units: &[u16],
-    start: usize,
+    asked: Asked,
 ) -> Result<(), SearchError> {
+    let start = asked.start();
     if is_unit_boundary(units, start) || units.len() < start {
-        write_all_of_utf16(line, &mut re.find_from_utf16(units, start)?)
+        let mut matches = re.find_from_utf16(units, start)?;
+        write_utf16(line, &mut matches, asked.is_first())
     } else {
         Ok(line.push_str("no start")?)
     }
 }
 
-fn write_found(
+pub fn write_of_ucs2(
     line: &mut String,
     re: &Regex,
     units: &[u16],
-    encoding: &str,
-    start: usize,
+    asked: Asked,
 ) -> Result<(), SearchError> {
-    match encoding {
-        "utf16" => write_from_utf16(line, re, units, start),
-        _ => write_all_of_ucs2(line, &mut re.find_from_ucs2(units, start)?),
-    }
+    let mut matches = re.find_from_ucs2(units, asked.start())?;
+    write_ucs2(line, &mut matches, asked.is_first())
 }
 
-// Writes what is found for the first five fields of a row.
-fn write_row(alloc: Global, line: &mut String, asked: &str) -> Result<(), SearchError> {
-    let fields: Vec<&str> = asked.split('~').collect(alloc)?;
-    let [pattern, flags, written, encoding, start] = *fields.as_slice() else {
-        return Ok(line.push_str("other than six fields")?);
-    };
-    let units = units_of(alloc, written)?;
-    let start = start.parse::<usize>().unwrap_or(0);
-    match regex_of(alloc, pattern, flags) {
-        Ok(re) => write_found(line, &re, &units, encoding, start),
-        Err(_) => Ok(line.push_str("no pattern")?),
+fn check_encodings(
+    alloc: Global,
+    differing: &mut String,
+    row: Row<'_>,
+    re: &Regex,
+    search: &Search<'_>,
+) -> Result<(), SearchError> {
+    if search.encoding != "ucs2" {
+        let mut found = String::new(alloc);
+        write_of_utf16(&mut found, re, search.units, search.asked)?;
+        compare(differing, row, &found, "in UTF-16")?;
     }
-}
-
-#[test]
-fn units_are_searched(rt: HostRuntime) -> Result<(), Fail> {
-    for line in ROWS.lines() {
-        let (asked, wanted) = line.rsplit_once('~').unwrap_or((line, "no answer"));
-        let mut found = String::new(rt.alloc());
-        write_row(rt.alloc(), &mut found, asked)?;
-        assert!(rt; found.as_str() == wanted, "{found} at {line}");
+    if search.encoding != "utf16" {
+        let mut found = String::new(alloc);
+        write_of_ucs2(&mut found, re, search.units, search.asked)?;
+        compare(differing, row, &found, "in UCS-2")?;
     }
     Ok(())
 }
 
-#[test]
-fn pairs_of_surrogates_are_not_cut(rt: HostRuntime) {
-    let pair = [0xD83D, 0xDE00];
-    let ends = (is_unit_boundary(&pair, 0), is_unit_boundary(&pair, 2));
-    let others = (is_unit_boundary(&pair, 1), is_unit_boundary(&pair, 3));
-    assert!(rt; ends == (true, true) && others == (false, false));
-    assert!(rt; is_unit_boundary(&[0xDE00], 0) && is_unit_boundary(&[0xDE00], 1));
+pub fn check_units(alloc: Global, differing: &mut String, row: Row<'_>) -> Result<(), SearchError> {
+    let fields: Vec<&str> = row.asked.split('~').collect(alloc)?;
+    let [pattern, flags, written, encoding, call] = *fields.as_slice() else {
+        return Ok(compare(differing, row, "other than six fields", "")?);
+    };
+    let units = units_of(alloc, written)?;
+    let search = Search {
+        units: &units,
+        encoding,
+        asked: Asked::of(call),
+    };
+    for no_opt in [false, true] {
+        match regex_of(alloc, pattern, flags, no_opt) {
+            Ok(re) => check_encodings(alloc, differing, row, &re, &search)?,
+            Err(error) => compare(differing, row, refusal(&error), "")?,
+        }
+    }
+    Ok(())
+}
+
+pub fn check_boundaries(
+    alloc: Global,
+    differing: &mut String,
+    row: Row<'_>,
+) -> Result<(), AllocError> {
+    let units = units_of(alloc, row.asked)?;
+    let mut found = String::new(alloc);
+    for offset in 0..4 {
+        if offset > 0 {
+            found.push(' ')?;
+        }
+        write!(found, "{}", is_unit_boundary(&units, offset))?;
+    }
+    compare(differing, row, &found, "")
 }

@@ -1,7 +1,7 @@
 use Rattle.std.proofs.Common.{refl}
 use Rattle.regress_match.specs.Programs.{byte_tree}
 use Rattle.regress_match.proofs.Starts.{ascii_start}
-use Rattle.regress_checks.proofs.backends.write_from_in_ascii.Goals as goal
+use Rattle.regress_checks.proofs.backends.write_by_copying_in_ascii.Goals as goal
 
 pub find_ascii-requires : goal.find_ascii-requires
 find_ascii-requires c = λ lifetimes.

@@ -1,7 +1,7 @@
 use Rattle.std.proofs.Common.{refl, rules}
 use Rattle.regress_match.specs.Programs.{byte_tree}
 use Rattle.regress_match.proofs.Starts.{utf8_start}
-use Rattle.regress_checks.proofs.backends.write_from.Goals as goal
+use Rattle.regress_checks.proofs.backends.write_by_copying.Goals as goal
 
 pub find-requires : goal.find-requires
 find-requires c = λ lifetimes.

@@ -1,6 +1,0 @@
-use Rattle.std.proofs.Common.{rules}
-use Rattle.regress_match.proofs.Starts.{utf8_start}
-use Rattle.regress_checks.proofs.trees.write_from.Goals as goal
-
-pub new-requires-2 : goal.new-requires-2
-new-requires-2 c = utf8_start _ c.args.text.now _ c.in_ok-executor.ensures.text c.utf8.text c.args.start (search rules)

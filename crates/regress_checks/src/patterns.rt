@@ -1,0 +1,74 @@
+//! Patterns of rows, and those of trees made by hand, of which some are no pattern's.
+
+use regress_match::backends::{emit, emit_units, optimize};
+use regress_match::{Error, Flags, Regex};
+use regress_program::emit::EmitError;
+use regress_program::insn::CompiledUnits;
+use regress_trees::tree_of;
+use std::alloc::Global;
+
+// The program for 16-bit units of a tree in words. A tree with bytes has none, and is not to be searched for in them; it
+// gets that of the tree that has an empty match everywhere.
+fn units_of(alloc: Global, words: &str) -> Result<CompiledUnits, Error> {
+    let tree = tree_of(alloc, words).ok_or(Error::Memory)?;
+    match emit_units(alloc, &tree) {
+        Err(EmitError::BytesInUnits) => {
+            let empty = tree_of(alloc, "goal").ok_or(Error::Memory)?;
+            Ok(emit_units(alloc, &empty)?)
+        }
+        units => Ok(units?),
+    }
+}
+
+// The pattern of two trees in words, of which the second one is that for 16-bit units.
+fn regex_of_trees(alloc: Global, bytes: &str, units: &str, no_opt: bool) -> Result<Regex, Error> {
+    let units = units_of(alloc, units)?;
+    let mut tree = tree_of(alloc, bytes).ok_or(Error::Memory)?;
+    if !no_opt {
+        optimize(&mut tree);
+    }
+    Ok(Regex::from_programs(emit(alloc, &tree)?, units))
+}
+
+// A clone of the pattern of two trees, with `/` between their words.
+fn regex_of_pair(alloc: Global, words: &str, no_opt: bool) -> Result<Regex, Error> {
+    let (bytes, units) = words.split_once('/').unwrap_or((words, words));
+    Ok(regex_of_trees(alloc, bytes, units, no_opt)?.clone()?)
+}
+
+fn regex_of_points(alloc: Global, pattern: &str, no_opt: bool) -> Result<Regex, Error> {
+    let points: Vec<u32> = pattern.chars().map(u32::from).collect(alloc)?;
+    let flags = Flags {
+        no_opt,
+        ..Flags::default()
+    };
+    Regex::from_unicode(alloc, &points, flags)
+}
+
+// A pattern with the flags of these letters. In place of letters stand the constructors that take none, `new` and
+// `from_str`; `points` for that of code points; `tree`, where the pattern is a tree in words, and `pair`, where it is two.
+pub fn regex_of(alloc: Global, pattern: &str, flags: &str, no_opt: bool) -> Result<Regex, Error> {
+    match flags {
+        "new" => Regex::new(alloc, pattern),
+        "from_str" => Regex::from_str(alloc, pattern),
+        "points" => regex_of_points(alloc, pattern, no_opt),
+        "tree" => regex_of_trees(alloc, pattern, pattern, no_opt),
+        "pair" => regex_of_pair(alloc, pattern, no_opt),
+        letters => {
+            let flags = Flags {
+                no_opt,
+                ..Flags::from(letters)
+            };
+            Regex::with_flags(alloc, pattern, flags)
+        }
+    }
+}
+
+// Why there is no pattern.
+pub fn refusal(error: &Error) -> &'static str {
+    match error {
+        Error::Parse(_) => "no pattern",
+        Error::Emit(_) => "no program",
+        Error::Memory => "no memory or no tree",
+    }
+}

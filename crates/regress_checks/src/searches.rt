@@ -1,0 +1,90 @@
+//! Patterns, texts and what the searches find.
+
+use crate::calls::Asked;
+use crate::patterns::{refusal, regex_of};
+use crate::rows::{Row, compare};
+use crate::ways::{WAYS, Way, write_found};
+use regress_match::{Regex, SearchError};
+use std::alloc::{AllocError, Global};
+
+// What is searched for, and how.
+#[derive(Clone, Copy)]
+struct Search<'a> {
+    pattern: &'a str,
+    flags: &'a str,
+    text: &'a str,
+    asked: Asked,
+}
+
+// The text of a row, with its line feeds.
+fn text_of(alloc: Global, written: &str) -> Result<String, AllocError> {
+    let mut text = String::new(alloc);
+    for c in written.chars() {
+        text.push(if c == '␤' { '\n' } else { c })?;
+    }
+    Ok(text)
+}
+
+// Whether a row is searched in this way. Only what is ASCII is read as such; and it is read in 16-bit units too, since its
+// offsets are the same there. Trees with bytes have no program for units, and of a pair of trees the second one has it.
+fn is_for(search: &Search<'_>, way: Way) -> bool {
+    let is_of_bytes = search.flags == "pair"
+        || search.flags == "tree" && search.pattern.contains("byte");
+    match way {
+        Way::Utf8 | Way::Named | Way::Limited | Way::Copying => true,
+        Way::Ascii | Way::AsciiNamed | Way::AsciiCopying => search.text.is_ascii(),
+        Way::Utf16 | Way::Ucs2 => search.text.is_ascii() && !is_of_bytes,
+    }
+}
+
+fn check_ways(
+    alloc: Global,
+    differing: &mut String,
+    row: Row<'_>,
+    re: &Regex,
+    search: &Search<'_>,
+) -> Result<(), SearchError> {
+    for (way, name) in WAYS {
+        if is_for(search, way) {
+            let mut found = String::new(alloc);
+            write_found(alloc, &mut found, re, search.text, search.asked, way)?;
+            compare(differing, row, &found, name)?;
+        }
+    }
+    Ok(())
+}
+
+fn check_pattern(
+    alloc: Global,
+    differing: &mut String,
+    row: Row<'_>,
+    search: &Search<'_>,
+    no_opt: bool,
+) -> Result<(), SearchError> {
+    match regex_of(alloc, search.pattern, search.flags, no_opt) {
+        Ok(re) => check_ways(alloc, differing, row, &re, search),
+        Err(error) => Ok(compare(differing, row, refusal(&error), "")?),
+    }
+}
+
+pub fn check_search(
+    alloc: Global,
+    differing: &mut String,
+    row: Row<'_>,
+) -> Result<(), SearchError> {
+    let fields: Vec<&str> = row.asked.split('~').collect(alloc)?;
+    let [pattern, flags, written, call] = *fields.as_slice() else {
+        return Ok(compare(differing, row, "other than five fields", "")?);
+    };
+    let text = text_of(alloc, written)?;
+    let search = Search {
+        pattern,
+        flags,
+        text: &text,
+        asked: Asked::of(call),
+    };
+    for no_opt in [false, true] {
+        check_pattern(alloc, differing, row, &search, no_opt)?;
+    }
+    Ok(())
+}

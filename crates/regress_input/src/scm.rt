@@ -96,6 +96,7 @@ impl<'a, Input: InputIndexer, Dir: Direction> SingleCharMatcher<Input, Dir> for 
 pub struct MatchAny {}
 
 impl MatchAny {
+    /// The matcher, which holds nothing.
     pub fn new() -> Self {
         MatchAny {}
     }
@@ -115,6 +116,7 @@ impl<Input: InputIndexer, Dir: Direction> SingleCharMatcher<Input, Dir> for Matc
 pub struct MatchAnyExceptLineTerminator {}
 
 impl MatchAnyExceptLineTerminator {
+    /// The matcher, which holds nothing.
     pub fn new() -> Self {
         MatchAnyExceptLineTerminator {}
     }

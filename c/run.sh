@@ -9,5 +9,6 @@ trap 'rm -rf "$room"' EXIT
 (cd "$here/../crates/$name" && rt lib >"$room/log" 2>&1) || { cat "$room/log"; exit 1; }
 ${CC:-cc} -std=c11 -Wall -Wextra -Werror -O2 -o "$room/dates" "$here/dates.c" \
     -L "$here/../crates/$name/out" -l"$name" -L "$kit/c" -llibc_c
-"$room/dates" | diff - "$here/dates.out"
+"$room/dates" >"$room/printed"
+diff "$room/printed" "$here/dates.out"
 echo "dates: as expected"

@@ -12,7 +12,7 @@ use std::marker::Model;
 /// The greatest code point.
 pub const CODE_POINT_MAX: u32 = 0x10_FFFF;
 
-/// The code points from `first` to `last`, both counted in.
+/// The code points from `first` to `last`, both counted in; none where `last` is below `first`.
 #[derive(Clone, Copy, Debug, PartialEq, Eq)]
 pub struct Interval {
     pub first: u32,
@@ -48,6 +48,10 @@ impl CodePointSet {
     }
 
     /// The numbers of these intervals, which may stand in any order, meet, or be empty.
+    ///
+    /// # Errors
+    ///
+    /// Where there is no memory for the set.
     pub fn from_intervals(alloc: Global, intervals: &[Interval]) -> Result<Self, AllocError>
         ensures { IfOk result (λ s. (c : ℕ) → in_intervals s c ≡ in_intervals (map interval_of intervals.now) c) }
     {
@@ -75,6 +79,10 @@ impl CodePointSet {
     }
 
     /// The code points that are not in the set.
+    ///
+    /// # Errors
+    ///
+    /// Where there is no memory for them.
     pub fn inverted(&self) -> Result<Self, AllocError>
         ensures { IfOk result (λ s. (c : ℕ) → in_intervals s c ≡ (nat_le c 0x10_FFFF && not (in_intervals self.now c))) }
     {
@@ -84,6 +92,10 @@ impl CodePointSet {
     }
 
     /// The same set once more.
+    ///
+    /// # Errors
+    ///
+    /// Where there is no memory for the copy.
     pub fn clone(&self) -> Result<Self, AllocError>
         ensures { IfOk result (λ s. s ≡ self.now) }
     {

@@ -43,8 +43,12 @@ fn to_uppercase(c: u32) -> u32
     if 0x61 <= c && c <= 0x7A { c - 0x20 } else { c }
 }
 
-/// The code points that a code point of a pattern stands for, rising: with `icase` all that have its fold,
-/// else itself alone.
+/// The code points that a code point of a pattern stands for, rising: with `icase` all that have its fold
+/// (`fold_code_point`), else itself alone.
+///
+/// # Errors
+///
+/// Where there is no memory for them.
 #[tactic(auto, unfolding(regex_meaning::specs::Text::expand_code_point))]
 pub fn expand_code_point(
     alloc: Global,

@@ -9,7 +9,9 @@ use std::ops::Range;
 /// `^` or `$`.
 #[derive(Clone, Copy, Debug, PartialEq, Eq)]
 pub enum AnchorType {
+    /// `^`
     StartOfLine,
+    /// `$`
     EndOfLine,
 }
 
@@ -20,6 +22,7 @@ pub struct Quantifier {
     pub min: usize,
     /// The greatest number of iterations; where there is none it is `usize::MAX`.
     pub max: Option<usize>,
+    /// Whether another iteration is preferred to leaving.
     pub greedy: bool,
 }
 

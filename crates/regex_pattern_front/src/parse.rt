@@ -51,6 +51,11 @@ impl<T: Drop> From<AllocFailed<T>> for ParseError {
 /// stand in reverse order inside a lookbehind (ECMA-262, 21.2.1 and 21.2.2).
 ///
 /// What is open waits on the heap, so neither many alternatives nor deep groups take stack.
+///
+/// # Errors
+///
+/// `Syntax` where the text is no pattern, and `Memory` where there is no memory for the tree. No clause says which texts
+/// are patterns.
 pub fn try_parse(alloc: Global, pattern: &[u32], flags: Flags) -> Result<Regex, ParseError>
     ensures flags { IfOk result (λ re. re.flags ≡ flags) }
     ensures well_formed { IfOk result (λ re. IsTrue (is_well_formed (tree_of re).root)) }

@@ -17,7 +17,7 @@ pub const MAX_CAPTURE_GROUPS: usize = 65535;
 /// How many characters a set of characters holds that stands in one instruction.
 pub const MAX_CHAR_SET_LENGTH: usize = 4;
 
-/// A set of code points, or with `invert` its complement.
+/// A class: the code points of a set, or with `invert` all others.
 #[derive(Drop)]
 pub struct BracketContents {
     pub invert: bool,
@@ -26,6 +26,10 @@ pub struct BracketContents {
 
 impl BracketContents {
     /// The same class once more.
+    ///
+    /// # Errors
+    ///
+    /// Where there is no memory for the copy.
     pub fn clone(&self) -> Result<Self, AllocError>
         ensures { IfOk result (λ b. b ≡ self.now) }
     {

@@ -87,6 +87,7 @@ impl Match {
 pub trait MatchProducer {
     ghost use Rattle.regress_exec.specs.Answers.{answer_of};
 
+    /// Where a search may go on.
     type Position: PositionType;
 
     ghost tree: { Self → Tree };
@@ -134,6 +135,10 @@ pub trait Searcher<'r>: MatchProducer {
     ghost text_of: { Self.Text → (unicode : Bool) → Text };
 
     /// Searches `text` with the program `re`.
+    ///
+    /// # Errors
+    ///
+    /// Where there is no memory for what the producer holds from the start on.
     fn new(re: &'r CompiledRegex, text: Self::Text) -> Result<Self, AllocError>
     where
         Self: Sized,

@@ -43,6 +43,10 @@ pub trait Attempts {
         ensures { Self.Input.text result.now ≡ text self.now };
 
     /// The end of the most preferred match that begins at a position, which leaves its groups to be asked for.
+    ///
+    /// # Errors
+    ///
+    /// `StepLimit` where more steps are needed than are left, and then none is; and `Memory`.
     fn attempt(
         &mut self,
         pos: <Self::Input as InputIndexer>::Position,

@@ -57,6 +57,7 @@ impl CodeUnits for Ucs2Units {
 
 /// What has units.
 pub trait HasUnits {
+    /// The units in which its offsets count.
     type Units: CodeUnits;
 }
 

@@ -31,6 +31,7 @@ pub trait ElementType: Copy + Debug + Ord {
 
 /// What an encoding says of its characters: their fold, and the classes that patterns name.
 pub trait CharProperties {
+    /// The characters.
     type Element: ElementType;
 
     ghost folded: { (unicode : Bool) → ℕ → ℕ };

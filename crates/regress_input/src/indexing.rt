@@ -28,10 +28,13 @@ use std::ops::Range;
 
 /// A text that can be read from any boundary. Contracts see the text.
 pub trait InputIndexer: Copy + Debug + UnitsAre {
+    /// What is read at a time, a character.
     type Element: ElementType;
 
+    /// The fold and the classes of its characters.
     type CharProps: CharProperties<Element = Self::Element>;
 
+    /// Where it is read.
     type Position: PositionType;
 
     ghost text: { Self → Text };

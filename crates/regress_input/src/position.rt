@@ -69,6 +69,7 @@ pub trait Direction: Copy + Debug {
     /// Whether it is from left to right.
     const FORWARD: bool;
 
+    /// The direction, which holds nothing.
     fn new() -> Self;
 }
 

@@ -97,6 +97,7 @@ impl<'a, Input: InputIndexer, Dir: Direction> SingleCharMatcher<Input, Dir> for 
 pub struct MatchAny {}
 
 impl MatchAny {
+    /// The matcher, which holds nothing.
     pub fn new() -> Self {
         MatchAny {}
     }
@@ -116,6 +117,7 @@ impl<Input: InputIndexer, Dir: Direction> SingleCharMatcher<Input, Dir> for Matc
 pub struct MatchAnyExceptLineTerminator {}
 
 impl MatchAnyExceptLineTerminator {
+    /// The matcher, which holds nothing.
     pub fn new() -> Self {
         MatchAnyExceptLineTerminator {}
     }

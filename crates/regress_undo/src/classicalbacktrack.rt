@@ -81,6 +81,10 @@ impl<'r, Input: InputIndexer> Attempts for BacktrackExecutor<'r, Input> {
 
 impl<'r, 't> BacktrackExecutor<'r, Utf16Input<'t>> {
     /// Searches 16-bit units, read as UTF-16, with the program `re`.
+    ///
+    /// # Errors
+    ///
+    /// None so far: it takes no memory.
     pub fn new_utf16(re: &'r CompiledUnits, text: &'t [u16]) -> Result<Self, AllocError>
         ensures tree { IfOk result (λ e. ⟦<BacktrackExecutor<'r, Utf16Input<'t>> as MatchProducer>⟧.tree e ≡ tree_of re.now) }
         ensures text { IfOk result (λ e. ⟦<BacktrackExecutor<'r, Utf16Input<'t>> as MatchProducer>⟧.text e ≡ utf16_text text.now (tree_of re.now).flags.unicode) }
@@ -100,6 +104,10 @@ impl<'r, 't> BacktrackExecutor<'r, Utf16Input<'t>> {
 
 impl<'r, 't> BacktrackExecutor<'r, Ucs2Input<'t>> {
     /// Searches 16-bit units, each of which is a character, with the program `re`.
+    ///
+    /// # Errors
+    ///
+    /// None so far: it takes no memory.
     pub fn new_ucs2(re: &'r CompiledUnits, text: &'t [u16]) -> Result<Self, AllocError>
         ensures tree { IfOk result (λ e. ⟦<BacktrackExecutor<'r, Ucs2Input<'t>> as MatchProducer>⟧.tree e ≡ tree_of re.now) }
         ensures text { IfOk result (λ e. ⟦<BacktrackExecutor<'r, Ucs2Input<'t>> as MatchProducer>⟧.text e ≡ ucs2_text text.now (tree_of re.now).flags.unicode) }

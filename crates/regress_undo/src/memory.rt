@@ -61,7 +61,8 @@ impl Model for Memory {
 
     ghost view = { λ m. record { groups = m.groups; slots = m.slots.items; log = take m.logged m.log.items; marks = take m.marked m.marks.items } };
 
-    ghost invariant = { λ m. (m.groups ≤ length m.slots.items) × (m.logged ≤ length m.log.items) × (m.marked ≤ length m.marks.items) × IsTrue (are_within (length m.slots.items) (take m.logged m.log.items)) };
+    ghost invariant = { λ m. (m.groups ≤ length m.slots.items) × (m.logged ≤ length m.log.items) × (m.marked ≤ length m.marks.items)
+        × IsTrue (are_within (length m.slots.items) (take m.logged m.log.items)) };
 }
 
 // Makes a row longer.

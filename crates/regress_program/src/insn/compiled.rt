@@ -67,6 +67,10 @@ impl CompiledRegex {
     }
 
     /// The same program once more.
+    ///
+    /// # Errors
+    ///
+    /// Where there is no memory for the copy.
     pub fn clone(&self) -> Result<Self, AllocError>
         ensures { IfOk result (λ p. p ≡ self.now) }
     {
@@ -134,6 +138,10 @@ impl CompiledUnits {
     }
 
     /// The same program once more.
+    ///
+    /// # Errors
+    ///
+    /// Where there is no memory for the copy.
     pub fn clone(&self) -> Result<Self, AllocError>
         ensures { IfOk result (λ p. p ≡ self.now) }
     {

@@ -11,9 +11,11 @@ use std::alloc::AllocError;
 pub enum StartPredicate {
     /// Anything.
     Arbitrary,
-    /// One of these bytes.
+    /// This byte.
     ByteSet1([u8; 1]),
+    /// One of these two bytes.
     ByteSet2([u8; 2]),
+    /// One of these three bytes.
     ByteSet3([u8; 3]),
     /// These bytes, of which there are at least two.
     ByteSeq(Vec<u8>),
@@ -25,6 +27,10 @@ pub enum StartPredicate {
 
 impl StartPredicate {
     /// The same predicate once more.
+    ///
+    /// # Errors
+    ///
+    /// Where there is no memory for the copy.
     pub fn clone(&self) -> Result<Self, AllocError>
         ensures { IfOk result (IsCopy self.now) }
     {

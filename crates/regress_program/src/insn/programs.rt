@@ -121,6 +121,10 @@ impl Program {
     }
 
     /// The same program once more.
+    ///
+    /// # Errors
+    ///
+    /// Where there is no memory for the copy.
     pub fn clone(&self) -> Result<Self, AllocError>
         ensures { IfOk result (λ p. p ≡ self.now) }
     {

@@ -1,0 +1,56 @@
+//! What the groups with names matched.
+
+ghost use Rattle.std.specs.Prelude.{◌≡◌, ◌++◌, IfErr, IfOk, IfSome, option_map, string_bytes};
+ghost use Rattle.regress_exec.specs.Answers.{answer_of, range_of};
+ghost use Rattle.regress_match.specs.Refusals.{IsMemory};
+ghost use Rattle.regress_match.specs.Replacements.{FitsText, IsSlice};
+ghost use Rattle.use_renamer.specs.Names.{described, groups_shown, parts_of};
+
+use regress_match::{Match, Range, Regex, SearchError};
+use std::alloc::{AllocError, Global};
+
+/// The groups of the first match that have names: ` year=2018 month=06`.
+///
+/// # Errors
+///
+/// `Memory` where there is no memory for the search or the text.
+pub fn parts(alloc: Global, re: &Regex, name: &str) -> Result<String, SearchError>
+    ensures shown { IfOk result (λ s. string_bytes s ≡ parts_of re.now name.now) }
+    ensures refused { IfErr result IsMemory }
+{
+    match re.find(name)? {
+        Some(found) => Ok(show(alloc, name, &found)?),
+        None => Ok(String::new(alloc)),
+    }
+}
+
+// The same of a match that stands in the text.
+fn show(alloc: Global, text: &str, found: &Match) -> Result<String, AllocError>
+    requires { FitsText text.now (answer_of found.now) }
+    ensures { IfOk result (λ s. string_bytes s ≡ groups_shown text.now (answer_of found.now)) }
+{
+    let mut line = String::new(alloc);
+    for (name, range) in found.named_groups() {
+        push_group(&mut line, text, name, range)?;
+    }
+    Ok(line)
+}
+
+// Writes one group, if it matched.
+fn push_group(
+    line: &mut String,
+    text: &str,
+    name: &str,
+    range: Option<Range<usize>>,
+) -> Result<(), AllocError>
+    requires { IfSome (option_map range_of range) (IsSlice text.now) }
+    ensures { IfOk result (λ _. string_bytes line.new ≡ string_bytes line.old ++ described text.now (name.now, option_map range_of range)) }
+{
+    let Some(range) = range else {
+        return Ok(());
+    };
+    line.push_str(" ")?;
+    line.push_str(name)?;
+    line.push_str("=")?;
+    line.push_str(&text[range.start..range.end])
+}

@@ -24,7 +24,7 @@ use Rattle.regress_plan.specs.Keys.{key, is_wide, is_lead}
 use Rattle.regress_undo.specs.Searching.{Searching}
 use Rattle.regress_undo.proofs.Allowing.{no-key}
 use Rattle.regress_undo.proofs.NextUnits.{unit-fits}
-use Rattle.regress_undo.proofs.Fitting.{own-key, fits-past, fits-each, fits-behind}
+use Rattle.regress_undo.proofs.FirstUnits.{own-key, fits-past, fits-each, fits-behind}
 use Rattle.regress_serves.specs.Fronts.{may_stand}
 use Rattle.regress_plan.specs.declared.front.Front.{Front}
 use Rattle.regress_plan.specs.Fronts.{allowed_of, fits, IsInAscii}

@@ -2,7 +2,7 @@ use Rattle.std.proofs.Common.{◌≡◌, ◌<◌, ◌≤◌, ◌+◌, ◌-◌, �
 use Rattle.std.specs.Int.{bit_at}
 use Rattle.std.proofs.lemmas.Bool.{eq-eqb, eqb-true}
 use Rattle.memchr.proofs.lemmas.ShiftLemmas.{IsState-start, IsState-next}
-use Rattle.regress_undo.proofs.Fitting.{none-more, none-found, window-found}
+use Rattle.regress_undo.proofs.FirstUnits.{none-more, none-found, window-found}
 use Rattle.regress_undo.proofs.fitting.find_fitting.Goals as goal
 
 pub units-init : goal.units-init

@@ -1,5 +1,5 @@
 use Rattle.std.proofs.Common.{◌≡◌, ◌+◌, ◌<◌, ◌≤◌, ℕ, drop, length, slice_index, refl, ◌∙◌, sym, arith}
-use Rattle.regress_undo.proofs.Fitting.{rare-past, rare-none, rare-inside, rare-before, rare-behind}
+use Rattle.regress_undo.proofs.FirstUnits.{rare-past, rare-none, rare-inside, rare-before, rare-behind}
 use Rattle.regress_undo.proofs.fitting.find_rare.Goals as goal
 
 pub returns-in_default : goal.returns-in_default

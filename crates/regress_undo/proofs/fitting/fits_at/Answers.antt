@@ -1,6 +1,6 @@
 use Rattle.std.proofs.Common.{◌≡◌, ◌+◌, ◌≤◌, true, ap, ◌∙◌, sym, arith}
 use Rattle.regress_plan.specs.Fronts.{allowed_of, fits}
-use Rattle.regress_undo.proofs.Fitting.{fits-next, fits-unless, fits-short}
+use Rattle.regress_undo.proofs.FirstUnits.{fits-next, fits-unless, fits-short}
 use Rattle.regress_undo.proofs.fitting.fits_at.Goals as goal
 
 pub returns-then-left-front : goal.returns-then-left-front

@@ -5,3 +5,4 @@ pub mod PlanLemmas
 pub mod ClosingLemmas
 pub mod PeekLemmas
 pub mod SetLemmas
+pub mod FrontLemmas

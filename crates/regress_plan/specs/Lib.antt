@@ -4,3 +4,5 @@ pub mod Plans
 pub mod Planned
 pub mod Closing
 pub mod Peeking
+pub mod Fronts
+pub mod Leading

@@ -1,7 +1,11 @@
 //! What plans say of what may stand next, in words.
 
+ghost use Rattle.std.specs.Prelude.{◌<◌};
+
 use regex_pattern_front::ir::Regex;
 use regress_plan::beginnings::Beginnings;
+use regress_plan::front::{Front, Rare};
+use regress_plan::keys::KEYS;
 use regress_plan::ops::Op;
 use regress_plan::plan::{ANYTHING, Plan, Start};
 use regress_program::emit::{emit, emit_units};
@@ -33,6 +37,7 @@ fn write_sets(text: &mut String, plan: &Plan) -> Result<(), AllocError> {
         Start::Anywhere => text.push_str("anywhere")?,
         Start::Among { set } => write_set(text, plan, "among", set)?,
         Start::Few { units, len } => write!(text, "few {len} {units:?}")?,
+        Start::Front { front, rare } => write_front(text, &front, rare)?,
     }
     for op in &plan.ops {
         match op {
@@ -43,6 +48,32 @@ fn write_sets(text: &mut String, plan: &Plan) -> Result<(), AllocError> {
         }
     }
     Ok(())
+}
+
+// Which keys may stand first, second and so on, and the unit that is looked for first.
+fn write_front(text: &mut String, front: &Front, rare: Option<Rare>) -> Result<(), AllocError> {
+    text.push_str("front")?;
+    for ahead in 0..front.len {
+        if ahead > 0 {
+            text.push_str(" /")?;
+        }
+        write_edges(text, &keys_at(front, ahead))?;
+    }
+    match rare {
+        Some(rare) => write!(text, " rare {} at {}", rare.unit, rare.ahead),
+        None => Ok(()),
+    }
+}
+
+// The keys of units that may stand so many units on.
+fn keys_at(front: &Front, ahead: usize) -> Beginnings
+    requires { ahead < 16 }
+{
+    let mut keys = [false; 256];
+    for key in 0..KEYS {
+        keys[key] = front.may_stand(key, ahead);
+    }
+    Beginnings { keys, end: false }
 }
 
 fn write_set(text: &mut String, plan: &Plan, name: &str, number: u32) -> Result<(), AllocError> {

@@ -115,6 +115,14 @@ plan cat:3 loop1:0 any b goal → among 0 128 194 245, run 98 99
 plan cat:2 loop1:0 a goal → anywhere, narrow anything
 plan cat:2 set:20AC,E9 goal → among 195 196 226 227
 plan cat:2 byteset goal → few 0 [0, 0, 0]
+plan cat:3 a b goal → front 97 98 / 98 99
+plan cat:3 a k goal → front 97 98 / 107 108 rare 107 at 1
+plan cat:2 alt cat:2 a b cat:2 b b goal → front 97 99 / 98 99
+plan cat:2 alt cat:2 a b b goal → few 2 [97, 98, 0]
+plan cat:3 loop1:2,2 a b goal → front 97 98 / 97 98 / 98 99, narrow 98 99
+plan cat:3 loop1:2,3 a b goal → front 97 98 / 97 98, narrow 98 99
+plan cat:4 loop:0,0,1 a b any goal → few 1 [97, 0, 0]
+unit_plan cat:3 a b goal → few 1 [97, 0, 0]
 unit_plan cat:3 loop1:0 a b goal → few 2 [97, 98, 0], narrow 98 99
 unit_plan cat:2 set:20AC,E9 goal → among 128 129 144 145
 ";

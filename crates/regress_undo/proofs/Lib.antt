@@ -13,6 +13,7 @@ pub mod Nearer
 pub mod Advancing
 pub mod Scanning
 pub mod LeavingOut
+pub mod FirstUnits
 pub mod Allowing
 pub mod Peeking
 pub mod RunTurns

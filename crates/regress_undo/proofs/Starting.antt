@@ -24,7 +24,11 @@ use Rattle.regress_plan.specs.Keys.{key, is_wide, is_lead}
 use Rattle.regress_undo.specs.Searching.{Searching}
 use Rattle.regress_undo.proofs.Allowing.{no-key}
 use Rattle.regress_undo.proofs.NextUnits.{unit-fits}
-use Rattle.regress_undo.specs.Starts.{allows_at, AllowsNone, IsFirstAllowed, AllowsLeads, IsPast, few_allowed}
+use Rattle.regress_undo.proofs.FirstUnits.{own-key, fits-past, fits-each, fits-behind}
+use Rattle.regress_serves.specs.Fronts.{may_stand}
+use Rattle.regress_plan.specs.declared.front.Front.{Front}
+use Rattle.regress_plan.specs.Fronts.{allowed_of, fits, IsInAscii}
+use Rattle.regress_undo.specs.Starts.{allows_at, AllowsNone, IsFirstAllowed, IsFirstWhere, AllowsLeads, IsPast, few_allowed, fits_in}
 
 -- ---- Past a unit
 
@@ -72,10 +76,6 @@ lead-begins k is = elim (cases_lt k 0x80) [
       let more = leb-true 0xC2 k (and-left (nat_le 0xC2 k) (nat_le k 0xF4) (or-after (nat_lt k 0x80) (nat_le 0xC2 k && nat_le k 0xF4) (le-ltb k 0x80 high) is)) in
       ap (λ (b : Bool). nat_le 0x80 k && b) (lt-leb k 0xBF (omega (arith, more))) ∙ and-false (nat_le 0x80 k)
 ]
-
-own-key : (o : Option ℕ) → option_map (key false) o ≡ o
-own-key None = refl
-own-key (Some u) = refl
 
 boundary-lead : (e : Encoding) (text : Text) → HasUnits e text → (table : Table) → AllowsLeads (is_wide e) table → (at k : ℕ)
     → key_at e (key (is_wide e)) text at ≡ Some k → k < 256 → table.keys k ≡ true → (is_wide e ≡ true → IsBoundary text at) → IsBoundary text at
@@ -226,6 +226,11 @@ wide-none utf8 bytes wide = cc
 wide-none utf16 bytes wide = cc
 wide-none ucs2 bytes wide = cc
 
+pub narrow-bytes : (e : Encoding) → is_wide e ≡ false → is_of_bytes e ≡ true
+narrow-bytes utf8 narrow = refl
+narrow-bytes utf16 narrow = cc
+narrow-bytes ucs2 narrow = cc
+
 -- where bytes are read, units are bytes
 pub bytes-there : (are_bytes : Bool) (text : Text) (all : List ℕ) → Some all ≡ bytes_if are_bytes text → are_bytes ≡ true
 bytes-there true text all e = refl
@@ -284,4 +289,70 @@ few-found w has us len from bytes leads inside found f = by f.0 f.1 found f.2
           omega (arith, there),
           allowed to less ∙ has_it,
           λ x on le before. barred x le (omega (arith, before, less)) (first.none_before (x - from) (omega (arith, le, before, there))),
+        )
+
+-- ---- The first units of a match
+
+-- the first place at which they fit, found in bytes
+pub fitting-found : (w : Searching) → HasUnits w.encoding w.text → (front : Front) → is_wide w.encoding ≡ false → 0 < front.len → IsInAscii front → (from : ℕ)
+    → (found : Option ℕ) → IsFoundFrom true (λ bytes index. fits (allowed_of front) bytes index front.len) (bytes_of w.text) from found
+    → IsFirstWhere w (fits_in w front) from found
+fitting-found w has front narrow some ascii from found f = by f.0 f.1 found f.2
+  where
+    all : List ℕ
+    all = bytes_of w.text
+
+    test : (at : ℕ) → Bool
+    test at = fits (allowed_of front) all at front.len
+
+    same-units : (e : Encoding) → is_wide e ≡ false → units_in e w.text ≡ all
+    same-units utf8 n = utf8-units w.text.characters
+    same-units utf16 n = cc
+    same-units ucs2 n = cc
+
+    same : (at : ℕ) → fits_in w front at ≡ test at
+    same at = ap (λ (us : List ℕ). fits (allowed_of front) us at front.len) (same-units w.encoding narrow)
+
+    length-rest : length (drop from all) ≡ length all - from
+    length-rest = length-drop from all
+
+    barred : (at : ℕ) → from ≤ at → fits (allowed_of front) (drop from all) (at - from) front.len ≡ false → fits_in w front at ≡ false
+    barred at le none =
+        let back : at ≡ from + (at - from) = omega (arith, le) in
+        same at ∙ ap test back ∙ sym (fits-behind (allowed_of front) all from (at - from) front.len) ∙ none
+
+    past : (at : ℕ) → length all ≤ at → fits_in w front at ≡ false
+    past at end = same at ∙ fits-past (allowed_of front) all at front.len 0 some (omega (arith, end))
+
+    -- a place at which they fit is a boundary
+    bounded : (e : Encoding) → HasUnits e w.text → is_wide e ≡ false → (at : ℕ) → test at ≡ true → IsBoundary w.text at
+    bounded utf8 units n at fit = unit (slice_get all (at + 0)) refl (fits-each (allowed_of front) all at front.len 0 some fit)
+      where
+        unit : (o : Option ℕ) → slice_get all (at + 0) ≡ o → may_stand (allowed_of front) 0 o ≡ true → IsBoundary w.text at
+        unit None there may = cc
+        unit (Some b) there may =
+            let here : slice_get (units_in utf8 w.text) at ≡ Some b =
+            ap (λ (us : List ℕ). slice_get us at) (utf8-units w.text.characters) ∙ ap (slice_get all) (let z : at ≡ at + 0 = omega arith in z) ∙ there in
+            let low = ascii b (unit-fits utf8 w.text units at b here) may in
+            boundary-byte w.text units.spelled at b here
+            ∙ ap not (lead-begins b (ap (λ (x : Bool). x || (nat_le 0xC2 b && nat_le b 0xF4)) (lt-ltb b 0x80 low)))
+    bounded utf16 units n at fit = cc
+    bounded ucs2 units n at fit = cc
+
+    by : (index : Option ℕ) → FindsFirst (λ i. fits (allowed_of front) (drop from all) i front.len) (length (drop from all)) index → (found : Option ℕ)
+        → found ≡ option_map (λ i. from + i) index → IsFirstWhere w (fits_in w front) from found
+    by None none None e = λ x on le less. elim (cases_lt x (length all)) [
+      | inl before ↦ barred x le (none (x - from) (omega (arith, le, before, length-rest)))
+      | inr after ↦ past x after
+    ]
+    by None none (Some to) e = cc
+    by (Some i) first None e = cc
+    by (Some i) first (Some to) e =
+        let there : to ≡ from + i = cc in
+        let within = first.within in
+        let fit : test to ≡ true = ap test there ∙ sym (fits-behind (allowed_of front) all from i front.len) ∙ first.passes in (
+          bounded w.encoding has narrow to fit,
+          omega (arith, there),
+          same to ∙ fit,
+          λ x on le before. barred x le (first.none_before (x - from) (omega (arith, le, before, there))),
         )

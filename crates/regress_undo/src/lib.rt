@@ -6,6 +6,7 @@ mod back;
 mod characters;
 pub mod classicalbacktrack;
 mod few;
+mod fitting;
 mod further;
 mod groups;
 mod here;

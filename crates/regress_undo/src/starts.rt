@@ -4,14 +4,16 @@ ghost use Rattle.std.specs.Prelude.{◌≡◌, ◌<◌, ℕ, false, slice_index_
 ghost use Rattle.regex_meaning.specs.Offsets.{IsBoundary, units};
 ghost use Rattle.regress_exec.specs.Attempts.{IsNextTry};
 ghost use Rattle.regress_machine.specs.Finds.{CanSearch};
+ghost use Rattle.regress_plan.specs.Fronts.{IsInAscii};
 ghost use Rattle.regress_plan.specs.Keys.{is_wide};
 ghost use Rattle.regress_plan.specs.Plans.{numbered};
 ghost use Rattle.regress_serves.specs.Tables.{Table};
 ghost use Rattle.regress_undo.specs.Searching.{program_of};
-ghost use Rattle.regress_undo.specs.Starts.{IsFirstAllowed, AllowsLeads, IsPast, few_allowed, tried_from};
+ghost use Rattle.regress_undo.specs.Starts.{IsFirstAllowed, IsFirstWhere, IsFirstTry, AllowsLeads, IsPast, few_allowed, fits_in};
 
 use crate::characters::key_here;
 use crate::few::Few;
+use crate::fitting::Fitting;
 use crate::planned::{At, Planned};
 use regress_input::indexing::{CodeUnits, InputIndexer};
 use regress_input::position::PositionType;
@@ -122,17 +124,38 @@ pub(crate) fn next_of_few<W: Planned>(planned: &W, few: Few, from: At<W>) -> Opt
     }
 }
 
+// The first place from one on where the first units of a match fit, which are looked for in bytes.
+#[inline(never)]
+fn next_fitting<W: Planned>(planned: &W, fitting: Fitting<'_>, from: At<W>) -> Option<At<W>>
+    requires at { IsBoundary (W.searching planned.now).text (W.Input.Position.offset from) }
+    requires bytes { is_wide (W.searching planned.now).encoding ≡ false }
+    requires ascii { IsInAscii fitting.front.now }
+    ensures { IsFirstWhere (W.searching planned.now) (fits_in (W.searching planned.now) fitting.front.now) (W.Input.Position.offset from) (option_map (λ p. W.Input.Position.offset p) result) }
+{
+    planned.input().find_bytes(from, &fitting)
+}
+
 // The first place from one on where the plan says to try.
 #[inline(always)]
 fn first_try<W: Planned>(planned: &W, from: At<W>) -> Option<At<W>>
     requires { IsBoundary (W.searching planned.now).text (W.Input.Position.offset from) }
-    ensures { IsFirstAllowed (W.searching planned.now) (tried_from (W.searching planned.now)) (W.Input.Position.offset from) (option_map (λ p. W.Input.Position.offset p) result) }
+    ensures { IsFirstTry (W.searching planned.now) (W.Input.Position.offset from) (option_map (λ p. W.Input.Position.offset p) result) }
 {
     planned.is_of_program();
-    match *planned.start() {
+    match planned.start() {
         Start::Anywhere => Some(from),
-        Start::Among { set } => next_among(planned, set, from),
-        Start::Few { units, len } => next_of_few(planned, Few { units, len }, from),
+        Start::Among { set } => next_among(planned, *set, from),
+        Start::Few { units, len } => {
+            let few = Few {
+                units: *units,
+                len: *len,
+            };
+            next_of_few(planned, few, from)
+        }
+        Start::Front { front, rare } => {
+            let fitting = Fitting { front, rare: *rare };
+            next_fitting(planned, fitting, from)
+        }
     }
 }
 
@@ -141,7 +164,7 @@ fn first_try<W: Planned>(planned: &W, from: At<W>) -> Option<At<W>>
 pub(crate) fn next_start<W: Planned>(planned: &W, from: At<W>) -> Option<At<W>>
     requires at { IsBoundary (W.searching planned.now).text (W.Input.Position.offset from) }
     requires can { CanSearch (program_of (W.searching planned.now)) (W.searching planned.now).tree (W.searching planned.now).text }
-    ensures first { IsFirstAllowed (W.searching planned.now) (tried_from (W.searching planned.now)) (W.Input.Position.offset from) (option_map (λ p. W.Input.Position.offset p) result) }
+    ensures first { IsFirstTry (W.searching planned.now) (W.Input.Position.offset from) (option_map (λ p. W.Input.Position.offset p) result) }
     ensures next { IsNextTry (W.searching planned.now).tree (W.searching planned.now).text (W.Input.Position.offset from) (option_map (λ p. W.Input.Position.offset p) result) }
 {
     planned.is_of_program();

@@ -1,0 +1,488 @@
+-- What must stand where a match begins, by the operations there.
+use Rattle.std.proofs.Common.{◌≡◌, ◌≢◌, ◌<◌, ◌≤◌, ℕ, zero, suc, ◌+◌, ◌-◌, ◌*◌, ◌/◌, ◌%◌, ◌^◌, min, max, Bool, true, false, not, ◌&&◌, ◌||◌, Option, Some, None, List, [], ◌∷◌, ◌++◌, length, slice_get, get_or, refl, sym, ap, ◌∙◌, subst, arith, bit_and, bit_or, append-nil, div-add-mod', pow_pos}
+use mathlib.Core.Logic.{◌⊎◌, inl, inr}
+use Rattle.std.specs.Prelude.{◌==◌, if◌then◌else◌, nat_lt, slice_index, slice_index_or}
+use Rattle.std.specs.Int.{bit_at}
+use Rattle.std.proofs.lemmas.Bool.{cases_lt, lt-ltb, le-ltb, eq-eqb, eqb-true, ne_eqb}
+use Rattle.std.proofs.lemmas.Nat.Bits.{bit_at_or, bit_at_and, bit_at_ones, bit_at_ones_above, bit_at_cat_low, bit_at_cat_high, bit_at-lt, bit_at-zero}
+use Rattle.std.proofs.lemmas.List.{get_or_past}
+use Rattle.std.proofs.lemmas.Option.{slice_get_within}
+use Rattle.std.proofs.lemmas.Str.{encode_ascii}
+use Rattle.regex_meaning.specs.Text.{Text}
+use Rattle.regex_meaning.specs.Units.{utf8, spelled_in}
+use Rattle.regex_meaning.specs.Layout.{Program, Insn, Char, CharSet, ByteSet, AsciiBracket, Bracket, MatchAny, MatchAnyExceptLineTerminator, StartOfLine, WordBoundary, WordBoundaryUnicodeICase, Alt, Jump, EnterLoop, Loop1CharBody, ResetCaptureGroup, BeginCaptureGroup, EndCaptureGroup, Lookahead, Lookbehind}
+use Rattle.regress_machine.specs.Machine.{test_of}
+use Rattle.regress_insn.specs.Insns.{insn_of}
+use Rattle.regress_serves.specs.Barred.{may_at}
+use Rattle.regress_serves.specs.Tables.{is_character, first_key}
+use Rattle.regress_serves.specs.Fronts.{Allowed, may_stand, IsFront}
+use Rattle.regress_serves.proofs.Fronts.{front-none, front-less, front-on, front-either, AreUnits, Reads, front-reads, front-run}
+use Rattle.regress_plan.specs.declared.beginnings.Beginnings.{Beginnings}
+use Rattle.regress_plan.specs.declared.class.Class.{Class}
+use Rattle.regress_plan.specs.declared.front.Front.{Front}
+use Rattle.regress_plan.specs.declared.fronts.Ahead.TheVariants as ahead
+use Rattle.regress_plan.specs.declared.ops.Bounds.{Bounds}
+use Rattle.regress_plan.specs.declared.ops.Counted.{Counted}
+use Rattle.regress_plan.specs.declared.ops.Edge as edge
+use Rattle.regress_plan.specs.declared.ops.Look as look
+use Rattle.regress_plan.specs.declared.ops.Op.{Op}
+use Rattle.regress_plan.specs.declared.ops.Op.TheVariants as op
+use Rattle.regress_plan.specs.declared.ops.Run as run
+use Rattle.regress_plan.specs.declared.plan.Plan.{Plan}
+use Rattle.regress_plan.specs.Keys.{key, lead, is_told, step_at, table_of}
+use Rattle.regress_plan.specs.Plans.{IsClass, reads_one, Runs, IsOpOf}
+use Rattle.regress_plan.specs.Fronts.{allowed_of, FrontAt, IsFrontAt}
+use Rattle.regress_plan.specs.Leading.{joined_of, then_allowed, units_of, leads_on, IsUnitOf, IsThen, IsOfEither, IsPath, AreOps, FrontBehind, Leads, LeadsFrom, LeadsFromRun}
+use Rattle.regress_plan.proofs.KeyLemmas.{first-byte, first-key-at, first-key-below, key_of_first}
+use Rattle.regress_plan.proofs.ClosingLemmas.{told-some}
+use Rattle.regress_plan.proofs.RowLemmas.{get-below}
+
+-- ---- Masks
+
+-- a bit of a mask that is moved up
+moved-bit : (mask count ahead : ℕ) → ahead < 16 → bit_at (mask * 2 ^ count % 2 ^ 16) ahead ≡ bit_at (mask * 2 ^ count + 0) ahead
+moved-bit mask count ahead less =
+    let all : ℕ = mask * 2 ^ count in
+    let parts : all / 2 ^ 16 * 2 ^ 16 + all % 2 ^ 16 ≡ all = div-add-mod' all (2 ^ 16) in
+    sym (bit_at_cat_low (all / 2 ^ 16) 16 (all % 2 ^ 16) ahead less) ∙ ap (λ v. bit_at v ahead) parts ∙ ap (λ v. bit_at v ahead) (let z : all ≡ all + 0 = omega arith in z)
+
+-- the first bits are those of the first mask
+joined-first : (first count behind ahead : ℕ) → ahead < count → count < 16 → bit_at (joined_of first count behind) ahead ≡ bit_at first ahead
+joined-first first count behind ahead less few =
+    let low : bit_at (bit_and first (2 ^ count - 1)) ahead ≡ min (bit_at first ahead) 1 =
+    bit_at_and first (2 ^ count - 1) ahead ∙ ap (λ b. min (bit_at first ahead) b) (bit_at_ones count ahead less) in
+    let high : bit_at (behind * 2 ^ count % 2 ^ 16) ahead ≡ 0 =
+    moved-bit behind count ahead (omega (arith, less, few)) ∙ bit_at_cat_low behind count 0 ahead less ∙ bit_at-zero ahead in
+    let small = bit_at-lt first ahead in
+    bit_at_or (bit_and first (2 ^ count - 1)) (behind * 2 ^ count % 2 ^ 16) ahead
+    ∙ (let z : max (bit_at (bit_and first (2 ^ count - 1)) ahead) (bit_at (behind * 2 ^ count % 2 ^ 16) ahead) ≡ bit_at first ahead = omega (arith, low, high, small) in z)
+
+-- and those behind them the bits of the other one
+joined-behind : (first count behind ahead : ℕ) → count ≤ ahead → ahead < 16 → bit_at (joined_of first count behind) ahead ≡ bit_at behind (ahead - count)
+joined-behind first count behind ahead more few =
+    let low : bit_at (bit_and first (2 ^ count - 1)) ahead ≡ min (bit_at first ahead) 0 =
+    bit_at_and first (2 ^ count - 1) ahead ∙ ap (λ b. min (bit_at first ahead) b) (bit_at_ones_above count ahead more) in
+    let high : bit_at (behind * 2 ^ count % 2 ^ 16) ahead ≡ bit_at behind (ahead - count) =
+    moved-bit behind count ahead few ∙ bit_at_cat_high behind count 0 ahead (pow_pos count) more in
+    bit_at_or (bit_and first (2 ^ count - 1)) (behind * 2 ^ count % 2 ^ 16) ahead
+    ∙ (let z : max (bit_at (bit_and first (2 ^ count - 1)) ahead) (bit_at (behind * 2 ^ count % 2 ^ 16) ahead) ≡ bit_at behind (ahead - count) = omega (arith, low, high) in z)
+
+-- a key that has no mask is allowed
+allowed-past : (front : Front) (ahead k : ℕ) → length front.masks ≤ k → allowed_of front ahead k ≡ true
+allowed-past front ahead k past = ap (λ m. bit_at m ahead == 0) (get_or_past front.masks k 0 past) ∙ ap (λ b. b == 0) (bit_at-zero ahead)
+
+-- ---- Units, and others behind them
+
+then-early : (count : ℕ) (first after : Allowed) (ahead k : ℕ) → ahead < count → then_allowed count first after ahead k ≡ first ahead k
+then-early count first after ahead k less = ap (λ (b : Bool). if b then first ahead k else after (ahead - count) k) (lt-ltb ahead count less)
+
+then-late : (count : ℕ) (first after : Allowed) (ahead k : ℕ) → count ≤ ahead → then_allowed count first after ahead k ≡ after (ahead - count) k
+then-late count first after ahead k more = ap (λ (b : Bool). if b then first ahead k else after (ahead - count) k) (le-ltb ahead count more)
+
+-- one unit of a set
+pub unit-of : (set : Beginnings) (front : Front) → length front.masks ≡ 256 → front.len ≡ 1
+    → ((k : ℕ) → k < 256 → get_or front.masks k 0 ≡ (if (table_of set).keys k then 0 else 1)) → IsUnitOf set front
+unit-of set front sized len each = record {
+  len = len;
+  within = λ k has. elim (cases_lt k 256) [
+    | inl below ↦
+        ap (λ m. bit_at m 0 == 0) (each k below ∙ ap (λ (b : Bool). if b then 0 else 1) has) ∙ ap (λ b. b == 0) (bit_at-zero 0)
+    | inr past ↦ allowed-past front 0 k (omega (arith, past, sized))
+  ];
+}
+
+-- units, and those behind them
+pub then-of : (p q front : Front) → length front.masks ≡ 256 → front.len ≡ min (p.len + q.len) 15
+    → ((k : ℕ) → k < 256 → get_or front.masks k 0 ≡ joined_of (get_or p.masks k 0) p.len (get_or q.masks k 0)) → IsThen p q.len (allowed_of q) front
+then-of p q front sized len each = record { len = len; within = λ ahead k less h. by ahead k less h (cases_lt k 256) }
+  where
+    here : (ahead k : ℕ) → ahead < front.len → k < 256 → then_allowed p.len (allowed_of p) (allowed_of q) ahead k ≡ true → (ahead < p.len) ⊎ (p.len ≤ ahead)
+        → allowed_of front ahead k ≡ true
+    here ahead k less below h (inl early) =
+        let short = p.short in
+        ap (λ m. bit_at m ahead == 0) (each k below)
+        ∙ ap (λ b. b == 0) (joined-first (get_or p.masks k 0) p.len (get_or q.masks k 0) ahead early (omega (arith, short)))
+        ∙ sym (then-early p.len (allowed_of p) (allowed_of q) ahead k early) ∙ h
+    here ahead k less below h (inr late) =
+        ap (λ m. bit_at m ahead == 0) (each k below)
+        ∙ ap (λ b. b == 0) (joined-behind (get_or p.masks k 0) p.len (get_or q.masks k 0) ahead late (omega (arith, less, len)))
+        ∙ sym (then-late p.len (allowed_of p) (allowed_of q) ahead k late) ∙ h
+
+    by : (ahead k : ℕ) → ahead < front.len → then_allowed p.len (allowed_of p) (allowed_of q) ahead k ≡ true → (k < 256) ⊎ (256 ≤ k) → allowed_of front ahead k ≡ true
+    by ahead k less h (inl below) = here ahead k less below h (cases_lt ahead p.len)
+    by ahead k less h (inr past) = allowed-past front ahead k (omega (arith, past, sized))
+
+-- none behind them
+pub then-none : (p : Front) (allowed : Allowed) → IsThen p 0 allowed p
+then-none p allowed = record {
+  len = let short = p.short in omega (arith, short);
+  within = λ ahead k less h. sym (then-early p.len (allowed_of p) allowed ahead k less) ∙ h;
+}
+
+-- one unit of a set more
+pub then-more : (count : ℕ) (set : Beginnings) (p q unit r : Front) → IsThen p count (units_of set) q → IsUnitOf set unit → IsThen q unit.len (allowed_of unit) r
+    → IsThen p (count + 1) (units_of set) r
+then-more count set p q unit r some one next = record {
+  len = let a = some.len in let b = one.len in let c = next.len in omega (arith, a, b, c);
+  within = λ ahead k less h. next.within ahead k less (by ahead k less h (cases_lt ahead q.len));
+}
+  where
+    by : (ahead k : ℕ) → ahead < r.len → then_allowed p.len (allowed_of p) (units_of set) ahead k ≡ true → (ahead < q.len) ⊎ (q.len ≤ ahead)
+        → then_allowed q.len (allowed_of q) (allowed_of unit) ahead k ≡ true
+    by ahead k less h (inl early) = then-early q.len (allowed_of q) (allowed_of unit) ahead k early ∙ some.within ahead k early h
+    by ahead k less h (inr late) =
+        let a = some.len in
+        let b = one.len in
+        let c = next.len in
+        let short = p.short in
+        let first : ahead - q.len ≡ 0 = omega (arith, less, late, b, c) in
+        let behind : p.len ≤ ahead = omega (arith, late, a, short) in
+        then-late q.len (allowed_of q) (allowed_of unit) ahead k late ∙ ap (λ n. allowed_of unit n k) first
+        ∙ one.within k (sym (then-late p.len (allowed_of p) (units_of set) ahead k behind) ∙ h)
+
+-- more than there is room for
+pub then-many : (count some : ℕ) (allowed : Allowed) (p q : Front) → some ≡ min count 15 → IsThen p some allowed q → IsThen p count allowed q
+then-many count some allowed p q same h = record { len = let a = h.len in omega (arith, a, same); within = h.within }
+
+-- either
+pub either-of : (a b front : Front) → length front.masks ≡ 256 → front.len ≡ min a.len b.len
+    → ((k : ℕ) → k < 256 → get_or front.masks k 0 ≡ bit_and (get_or a.masks k 0) (get_or b.masks k 0)) → IsOfEither a b front
+either-of a b front sized len each = record {
+  first = omega (arith, len);
+  second = omega (arith, len);
+  within_first = λ ahead k h. by ahead k (inl h) (cases_lt k 256);
+  within_second = λ ahead k h. by ahead k (inr h) (cases_lt k 256);
+}
+  where
+    none : (x y : ℕ) → ((x == 0) ≡ true) ⊎ ((y == 0) ≡ true) → min x y ≡ 0
+    none x y (inl h) = let e = eqb-true x 0 h in omega (arith, e)
+    none x y (inr h) = let e = eqb-true y 0 h in omega (arith, e)
+
+    by : (ahead k : ℕ) → (allowed_of a ahead k ≡ true) ⊎ (allowed_of b ahead k ≡ true) → (k < 256) ⊎ (256 ≤ k) → allowed_of front ahead k ≡ true
+    by ahead k h (inl below) =
+        ap (λ m. bit_at m ahead == 0) (each k below)
+        ∙ ap (λ n. n == 0) (bit_at_and (get_or a.masks k 0) (get_or b.masks k 0) ahead ∙ none (bit_at (get_or a.masks k 0) ahead) (bit_at (get_or b.masks k 0) ahead) h)
+    by ahead k h (inr past) = allowed-past front ahead k (omega (arith, past, sized))
+
+-- ---- What is made of what operations say
+
+pub front-unknown : (program : Program) (ip : ℕ) (front : Front) → front.len ≡ 0 → IsFrontAt program ip front
+front-unknown program ip front none =
+    let P : ℕ → Type 0 = λ n. FrontAt program ip n (allowed_of front) in
+    subst P (sym none) (front-none utf8 (key false) program ip (allowed_of front))
+
+pub front-of-either : (program : Program) (ip x y : ℕ) (a b front : Front) → Leads program ip (ahead.Either x y) → IsFrontAt program x a → IsFrontAt program y b
+    → IsOfEither a b front → IsFrontAt program ip front
+front-of-either program ip x y a b front leads first second either =
+    leads front.len (allowed_of front)
+    (front-less utf8 (key false) program x front.len a.len (allowed_of a) (allowed_of front) first either.first (λ n k less h. either.within_first n k h))
+    (front-less utf8 (key false) program y front.len b.len (allowed_of b) (allowed_of front) second either.second (λ n k less h. either.within_second n k h))
+
+-- ---- The path of operations
+
+-- nothing is known yet
+pub path-start : (program : Program) (ip : ℕ) (front : Front) → front.len ≡ 0 → IsPath program ip front ip
+path-start program ip front none = record {
+  so_far = front-unknown program ip front none;
+  on = λ room len allowed there.
+      front-less utf8 (key false) program ip (front.len + len) len allowed (then_allowed front.len (allowed_of front) allowed) there (omega (arith, none))
+      (λ ahead k less h.
+      then-late front.len (allowed_of front) allowed ahead k (omega (arith, none)) ∙ ap (λ n. allowed n k) (let z : ahead - front.len ≡ ahead = omega (arith, none) in z) ∙ h);
+}
+
+-- an operation that leads on to another one
+pub path-at : (program : Program) (from ip to : ℕ) (front : Front) → IsPath program from front ip → Leads program ip (ahead.At to) → IsPath program from front to
+path-at program from ip to front path leads = record { so_far = path.so_far; on = λ room len allowed there. path.on room len allowed (leads len allowed there) }
+
+-- what stands at the operation stands behind the units
+pub path-then : (program : Program) (from ip len : ℕ) (front next : Front) (allowed : Allowed) → IsPath program from front ip → front.len < 15
+    → FrontAt program ip len allowed → IsThen front len allowed next → IsFrontAt program from next
+path-then program from ip len front next allowed path room there is =
+    front-less utf8 (key false) program from next.len (front.len + len) (then_allowed front.len (allowed_of front) allowed) (allowed_of next) (path.on room len allowed there)
+    (let l = is.len in omega (arith, l)) (λ ahead k less h. is.within ahead k less h)
+
+-- the units of an operation
+units-there : (program : Program) (ip count : ℕ) (set : Beginnings) (to : Option ℕ) → Leads program ip (ahead.Units set count to)
+    → FrontAt program ip count (units_of set)
+units-there program ip count set to leads =
+    front-less utf8 (key false) program ip count (count + 0) (then_allowed count (units_of set) (units_of set)) (units_of set) (leads 0 (units_of set) (nothing to))
+    (omega arith) (λ ahead k less h. sym (then-early count (units_of set) (units_of set) ahead k less) ∙ h)
+  where
+    nothing : (to : Option ℕ) → FrontBehind program to 0 (units_of set)
+    nothing None = refl
+    nothing (Some next) = front-none utf8 (key false) program next (units_of set)
+
+pub path-last : (program : Program) (from ip count : ℕ) (set : Beginnings) (to : Option ℕ) (front next : Front) → IsPath program from front ip → front.len < 15
+    → Leads program ip (ahead.Units set count to) → IsThen front count (units_of set) next → IsFrontAt program from next
+path-last program from ip count set to front next path room leads is =
+    path-then program from ip count front next (units_of set) path room (units-there program ip count set to leads) is
+
+-- behind which it leads on
+pub path-units : (program : Program) (from ip count to : ℕ) (set : Beginnings) (front next : Front) → IsPath program from front ip → front.len < 15
+    → Leads program ip (ahead.Units set count (Some to)) → IsThen front count (units_of set) next → IsPath program from next to
+path-units program from ip count to set front next path room leads is = record {
+  so_far = path-last program from ip count set (Some to) front next path room leads is;
+  on = λ more len allowed there.
+      let all : next.len ≡ front.len + count = let l = is.len in omega (arith, l, more) in
+      front-less utf8 (key false) program from (next.len + len) (front.len + (count + len))
+      (then_allowed front.len (allowed_of front) (then_allowed count (units_of set) allowed)) (then_allowed next.len (allowed_of next) allowed)
+      (path.on room (count + len) (then_allowed count (units_of set) allowed) (leads len allowed there)) (omega (arith, all))
+      (λ ahead k less h. by allowed all ahead k h (cases_lt ahead next.len));
+}
+  where
+    behind : (allowed : Allowed) → next.len ≡ front.len + count → (ahead k : ℕ) → then_allowed front.len (allowed_of front) (then_allowed count (units_of set) allowed) ahead k ≡ true
+        → ahead < next.len → (ahead < front.len) ⊎ (front.len ≤ ahead) → then_allowed front.len (allowed_of front) (units_of set) ahead k ≡ true
+    behind allowed all ahead k h less (inl early) =
+        then-early front.len (allowed_of front) (units_of set) ahead k early
+        ∙ sym (then-early front.len (allowed_of front) (then_allowed count (units_of set) allowed) ahead k early) ∙ h
+    behind allowed all ahead k h less (inr late) =
+        then-late front.len (allowed_of front) (units_of set) ahead k late
+        ∙ sym (then-early count (units_of set) allowed (ahead - front.len) k (omega (arith, less, late, all)))
+        ∙ sym (then-late front.len (allowed_of front) (then_allowed count (units_of set) allowed) ahead k late) ∙ h
+
+    by : (allowed : Allowed) → next.len ≡ front.len + count → (ahead k : ℕ) → then_allowed front.len (allowed_of front) (then_allowed count (units_of set) allowed) ahead k ≡ true
+        → (ahead < next.len) ⊎ (next.len ≤ ahead) → then_allowed next.len (allowed_of next) allowed ahead k ≡ true
+    by allowed all ahead k h (inl early) =
+        then-early next.len (allowed_of next) allowed ahead k early
+        ∙ is.within ahead k early (behind allowed all ahead k h early (cases_lt ahead front.len))
+    by allowed all ahead k h (inr late) =
+        let past : front.len ≤ ahead = omega (arith, late, all) in
+        let beyond : count ≤ ahead - front.len = omega (arith, late, all) in
+        then-late next.len (allowed_of next) allowed ahead k late
+        ∙ ap (λ n. allowed n k) (let z : ahead - next.len ≡ ahead - front.len - count = omega (arith, late, all) in z)
+        ∙ sym (then-late count (units_of set) allowed (ahead - front.len) k beyond)
+        ∙ sym (then-late front.len (allowed_of front) (then_allowed count (units_of set) allowed) ahead k past) ∙ h
+
+-- one of two operations
+pub path-either : (program : Program) (from ip x y : ℕ) (front a b either next : Front) → IsPath program from front ip → front.len < 15
+    → Leads program ip (ahead.Either x y) → IsFrontAt program x a → IsFrontAt program y b → IsOfEither a b either → IsThen front either.len (allowed_of either) next
+    → IsFrontAt program from next
+path-either program from ip x y front a b either next path room leads first second of is =
+    path-then program from ip either.len front next (allowed_of either) path room (front-of-either program ip x y a b either leads first second of) is
+
+-- ---- What operations say
+
+module _ (plan : Plan) (program : Program) (ops : AreOps false program plan) where
+  -- the instruction of an operation
+  pub insn-of : (o : Op) (ip : ℕ) → slice_get plan.ops.items ip ≡ Some o → (insn : Insn) × (slice_get program.insns ip ≡ Some insn) × IsOpOf program plan o ip insn
+  insn-of o ip there =
+      let same = ops.as_many in
+      let insn = get-below program.insns ip (let below = slice_get_within plan.ops.items ip o there in omega (arith, below, same)) in
+      (insn.0, insn.1, ops.each ip o insn.0 there insn.1)
+
+-- an instruction that leads on to one other
+led-on : (program : Program) (ip to : ℕ) (insn form : Insn) → slice_get program.insns ip ≡ Some insn → insn ≡ form
+    → ((may : ℕ → Bool) → may to ≡ false → (text : Text) (at : ℕ) → may_at program text at may (Some form) ip ≡ false) → Leads program ip (ahead.At to)
+led-on program ip to insn form there is leads len allowed front =
+    front-on utf8 (key false) program ip to len allowed front
+    (λ may never text at.
+    let P : Option Insn → Type 0 = λ o. may_at program text at may o ip ≡ false in
+    subst P (sym (there ∙ ap Some is)) (leads may never text at))
+
+and-never : (a b : Bool) → b ≡ false → (a && b) ≡ false
+and-never true b h = h
+and-never false b h = refl
+
+said-line : (plan : Plan) (ip : ℕ) (multiline : Bool) → LeadsFrom plan (op.LineStart multiline) ip (ahead.At (ip + 1))
+said-line plan ip multiline program ops there =
+    let i = insn-of plan program ops (op.LineStart multiline) ip there in
+    led-on program ip (ip + 1) i.0 (StartOfLine multiline) i.1 i.2 (λ may never text at. and-never _ (may (ip + 1)) never)
+
+said-open : (plan : Plan) (ip slot : ℕ) → LeadsFrom plan (op.Open slot) ip (ahead.At (ip + 1))
+said-open plan ip slot program ops there =
+    let i = insn-of plan program ops (op.Open slot) ip there in
+    led-on program ip (ip + 1) i.0 (BeginCaptureGroup slot) i.1 i.2 (λ may never text at. never)
+
+said-close : (plan : Plan) (ip slot : ℕ) → LeadsFrom plan (op.Close slot) ip (ahead.At (ip + 1))
+said-close plan ip slot program ops there =
+    let i = insn-of plan program ops (op.Close slot) ip there in
+    led-on program ip (ip + 1) i.0 (EndCaptureGroup slot) i.1 i.2 (λ may never text at. never)
+
+said-reset : (plan : Plan) (ip slot : ℕ) → LeadsFrom plan (op.Reset slot) ip (ahead.At (ip + 1))
+said-reset plan ip slot program ops there =
+    let i = insn-of plan program ops (op.Reset slot) ip there in
+    led-on program ip (ip + 1) i.0 (ResetCaptureGroup slot) i.1 i.2 (λ may never text at. never)
+
+said-edge : (plan : Plan) (ip : ℕ) (e : edge.Edge) → LeadsFrom plan (op.WordEdge e) ip (ahead.At (ip + 1))
+said-edge plan ip e program ops there =
+    let i = insn-of plan program ops (op.WordEdge e) ip there in by e.unicode_icase i.0 i.1 i.2
+  where
+    by : (icase : Bool) (insn : Insn) → slice_get program.insns ip ≡ Some insn → insn ≡ (if icase then WordBoundaryUnicodeICase e.invert else WordBoundary e.invert)
+        → Leads program ip (ahead.At (ip + 1))
+    by true insn there is = led-on program ip (ip + 1) insn (WordBoundaryUnicodeICase e.invert) there is (λ may never text at. and-never _ (may (ip + 1)) never)
+    by false insn there is = led-on program ip (ip + 1) insn (WordBoundary e.invert) there is (λ may never text at. and-never _ (may (ip + 1)) never)
+
+-- each that reads nothing and leads on
+pub said-on : (plan : Plan) (ip : ℕ) (o : Op) → leads_on o ≡ true → LeadsFrom plan o ip (ahead.At (ip + 1))
+said-on plan ip (op.LineStart multiline) h = said-line plan ip multiline
+said-on plan ip (op.WordEdge e) h = said-edge plan ip e
+said-on plan ip (op.Open slot) h = said-open plan ip slot
+said-on plan ip (op.Close slot) h = said-close plan ip slot
+said-on plan ip (op.Reset slot) h = said-reset plan ip slot
+said-on plan ip _ h = cc
+
+pub said-go : (plan : Plan) (ip to : ℕ) → LeadsFrom plan (op.Go to) ip (ahead.At to)
+said-go plan ip to program ops there =
+    let i = insn-of plan program ops (op.Go to) ip there in
+    led-on program ip to i.0 (Jump to) i.1 i.2 (λ may never text at. never)
+
+pub said-look : (plan : Plan) (ip : ℕ) (l : look.Look) → LeadsFrom plan (op.Look l) ip (ahead.At l.past)
+said-look plan ip l program ops there =
+    let i = insn-of plan program ops (op.Look l) ip there in by l.forward i.0 i.1 i.2.start_group i.2.end_group i.2.insn_is
+  where
+    never-then : (a b : Bool) → a ≡ false → (a && b) ≡ false
+    never-then true b h = cc
+    never-then false b h = refl
+
+    by : (forward : Bool) (insn : Insn) → slice_get program.insns ip ≡ Some insn → (first last : ℕ)
+        → insn ≡ (if forward then Lookahead l.negate first last l.past else Lookbehind l.negate first last l.past) → Leads program ip (ahead.At l.past)
+    by true insn there first last is =
+        led-on program ip l.past insn (Lookahead l.negate first last l.past) there is (λ may never text at. never-then (may l.past) _ never)
+    by false insn there first last is = led-on program ip l.past insn (Lookbehind l.negate first last l.past) there is (λ may never text at. never)
+
+pub said-either : (plan : Plan) (ip other : ℕ) → LeadsFrom plan (op.Either other) ip (ahead.Either (ip + 1) other)
+said-either plan ip other program ops there len allowed first second =
+    let i = insn-of plan program ops (op.Either other) ip there in
+    front-either utf8 (key false) program ip (ip + 1) other len allowed first second
+    (λ may none never text at.
+    let P : Option Insn → Type 0 = λ o. may_at program text at may o ip ≡ false in
+    subst P (sym (i.1 ∙ ap Some i.2)) (ap (λ b. b || may other) none ∙ never))
+
+-- the head of a loop that has to come at least once
+pub said-entry : (plan : Plan) (ip number : ℕ) (counted : Counted) → slice_get plan.counted.items number ≡ Some counted → 0 < counted.min
+    → LeadsFrom plan (op.Enter number) ip (ahead.At (ip + 1))
+said-entry plan ip number counted here some program ops there =
+    let i = insn-of plan program ops (op.Enter number) ip there in
+    let r = i.2.row in
+    let row : Some counted ≡ Some r.counted = sym here ∙ r.is_there in
+    let same : counted ≡ r.counted = cc in
+    let least : counted.min ≡ i.2.fields.min_iters = ap (λ (c : Counted). c.min) same ∙ r.is_row.4 in
+    led-on program ip (ip + 1) i.0 (EnterLoop i.2.fields) i.1 i.2.insn_is
+    (λ may never text at.
+    ap (λ b. b || i.2.fields.min_iters == 0 && may i.2.fields.exit) never
+    ∙ ap (λ b. b && may i.2.fields.exit) (ne_eqb i.2.fields.min_iters 0 (λ z. omega (arith, z, least, some))))
+
+-- ---- Operations that read
+
+-- one that reads one character, behind which this one stands
+reads-front : (program : Program) (ip : ℕ) (insn : Insn) (set : Beginnings) → slice_get program.insns ip ≡ Some insn → Reads utf8 (key false) program insn
+    → ((test : ℕ → Bool) → test_of program (Some insn) ≡ Some test → (count : ℕ) (allowed : Allowed)
+    → AreUnits utf8 (key false) test count (then_allowed count (units_of set) allowed)) → Leads program ip (ahead.Units set 1 (Some (ip + 1)))
+reads-front program ip insn set there reads are len allowed front =
+    front-reads utf8 (key false) program ip len insn (then_allowed 1 (units_of set) allowed) allowed there reads (λ test t. are test t 1 allowed)
+    (λ ahead k.
+    then-late 1 (units_of set) allowed (ahead + 1) k (omega arith) ∙ ap (λ n. allowed n k) (let z : ahead + 1 - 1 ≡ ahead = omega arith in z))
+    front
+
+-- a character below 128
+pub said-unit : (plan : Plan) (ip c : ℕ) (set : Beginnings) → c < 128 → (table_of set).keys c ≡ true → LeadsFrom plan (op.Unit c) ip (ahead.Units set 1 (Some (ip + 1)))
+said-unit plan ip c set low has program ops there =
+    let i = insn-of plan program ops (op.Unit c) ip there in
+    reads-front program ip (Char c) set (i.1 ∙ ap Some i.2) (λ text s. refl)
+    (λ test t count allowed.
+    let P : (ℕ → Bool) → Type 0 = λ test. AreUnits utf8 (key false) test count (then_allowed count (units_of set) allowed) in
+    let same : (λ d. c == d) ≡ test = some-same (λ d. c == d) test t in
+    subst P same (record {
+      keys = λ d is accepted ahead less.
+          let e : c ≡ d = eqb-true c d accepted in
+          let at : first_key utf8 (key false) d ≡ Some c =
+          ap (first_key utf8 (key false)) (sym e) ∙ first-byte c
+          ∙ ap Some (ap (λ (b : Bool). if b then c else if nat_lt c 0x800 then 0xC0 + c / 0x40 else if nat_lt c 0x1_0000 then 0xE0 + c / 0x1000 else 0xF0 + c / 0x4_0000) (lt-ltb c 0x80 low)) in
+          ap (may_stand (then_allowed count (units_of set) allowed) ahead) at ∙ then-early count (units_of set) allowed ahead c less ∙ has;
+      single = λ d is accepted.
+          let e : c ≡ d = eqb-true c d accepted in
+          ap (λ (d : ℕ). length (spelled_in utf8 d)) (sym e) ∙ ap (λ (l : List ℕ). length (l ++ [])) (encode_ascii c low);
+    }))
+  where
+    some-same : (f g : ℕ → Bool) → Some f ≡ Some g → f ≡ g
+    some-same f g e = cc
+
+-- the characters of a narrow class
+class-units : (program : Program) (class : Class) (set : Beginnings) (insn : Insn) → IsClass false program class → class.narrow ≡ true → insn ≡ insn_of class.insn
+    → ((k : ℕ) → k < 256 → (table_of set).keys k ≡ not (slice_index_or class.steps k 0 == 0)) → (test : ℕ → Bool) → test_of program (Some insn) ≡ Some test
+    → (count : ℕ) (allowed : Allowed) → AreUnits utf8 (key false) test count (then_allowed count (units_of set) allowed)
+class-units program class set insn is narrow same keys test t count allowed = record {
+  keys = λ c character accepted ahead less.
+      ap (may_stand (then_allowed count (units_of set) allowed) ahead) (first-key-at utf8 false refl c character)
+      ∙ then-early count (units_of set) allowed ahead (key_of_first false c) less
+      ∙ keys (key_of_first false c) (first-key-below utf8 false refl c character)
+      ∙ ap not (ne_eqb (slice_index_or class.steps (key_of_first false c) 0) 0 (some c character accepted));
+  single = λ c character accepted.
+      let step = slice_index_or class.steps (key_of_first false c) 0 in
+      let one : step ≡ 1 = let most = is.narrow narrow (key_of_first false c) in least step (some c character accepted) most in
+      let h : is_told 1 true (length (spelled_in utf8 c)) ≡ true = ap (λ s. is_told s true (length (spelled_in utf8 c))) (sym one) ∙ ap (λ a. is_told step a (length (spelled_in utf8 c))) (sym accepted) ∙ told c character in
+      let e : 1 ≡ length (spelled_in utf8 c) = eqb-true 1 (length (spelled_in utf8 c)) h in
+      sym e;
+}
+  where
+    told : (c : ℕ) → is_character utf8 c ≡ true → is_told (slice_index_or class.steps (key_of_first false c) 0) (test c) (length (spelled_in utf8 c)) ≡ true
+    told c character =
+        ap (λ o. is_told (step_at class.steps o) (test c) (length (spelled_in utf8 c))) (sym (first-key-at utf8 false refl c character))
+        ∙ is.steps test (ap (λ i. test_of program (Some i)) (sym same) ∙ t) utf8 refl c character
+
+    some : (c : ℕ) → is_character utf8 c ≡ true → test c ≡ true → slice_index_or class.steps (key_of_first false c) 0 ≢ 0
+    some c character accepted = told-some (slice_index_or class.steps (key_of_first false c) 0) (length (spelled_in utf8 c)) (test c) (told c character) accepted
+
+    least : (n : ℕ) → n ≢ 0 → n ≤ 1 → n ≡ 1
+    least zero none most = absurd (none refl)
+    least (suc n) none most = omega (arith, most)
+
+reads-as : (program : Program) (insn : Insn) → reads_one insn ≡ true → Reads utf8 (key false) program insn
+reads-as program (CharSet members) r = λ text s. refl
+reads-as program (ByteSet members) r = λ text s. refl
+reads-as program (AsciiBracket members) r = λ text s. refl
+reads-as program (Bracket index) r = λ text s. refl
+reads-as program MatchAny r = λ text s. refl
+reads-as program MatchAnyExceptLineTerminator r = λ text s. refl
+reads-as program _ r = cc
+
+some-class : (a b : Class) → Some a ≡ Some b → a ≡ b
+some-class a b e = cc
+
+pub said-class : (plan : Plan) (ip number : ℕ) (class : Class) (set : Beginnings) → slice_get plan.classes.items number ≡ Some class → class.narrow ≡ true
+    → ((k : ℕ) → k < 256 → (table_of set).keys k ≡ not (slice_index_or class.steps k 0 == 0)) → LeadsFrom plan (op.One number) ip (ahead.Units set 1 (Some (ip + 1)))
+said-class plan ip number class set here narrow keys program ops there =
+    let i = insn-of plan program ops (op.One number) ip there in
+    let h = i.2.0 in
+    let same = some-class h.class class (sym h.is_there ∙ here) in
+    reads-front program ip i.0 set i.1 (reads-as program i.0 i.2.1)
+    (class-units program class set i.0 (ops.classes number class here) narrow (h.is_class ∙ ap (λ (c : Class). insn_of c.insn) same) keys)
+
+pub said-run : (plan : Plan) (ip : ℕ) (r : run.Run) (class : Class) (bounds : Bounds) (set : Beginnings) (to : Option ℕ) → slice_get plan.classes.items r.class ≡ Some class
+    → slice_get plan.bounds.items r.bounds ≡ Some bounds → class.narrow ≡ true
+    → ((k : ℕ) → k < 256 → (table_of set).keys k ≡ not (slice_index_or class.steps k 0 == 0))
+    → ((to ≡ Some (ip + 2)) × (bounds.min ≡ bounds.max)) ⊎ (to ≡ None) → LeadsFromRun plan r ip (ahead.Units set bounds.min to)
+said-run plan ip r class bounds set to here bounded narrow keys way program ops greedy insn there runs len allowed behind =
+    front-run utf8 (key false) program ip len bounds.min bounds.max greedy (then_allowed bounds.min (units_of set) allowed) allowed
+    (there ∙ ap Some (runs.insn_is ∙ ap (λ (b : Bounds). Loop1CharBody b.min b.max greedy) same_bounds)) are
+    (λ ahead k.
+    then-late bounds.min (units_of set) allowed (bounds.min + ahead) k (omega arith)
+    ∙ ap (λ n. allowed n k) (let z : bounds.min + ahead - bounds.min ≡ ahead = omega arith in z))
+    (exactly way) (front way)
+  where
+    same_bounds : runs.bounds ≡ bounds
+    same_bounds = let e : Some runs.bounds ≡ Some bounds = sym runs.are_there ∙ bounded in cc
+
+    are : (test : ℕ → Bool) → test_of program (slice_get program.insns (ip + 1)) ≡ Some test
+        → AreUnits utf8 (key false) test bounds.min (then_allowed bounds.min (units_of set) allowed)
+    are test t = by (slice_get program.insns (ip + 1)) refl t
+      where
+        by : (o : Option Insn) → slice_get program.insns (ip + 1) ≡ o → test_of program o ≡ Some test
+            → AreUnits utf8 (key false) test bounds.min (then_allowed bounds.min (units_of set) allowed)
+        by None at t = cc
+        by (Some read) at t =
+            let h = runs.body read at in
+            let same = some-class h.class class (sym h.is_there ∙ here) in
+            class-units program class set read (ops.classes r.class class here) narrow (h.is_class ∙ ap (λ (c : Class). insn_of c.insn) same) keys test t bounds.min allowed
+
+    exactly : ((to ≡ Some (ip + 2)) × (bounds.min ≡ bounds.max)) ⊎ (to ≡ None) → (bounds.min ≡ bounds.max) ⊎ (len ≡ 0)
+    exactly (inl more) = inl more.1
+    exactly (inr none) = let P : Option ℕ → Type 0 = λ o. FrontBehind program o len allowed in inr (subst P none behind)
+
+    front : ((to ≡ Some (ip + 2)) × (bounds.min ≡ bounds.max)) ⊎ (to ≡ None) → FrontAt program (ip + 2) len allowed
+    front (inl more) = let P : Option ℕ → Type 0 = λ o. FrontBehind program o len allowed in subst P more.0 behind
+    front (inr none) =
+        let P : Option ℕ → Type 0 = λ o. FrontBehind program o len allowed in
+        let zero_len : len ≡ 0 = subst P none behind in
+        let Q : ℕ → Type 0 = λ n. FrontAt program (ip + 2) n allowed in
+        subst Q (sym zero_len) (front-none utf8 (key false) program (ip + 2) allowed)

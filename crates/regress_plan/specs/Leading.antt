@@ -1,0 +1,93 @@
+-- What operations say of the units that must stand where they do, in bytes.
+use Rattle.std.specs.Prelude.{◌≡◌, ◌≤◌, ◌<◌, ℕ, ◌+◌, ◌-◌, ◌*◌, ◌%◌, ◌^◌, min, bit_and, bit_or, Bool, true, false, List, Option, Some, None, length, if◌then◌else◌, nat_lt, slice_get, ⊤}
+use Rattle.regex_meaning.specs.Layout.{Program, Insn}
+use Rattle.regress_serves.specs.Fronts.{Allowed}
+use Rattle.regress_plan.specs.declared.beginnings.Beginnings.{Beginnings}
+use Rattle.regress_plan.specs.declared.class.Class.{Class}
+use Rattle.regress_plan.specs.declared.front.Front.{Front}
+use Rattle.regress_plan.specs.declared.fronts.Ahead.{Ahead}
+use Rattle.regress_plan.specs.declared.fronts.Ahead.TheVariants.{Unknown, At, Either, Units}
+use Rattle.regress_plan.specs.declared.ops.Op.{Op}
+use Rattle.regress_plan.specs.declared.ops.Op.TheVariants as op
+use Rattle.regress_plan.specs.declared.ops.Run as run
+use Rattle.regress_plan.specs.declared.plan.Plan.{Plan}
+use Rattle.regress_plan.specs.Fronts.{allowed_of, FrontAt}
+use Rattle.regress_plan.specs.Keys.{table_of}
+use Rattle.regress_plan.specs.Plans.{IsOpOf, IsClass, Runs}
+
+-- ---- Masks
+
+-- so many bits of a mask, and behind them those of another one
+abbrev pub joined_of : (first count behind : ℕ) → ℕ
+joined_of first count behind = bit_or (bit_and first (2 ^ count - 1)) (behind * 2 ^ count % 2 ^ 16)
+
+-- so many units that may stand, and others behind them
+abbrev pub then_allowed : (count : ℕ) → Allowed → Allowed → Allowed
+then_allowed count first after ahead k = if nat_lt ahead count then first ahead k else after (ahead - count) k
+
+-- units of a set
+abbrev pub units_of : Beginnings → Allowed
+units_of set ahead k = (table_of set).keys k
+
+-- one unit of the set
+pub record IsUnitOf (set : Beginnings) (front : Front) : Type 0 where
+  pub len : front.len ≡ 1
+  pub within : (k : ℕ) → (table_of set).keys k ≡ true → allowed_of front 0 k ≡ true
+
+-- what is said of units, and of so many behind them; of 15 units at most
+pub record IsThen (before : Front) (more : ℕ) (allowed : Allowed) (front : Front) : Type 0 where
+  pub len : front.len ≡ min (before.len + more) 15
+  pub within : (ahead k : ℕ) → ahead < front.len → then_allowed before.len (allowed_of before) allowed ahead k ≡ true → allowed_of front ahead k ≡ true
+
+-- what is said of either
+pub record IsOfEither (a b front : Front) : Type 0 where
+  pub first : front.len ≤ a.len
+  pub second : front.len ≤ b.len
+  pub within_first : (ahead k : ℕ) → allowed_of a ahead k ≡ true → allowed_of front ahead k ≡ true
+  pub within_second : (ahead k : ℕ) → allowed_of b ahead k ≡ true → allowed_of front ahead k ≡ true
+
+-- ---- What must stand where an operation stands
+
+-- the operations are those of the program
+pub record AreOps (wide : Bool) (program : Program) (plan : Plan) : Type 0 where
+  pub as_many : length plan.ops.items ≡ length program.insns
+  pub each : (ip : ℕ) (op : Op) (insn : Insn) → slice_get plan.ops.items ip ≡ Some op → slice_get program.insns ip ≡ Some insn → IsOpOf program plan op ip insn
+  pub classes : (number : ℕ) (class : Class) → slice_get plan.classes.items number ≡ Some class → IsClass wide program class
+
+-- what must stand at an instruction, or nothing where there is none
+abbrev pub FrontBehind : Program → Option ℕ → (len : ℕ) → Allowed → Type 0
+FrontBehind program None len allowed = len ≡ 0
+FrontBehind program (Some ip) len allowed = FrontAt program ip len allowed
+
+-- what must stand at the instruction follows so from what must stand at others
+abbrev pub Leads : Program → (ip : ℕ) → Ahead → Type 0
+Leads program ip Unknown = ⊤
+Leads program ip (At to) = (len : ℕ) (allowed : Allowed) → FrontAt program to len allowed → FrontAt program ip len allowed
+Leads program ip (Either a b) =
+    (len : ℕ) (allowed : Allowed) → FrontAt program a len allowed → FrontAt program b len allowed → FrontAt program ip len allowed
+Leads program ip (Units set count to) =
+    (len : ℕ) (allowed : Allowed) → FrontBehind program to len allowed → FrontAt program ip (count + len) (then_allowed count (units_of set) allowed)
+
+-- The units stand from the one instruction on. If there is room for more, what is behind them stands at the other one.
+pub record IsPath (program : Program) (from : ℕ) (front : Front) (ip : ℕ) : Type 0 where
+  pub so_far : FrontAt program from front.len (allowed_of front)
+  pub on : front.len < 15 → (len : ℕ) (allowed : Allowed) → FrontAt program ip len allowed
+      → FrontAt program from (front.len + len) (then_allowed front.len (allowed_of front) allowed)
+
+-- it reads nothing and leads on to the next one, or nowhere
+abbrev pub leads_on : Op → Bool
+leads_on (op.LineStart multiline) = true
+leads_on (op.WordEdge edge) = true
+leads_on (op.Open slot) = true
+leads_on (op.Close slot) = true
+leads_on (op.Reset slot) = true
+leads_on _ = false
+
+-- an operation says so much, if it stands there
+abbrev pub LeadsFrom : Plan → Op → (ip : ℕ) → Ahead → Type 0
+LeadsFrom plan op ip ahead = (program : Program) → AreOps false program plan → slice_get plan.ops.items ip ≡ Some op → Leads program ip ahead
+
+-- a run of these rows says so much, if it stands there
+abbrev pub LeadsFromRun : Plan → run.Run → (ip : ℕ) → Ahead → Type 0
+LeadsFromRun plan r ip ahead =
+    (program : Program) → AreOps false program plan → (greedy : Bool) (insn : Insn) → slice_get program.insns ip ≡ Some insn → Runs program plan greedy r ip insn → Leads program ip ahead

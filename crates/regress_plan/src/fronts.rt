@@ -1,0 +1,338 @@
+//! What must stand where a match begins, unit by unit, in texts of bytes.
+//!
+//! It is read off the operations that stand at the beginning of a program: those that read no character lead on, and
+//! those that read one whose unit is known say what stands first. Where the operations do not tell it ends.
+
+ghost use Rattle.std.specs.Prelude.{◌≡◌, ◌<◌, ◌+◌, ◌^◌, true, false, length, IfSome};
+ghost use Rattle.regex_meaning.specs.Layout.{Program};
+ghost use Rattle.regress_plan.specs.declared.ops.Op.TheVariants.{Unit, One, Enter};
+ghost use Rattle.regress_plan.specs.Fronts.{allowed_of, IsFrontAt, IsInAscii, IsRare};
+ghost use Rattle.regress_plan.specs.Leading.{units_of, joined_of, leads_on as leads_on_op, IsUnitOf, IsThen, IsOfEither, AreOps, Leads, LeadsFrom, LeadsFromRun};
+
+use crate::beginnings::Beginnings;
+use crate::front::{Front, MOST, Rare, is_clear};
+use crate::keys::KEYS;
+use crate::ops::{Op, Run};
+use crate::plan::Plan;
+
+/// So many operations are looked at, at most.
+const STEPS: usize = 64;
+
+/// What an operation says of the units from there on.
+#[derive(Clone, Copy)]
+enum Ahead {
+    Unknown,
+    /// The same as this operation.
+    At(usize),
+    /// What both of these say.
+    Either(usize, usize),
+    /// So many units of the set stand there, and then what this operation says, if one does.
+    Units {
+        set: Beginnings,
+        count: usize,
+        to: Option<usize>,
+    },
+}
+
+impl Front {
+    // Nothing is known.
+    fn unknown() -> Self
+        ensures { result.len ≡ 0 }
+    {
+        Front {
+            masks: [0; 256],
+            len: 0,
+        }
+    }
+
+    // One unit, of this set.
+    fn of(set: &Beginnings) -> Self
+        ensures { IsUnitOf set.now result }
+    {
+        let mut masks = [0; 256];
+        for key in 0..KEYS {
+            masks[key] = if set.keys[key] { 0 } else { 1 };
+        }
+        Front { masks, len: 1 }
+    }
+
+    // These units, and those behind them, as far as there is room.
+    fn followed_by(&self, behind: &Front) -> Self
+        ensures { IsThen self.now behind.now.len (allowed_of behind.now) result }
+    {
+        let mut masks = [0; 256];
+        for key in 0..KEYS {
+            masks[key] = joined(self.masks[key], self.len, behind.masks[key]);
+        }
+        Front {
+            masks,
+            len: (self.len + behind.len).min(MOST),
+        }
+    }
+
+    // The same with so many units of a set.
+    fn followed_by_units(&self, set: &Beginnings, count: usize) -> Self
+        ensures { IsThen self.now count (units_of set.now) result }
+    {
+        let unit = Front::of(set);
+        let mut front = *self;
+        'units: for _unit in 0..count.min(MOST) {
+            front = front.followed_by(&unit);
+        }
+        front
+    }
+
+    // What either says.
+    fn or(&self, other: &Front) -> Self
+        ensures { IsOfEither self.now other.now result }
+    {
+        let mut masks = [0; 256];
+        for key in 0..KEYS {
+            masks[key] = self.masks[key] & other.masks[key];
+        }
+        Front {
+            masks,
+            len: self.len.min(other.len),
+        }
+    }
+
+    /// Whether a unit with this key may stand so many units on.
+    #[inline(always)]
+    pub fn may_stand(&self, key: usize, ahead: usize) -> bool
+        requires key { key < 256 }
+        requires ahead { ahead < 16 }
+        ensures { result ≡ allowed_of self.now ahead key }
+    {
+        is_clear(self.masks[key], ahead)
+    }
+
+    /// Whether bytes below 128 alone may stand first.
+    pub(crate) fn is_in_ascii(&self) -> bool
+        ensures { result ≡ true → IsInAscii self.now }
+    {
+        let mut others = false;
+        for key in 128..KEYS {
+            others |= self.may_stand(key, 0);
+        }
+        !others
+    }
+
+    /// The unit to look for first, if one alone may stand somewhere that texts have seldom.
+    pub(crate) fn rare(&self) -> Option<Rare>
+        ensures { IfSome result (λ rare. IsRare self.now rare) }
+    {
+        let rare = self.rarest()?;
+        if self.has_alone(rare) {
+            Some(rare)
+        } else {
+            None
+        }
+    }
+
+    // Whether this unit alone may stand there.
+    fn has_alone(&self, rare: Rare) -> bool
+        ensures { result ≡ true → IsRare self.now rare }
+    {
+        if rare.ahead >= self.len {
+            return false;
+        }
+        let mut others = false;
+        for key in 0..KEYS {
+            others |= self.may_stand(key, rare.ahead) & (key != usize::from(rare.unit));
+        }
+        !others
+    }
+
+    // Of the units below 128 that alone may stand somewhere, the one that texts have most seldom.
+    fn rarest(&self) -> Option<Rare> {
+        let alone = self.alone();
+        let mut rarest = None;
+        let mut least = OFTEN;
+        for unit in 0..128u8 {
+            let here = !self.masks[usize::from(unit)] & alone;
+            if here != 0 && how_often(unit) < least {
+                least = how_often(unit);
+                rarest = Some(Rare {
+                    unit,
+                    ahead: here.trailing_zeros() as usize,
+                });
+            }
+        }
+        rarest
+    }
+
+    // A bit for each number of units on where one unit alone may stand.
+    fn alone(&self) -> u16 {
+        let mut once = 0;
+        let mut twice = 0;
+        for mask in self.masks {
+            twice |= once & !mask;
+            once |= !mask;
+        }
+        once & !twice
+    }
+}
+
+/// A unit that stands so often, in a thousand, is not looked for.
+const OFTEN: u8 = 15;
+
+// How often a unit stands in texts, roughly, in a thousand.
+fn how_often(unit: u8) -> u8 {
+    match unit {
+        b' ' => 150,
+        b'e' | b't' | b'a' | b'o' | b'i' | b'n' | b's' | b'r' | b'h' | b'l' | b'd' | b'u' => 50,
+        b'c' | b'm' | b'f' | b'p' | b'g' | b'w' | b'y' | b'b' | b'0'..=b'9' | b'\n' => 20,
+        b'v' | b'k' | b'.' | b',' => 10,
+        b'A'..=b'Z' => 3,
+        _ => 5,
+    }
+}
+
+// So many bits of a mask, and behind them those of another one.
+#[inline(always)]
+fn joined(first: u16, count: usize, behind: u16) -> u16
+    requires { count < 16 }
+    ensures { result ≡ joined_of first count behind }
+{
+    first & ((1 << count) - 1) | behind << count
+}
+
+/// What must stand where the program of this plan begins to match.
+pub(crate) fn front_of(plan: &Plan) -> Front
+    ensures { (program : Program) → AreOps false program plan.now → IsFrontAt program 0 result }
+{
+    front_at(plan, 0, STEPS)
+}
+
+// What must stand from an operation on, as far as so many operations tell. Where two of them lead on, either has half of the rest.
+fn front_at(plan: &Plan, from: usize, steps: usize) -> Front
+    ensures { (program : Program) → AreOps false program plan.now → IsFrontAt program from result }
+{
+    let mut front = Front::unknown();
+    let mut ip = from;
+    let mut left = steps;
+    'path: while left > 0 && front.len < MOST {
+        left -= 1;
+        match said_at(plan, ip) {
+            Ahead::Unknown => return front,
+            Ahead::At(to) => ip = to,
+            Ahead::Either(a, b) => {
+                let either = front_at(plan, a, left / 2).or(&front_at(plan, b, left / 2));
+                return front.followed_by(&either);
+            }
+            Ahead::Units { set, count, to } => {
+                front = front.followed_by_units(&set, count);
+                let Some(next) = to else {
+                    return front;
+                };
+                ip = next;
+            }
+        }
+    }
+    front
+}
+
+// What an operation says.
+fn said_at(plan: &Plan, ip: usize) -> Ahead
+    ensures { (program : Program) → AreOps false program plan.now → Leads program ip result }
+{
+    match plan.ops.get(ip) {
+        Some(op) => said_of_op(plan, *op, ip),
+        None => Ahead::Unknown,
+    }
+}
+
+// What the operation at this place says.
+fn said_of_op(plan: &Plan, op: Op, ip: usize) -> Ahead
+    requires { ip < length plan.now.ops.items }
+    ensures { LeadsFrom plan.now op ip result }
+{
+    if leads_on(op) {
+        return Ahead::At(ip + 1);
+    }
+    match op {
+        Op::Unit(c) => said_of_unit(c, ip),
+        Op::One(number) => said_of_class(plan, number, ip),
+        Op::RunNarrow(ran) => said_of_run(plan, ran, ip),
+        Op::Run(ran) => said_of_run(plan, ran, ip),
+        Op::LazyRun(ran) => said_of_run(plan, ran, ip),
+        Op::Go(to) => Ahead::At(to as usize),
+        Op::Look(look) => Ahead::At(look.past as usize),
+        Op::Either(other) => Ahead::Either(ip + 1, other as usize),
+        Op::Enter(number) => said_of_entry(plan, number, ip),
+        _ => Ahead::Unknown,
+    }
+}
+
+// Whether an operation reads nothing and leads on to the next one, or nowhere.
+fn leads_on(op: Op) -> bool
+    ensures { result ≡ leads_on_op op }
+{
+    matches!(
+        op,
+        Op::LineStart { .. } | Op::WordEdge(_) | Op::Open(_) | Op::Close(_) | Op::Reset(_)
+    )
+}
+
+// What a character of one unit says.
+fn said_of_unit(c: u32, ip: usize) -> Ahead
+    requires { ip + 1 < 2 ^ 64 }
+    ensures { (plan : Plan) → LeadsFrom plan (Unit c) ip result }
+{
+    if c >= 128 {
+        return Ahead::Unknown;
+    }
+    Ahead::Units {
+        set: Beginnings::nothing().with(c as usize),
+        count: 1,
+        to: Some(ip + 1),
+    }
+}
+
+// What a class says.
+fn said_of_class(plan: &Plan, number: u32, ip: usize) -> Ahead
+    requires { ip + 1 < 2 ^ 64 }
+    ensures { LeadsFrom plan.now (One number) ip result }
+{
+    match plan.classes.get(number as usize) {
+        Some(class) if class.narrow => Ahead::Units {
+            set: Beginnings::of_class(class),
+            count: 1,
+            to: Some(ip + 1),
+        },
+        _ => Ahead::Unknown,
+    }
+}
+
+// What a run says: its fewest characters stand first, and if it has no more, what is behind it then.
+fn said_of_run(plan: &Plan, run: Run, ip: usize) -> Ahead
+    requires { ip + 2 < 2 ^ 64 }
+    ensures { LeadsFromRun plan.now run ip result }
+{
+    match (
+        plan.classes.get(run.class as usize),
+        plan.bounds.get(run.bounds as usize),
+    ) {
+        (Some(class), Some(bounds)) if class.narrow => Ahead::Units {
+            set: Beginnings::of_class(class),
+            count: bounds.min,
+            to: if bounds.min == bounds.max {
+                Some(ip + 2)
+            } else {
+                None
+            },
+        },
+        _ => Ahead::Unknown,
+    }
+}
+
+// What the head of a loop says that is not left at once.
+fn said_of_entry(plan: &Plan, number: u32, ip: usize) -> Ahead
+    requires { ip + 1 < 2 ^ 64 }
+    ensures { LeadsFrom plan.now (Enter number) ip result }
+{
+    match plan.counted.get(number as usize) {
+        Some(counted) if counted.min > 0 => Ahead::At(ip + 1),
+        _ => Ahead::Unknown,
+    }
+}

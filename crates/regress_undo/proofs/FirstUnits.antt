@@ -1,0 +1,250 @@
+-- Where units fit that must stand at the beginning of a match, and how they are found.
+use Rattle.std.proofs.Common.{◌≡◌, ℕ, zero, suc, ◌+◌, ◌-◌, ◌<◌, ◌≤◌, Bool, true, false, not, ◌&&◌, List, length, drop, Option, Some, None, refl, ap, sym, ◌∙◌, subst, arith, slice_get}
+use Rattle.std.specs.Prelude.{option_map, slice_index, nat_lt, ◌||◌, ◌==◌, IfSome, MatchOption}
+use Rattle.std.specs.Int.{bit_at}
+use Rattle.std.proofs.lemmas.Bool.{cases_lt, lt-ltb, eq-eqb, eqb-true}
+use Rattle.std.proofs.lemmas.Option.{slice_get-get_or, slice_get_past, slice_get_within}
+use Rattle.std.proofs.lemmas.List.{length-drop, get_or-drop}
+use mathlib.Core.Logic.{◌⊎◌, inl, inr}
+use Rattle.memchr.specs.Find.{IsFirstByte, is_byte}
+use Rattle.memchr.proofs.lemmas.ShiftLemmas.{Window}
+use Rattle.regex_pattern_front.specs.Searching.{IsFirst, FindsFirst}
+use Rattle.regex_meaning.proofs.Booleans.{and-left, and-right}
+use Rattle.regress_serves.specs.Fronts.{Allowed, may_stand}
+use Rattle.regress_serves.proofs.Ends.{slice_get-behind}
+use Rattle.regress_plan.specs.declared.front.Front.{Front}
+use Rattle.regress_plan.specs.declared.front.Rare.{Rare}
+use Rattle.regress_plan.specs.Fronts.{allowed_of, fits, IsRare}
+use Rattle.regress_plan.specs.Keys.{key}
+
+and-last : (a b : Bool) → b ≡ false → (a && b) ≡ false
+and-last true b h = h
+and-last false b h = refl
+
+and-first : (a b : Bool) → a ≡ false → (a && b) ≡ false
+and-first true b h = cc
+and-first false b h = refl
+
+and-both : (a b : Bool) → a ≡ true → b ≡ true → (a && b) ≡ true
+and-both true b h k = k
+and-both false b h k = cc
+
+not-true : (b : Bool) → (b ≡ true → ⊥) → b ≡ false
+not-true true h = absurd (h refl)
+not-true false h = refl
+
+-- a byte is its own key
+pub own-key : (o : Option ℕ) → option_map (key false) o ≡ o
+own-key None = refl
+own-key (Some u) = refl
+
+module _ (allowed : Allowed) (us : List ℕ) (at : ℕ) where
+  -- whether a unit may stand so many units on
+  abbrev pub stands : ℕ → Bool
+  stands ahead = may_stand allowed ahead (slice_get us (at + ahead))
+
+  -- one that may not
+  pub fits-fails : (len ahead : ℕ) → ahead < len → stands ahead ≡ false → fits allowed us at len ≡ false
+  fits-fails zero ahead less none = absurd (omega (arith, less))
+  fits-fails (suc len) ahead less none = elim (cases_lt ahead len) [
+    | inl before ↦ and-first (fits allowed us at len) (stands len) (fits-fails len ahead before none)
+    | inr last ↦
+        let same : ahead ≡ len = omega (arith, less, last) in
+        and-last (fits allowed us at len) (stands len) (ap stands (sym same) ∙ none)
+  ]
+
+  -- each may
+  pub fits-each : (len ahead : ℕ) → ahead < len → fits allowed us at len ≡ true → stands ahead ≡ true
+  fits-each zero ahead less all = absurd (omega (arith, less))
+  fits-each (suc len) ahead less all = elim (cases_lt ahead len) [
+    | inl before ↦ fits-each len ahead before (and-left (fits allowed us at len) (stands len) all)
+    | inr last ↦
+        let same : ahead ≡ len = omega (arith, less, last) in
+        ap stands same ∙ and-right (fits allowed us at len) (stands len) all
+  ]
+
+  pub fits-all : (len : ℕ) → ((ahead : ℕ) → ahead < len → stands ahead ≡ true) → fits allowed us at len ≡ true
+  fits-all zero each = refl
+  fits-all (suc len) each =
+      and-both (fits allowed us at len) (stands len) (fits-all len (λ ahead less. each ahead (omega (arith, less)))) (each len (omega arith))
+
+  -- where they do not fit, this one may not stand
+  pub fits-not : (len : ℕ) → fits allowed us at len ≡ false → (ahead : ℕ) × (ahead < len) × (stands ahead ≡ false)
+  fits-not zero none = cc
+  fits-not (suc len) none = by (stands len) refl
+    where
+      left : (a b : Bool) → b ≡ true → (a && b) ≡ false → a ≡ false
+      left true b h k = cc
+      left false b h k = refl
+
+      by : (b : Bool) → stands len ≡ b → (ahead : ℕ) × (ahead < suc len) × (stands ahead ≡ false)
+      by false here = (len, omega arith, here)
+      by true here =
+          let before = fits-not len (left (fits allowed us at len) (stands len) here none) in
+          let less = before.1 in
+          (before.0, omega (arith, less), before.2)
+
+  -- at the end there is no unit
+  pub fits-past : (len ahead : ℕ) → ahead < len → length us ≤ at + ahead → fits allowed us at len ≡ false
+  fits-past len ahead less past = fits-fails len ahead less (ap (may_stand allowed ahead) (slice_get_past us (at + ahead) past))
+
+  -- they are within
+  pub fits-within : (len : ℕ) → 0 < len → fits allowed us at len ≡ true → at + len ≤ length us
+  fits-within len some all = elim (cases_lt (length us) (at + len)) [
+    | inl short ↦
+        let none = fits-past len (len - 1) (omega (arith, some)) (omega (arith, short, some)) in
+        let never : true ≡ false = sym all ∙ none in
+        cc
+    | inr inside ↦ inside
+  ]
+
+  -- ---- One unit after another
+
+  unit-there : (ahead : ℕ) → at + ahead < length us → stands ahead ≡ allowed ahead (slice_index us (at + ahead))
+  unit-there ahead inside = ap (may_stand allowed ahead) (slice_get-get_or us (at + ahead) 0 inside)
+
+  -- one more
+  pub fits-next : (len : ℕ) → at + len < length us → fits allowed us at len ≡ true → allowed len (slice_index us (at + len)) ≡ true → fits allowed us at (len + 1) ≡ true
+  fits-next len inside all here =
+      ap (fits allowed us at) (let z : len + 1 ≡ suc len = omega arith in z) ∙ and-both (fits allowed us at len) (stands len) all (unit-there len inside ∙ here)
+
+  pub fits-unless : (len ahead : ℕ) → ahead < len → at + ahead < length us → allowed ahead (slice_index us (at + ahead)) ≡ false → fits allowed us at len ≡ false
+  fits-unless len ahead less inside here = fits-fails len ahead less (unit-there ahead inside ∙ here)
+
+  -- too few are left
+  pub fits-short : (len : ℕ) → at ≤ length us → length us - at < len → fits allowed us at len ≡ false
+  fits-short len inside few = fits-past len (length us - at) few (omega (arith, inside))
+
+-- the same behind so many units
+pub fits-behind : (allowed : Allowed) (us : List ℕ) (from i len : ℕ) → fits allowed (drop from us) i len ≡ fits allowed us (from + i) len
+fits-behind allowed us from i zero = refl
+fits-behind allowed us from i (suc len) =
+    ap (λ b. b && may_stand allowed len (slice_get (drop from us) (i + len))) (fits-behind allowed us from i len)
+    ∙ ap (λ o. fits allowed us (from + i) len && may_stand allowed len o)
+    (slice_get-behind from (i + len) us ∙ ap (slice_get us) (let z : from + (i + len) ≡ from + i + len = omega arith in z))
+
+-- ---- By bits
+
+module _ (front : Front) (us : List ℕ) (at : ℕ) where
+  -- the bits of the masks that are clear
+  abbrev pub Clear : (ahead unit : ℕ) → Type 0
+  Clear ahead unit = bit_at (slice_index front.masks unit) ahead ≡ 0
+
+  pub fits-window : fits (allowed_of front) us at front.len ≡ true → Window (λ t b. Clear t b) (slice_index us) front.len at
+  fits-window all t less = by (cases_lt (at + t) (length us))
+    where
+      by : (at + t < length us) ⊎ (length us ≤ at + t) → Clear t (slice_index us (at + t))
+      by (inl inside) =
+          eqb-true (bit_at (slice_index front.masks (slice_index us (at + t))) t) 0
+          (sym (ap (may_stand (allowed_of front) t) (slice_get-get_or us (at + t) 0 inside)) ∙ fits-each (allowed_of front) us at front.len t less all)
+      by (inr past) =
+          let never : true ≡ false = sym all ∙ fits-past (allowed_of front) us at front.len t less past in
+          cc
+
+  pub window-fits : at + front.len ≤ length us → Window (λ t b. Clear t b) (slice_index us) front.len at → fits (allowed_of front) us at front.len ≡ true
+  window-fits inside window =
+      fits-all (allowed_of front) us at front.len (λ t less.
+      ap (may_stand (allowed_of front) t) (slice_get-get_or us (at + t) 0 (omega (arith, inside, less)))
+      ∙ eq-eqb (bit_at (slice_index front.masks (slice_index us (at + t))) t) 0 (window t less))
+
+-- ---- By the rare one
+
+module _ (front : Front) (rare : Rare) (is : IsRare front rare) (us : List ℕ) (bytes : (i : ℕ) → slice_index us i < 256) where
+  -- they do not fit where another byte stands at its place
+  pub rare-fails : (at : ℕ) → (at + rare.ahead < length us → slice_index us (at + rare.ahead) ≡ rare.unit → ⊥) → fits (allowed_of front) us at front.len ≡ false
+  rare-fails at other = by (cases_lt (at + rare.ahead) (length us))
+    where
+      by : (at + rare.ahead < length us) ⊎ (length us ≤ at + rare.ahead) → fits (allowed_of front) us at front.len ≡ false
+      by (inl inside) =
+          fits-fails (allowed_of front) us at front.len rare.ahead is.inside
+          (ap (may_stand (allowed_of front) rare.ahead) (slice_get-get_or us (at + rare.ahead) 0 inside)
+          ∙ not-true (allowed_of front rare.ahead (slice_index us (at + rare.ahead)))
+          (λ may. other inside (is.only (slice_index us (at + rare.ahead)) (bytes (at + rare.ahead)) may)))
+      by (inr past) = fits-past (allowed_of front) us at front.len rare.ahead is.inside past
+
+  -- too few are left for it
+  pub rare-past : (at : ℕ) → length us ≤ at + rare.ahead → ((k : ℕ) → k < at → fits (allowed_of front) us k front.len ≡ false)
+      → (k : ℕ) → fits (allowed_of front) us k front.len ≡ false
+  rare-past at past before k = elim (cases_lt k at) [
+    | inl early ↦ before k early
+    | inr late ↦ rare-fails k (λ inside same. absurd (omega (arith, past, inside, late)))
+  ]
+
+-- ---- Searches
+
+module _ (front : Front) (us : List ℕ) (at : ℕ) where
+  abbrev Fits : ℕ → Bool
+  Fits k = fits (allowed_of front) us k front.len
+
+  -- one unit more, of which the state says whether all fit that end there
+  pub none-more : 0 < front.len → ((k : ℕ) → k + front.len ≤ at → Fits k ≡ false)
+      → ((k : ℕ) → k + front.len ≡ at + 1 → Window (λ t b. bit_at (slice_index front.masks b) t ≡ 0) (slice_index us) front.len k → ⊥)
+      → (k : ℕ) → k + front.len ≤ at + 1 → Fits k ≡ false
+  none-more some before never k le = elim (cases_lt (k + front.len) (at + 1)) [
+    | inl less ↦ before k (omega (arith, less))
+    | inr last ↦ not-true (Fits k) (λ fit. never k (omega (arith, le, last)) (fits-window front us k fit))
+  ]
+
+  -- all of the units were gone over
+  pub none-found : 0 < front.len → length us ≤ at → ((k : ℕ) → k + front.len ≤ at → Fits k ≡ false) → (k : ℕ) → k < length us → Fits k ≡ false
+  none-found some end before k less =
+      not-true (Fits k) (λ fit.
+      let inside = fits-within (allowed_of front) us k front.len some fit in
+      let none = before k (omega (arith, inside, end)) in
+      let never : true ≡ false = sym fit ∙ none in
+      cc)
+
+  -- they fit where the state says so
+  pub window-found : 0 < front.len → (to : ℕ) → to + front.len ≡ at → at ≤ length us
+      → Window (λ t b. bit_at (slice_index front.masks b) t ≡ 0) (slice_index us) front.len to → ((k : ℕ) → k + front.len ≤ at - 1 → Fits k ≡ false)
+      → IsFirst Fits (length us) to
+  window-found some to there inside window before = record {
+    within = omega (arith, some, there, inside);
+    passes = window-fits front us to (omega (arith, there, inside)) window;
+    none_before = λ k less. before k (omega (arith, less, there));
+  }
+
+module _ (front : Front) (rare : Rare) (is : IsRare front rare) (us : List ℕ) (bytes : (i : ℕ) → slice_index us i < 256) (at : ℕ) (rest : List ℕ)
+    (cut : rest ≡ drop (at + rare.ahead) us) where
+  abbrev FitsAt : ℕ → Bool
+  FitsAt k = fits (allowed_of front) us k front.len
+
+  length-rest : length rest ≡ length us - (at + rare.ahead)
+  length-rest = ap (λ (l : List ℕ). length l) cut ∙ length-drop (at + rare.ahead) us
+
+  -- at no place before so many units further on, if the rare one is not among these
+  rare-barred : (n : ℕ) → ((i : ℕ) → i < n → is_byte rare.unit (slice_index rest i) ≡ true → ⊥) → (k : ℕ) → at ≤ k → k < at + n → FitsAt k ≡ false
+  rare-barred n none k le less =
+      rare-fails front rare is us bytes k (λ inside same.
+      none (k - at) (omega (arith, le, less))
+      (eq-eqb (slice_index rest (k - at)) rare.unit
+      (ap (λ (l : List ℕ). slice_index l (k - at)) cut ∙ get_or-drop (at + rare.ahead) us (k - at) 0
+      ∙ ap (slice_index us) (let z : at + rare.ahead + (k - at) ≡ k + rare.ahead = omega (arith, le) in z) ∙ same)))
+
+  -- the rare one is not there any more
+  pub rare-none : IsFirstByte (is_byte rare.unit) rest None → ((k : ℕ) → k < at → FitsAt k ≡ false) → (k : ℕ) → FitsAt k ≡ false
+  rare-none none before k = elim (cases_lt k at) [
+    | inl early ↦ before k early
+    | inr late ↦ elim (cases_lt k (at + length rest)) [
+      | inl near ↦ rare-barred (length rest) (λ i less. none i (omega arith) less) k late near
+      | inr far ↦ rare-fails front rare is us bytes k (λ inside same. absurd (omega (arith, far, inside, length-rest)))
+    ]
+  ]
+
+  -- it is found so many units further on
+  module _ (more : ℕ) (found : IsFirstByte (is_byte rare.unit) rest (Some more)) (before : (k : ℕ) → k < at → FitsAt k ≡ false) where
+    pub rare-inside : at + more < length us
+    rare-inside = let high = found.0.high in omega (arith, high, length-rest)
+
+    pub rare-before : (k : ℕ) → k < at + more → FitsAt k ≡ false
+    rare-before k less = elim (cases_lt k at) [
+      | inl early ↦ before k early
+      | inr late ↦ rare-barred more (λ i fewer. found.0.before i (omega arith) fewer) k late less
+    ]
+
+    -- and they do not fit there
+    pub rare-behind : FitsAt (at + more) ≡ false → (k : ℕ) → k < at + more + 1 → FitsAt k ≡ false
+    rare-behind none k less = elim (cases_lt k (at + more)) [
+      | inl early ↦ rare-before k early
+      | inr here ↦ let same : at + more ≡ k = omega (arith, less, here) in ap FitsAt (sym same) ∙ none
+    ]

@@ -159,3 +159,8 @@ impl<'r, 't> Searcher<'r> for BacktrackExecutor<'r, AsciiInput<'t>> {
 impl<'r, 't> Executor<'r, 't> for BacktrackExecutor<'r, AsciiInput<'t>> {
     type AsAscii = Self;
 }
+
+/// What `AsAscii` of the executor over UTF-8 names reads each byte of a text of ASCII as a character.
+pub fn ascii_is_read_in_bytes()
+    ensures { ⟦<<BacktrackExecutor<'static, Utf8Input<'static>> as Executor<'static, 'static>>::AsAscii as Searcher<'static>>⟧.text_of ≡ (λ text. ascii_text text.now) }
+{}

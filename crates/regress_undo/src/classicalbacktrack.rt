@@ -29,6 +29,20 @@ pub struct BacktrackExecutor<'r, Input: InputIndexer> {
     tried: Option<Input::Position>,
 }
 
+impl<'r, Input: InputIndexer> BacktrackExecutor<'r, Input> {
+    // The executor that has tried nothing yet. It takes no memory.
+    fn over(search: PlannedSearch<'r, Input>) -> Self
+        ensures { result.search ≡ search.entry }
+    {
+        let alloc = search.searched.program.allocator();
+        BacktrackExecutor {
+            search,
+            memory: Memory::new(alloc),
+            tried: None,
+        }
+    }
+}
+
 impl<'r, Input: InputIndexer> Attempts for BacktrackExecutor<'r, Input> {
     type Input = Input;
 
@@ -90,11 +104,7 @@ impl<'r, 't> BacktrackExecutor<'r, Utf16Input<'t>> {
             PlannedProgram::for_units(re),
             Searched::in_utf16(re, text),
         );
-        Ok(BacktrackExecutor {
-            search,
-            memory: Memory::new(re.allocator()),
-            tried: None,
-        })
+        Ok(BacktrackExecutor::over(search))
     }
 }
 
@@ -106,11 +116,7 @@ impl<'r, 't> BacktrackExecutor<'r, Ucs2Input<'t>> {
         ensures unlimited { IfOk result (λ e. ⟦<BacktrackExecutor<'r, Ucs2Input<'t>> as MatchProducer>⟧.budget e ≡ None) }
     {
         let search = PlannedSearch::new(PlannedProgram::for_units(re), Searched::in_ucs2(re, text));
-        Ok(BacktrackExecutor {
-            search,
-            memory: Memory::new(re.allocator()),
-            tried: None,
-        })
+        Ok(BacktrackExecutor::over(search))
     }
 }
 
@@ -123,11 +129,7 @@ impl<'r, 't> Searcher<'r> for BacktrackExecutor<'r, Utf8Input<'t>> {
 
     fn new(re: &'r CompiledRegex, text: &'t str) -> Result<Self, AllocError> {
         let search = PlannedSearch::new(PlannedProgram::for_bytes(re), Searched::in_utf8(re, text));
-        Ok(BacktrackExecutor {
-            search,
-            memory: Memory::new(re.allocator()),
-            tried: None,
-        })
+        Ok(BacktrackExecutor::over(search))
     }
 }
 
@@ -148,11 +150,7 @@ impl<'r, 't> Searcher<'r> for BacktrackExecutor<'r, AsciiInput<'t>> {
             PlannedProgram::for_bytes(re),
             Searched::in_ascii(re, text),
         );
-        Ok(BacktrackExecutor {
-            search,
-            memory: Memory::new(re.allocator()),
-            tried: None,
-        })
+        Ok(BacktrackExecutor::over(search))
     }
 }
 

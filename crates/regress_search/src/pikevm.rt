@@ -264,3 +264,8 @@ impl<'r, 't> PikeVMExecutor<'r, Ucs2Input<'t>> {
         Ok(PikeVMExecutor::over(Searched::in_ucs2(re, text)))
     }
 }
+
+/// What `AsAscii` of the executor over UTF-8 names reads each byte of a text of ASCII as a character.
+pub fn ascii_is_read_in_bytes()
+    ensures { ⟦<<PikeVMExecutor<'static, Utf8Input<'static>> as Executor<'static, 'static>>::AsAscii as Searcher<'static>>⟧.text_of ≡ (λ text. ascii_text text.now) }
+{}

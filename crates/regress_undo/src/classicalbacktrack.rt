@@ -29,6 +29,20 @@ pub struct BacktrackExecutor<'r, Input: InputIndexer> {
     tried: Option<Input::Position>,
 }
 
+impl<'r, Input: InputIndexer> BacktrackExecutor<'r, Input> {
+    // The executor that has tried nothing yet. It takes no memory.
+    fn over(search: PlannedSearch<'r, Input>) -> Self
+        ensures { result.search ≡ search.entry }
+    {
+        let alloc = search.searched.program.allocator();
+        BacktrackExecutor {
+            search,
+            memory: Memory::new(alloc),
+            tried: None,
+        }
+    }
+}
+
 impl<'r, Input: InputIndexer> Attempts for BacktrackExecutor<'r, Input> {
     type Input = Input;
 
@@ -94,11 +108,7 @@ impl<'r, 't> BacktrackExecutor<'r, Utf16Input<'t>> {
             PlannedProgram::for_units(re),
             Searched::in_utf16(re, text),
         );
-        Ok(BacktrackExecutor {
-            search,
-            memory: Memory::new(re.allocator()),
-            tried: None,
-        })
+        Ok(BacktrackExecutor::over(search))
     }
 }
 
@@ -114,11 +124,7 @@ impl<'r, 't> BacktrackExecutor<'r, Ucs2Input<'t>> {
         ensures unlimited { IfOk result (λ e. ⟦<BacktrackExecutor<'r, Ucs2Input<'t>> as MatchProducer>⟧.budget e ≡ None) }
     {
         let search = PlannedSearch::new(PlannedProgram::for_units(re), Searched::in_ucs2(re, text));
-        Ok(BacktrackExecutor {
-            search,
-            memory: Memory::new(re.allocator()),
-            tried: None,
-        })
+        Ok(BacktrackExecutor::over(search))
     }
 }
 
@@ -131,11 +137,7 @@ impl<'r, 't> Searcher<'r> for BacktrackExecutor<'r, Utf8Input<'t>> {
 
     fn new(re: &'r CompiledRegex, text: &'t str) -> Result<Self, AllocError> {
         let search = PlannedSearch::new(PlannedProgram::for_bytes(re), Searched::in_utf8(re, text));
-        Ok(BacktrackExecutor {
-            search,
-            memory: Memory::new(re.allocator()),
-            tried: None,
-        })
+        Ok(BacktrackExecutor::over(search))
     }
 }
 
@@ -156,14 +158,15 @@ impl<'r, 't> Searcher<'r> for BacktrackExecutor<'r, AsciiInput<'t>> {
             PlannedProgram::for_bytes(re),
             Searched::in_ascii(re, text),
         );
-        Ok(BacktrackExecutor {
-            search,
-            memory: Memory::new(re.allocator()),
-            tried: None,
-        })
+        Ok(BacktrackExecutor::over(search))
     }
 }
 
 impl<'r, 't> Executor<'r, 't> for BacktrackExecutor<'r, AsciiInput<'t>> {
     type AsAscii = Self;
 }
+
+/// What `AsAscii` of the executor over UTF-8 names reads each byte of a text of ASCII as a character.
+pub fn ascii_is_read_in_bytes()
+    ensures { ⟦<<BacktrackExecutor<'static, Utf8Input<'static>> as Executor<'static, 'static>>::AsAscii as Searcher<'static>>⟧.text_of ≡ (λ text. ascii_text text.now) }
+{}

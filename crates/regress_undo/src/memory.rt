@@ -1,7 +1,7 @@
 //! What a search remembers: a row of slots, a log of the values that they had, and the ways still to try.
 
-ghost use Rattle.std.specs.Prelude.{◌≡◌, ◌<◌, ◌≤◌, ◌+◌, ◌-◌, ◌^◌, ◌++◌, ℕ, [], ◌∷◌, length, take, slice_get, slice_set, Some, OnOk, OnErr, IfOk, IsTrue};
-ghost use Rattle.regress_undo.specs.Memory.{Held, undone, are_within, first_slots, state_of, loop_in, with_marks, IsUndone, IsSet, Becomes, with_open, without_range, with_range, with_iteration};
+ghost use Rattle.std.specs.Prelude.{◌≡◌, ◌<◌, ◌≤◌, ◌+◌, ◌-◌, ◌^◌, ◌++◌, ℕ, [], ◌∷◌, length, take, slice_get, slice_set, Some, OnOk, OnErr, IfOk};
+ghost use Rattle.regress_undo.specs.Memory.{Held, undone, AreThere, first_slots, state_of, loop_in, with_marks, IsUndone, IsSet, Becomes, with_open, without_range, with_range, with_iteration};
 
 use std::alloc::{AllocError, Global};
 use std::marker::Model;
@@ -61,8 +61,7 @@ impl Model for Memory {
 
     ghost view = { λ m. record { groups = m.groups; slots = m.slots.items; log = take m.logged m.log.items; marks = take m.marked m.marks.items } };
 
-    ghost invariant = { λ m. (m.groups ≤ length m.slots.items) × (m.logged ≤ length m.log.items) × (m.marked ≤ length m.marks.items)
-        × IsTrue (are_within (length m.slots.items) (take m.logged m.log.items)) };
+    ghost invariant = { λ m. AreThere m.groups m.slots.items m.logged m.log.items m.marked m.marks.items };
 }
 
 // Makes a row longer.

@@ -62,14 +62,8 @@ fn perform<Input: InputIndexer, Dir: Direction>(
             Ok(Turn::Go(state))
         }
         Insn::Alt { secondary } => fork(secondary, state),
-        Insn::EnterLoop(fields) => {
-            let begin = state.ip;
-            begin_iteration(fields, begin, 0, state)
-        }
-        Insn::LoopAgain { begin } => {
-            let head = insns[begin as usize];
-            end_body(head, begin as usize, state)
-        }
+        Insn::EnterLoop(fields) => begin_iteration(fields, state.ip, 0, state),
+        Insn::LoopAgain { begin } => end_body(insns[begin as usize], begin as usize, state),
         Insn::Loop1CharBody {
             min_iters,
             max_iters,

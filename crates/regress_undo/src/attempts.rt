@@ -7,11 +7,11 @@ ghost use Rattle.regress_undo.specs.Searched.{CanBeSearched};
 
 use crate::here::Here;
 use crate::memory::Memory;
-use crate::planned::{At, Planned};
 use crate::run::run;
 use crate::steps::{Steps, Stop};
 use regress_exec::exec::SearchError;
 use regress_input::indexing::InputIndexer;
+use regress_scan::planned::{At, Planned};
 
 // Why a search stopped: steps were refused, or else memory was.
 fn cause<S: Steps>(steps: &S) -> SearchError

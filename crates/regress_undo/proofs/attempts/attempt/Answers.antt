@@ -6,7 +6,7 @@ use Rattle.regress_exec.proofs.Searchable.{can-search}
 use Rattle.regress_exec.specs.Attempts.{ticks_from}
 use Rattle.regress_exec.specs.Spends.{Spends}
 use Rattle.regress_undo.specs.Memory.{state_of}
-use Rattle.regress_undo.specs.Searching.{program_of}
+use Rattle.regress_scan.specs.Searching.{program_of}
 use Rattle.regress_undo.specs.Searches.{searched_from}
 use Rattle.regress_undo.specs.Steps.{limit_of}
 use Rattle.regress_machine.specs.Finds.{initial}

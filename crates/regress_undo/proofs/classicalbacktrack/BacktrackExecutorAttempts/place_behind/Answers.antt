@@ -2,8 +2,8 @@ use Rattle.std.proofs.Common.{◌+◌, Some, sym, subst}
 use Rattle.std.specs.Prelude.{option_map}
 use Rattle.regex_pattern_front.specs.TreeOf.{tree_of}
 use Rattle.regress_exec.specs.Attempts.{IsNextTry}
-use Rattle.regress_undo.specs.Searching.{Searching}
-use Rattle.regress_undo.proofs.Allowing.{searchable, next-further}
+use Rattle.regress_scan.specs.Searching.{Searching}
+use Rattle.regress_scan.proofs.Allowing.{searchable, next-further}
 use Rattle.regress_undo.proofs.classicalbacktrack.BacktrackExecutorAttempts.place_behind.Goals as goal
 
 pub next_start-requires-clause-can : goal.next_start-requires-clause-can

@@ -1,5 +1,5 @@
 use Rattle.std.proofs.Common.{le_refl, arith}
-use Rattle.regress_undo.proofs.Allowing.{searchable}
+use Rattle.regress_scan.proofs.Allowing.{searchable}
 use Rattle.regress_undo.proofs.classicalbacktrack.BacktrackExecutorAttempts.place_from.Goals as goal
 
 pub returns-then-is_anchored-clause-next : goal.returns-then-is_anchored-clause-next

@@ -1,0 +1,15 @@
+pub mod Advancing
+pub mod Allowing
+pub mod Barring
+pub mod FurtherPlaces
+pub mod LazyClass
+pub mod LeavingOut
+pub mod Narrow
+pub mod Nearer
+pub mod NextUnits
+pub mod Peeking
+pub mod Ranges
+pub mod RunPlaces
+pub mod Scanning
+pub mod Starting
+pub mod FirstUnits

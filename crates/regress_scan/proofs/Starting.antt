@@ -1,0 +1,358 @@
+-- Scans for the first place at which a table allows what stands next.
+use Rattle.std.proofs.Common.{◌≡◌, ℕ, zero, suc, ◌+◌, ◌-◌, ◌<◌, ◌≤◌, Bool, true, false, not, List, [], ◌∷◌, length, drop, take, get_or, Option, Some, None, refl, ap, sym, ◌∙◌, subst, arith, slice_get, le_refl}
+use Rattle.std.specs.Prelude.{option_map, slice_index, nat_lt, nat_le, nat_eq, ◌&&◌, ◌||◌}
+use Rattle.std.proofs.lemmas.Bool.{cases_lt, lt-ltb, le-ltb, lt-leb, leb-true, eqb-true}
+use Rattle.std.proofs.lemmas.Option.{slice_get-get_or}
+use Rattle.std.proofs.lemmas.List.{get_or-drop, length-drop}
+use Rattle.std.proofs.Math.Bool.{and-false}
+use mathlib.Core.Logic.{inl, inr}
+use Rattle.regex_meaning.specs.Lists.{contains}
+use Rattle.regex_meaning.specs.Text.{Text, rightwards}
+use Rattle.regex_meaning.specs.Offsets.{IsText, IsBoundary, units, read}
+use Rattle.regex_meaning.specs.Units.{Encoding, utf8, utf16, ucs2, units_in, IsSpelledIn}
+use Rattle.regex_meaning.proofs.Booleans.{and-left}
+use Rattle.regex_meaning.proofs.TextLemmas.{place-less}
+use Rattle.regex_pattern_front.specs.Searching.{FindsFirst, holds_at}
+use Rattle.memchr.specs.Find.{IsFirstByte, is_byte3}
+use Rattle.regress_input.specs.Reading.{past, bytes_of, bytes_if, is_of_bytes, IsFoundFrom}
+use Rattle.regress_input.specs.Utf8.{continues}
+use Rattle.regress_input.proofs.Boundaries.{boundary-byte, units-length}
+use Rattle.regress_input.proofs.Places.{end_boundary, past_ahead, past_boundary, boundary_inside, place_of_boundary, step_right}
+use Rattle.regress_input.proofs.UnitsIn.{utf8-units}
+use Rattle.regress_serves.specs.Tables.{Table, HasUnits, allows, key_at}
+use Rattle.regress_plan.specs.Keys.{key, is_wide, is_lead}
+use Rattle.regress_scan.specs.Searching.{Searching}
+use Rattle.regress_scan.proofs.Allowing.{no-key}
+use Rattle.regress_scan.proofs.NextUnits.{unit-fits}
+use Rattle.regress_scan.proofs.FirstUnits.{own-key, fits-past, fits-each, fits-behind}
+use Rattle.regress_serves.specs.Fronts.{may_stand}
+use Rattle.regress_plan.specs.declared.front.Front.{Front}
+use Rattle.regress_plan.specs.Fronts.{allowed_of, fits, IsInAscii}
+use Rattle.regress_scan.specs.Starts.{allows_at, AllowsNone, IsFirstAllowed, IsFirstWhere, AllowsLeads, IsPast, few_allowed, fits_in}
+
+-- ---- Past a unit
+
+pub none-between : (text : Text) → IsText text → (at to : ℕ) → past text rightwards at ≡ Some to → (x : ℕ) → IsBoundary text x → at < x → x < to → ⊥
+none-between text is at to led x on more less = by (read text rightwards at) refl led
+  where
+    by : (o : Option (ℕ × ℕ)) → read text rightwards at ≡ o → option_map {T = ℕ × ℕ} (λ r. r.1) o ≡ Some to → ⊥
+    by None e h = cc
+    by (Some r) e h =
+        let same : r.1 ≡ to = cc in
+        let step = step_right text is at r.0 r.1 e in
+        let q = place_of_boundary text is x on in
+        let from = step.from in
+        let upto = step.upto in
+        let after = place-less text step.place q.0 is from.within q.1.within (omega (arith, from.offset_is, q.1.offset_is, more)) in
+        let before = place-less text q.0 (suc step.place) is q.1.within upto.within (omega (arith, upto.offset_is, q.1.offset_is, less, same)) in
+        omega (arith, after, before)
+
+pub past-byte : (text : Text) (at to : ℕ) → to ≡ at + 1 → at < units text → IsPast text true at to
+past-byte text at to e less = record {
+  ahead = omega (arith, e);
+  inside = omega (arith, e, less);
+  alone = λ x on more before. omega (arith, e, more, before);
+  boundary = λ h. cc;
+}
+
+pub past-character : (text : Text) → IsText text → (are_bytes : Bool) (at to : ℕ) → past text rightwards at ≡ Some to → IsPast text are_bytes at to
+past-character text is are_bytes at to led = record {
+  ahead = past_ahead text is at to led;
+  inside = boundary_inside text is to (past_boundary text is at to led);
+  alone = none-between text is at to led;
+  boundary = λ h. past_boundary text is at to led;
+}
+
+-- ---- Bytes that begin characters stand at boundaries
+
+or-after : (a b : Bool) → a ≡ false → (a || b) ≡ true → b ≡ true
+or-after true b e h = cc
+or-after false b e h = h
+
+lead-begins : (k : ℕ) → is_lead k ≡ true → continues k ≡ false
+lead-begins k is = elim (cases_lt k 0x80) [
+  | inl low ↦ ap (λ (b : Bool). b && nat_le k 0xBF) (lt-leb 0x80 k low)
+  | inr high ↦
+      let more = leb-true 0xC2 k (and-left (nat_le 0xC2 k) (nat_le k 0xF4) (or-after (nat_lt k 0x80) (nat_le 0xC2 k && nat_le k 0xF4) (le-ltb k 0x80 high) is)) in
+      ap (λ (b : Bool). nat_le 0x80 k && b) (lt-leb k 0xBF (omega (arith, more))) ∙ and-false (nat_le 0x80 k)
+]
+
+boundary-lead : (e : Encoding) (text : Text) → HasUnits e text → (table : Table) → AllowsLeads (is_wide e) table → (at k : ℕ)
+    → key_at e (key (is_wide e)) text at ≡ Some k → k < 256 → table.keys k ≡ true → (is_wide e ≡ true → IsBoundary text at) → IsBoundary text at
+boundary-lead utf8 text has table leads at k there small allowed wide =
+    boundary-byte text has.spelled at k (sym (own-key (slice_get (units_in utf8 text) at)) ∙ there) ∙ ap not (lead-begins k (leads refl k small allowed))
+boundary-lead utf16 text has table leads at k there small allowed wide = wide refl
+boundary-lead ucs2 text has table leads at k there small allowed wide = wide refl
+
+-- ---- Unit by unit
+
+module _ (w : Searching) (table : Table) (from : ℕ) where
+  -- up to this offset the table allows nothing; in 16-bit units that is a boundary
+  pub record Scans (at : ℕ) : Type 0 where
+    pub passed : from ≤ at
+    pub inside : at ≤ units w.text
+    pub boundary : is_wide w.encoding ≡ true → IsBoundary w.text at
+    pub none : AllowsNone w table from at
+
+  pub scan-begins : IsText w.text → IsBoundary w.text from → Scans from
+  scan-begins is on = record {
+    passed = le_refl from;
+    inside = boundary_inside w.text is from on;
+    boundary = λ wide. on;
+    none = λ x on le less. absurd (omega (arith, le, less));
+  }
+
+  bars : (at k : ℕ) → key_at w.encoding (key (is_wide w.encoding)) w.text at ≡ Some k → table.keys k ≡ false → allows_at w table at ≡ false
+  bars at k there none = ap (allows table) there ∙ none
+
+  pub scan-goes : (at to k : ℕ) (are_bytes : Bool) → are_bytes ≡ is_of_bytes w.encoding → Scans at → IsPast w.text are_bytes at to
+      → key_at w.encoding (key (is_wide w.encoding)) w.text at ≡ Some k → table.keys k ≡ false → Scans to
+  scan-goes at to k are_bytes same s p there barred = record {
+    passed = let a = s.passed in let b = p.ahead in omega (arith, a, b);
+    inside = p.inside;
+    boundary = λ wide. p.boundary (same ∙ no-bytes w.encoding wide);
+    none = λ x on le less. elim (cases_lt x at) [
+      | inl before ↦ s.none x on le before
+      | inr after ↦ elim (cases_lt at x) [
+        | inl more ↦ absurd (p.alone x on more less)
+        | inr most ↦ let here : at ≡ x = omega (arith, after, most) in subst (λ x. allows_at w table x ≡ false) here (bars at k there barred)
+      ]
+    ];
+  }
+    where
+      no-bytes : (e : Encoding) → is_wide e ≡ true → is_of_bytes e ≡ false
+      no-bytes utf8 h = cc
+      no-bytes utf16 h = refl
+      no-bytes ucs2 h = refl
+
+  module _ (has : HasUnits w.encoding w.text) where
+    pub scan-finds : (at k : ℕ) (is : Bool) → AllowsLeads (is_wide w.encoding) table → Scans at → key_at w.encoding (key (is_wide w.encoding)) w.text at ≡ Some k
+        → k < 256 → is ≡ table.keys k → is ≡ true → IsFirstAllowed w table from (Some at)
+    scan-finds at k is leads s there small asked holds = (
+      boundary-lead w.encoding w.text has table leads at k there small (sym asked ∙ holds) s.boundary,
+      s.passed,
+      ap (allows table) there ∙ sym asked ∙ holds,
+      s.none,
+    )
+
+    at-end : (at : ℕ) → Scans at → units w.text ≤ at → at ≡ units w.text
+    at-end at s end = let most = s.inside in omega (arith, most, end)
+
+    pub scan-ends : (at : ℕ) (is : Bool) → Scans at → units w.text ≤ at → is ≡ table.end → is ≡ true → IsFirstAllowed w table from (Some at)
+    scan-ends at is s end asked holds = (
+      end_boundary w.text has.is_text at (at-end at s end),
+      s.passed,
+      ap (allows table) (no-key w.encoding w.text has at end) ∙ sym asked ∙ holds,
+      s.none,
+    )
+
+    pub scan-fails : (at : ℕ) (is : Bool) → Scans at → units w.text ≤ at → is ≡ table.end → is ≡ false → IsFirstAllowed w table from None
+    scan-fails at is s end asked fails = λ x on le less. elim (cases_lt x at) [
+      | inl before ↦ s.none x on le before
+      | inr after ↦ ap (allows table) (no-key w.encoding w.text has x (omega (arith, after, end))) ∙ sym asked ∙ fails
+    ]
+
+-- ---- A few units
+
+not-true : (b : Bool) → (b ≡ true → ⊥) → b ≡ false
+not-true true h = absurd (h refl)
+not-true false h = refl
+
+-- three bytes that are looked for
+pub found-three : (us bytes : List ℕ) (found : Option ℕ) → length us ≡ 3 → IsFirstByte (is_byte3 (get_or us 0 0) (get_or us 1 0) (get_or us 2 0)) bytes found
+    → FindsFirst (holds_at us bytes) (length bytes) found
+found-three us bytes found sized f = by found f
+  where
+    or-last : (a b c : Bool) → (a || (b || (c || false))) ≡ (a || b || c)
+    or-last true b c = refl
+    or-last false true c = refl
+    or-last false false true = refl
+    or-last false false false = refl
+
+    same : (us : List ℕ) → length us ≡ 3 → (x : ℕ) → contains us x ≡ is_byte3 (get_or us 0 0) (get_or us 1 0) (get_or us 2 0) x
+    same [] e x = absurd (omega (arith, e))
+    same (a ∷ []) e x = absurd (omega (arith, e))
+    same (a ∷ b ∷ []) e x = absurd (omega (arith, e))
+    same (a ∷ b ∷ c ∷ []) e x = or-last (nat_eq x a) (nat_eq x b) (nat_eq x c)
+    same (a ∷ b ∷ c ∷ d ∷ us) e x = absurd (omega (arith, e))
+
+    by : (found : Option ℕ) → IsFirstByte (is_byte3 (get_or us 0 0) (get_or us 1 0) (get_or us 2 0)) bytes found → FindsFirst (holds_at us bytes) (length bytes) found
+    by None none = λ k less. same us sized (slice_index bytes k) ∙ not-true (is_byte3 (get_or us 0 0) (get_or us 1 0) (get_or us 2 0) (slice_index bytes k)) (none k (omega arith) less)
+    by (Some i) first = record {
+      within = first.0.high;
+      passes = same us sized (slice_index bytes i) ∙ first.1;
+      none_before = λ k less.
+          same us sized (slice_index bytes k)
+          ∙ not-true (is_byte3 (get_or us 0 0) (get_or us 1 0) (get_or us 2 0) (slice_index bytes k)) (first.0.before k (omega arith) less);
+    }
+
+-- what passes a test that a few units pass
+few-pass : (p : ℕ → Bool) (us : List ℕ) (len u : ℕ) → ((k : ℕ) → k < len → p (get_or us k 0) ≡ true) → contains (take len us) u ≡ true → p u ≡ true
+few-pass p us zero u each h = cc
+few-pass p [] (suc len) u each h = cc
+few-pass p (x ∷ us) (suc len) u each h = by (nat_eq u x) refl (λ rest. few-pass p us len u (λ k less. each (suc k) (omega (arith, less))) rest) h
+  where
+    by : (b : Bool) → nat_eq u x ≡ b → (contains (take len us) u ≡ true → p u ≡ true) → (b || contains (take len us) u) ≡ true → p u ≡ true
+    by true e rest h = ap p (eqb-true u x e) ∙ each 0 (omega arith)
+    by false e rest h = rest h
+
+pub few-leads : (us : List ℕ) (len : ℕ) (wide : Bool) → ((k : ℕ) → k < len → is_lead (get_or us k 0) ≡ true) → AllowsLeads wide (few_allowed us len)
+few-leads us len wide each narrow k small allowed = few-pass is_lead us len k each allowed
+
+-- units below 128 are bytes that begin characters
+low-lead : (k : ℕ) → k < 128 → is_lead k ≡ true
+low-lead k low = ap (λ (b : Bool). b || (nat_le 0xC2 k && nat_le k 0xF4)) (lt-ltb k 0x80 low)
+
+pub low-leads : (us : List ℕ) (len : ℕ) (wide : Bool) → ((k : ℕ) → k < len → get_or us k 0 < 128) → AllowsLeads wide (few_allowed us len)
+low-leads us len wide low = few-leads us len wide (λ k less. low-lead (get_or us k 0) (low k less))
+
+byte-key : (e : Encoding) (text : Text) → is_of_bytes e ≡ true → (at : ℕ) → key_at e (key (is_wide e)) text at ≡ slice_get (bytes_of text) at
+byte-key utf8 text bytes at = own-key (slice_get (units_in utf8 text) at) ∙ ap (λ (us : List ℕ). slice_get us at) (utf8-units text.characters)
+byte-key utf16 text bytes at = cc
+byte-key ucs2 text bytes at = cc
+
+byte-small : (e : Encoding) (text : Text) → HasUnits e text → is_of_bytes e ≡ true → (at k : ℕ) → key_at e (key (is_wide e)) text at ≡ Some k → k < 256
+byte-small utf8 text has bytes at k there = unit-fits utf8 text has at k (sym (own-key (slice_get (units_in utf8 text) at)) ∙ there)
+byte-small utf16 text has bytes at k there = cc
+byte-small ucs2 text has bytes at k there = cc
+
+byte-count : (e : Encoding) (text : Text) → is_of_bytes e ≡ true → IsSpelledIn e text → units text ≡ length (bytes_of text)
+byte-count utf8 text bytes spelled = units-length utf8 text spelled ∙ ap length (utf8-units text.characters)
+byte-count utf16 text bytes spelled = cc
+byte-count ucs2 text bytes spelled = cc
+
+wide-none : (e : Encoding) → is_of_bytes e ≡ true → is_wide e ≡ true → ⊥
+wide-none utf8 bytes wide = cc
+wide-none utf16 bytes wide = cc
+wide-none ucs2 bytes wide = cc
+
+pub narrow-bytes : (e : Encoding) → is_wide e ≡ false → is_of_bytes e ≡ true
+narrow-bytes utf8 narrow = refl
+narrow-bytes utf16 narrow = cc
+narrow-bytes ucs2 narrow = cc
+
+-- where bytes are read, units are bytes
+pub bytes-there : (are_bytes : Bool) (text : Text) (all : List ℕ) → Some all ≡ bytes_if are_bytes text → are_bytes ≡ true
+bytes-there true text all e = refl
+bytes-there false text all e = cc
+
+-- the first of a few units, found in bytes
+pub few-found : (w : Searching) → HasUnits w.encoding w.text → (us : List ℕ) (len from : ℕ) → is_of_bytes w.encoding ≡ true → AllowsLeads (is_wide w.encoding) (few_allowed us len)
+    → from ≤ units w.text → (found : Option ℕ) → IsFoundFrom true (λ bytes. holds_at (take len us) bytes) (bytes_of w.text) from found
+    → IsFirstAllowed w (few_allowed us len) from found
+few-found w has us len from bytes leads inside found f = by f.0 f.1 found f.2
+  where
+    all : List ℕ
+    all = bytes_of w.text
+
+    table : Table
+    table = few_allowed us len
+
+    length-rest : length (drop from all) ≡ length all - from
+    length-rest = length-drop from all
+
+    count : units w.text ≡ length all
+    count = byte-count w.encoding w.text bytes has.spelled
+
+    test : ℕ → Bool
+    test i = holds_at (take len us) (drop from all) i
+
+    -- what the test says of an offset
+    tested : (i : ℕ) → test i ≡ contains (take len us) (get_or all (from + i) 0)
+    tested i = ap (contains (take len us)) (get_or-drop from all i 0)
+
+    allowed : (at : ℕ) → at < length all → allows_at w table at ≡ contains (take len us) (get_or all at 0)
+    allowed at less = ap (allows table) (byte-key w.encoding w.text bytes at ∙ slice_get-get_or all at 0 less)
+
+    barred : (at : ℕ) → from ≤ at → at < length all → test (at - from) ≡ false → allows_at w table at ≡ false
+    barred at le less none =
+        let back : at ≡ from + (at - from) = omega (arith, le) in
+        allowed at less ∙ ap (λ at. contains (take len us) (get_or all at 0)) back ∙ sym (tested (at - from)) ∙ none
+
+    by : (index : Option ℕ) → FindsFirst test (length (drop from all)) index → (found : Option ℕ) → found ≡ option_map (λ i. from + i) index
+        → IsFirstAllowed w table from found
+    by None none None e = λ x on le less. elim (cases_lt x (units w.text)) [
+      | inl before ↦ barred x le (omega (arith, before, count)) (none (x - from) (omega (arith, le, before, count, length-rest)))
+      | inr after ↦ ap (allows table) (no-key w.encoding w.text has x after)
+    ]
+    by None none (Some to) e = cc
+    by (Some i) first None e = cc
+    by (Some i) first (Some to) e =
+        let there : to ≡ from + i = cc in
+        let within = first.within in
+        let less : to < length all = omega (arith, there, within, length-rest) in
+        let has_it : contains (take len us) (get_or all to 0) ≡ true =
+        ap (λ at. contains (take len us) (get_or all at 0)) there ∙ sym (tested i) ∙ first.passes in
+        let keyed = byte-key w.encoding w.text bytes to ∙ slice_get-get_or all to 0 less in (
+          boundary-lead w.encoding w.text has table leads to (get_or all to 0)
+              keyed (byte-small w.encoding w.text has bytes to (get_or all to 0) keyed) has_it (λ wide. absurd (wide-none w.encoding bytes wide)),
+          omega (arith, there),
+          allowed to less ∙ has_it,
+          λ x on le before. barred x le (omega (arith, before, less)) (first.none_before (x - from) (omega (arith, le, before, there))),
+        )
+
+-- ---- The first units of a match
+
+-- the first place at which they fit, found in bytes
+pub fitting-found : (w : Searching) → HasUnits w.encoding w.text → (front : Front) → is_wide w.encoding ≡ false → 0 < front.len → IsInAscii front → (from : ℕ)
+    → (found : Option ℕ) → IsFoundFrom true (λ bytes index. fits (allowed_of front) bytes index front.len) (bytes_of w.text) from found
+    → IsFirstWhere w (fits_in w front) from found
+fitting-found w has front narrow some ascii from found f = by f.0 f.1 found f.2
+  where
+    all : List ℕ
+    all = bytes_of w.text
+
+    test : (at : ℕ) → Bool
+    test at = fits (allowed_of front) all at front.len
+
+    same-units : (e : Encoding) → is_wide e ≡ false → units_in e w.text ≡ all
+    same-units utf8 n = utf8-units w.text.characters
+    same-units utf16 n = cc
+    same-units ucs2 n = cc
+
+    same : (at : ℕ) → fits_in w front at ≡ test at
+    same at = ap (λ (us : List ℕ). fits (allowed_of front) us at front.len) (same-units w.encoding narrow)
+
+    length-rest : length (drop from all) ≡ length all - from
+    length-rest = length-drop from all
+
+    barred : (at : ℕ) → from ≤ at → fits (allowed_of front) (drop from all) (at - from) front.len ≡ false → fits_in w front at ≡ false
+    barred at le none =
+        let back : at ≡ from + (at - from) = omega (arith, le) in
+        same at ∙ ap test back ∙ sym (fits-behind (allowed_of front) all from (at - from) front.len) ∙ none
+
+    past : (at : ℕ) → length all ≤ at → fits_in w front at ≡ false
+    past at end = same at ∙ fits-past (allowed_of front) all at front.len 0 some (omega (arith, end))
+
+    -- a place at which they fit is a boundary
+    bounded : (e : Encoding) → HasUnits e w.text → is_wide e ≡ false → (at : ℕ) → test at ≡ true → IsBoundary w.text at
+    bounded utf8 units n at fit = unit (slice_get all (at + 0)) refl (fits-each (allowed_of front) all at front.len 0 some fit)
+      where
+        unit : (o : Option ℕ) → slice_get all (at + 0) ≡ o → may_stand (allowed_of front) 0 o ≡ true → IsBoundary w.text at
+        unit None there may = cc
+        unit (Some b) there may =
+            let here : slice_get (units_in utf8 w.text) at ≡ Some b =
+            ap (λ (us : List ℕ). slice_get us at) (utf8-units w.text.characters) ∙ ap (slice_get all) (let z : at ≡ at + 0 = omega arith in z) ∙ there in
+            let low = ascii b (unit-fits utf8 w.text units at b here) may in
+            boundary-byte w.text units.spelled at b here
+            ∙ ap not (lead-begins b (ap (λ (x : Bool). x || (nat_le 0xC2 b && nat_le b 0xF4)) (lt-ltb b 0x80 low)))
+    bounded utf16 units n at fit = cc
+    bounded ucs2 units n at fit = cc
+
+    by : (index : Option ℕ) → FindsFirst (λ i. fits (allowed_of front) (drop from all) i front.len) (length (drop from all)) index → (found : Option ℕ)
+        → found ≡ option_map (λ i. from + i) index → IsFirstWhere w (fits_in w front) from found
+    by None none None e = λ x on le less. elim (cases_lt x (length all)) [
+      | inl before ↦ barred x le (none (x - from) (omega (arith, le, before, length-rest)))
+      | inr after ↦ past x after
+    ]
+    by None none (Some to) e = cc
+    by (Some i) first None e = cc
+    by (Some i) first (Some to) e =
+        let there : to ≡ from + i = cc in
+        let within = first.within in
+        let fit : test to ≡ true = ap test there ∙ sym (fits-behind (allowed_of front) all from i front.len) ∙ first.passes in (
+          bounded w.encoding has narrow to fit,
+          omega (arith, there),
+          same to ∙ fit,
+          λ x on le before. barred x le (first.none_before (x - from) (omega (arith, le, before, there))),
+        )

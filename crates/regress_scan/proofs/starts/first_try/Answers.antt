@@ -1,0 +1,47 @@
+use Rattle.std.proofs.Common.{Some, sym, ◌∙◌}
+use Rattle.std.specs.Prelude.{option_map}
+use Rattle.regress_plan.specs.Keys.{is_wide}
+use Rattle.regress_plan.specs.declared.plan.Start.TheVariants.{Anywhere, Among, Few, Front}
+use Rattle.regress_scan.proofs.Allowing.{try-as, few-known, front-known, try-anywhere}
+use Rattle.regress_scan.proofs.Starting.{low-leads}
+use Rattle.regress_scan.proofs.starts.first_try.Goals as goal
+
+pub returns-in-Anywhere : goal.returns-in-Anywhere
+returns-in-Anywhere g c =
+    let w = g.W.Planned.searching c.args.planned.now in
+    let from = g.W.Input.Position.PositionType.offset c.args.from in
+    try-as w Anywhere (sym c.start.ensures ∙ c.in-Anywhere.is) from (Some from) (try-anywhere w from c.requires)
+
+pub returns-in-Among : goal.returns-in-Among
+returns-in-Among g c =
+    let w = g.W.Planned.searching c.args.planned.now in
+    let offset = g.W.Input.Position.PositionType.offset in
+    try-as w (Among c.in-Among.set.now) (sym c.start.ensures ∙ c.in-Among.is) (offset c.args.from) (option_map offset c.next_among.result) c.next_among.ensures
+
+pub next_of_few-requires-clause-leads : goal.next_of_few-requires-clause-leads
+next_of_few-requires-clause-leads g c =
+    let w = g.W.Planned.searching c.args.planned.now in
+    let few = few-known w (Few c.in-Few.units.now c.in-Few.len.now) (sym c.start.ensures ∙ c.in-Few.is) c.is_of_program.ensures.few in
+    low-leads c.in-Few.units.now c.in-Few.len.now (is_wide w.encoding) few.1
+
+pub returns-in-Few : goal.returns-in-Few
+returns-in-Few g c =
+    let w = g.W.Planned.searching c.args.planned.now in
+    let offset = g.W.Input.Position.PositionType.offset in
+    try-as w (Few c.in-Few.units.now c.in-Few.len.now) (sym c.start.ensures ∙ c.in-Few.is) (offset c.args.from) (option_map offset c.next_of_few.result) c.next_of_few.ensures
+
+pub next_fitting-requires-clause-bytes : goal.next_fitting-requires-clause-bytes
+next_fitting-requires-clause-bytes g c =
+    let w = g.W.Planned.searching c.args.planned.now in
+    (front-known w (Front c.in-Front.front.now c.in-Front.rare.now) (sym c.start.ensures ∙ c.in-Front.is) c.is_of_program.ensures.front).0
+
+pub next_fitting-requires-clause-ascii : goal.next_fitting-requires-clause-ascii
+next_fitting-requires-clause-ascii g c =
+    let w = g.W.Planned.searching c.args.planned.now in
+    (front-known w (Front c.in-Front.front.now c.in-Front.rare.now) (sym c.start.ensures ∙ c.in-Front.is) c.is_of_program.ensures.front).3
+
+pub returns-in-Front : goal.returns-in-Front
+returns-in-Front g c =
+    let w = g.W.Planned.searching c.args.planned.now in
+    let offset = g.W.Input.Position.PositionType.offset in
+    try-as w (Front c.in-Front.front.now c.in-Front.rare.now) (sym c.start.ensures ∙ c.in-Front.is) (offset c.args.from) (option_map offset c.next_fitting.result) c.next_fitting.ensures

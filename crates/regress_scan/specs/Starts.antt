@@ -1,0 +1,62 @@
+-- What tables let through at offsets, and where a search tries.
+use Rattle.std.specs.Prelude.{◌≡◌, ◌≤◌, ◌<◌, ℕ, ◌+◌, Bool, true, false, List, take, Option, Some, None}
+use Rattle.regex_meaning.specs.Lists.{contains}
+use Rattle.regex_meaning.specs.Text.{Text}
+use Rattle.regex_meaning.specs.Offsets.{IsBoundary, units}
+use Rattle.regex_meaning.specs.Units.{units_in}
+use Rattle.regress_plan.specs.declared.front.Front.{Front}
+use Rattle.regress_plan.specs.declared.plan.Start.{Start}
+use Rattle.regress_plan.specs.declared.plan.Start.TheVariants as variant
+use Rattle.regress_plan.specs.Fronts.{allowed_of, fits}
+use Rattle.regress_plan.specs.Keys.{key, is_wide, is_lead}
+use Rattle.regress_plan.specs.Plans.{tried}
+use Rattle.regress_serves.specs.Tables.{Table, allows, key_at}
+use Rattle.regress_scan.specs.Searching.{Searching}
+
+-- whether the table allows what stands next at an offset
+abbrev pub allows_at : Searching → Table → (at : ℕ) → Bool
+allows_at w table at = allows table (key_at w.encoding (key (is_wide w.encoding)) w.text at)
+
+-- a test passes at no boundary from the one offset on and before the other
+abbrev pub NoneWhere : Searching → (test : ℕ → Bool) → (from to : ℕ) → Type 0
+NoneWhere w test from to = (at : ℕ) → IsBoundary w.text at → from ≤ at → at < to → test at ≡ false
+
+-- the first boundary from an offset on at which it does; none where there is none up to the end
+abbrev pub IsFirstWhere : Searching → (test : ℕ → Bool) → (from : ℕ) → Option ℕ → Type 0
+IsFirstWhere w test from None = NoneWhere w test from (units w.text + 1)
+IsFirstWhere w test from (Some to) = IsBoundary w.text to × (from ≤ to) × (test to ≡ true) × NoneWhere w test from to
+
+-- the same of what a table allows
+abbrev pub AllowsNone : Searching → Table → (from to : ℕ) → Type 0
+AllowsNone w table from to = NoneWhere w (λ at. allows_at w table at) from to
+
+abbrev pub IsFirstAllowed : Searching → Table → (from : ℕ) → Option ℕ → Type 0
+IsFirstAllowed w table from next = IsFirstWhere w (λ at. allows_at w table at) from next
+
+-- of bytes, those alone that begin characters
+abbrev pub AllowsLeads : (wide : Bool) → Table → Type 0
+AllowsLeads wide table = wide ≡ false → (k : ℕ) → k < 256 → table.keys k ≡ true → is_lead k ≡ true
+
+-- the first so many of these units
+abbrev pub few_allowed : (units : List ℕ) → (len : ℕ) → Table
+few_allowed units len = record { keys = contains (take len units); end = false }
+
+-- a later offset, with no boundary between; one itself, where units are no bytes
+pub record IsPast (text : Text) (are_bytes : Bool) (at to : ℕ) : Type 0 where
+  pub ahead : at < to
+  pub inside : to ≤ units text
+  pub alone : (x : ℕ) → IsBoundary text x → at < x → x < to → ⊥
+  pub boundary : are_bytes ≡ false → IsBoundary text to
+
+-- whether each of the first units may stand at an offset
+abbrev pub fits_in : Searching → Front → (at : ℕ) → Bool
+fits_in w front at = fits (allowed_of front) (units_in w.encoding w.text) at front.len
+
+-- whether a search tries at an offset, where it has to start so
+abbrev pub tries_at : Searching → Start → (at : ℕ) → Bool
+tries_at w (variant.Front front rare) at = fits_in w front at
+tries_at w start at = allows_at w (tried w.plan start) at
+
+-- the first boundary from an offset on at which a search tries, by its plan
+abbrev pub IsFirstTry : Searching → (from : ℕ) → Option ℕ → Type 0
+IsFirstTry w from next = IsFirstWhere w (λ at. tries_at w w.plan.start at) from next

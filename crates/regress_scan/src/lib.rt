@@ -1,0 +1,14 @@
+//! Reading a text by a plan: characters of a class, runs of them, and where a search tries.
+#![tactic(auto)]
+
+pub mod characters;
+mod few;
+mod fitting;
+pub mod further;
+pub mod peeks;
+pub mod planned;
+pub mod reads;
+pub mod rows;
+pub mod scans;
+pub mod sides;
+pub mod starts;

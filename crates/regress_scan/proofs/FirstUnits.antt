@@ -1,14 +1,14 @@
 -- Where units fit that must stand at the beginning of a match, and how they are found.
-use Rattle.std.proofs.Common.{◌≡◌, ℕ, zero, suc, ◌+◌, ◌-◌, ◌<◌, ◌≤◌, Bool, true, false, not, ◌&&◌, List, length, drop, Option, Some, None, refl, ap, sym, ◌∙◌, subst, arith, slice_get}
-use Rattle.std.specs.Prelude.{option_map, slice_index, nat_lt, ◌||◌, ◌==◌, IfSome, MatchOption}
+use Rattle.std.proofs.Common.{◌≡◌, ℕ, zero, suc, ◌+◌, ◌-◌, ◌<◌, ◌≤◌, Bool, true, false, ◌&&◌, List, length, drop, Option, Some, None, refl, ap, sym, ◌∙◌, arith, slice_get}
+use Rattle.std.specs.Prelude.{option_map, slice_index}
 use Rattle.std.specs.Int.{bit_at}
-use Rattle.std.proofs.lemmas.Bool.{cases_lt, lt-ltb, eq-eqb, eqb-true}
-use Rattle.std.proofs.lemmas.Option.{slice_get-get_or, slice_get_past, slice_get_within}
+use Rattle.std.proofs.lemmas.Bool.{cases_lt, eq-eqb, eqb-true}
+use Rattle.std.proofs.lemmas.Option.{slice_get-get_or, slice_get_past}
 use Rattle.std.proofs.lemmas.List.{length-drop, get_or-drop}
 use mathlib.Core.Logic.{◌⊎◌, inl, inr}
 use Rattle.memchr.specs.Find.{IsFirstByte, is_byte}
 use Rattle.memchr.proofs.lemmas.ShiftLemmas.{Window}
-use Rattle.regex_pattern_front.specs.Searching.{IsFirst, FindsFirst}
+use Rattle.regex_pattern_front.specs.Searching.{IsFirst}
 use Rattle.regex_meaning.proofs.Booleans.{and-left, and-right}
 use Rattle.regress_serves.specs.Fronts.{Allowed, may_stand}
 use Rattle.regress_serves.proofs.Ends.{slice_get-behind}
@@ -71,18 +71,19 @@ module _ (allowed : Allowed) (us : List ℕ) (at : ℕ) where
   -- where they do not fit, this one may not stand
   pub fits-not : (len : ℕ) → fits allowed us at len ≡ false → (ahead : ℕ) × (ahead < len) × (stands ahead ≡ false)
   fits-not zero none = cc
-  fits-not (suc len) none = by (stands len) refl
+  fits-not (suc len) none = by (fits-not len) (stands len) refl
     where
       left : (a b : Bool) → b ≡ true → (a && b) ≡ false → a ≡ false
       left true b h k = cc
       left false b h k = refl
 
-      by : (b : Bool) → stands len ≡ b → (ahead : ℕ) × (ahead < suc len) × (stands ahead ≡ false)
-      by false here = (len, omega arith, here)
-      by true here =
-          let before = fits-not len (left (fits allowed us at len) (stands len) here none) in
-          let less = before.1 in
-          (before.0, omega (arith, less), before.2)
+      by : (fits allowed us at len ≡ false → (ahead : ℕ) × (ahead < len) × (stands ahead ≡ false)) → (b : Bool) → stands len ≡ b
+          → (ahead : ℕ) × (ahead < suc len) × (stands ahead ≡ false)
+      by before false here = (len, omega arith, here)
+      by before true here =
+          let one = before (left (fits allowed us at len) (stands len) here none) in
+          let less = one.1 in
+          (one.0, omega (arith, less), one.2)
 
   -- at the end there is no unit
   pub fits-past : (len ahead : ℕ) → ahead < len → length us ≤ at + ahead → fits allowed us at len ≡ false

@@ -1,6 +1,7 @@
 //! Places where each of the first units may stand.
 
 ghost use Rattle.std.specs.Prelude.{◌≡◌, ◌≤◌, ◌<◌, length, IfSome};
+ghost use Rattle.std.proofs.Props.{props};
 ghost use Rattle.regex_pattern_front.specs.Searching.{FindsFirst};
 ghost use Rattle.regress_plan.specs.Fronts.{allowed_of, fits, IsRare};
 
@@ -14,7 +15,7 @@ pub(crate) struct Fitting<'p> {
     pub(crate) front: &'p Front,
     pub(crate) rare: Option<Rare>,
     ghost some: { 0 < front.now.len },
-    ghost is_rare: { IfSome rare (λ r. IsRare front.now r) },
+    ghost is_rare: { IfSome rare (λ r. IsRare front.now r) } by { Prim.hlevel props },
 }
 
 impl ByteSearcher for Fitting<'_> {

@@ -130,7 +130,7 @@ fn next_fitting<W: Planned>(planned: &W, fitting: Fitting<'_>, from: At<W>) -> O
     requires at { IsBoundary (W.searching planned.now).text (W.Input.Position.offset from) }
     requires bytes { is_wide (W.searching planned.now).encoding ≡ false }
     requires ascii { IsInAscii fitting.front.now }
-    ensures { IsFirstWhere (W.searching planned.now) (fits_in (W.searching planned.now) fitting.front.now) (W.Input.Position.offset from) (option_map (λ p. W.Input.Position.offset p) result) }
+    ensures { IsFirstWhere (W.searching planned.now) (fits_in (W.searching planned.now) fitting.entry.front.now) (W.Input.Position.offset from) (option_map (λ p. W.Input.Position.offset p) result) }
 {
     planned.input().find_bytes(from, &fitting)
 }

@@ -1,4 +1,4 @@
-use Rattle.std.proofs.Common.{◌≡◌, ◌+◌, ◌≤◌, true, ap, ◌∙◌, sym, arith}
+use Rattle.std.proofs.Common.{◌≡◌, ◌+◌, ap, slice_index, ◌∙◌, subst, sym, arith}
 use Rattle.regress_plan.specs.Fronts.{allowed_of, fits}
 use Rattle.regress_scan.proofs.FirstUnits.{fits-next, fits-unless, fits-short}
 use Rattle.regress_scan.proofs.fitting.fits_at.Goals as goal
@@ -9,15 +9,19 @@ returns-then-left-front c =
 
 pub returns-then-not-may_stand : goal.returns-then-not-may_stand
 returns-then-not-may_stand c =
+    let told : c.may_stand.result ≡ allowed_of c.args.front.now c.units.ahead (slice_index c.args.bytes.now (c.args.at + c.units.ahead)) =
+    subst (λ key. c.may_stand.result ≡ allowed_of c.args.front.now c.units.ahead key) c.from.ensures c.may_stand.ensures in
     sym (fits-unless (allowed_of c.args.front.now) c.args.bytes.now c.args.at c.args.front.now.len c.units.ahead c.units-test.true
-    (omega (arith, c.units-test.true, c.if-left-front.false, c.requires)) (sym c.may_stand.ensures ∙ c.if-not-may_stand.true))
+    (omega (arith, c.units-test.true, c.if-left-front.false, c.requires)) (sym told ∙ c.if-not-may_stand.true))
 
 pub units-preserved : goal.units-preserved
-units-preserved c = (
-  omega (arith, c.units-test.true),
-  fits-next (allowed_of c.args.front.now) c.args.bytes.now c.args.at c.units.ahead (omega (arith, c.units-test.true, c.if-left-front.false, c.requires))
-      c.units.invariant.1 (sym c.may_stand.ensures ∙ c.if-not-may_stand.false),
-)
+units-preserved c =
+    let told : c.may_stand.result ≡ allowed_of c.args.front.now c.units.ahead (slice_index c.args.bytes.now (c.args.at + c.units.ahead)) =
+    subst (λ key. c.may_stand.result ≡ allowed_of c.args.front.now c.units.ahead key) c.from.ensures c.may_stand.ensures in (
+      omega (arith, c.units-test.true),
+      fits-next (allowed_of c.args.front.now) c.args.bytes.now c.args.at c.units.ahead (omega (arith, c.units-test.true, c.if-left-front.false, c.requires))
+          c.units.invariant.1 (sym told ∙ c.if-not-may_stand.false),
+    )
 
 pub returns : goal.returns
 returns c =

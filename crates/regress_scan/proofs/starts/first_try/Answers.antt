@@ -16,32 +16,32 @@ pub returns-in-Among : goal.returns-in-Among
 returns-in-Among g c =
     let w = g.W.Planned.searching c.args.planned.now in
     let offset = g.W.Input.Position.PositionType.offset in
-    try-as w (Among c.in-Among.set.now) (sym c.start.ensures ∙ c.in-Among.is) (offset c.args.from) (option_map offset c.next_among.result) c.next_among.ensures
+    try-as w (Among c.in-Among.set) (sym c.start.ensures ∙ c.in-Among.is) (offset c.args.from) (option_map offset c.next_among.result) c.next_among.ensures
 
 pub next_of_few-requires-clause-leads : goal.next_of_few-requires-clause-leads
 next_of_few-requires-clause-leads g c =
     let w = g.W.Planned.searching c.args.planned.now in
-    let few = few-known w (Few c.in-Few.units.now c.in-Few.len.now) (sym c.start.ensures ∙ c.in-Few.is) c.is_of_program.ensures.few in
-    low-leads c.in-Few.units.now c.in-Few.len.now (is_wide w.encoding) few.1
+    let few = few-known w (Few c.in-Few.units c.in-Few.len) (sym c.start.ensures ∙ c.in-Few.is) c.is_of_program.ensures.few in
+    low-leads c.in-Few.units c.in-Few.len (is_wide w.encoding) few.1
 
 pub returns-in-Few : goal.returns-in-Few
 returns-in-Few g c =
     let w = g.W.Planned.searching c.args.planned.now in
     let offset = g.W.Input.Position.PositionType.offset in
-    try-as w (Few c.in-Few.units.now c.in-Few.len.now) (sym c.start.ensures ∙ c.in-Few.is) (offset c.args.from) (option_map offset c.next_of_few.result) c.next_of_few.ensures
+    try-as w (Few c.in-Few.units c.in-Few.len) (sym c.start.ensures ∙ c.in-Few.is) (offset c.args.from) (option_map offset c.next_of_few.result) c.next_of_few.ensures
 
 pub next_fitting-requires-clause-bytes : goal.next_fitting-requires-clause-bytes
 next_fitting-requires-clause-bytes g c =
     let w = g.W.Planned.searching c.args.planned.now in
-    (front-known w (Front c.in-Front.front.now c.in-Front.rare.now) (sym c.start.ensures ∙ c.in-Front.is) c.is_of_program.ensures.front).0
+    (front-known w (Front c.in-Front.front c.in-Front.rare) (sym c.start.ensures ∙ c.in-Front.is) c.is_of_program.ensures.front).0
 
 pub next_fitting-requires-clause-ascii : goal.next_fitting-requires-clause-ascii
 next_fitting-requires-clause-ascii g c =
     let w = g.W.Planned.searching c.args.planned.now in
-    (front-known w (Front c.in-Front.front.now c.in-Front.rare.now) (sym c.start.ensures ∙ c.in-Front.is) c.is_of_program.ensures.front).3
+    (front-known w (Front c.in-Front.front c.in-Front.rare) (sym c.start.ensures ∙ c.in-Front.is) c.is_of_program.ensures.front).3
 
 pub returns-in-Front : goal.returns-in-Front
 returns-in-Front g c =
     let w = g.W.Planned.searching c.args.planned.now in
     let offset = g.W.Input.Position.PositionType.offset in
-    try-as w (Front c.in-Front.front.now c.in-Front.rare.now) (sym c.start.ensures ∙ c.in-Front.is) (offset c.args.from) (option_map offset c.next_fitting.result) c.next_fitting.ensures
+    try-as w (Front c.in-Front.front c.in-Front.rare) (sym c.start.ensures ∙ c.in-Front.is) (offset c.args.from) (option_map offset c.next_fitting.result) c.next_fitting.ensures

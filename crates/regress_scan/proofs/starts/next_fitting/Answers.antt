@@ -1,4 +1,4 @@
-use Rattle.std.proofs.Common.{◌≡◌, true, false, ap, sym, subst, ◌∙◌, arith}
+use Rattle.std.proofs.Common.{◌≡◌, true, ap, sym, subst, ◌∙◌, arith}
 use Rattle.std.specs.Prelude.{option_map}
 use Rattle.regex_meaning.specs.Offsets.{units}
 use Rattle.regress_input.specs.Reading.{bytes_of, is_of_bytes, IsFoundFrom}

@@ -5,13 +5,13 @@ ghost use Rattle.regex_meaning.specs.Offsets.{IsBoundary};
 ghost use Rattle.regress_undo.specs.Attempted.{IsEndFrom, SpendsAt};
 ghost use Rattle.regress_undo.specs.Searched.{CanBeSearched};
 
-use crate::here::Here;
-use crate::memory::Memory;
 use crate::run::run;
-use crate::steps::{Steps, Stop};
 use regress_exec::exec::SearchError;
 use regress_input::indexing::InputIndexer;
 use regress_scan::planned::{At, Planned};
+use regress_turns::here::Here;
+use regress_turns::memory::Memory;
+use regress_turns::steps::{Steps, Stop};
 
 // Why a search stopped: steps were refused, or else memory was.
 fn cause<S: Steps>(steps: &S) -> SearchError

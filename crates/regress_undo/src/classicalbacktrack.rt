@@ -3,12 +3,10 @@
 ghost use Rattle.std.specs.Prelude.{◌≡◌, ◌<◌, IsAscii, IfOk, None, ⊤};
 ghost use Rattle.regex_meaning.specs.Text.{ascii_text, utf8_text, utf16_text, ucs2_text};
 ghost use Rattle.regex_pattern_front.specs.TreeOf.{tree_of};
-ghost use Rattle.regress_undo.specs.Memory.{state_of};
+ghost use Rattle.regress_turns.specs.Memory.{state_of};
 
 use crate::attempts::attempt;
 pub use crate::limited::LimitedExecutor;
-use crate::memory::Memory;
-use crate::steps::Free;
 use regress_exec::exec::{Executor, MatchProducer, SearchError, Searcher};
 use regress_exec::places::Attempts;
 use regress_exec::searched::Searched;
@@ -16,6 +14,8 @@ use regress_input::indexing::{AsciiInput, InputIndexer, Ucs2Input, Utf8Input, Ut
 use regress_program::insn::{CompiledRegex, CompiledUnits, Program};
 use regress_scan::planned::{PlannedProgram, PlannedSearch};
 use regress_scan::starts::next_start;
+use regress_turns::memory::Memory;
+use regress_turns::steps::Free;
 use std::alloc::AllocError;
 
 /// Runs a program's plan over a text. It keeps one state, and undoes what it did to it when a way has failed.

@@ -6,16 +6,16 @@ ghost use Rattle.regex_meaning.specs.Text.{utf8_text};
 ghost use Rattle.regex_meaning.proofs.TextLemmas.{utf8_text-IsText};
 ghost use Rattle.regex_pattern_front.specs.TreeOf.{tree_of};
 ghost use Rattle.regress_program.specs.Insns.{start_of};
-ghost use Rattle.regress_undo.specs.Memory.{state_of};
+ghost use Rattle.regress_turns.specs.Memory.{state_of};
 
 use crate::attempts::attempt;
 use crate::classicalbacktrack::BacktrackExecutor;
-use crate::steps::Limited;
 use crate::tried::{first_tried, next_tried};
 use regress_exec::exec::{MatchProducer, SearchError, Searcher};
 use regress_exec::places::Attempts;
 use regress_input::indexing::{InputIndexer, Utf8Input};
 use regress_program::insn::{CompiledRegex, Program, StartPredicate};
+use regress_turns::steps::Limited;
 use std::alloc::AllocError;
 
 /// Searches a text in UTF-8 as `BacktrackExecutor` does, and takes no more than so many steps for all its matches

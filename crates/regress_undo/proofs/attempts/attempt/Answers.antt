@@ -5,10 +5,10 @@ use Rattle.regress_program.specs.Code.{compiled}
 use Rattle.regress_exec.proofs.Searchable.{can-search}
 use Rattle.regress_exec.specs.Attempts.{ticks_from}
 use Rattle.regress_exec.specs.Spends.{Spends}
-use Rattle.regress_undo.specs.Memory.{state_of}
+use Rattle.regress_turns.specs.Memory.{state_of}
 use Rattle.regress_scan.specs.Searching.{program_of}
 use Rattle.regress_undo.specs.Searches.{searched_from}
-use Rattle.regress_undo.specs.Steps.{limit_of}
+use Rattle.regress_turns.specs.Steps.{limit_of}
 use Rattle.regress_machine.specs.Finds.{initial}
 use Rattle.regress_undo.proofs.Attempting.{Begins, first-state, begins, attempt-ends, attempt-spends, attempt-stops, found-with}
 use Rattle.regress_undo.proofs.attempts.attempt.Given.{Over}

@@ -1,0 +1,10 @@
+pub mod Memory
+pub mod Ways
+pub mod Steps
+pub mod Turns
+pub mod Marks
+pub mod Taken
+pub mod Iterations
+pub mod Again
+pub mod Scanned
+pub mod Waiting

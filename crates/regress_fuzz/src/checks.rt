@@ -61,13 +61,27 @@ fn is_same_in_utf16(alloc: Global, re: &Regex, text: &str, list: &[Match]) -> Re
     Ok(are_same_places(text, list, &others))
 }
 
-// From the end of a match that is not empty, the rest is found.
+// From a match's end, which is a boundary, the rest is found.
+fn is_rest(
+    alloc: Global,
+    re: &Regex,
+    text: &str,
+    end: usize,
+    rest: &[Match],
+) -> Result<bool, Fault> {
+    if !is_start(text, end) {
+        return Ok(false);
+    }
+    Ok(are_same(rest, &all(alloc, re.find_from(text, end)?)?))
+}
+
+// So it is from the end of each match that is not empty.
 fn is_resumed(alloc: Global, re: &Regex, text: &str, list: &[Match]) -> Result<bool, Fault> {
     let mut same = true;
     for (id, found) in list.iter().enumerate() {
-        if found.start() < found.end() && is_start(text, found.end()) {
-            let rest = all(alloc, re.find_from(text, found.end())?)?;
-            same &= are_same(list.get(id.saturating_add(1)..).unwrap_or(&[]), &rest);
+        if found.start() < found.end() {
+            let rest = list.get(id.saturating_add(1)..).unwrap_or(&[]);
+            same &= is_rest(alloc, re, text, found.end(), rest)?;
         }
     }
     Ok(same)

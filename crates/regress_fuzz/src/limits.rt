@@ -6,7 +6,6 @@ ghost use Rattle.regress_match.specs.Programs.{IsStart};
 use crate::checks::Case;
 use crate::fault::Fault;
 use crate::lists::{is_same, is_start};
-use regex_pattern_front::flags as front;
 use regress_match::backends::{LimitedExecutor, emit, optimize, try_parse};
 use regress_match::{Error, Flags, Match, Regex, SearchError};
 use regress_program::insn::CompiledRegex;
@@ -19,15 +18,7 @@ const PLENTY: u64 = 1 << 40;
 // The program for bytes of the optimized tree of a pattern.
 fn program_of(alloc: Global, pattern: &str, flags: Flags) -> Result<CompiledRegex, Error> {
     let code_points: Vec<u32> = pattern.chars().map(u32::from).collect(alloc)?;
-    let flags = front::Flags {
-        icase: flags.icase,
-        multiline: flags.multiline,
-        dot_all: flags.dot_all,
-        no_opt: flags.no_opt,
-        unicode: flags.unicode,
-        unicode_sets: flags.unicode_sets,
-    };
-    let mut tree = try_parse(alloc, &code_points, flags)?;
+    let mut tree = try_parse(alloc, &code_points, flags.for_front())?;
     optimize(&mut tree);
     Ok(emit(alloc, &tree)?)
 }

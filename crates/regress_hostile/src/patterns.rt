@@ -1,7 +1,7 @@
 //! What rows search with: a pattern, or a tree in words.
 
 use crate::fault::Fault;
-use regex_pattern_front::{flags as front, ir};
+use regex_pattern_front::ir;
 use regress_match::backends::{emit, emit_units, optimize, try_parse};
 use regress_match::{Error, Flags, Regex};
 use regress_program::emit::EmitError;
@@ -21,15 +21,7 @@ pub struct Compiled {
 // The tree that a pattern is run by.
 fn parsed(alloc: Global, pattern: &str, flags: Flags) -> Result<ir::Regex, Error> {
     let code_points: Vec<u32> = pattern.chars().map(u32::from).collect(alloc)?;
-    let flags = front::Flags {
-        icase: flags.icase,
-        multiline: flags.multiline,
-        dot_all: flags.dot_all,
-        no_opt: flags.no_opt,
-        unicode: flags.unicode,
-        unicode_sets: flags.unicode_sets,
-    };
-    let mut tree = try_parse(alloc, &code_points, flags)?;
+    let mut tree = try_parse(alloc, &code_points, flags.for_front())?;
     optimize(&mut tree);
     Ok(tree)
 }

@@ -47,8 +47,8 @@ impl Flags {
         flags
     }
 
-    // The same flags for the front.
-    pub(super) fn for_front(self) -> front::Flags
+    /// The same flags for `try_parse`.
+    pub fn for_front(self) -> front::Flags
         ensures { front_flags_of result ≡ flags_of self }
     {
         front::Flags {

@@ -1,6 +1,6 @@
 //! What a search remembers: a row of slots, a log of the values that they had, and the ways still to try.
 
-ghost use Rattle.std.specs.Prelude.{◌≡◌, ◌<◌, ◌≤◌, ◌+◌, ◌-◌, ◌^◌, ◌++◌, ℕ, [], ◌∷◌, length, take, slice_get, slice_set, Some, OnOk, OnErr, IfOk};
+ghost use Rattle.std.specs.Prelude.{◌≡◌, ◌<◌, ◌≤◌, ◌+◌, ◌-◌, ◌^◌, ◌++◌, ℕ, [], ◌∷◌, length, take, if◌then◌else◌, nat_lt, false, slice_get, slice_set, Some, OnOk, OnErr, IfOk};
 ghost use Rattle.regress_turns.specs.Memory.{Held, undone, AreThere, first_slots, state_of, loop_in, with_marks, IsUndone, IsSet, Becomes, with_open, without_range, with_range, with_iteration};
 
 use std::alloc::{AllocError, Global};
@@ -64,6 +64,28 @@ impl Model for Memory {
     ghost invariant = { λ m. AreThere m.groups m.slots.items m.logged m.log.items m.marked m.marks.items };
 }
 
+// What stands in a row where nothing is noted yet. To make room with what is to be noted would have it stand in memory
+// first, whether there is room or not.
+const NO_SLOT: Slot = Slot {
+    number: 0,
+    from: 0,
+    to: 0,
+    has_range: false,
+};
+
+const ROOM_FOR_CHANGE: Change = Change {
+    slot: 0,
+    old: NO_SLOT,
+};
+
+const ROOM_FOR_MARK: Mark = Mark {
+    ip: 0,
+    kind: Kind::One,
+    next: 0,
+    last: 0,
+    log: 0,
+};
+
 // Makes a row longer.
 #[cold]
 #[inline(never)]
@@ -78,6 +100,41 @@ fn grow<T: Copy + Drop>(row: &mut Vec<T>, value: T) -> Result<(), AllocError>
     } else {
         row.push(value)?;
         Ok(())
+    }
+}
+
+// So many slots.
+#[cold]
+#[inline(never)]
+fn make(slots: &mut Vec<Slot>, count: usize) -> Result<(), AllocError>
+    ensures { OnOk result (length slots.new.items ≡ count) }
+{
+    slots.clear();
+    slots.resize(count, NO_SLOT)
+}
+
+// The slot of this number before a search from an offset. Those of groups come first, of which there are so many.
+#[inline(always)]
+fn first_slot(id: usize, groups: usize, at: usize) -> Slot
+    ensures { result ≡ (if nat_lt id groups then record { number = at; from = 0; to = 0; has_range = false } else record { number = 0; from = at; to = 0; has_range = false }) }
+{
+    let (number, from) = if id < groups { (at, 0) } else { (0, at) };
+    Slot {
+        number,
+        from,
+        to: 0,
+        has_range: false,
+    }
+}
+
+// Each slot as it is before a search from an offset.
+#[inline(always)]
+fn lay_out(slots: &mut Vec<Slot>, groups: usize, at: usize)
+    requires { groups ≤ length slots.old.items }
+    ensures { slots.new.items ≡ first_slots groups (length slots.old.items - groups) at }
+{
+    for id in 0..slots.len() {
+        slots[id] = first_slot(id, groups, at);
     }
 }
 
@@ -102,24 +159,13 @@ impl Memory {
         requires { groups + loops < 2 ^ 64 }
         ensures { OnOk result (self.new ≡ record { groups = groups; slots = first_slots groups loops at; log = []; marks = [] }) }
     {
-        let closed = Slot {
-            number: at,
-            from: 0,
-            to: 0,
-            has_range: false,
-        };
-        let counted = Slot {
-            number: 0,
-            from: at,
-            to: 0,
-            has_range: false,
-        };
         self.groups = 0;
         self.logged = 0;
         self.marked = 0;
-        self.slots.clear();
-        self.slots.resize(groups, closed)?;
-        self.slots.resize(groups + loops, counted)?;
+        if self.slots.len() != groups + loops {
+            make(&mut self.slots, groups + loops)?;
+        }
+        lay_out(&mut self.slots, groups, at);
         self.groups = groups;
         Ok(())
     }
@@ -134,7 +180,7 @@ impl Memory {
         let old = self.slots[slot];
         let change = Change { slot, old };
         if self.logged >= self.log.len() {
-            grow(&mut self.log, change)?;
+            grow(&mut self.log, ROOM_FOR_CHANGE)?;
         }
         self.log[self.logged] = change;
         self.logged += 1;
@@ -189,7 +235,7 @@ impl Memory {
         ensures refused { OnErr result (self.new ≡ self.old) }
     {
         if self.marked >= self.marks.len() {
-            grow(&mut self.marks, mark)?;
+            grow(&mut self.marks, ROOM_FOR_MARK)?;
         }
         self.marks[self.marked] = mark;
         self.marked += 1;

@@ -39,14 +39,15 @@ fn find_fitting(front: &Front, bytes: &[u8]) -> Option<usize>
     requires { 0 < front.now.len }
     ensures { FindsFirst (λ at. fits (allowed_of front.now) bytes.now at front.now.len) (length bytes.now) result }
 {
+    let len = front.len;
     let mut state = !1u16;
     let mut at = 0;
     'units: while at < bytes.len() {
         state |= front.masks[usize::from(bytes[at])];
         state <<= 1;
         at += 1;
-        if is_clear(state, front.len) {
-            return Some(at - front.len);
+        if is_clear(state, len) {
+            return Some(at - len);
         }
     }
     None

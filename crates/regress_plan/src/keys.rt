@@ -43,6 +43,7 @@ pub fn key_of_wide(unit: u16) -> usize
 }
 
 /// Whether units of this key may begin a pair: those from 0xD800 to 0xDBFF.
+#[inline(always)]
 pub fn may_begin_pair(key: u8, units: Units) -> bool
     ensures { result ≡ (wide_of units && is_high key) }
 {
@@ -53,6 +54,7 @@ pub fn may_begin_pair(key: u8, units: Units) -> bool
 }
 
 /// The characters that begin with a unit of this key, pairs apart; none where no character does.
+#[inline(always)]
 pub fn characters_of(key: u8, units: Units) -> Option<Begun>
     ensures begun { AreBegun (wide_of units) key result }
     ensures leads { is_some result ≡ (wide_of units || is_lead key) }
@@ -64,6 +66,7 @@ pub fn characters_of(key: u8, units: Units) -> Option<Begun>
 }
 
 // The characters that UTF-8 spells from this byte on.
+#[inline(always)]
 fn spelled_from(byte: u8) -> Option<Begun>
     ensures begun { AreBegun false byte result }
     ensures leads { is_some result ≡ is_lead byte }
@@ -86,6 +89,7 @@ fn spelled_from(byte: u8) -> Option<Begun>
 }
 
 // The characters that are one 16-bit unit with this key.
+#[inline(always)]
 fn single_units_of(key: u8) -> Begun
     ensures { AreBegun true key (Some result) }
 {

@@ -1,4 +1,4 @@
-//! Tests of what stands on all crates together. It has no code that others use.
+//! Tests of searches, by every call and executor. It has no code that others use.
 #![tactic(auto)]
 
 #[cfg(test)]
@@ -8,23 +8,9 @@ mod backends;
 #[cfg(test)]
 mod calls;
 #[cfg(test)]
-mod closures;
-#[cfg(test)]
-mod deep;
-#[cfg(test)]
-mod flags;
-#[cfg(test)]
-mod groups;
-#[cfg(test)]
 mod limits;
 #[cfg(test)]
 mod lines;
-#[cfg(test)]
-mod patterns;
-#[cfg(test)]
-mod replace;
-#[cfg(test)]
-mod rows;
 #[cfg(test)]
 mod searches;
 #[cfg(test)]
@@ -33,8 +19,6 @@ mod starts;
 mod table;
 #[cfg(test)]
 mod tests;
-#[cfg(test)]
-mod tool;
 #[cfg(test)]
 mod units;
 #[cfg(test)]

@@ -1,11 +1,11 @@
 //! Searches whose steps are limited.
 
 use crate::lines::write_limited;
-use crate::rows::{Row, compare};
 use crate::starts::is_start;
 use regress_match::backends::{LimitedExecutor, emit};
 use regress_match::{Flags, Regex, SearchError};
 use regress_program::insn::CompiledRegex;
+use regress_rows::rows::{Row, compare};
 use regress_search::exec::Matches;
 use regress_trees::tree_of;
 use std::alloc::Global;

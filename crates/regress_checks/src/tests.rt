@@ -1,17 +1,11 @@
-//! The tests: each goes over tables.
+//! The test: it goes over tables.
 
 use crate::anchored::{ANCHORED, check_anchored};
-use crate::closures::{CLOSURES, check_closure};
-use crate::deep::{NESTS, check_nest};
-use crate::flags::{FLAGS, check_flags};
-use crate::groups::{MATCHES, check_match};
 use crate::limits::{LIMITS, check_limits};
-use crate::replace::{REPLACEMENTS, check_replacement};
-use crate::rows::{Row, row_of};
 use crate::searches::check_search;
 use crate::table::SEARCHES;
-use crate::tool::{RUNS, check_run};
 use crate::units::{BOUNDARIES, UNITS, check_boundaries, check_units};
+use regress_rows::rows::{Row, row_of};
 use std::alloc::Global;
 use std::process::Abort;
 use std::test::Fail;
@@ -24,25 +18,14 @@ enum Table {
     Boundaries,
     Anchored,
     Limits,
-    Matches,
-    Replacements,
-    Closures,
-    Flags,
-    Runs,
-    Nests,
 }
 
-const TABLES: [(Table, &str); 10] = [
+const TABLES: [(Table, &str); 5] = [
     (Table::Searches, SEARCHES),
     (Table::Units, UNITS),
     (Table::Boundaries, BOUNDARIES),
     (Table::Anchored, ANCHORED),
     (Table::Limits, LIMITS),
-    (Table::Matches, MATCHES),
-    (Table::Replacements, REPLACEMENTS),
-    (Table::Closures, CLOSURES),
-    (Table::Flags, FLAGS),
-    (Table::Runs, RUNS),
 ];
 
 // Notes what a row is answered in place of what it wants.
@@ -58,12 +41,6 @@ fn check_row(
         Table::Boundaries => check_boundaries(alloc, differing, row)?,
         Table::Anchored => check_anchored(alloc, differing, row)?,
         Table::Limits => check_limits(alloc, differing, row)?,
-        Table::Matches => check_match(alloc, differing, row)?,
-        Table::Replacements => check_replacement(alloc, differing, row)?,
-        Table::Closures => check_closure(alloc, differing, row)?,
-        Table::Flags => check_flags(alloc, differing, row)?,
-        Table::Runs => check_run(alloc, differing, row)?,
-        Table::Nests => check_nest(alloc, differing, row)?,
     }
     Ok(())
 }
@@ -86,14 +63,6 @@ fn rows_have_their_answers(rt: HostRuntime) -> Result<(), Fail> {
     for (table, rows) in TABLES {
         check_table(rt.alloc(), &mut differing, table, rows)?;
     }
-    assert!(rt; differing.is_empty(), "{differing}");
-    Ok(())
-}
-
-#[test]
-fn wide_and_deep_patterns_are_searched(rt: HostRuntime) -> Result<(), Fail> {
-    let mut differing = String::new(rt.alloc());
-    check_table(rt.alloc(), &mut differing, Table::Nests, NESTS)?;
     assert!(rt; differing.is_empty(), "{differing}");
     Ok(())
 }

@@ -1,8 +1,8 @@
 //! Texts with other text in place of matches.
 
-use crate::patterns::{refusal, regex_of};
-use crate::rows::{Row, compare};
 use regress_match::{Regex, SearchError};
+use regress_rows::patterns::{refusal, regex_of};
+use regress_rows::rows::{Row, compare};
 use std::alloc::Global;
 
 // Rows of six fields: a pattern, the letters of its flags, or `tree` where it is a tree in words, a text, which matches are

@@ -1,7 +1,7 @@
 //! Wide and deep patterns are searched, on texts with a match and without one.
 
-use crate::rows::{Row, compare};
 use regress_match::Regex;
+use regress_rows::rows::{Row, compare};
 use std::alloc::{AllocError, Global};
 
 // Rows of four fields: a count, so many openings and as many closings round what is inside, a text, and whether there is a

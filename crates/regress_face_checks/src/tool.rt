@@ -1,7 +1,7 @@
 //! What the program prints and answers.
 
-use crate::rows::{Row, compare};
 use regress_match::program::run;
+use regress_rows::rows::{Row, compare};
 use std::alloc::{AllocError, Global};
 use std::io;
 use std::io::Write;

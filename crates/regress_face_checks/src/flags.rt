@@ -1,7 +1,7 @@
 //! Flags from letters, flags as text, and escaped texts.
 
-use crate::rows::{Row, compare};
 use regress_match::{Error, Flags, Regex, escape};
+use regress_rows::rows::{Row, compare};
 use std::alloc::{AllocError, Global};
 
 // Rows of three fields: what is asked, of what, and the answer. Flags are made of `letters`, of the code points of letters, or

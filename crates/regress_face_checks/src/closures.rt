@@ -1,8 +1,8 @@
 //! Texts with what closures answer in place of matches.
 
-use crate::patterns::refusal;
-use crate::rows::{Row, compare};
 use regress_match::{Match, Regex, ReplaceError};
+use regress_rows::patterns::refusal;
+use regress_rows::rows::{Row, compare};
 use std::alloc::{AllocError, Global};
 use std::cell::Cell;
 

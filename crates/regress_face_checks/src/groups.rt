@@ -1,8 +1,8 @@
 //! What a match answers: by number, in turn and by name, also once it was changed or cloned.
 
-use crate::patterns::{refusal, regex_of};
-use crate::rows::{Row, compare};
 use regress_match::{Match, Regex, SearchError};
+use regress_rows::patterns::{refusal, regex_of};
+use regress_rows::rows::{Row, compare};
 use std::alloc::{AllocError, Global};
 use std::ops::Range;
 

@@ -1,0 +1,5 @@
+//! Rows of tables for tests, and the patterns that they name.
+#![tactic(auto)]
+
+pub mod patterns;
+pub mod rows;

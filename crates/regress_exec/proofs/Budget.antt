@@ -1,5 +1,6 @@
 -- What the places that are tried in a row take off a budget.
 use Rattle.std.proofs.Common.{◌≡◌, ℕ, zero, suc, ◌+◌, ◌-◌, ◌<◌, ◌≤◌, List, [], ◌∷◌, Option, Some, None, Err, Bool, true, false, refl, ap, ap₂, sym, ◌∙◌, subst, arith, inl, inr}
+use Rattle.regex_meaning.proofs.Options.{some-same}
 use Rattle.std.proofs.lemmas.Bool.{cases_lt, le-leb, leb-true, leb-false, lt-leb}
 use Rattle.std.specs.Prelude.{if◌then◌else◌, nat_le, filter, IsErrAnd, Result, Ok, option_map, option_and_then, is_some, IsTrue}
 use Rattle.std.specs.Option.{option_map_or}
@@ -155,11 +156,8 @@ module _ (tree : Tree) (text : Text) (is : IsText text) where
       let itself : IsTried tree text at = record { place = p.0; here = p.1; more = []; are = are; later = ap (rest tree text) (sym none) } in
       record {
         same = ap (rest tree text) (sym first);
-        tried = λ to h. let same : at ≡ to = some-same (sym first ∙ h) in subst (IsTried tree text) same itself;
+        tried = λ to h. let same : at ≡ to = some-same _ _ (sym first ∙ h) in subst (IsTried tree text) same itself;
       }
-    where
-      some-same : {x y : ℕ} → Some x ≡ Some y → x ≡ y
-      some-same e = cc
 
   -- the first place to try from an offset on
   pub begun : (at : ℕ) → IsBoundary text at → Begun tree text (need_from tree text at) (first_tried tree text at)

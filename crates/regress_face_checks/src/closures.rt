@@ -42,6 +42,26 @@ fn answer_to(alloc: Global, number: u32, answers: &str) -> Result<String, u32> {
     answer.map_err(|_| number)
 }
 
+// What replacing the first match makes, or each one if it is `all`, and how often it called the closure.
+fn replaced(
+    alloc: Global,
+    re: &Regex,
+    text: &str,
+    which: &str,
+    answers: &str,
+) -> (u32, Result<String, ReplaceError<u32>>) {
+    let calls = Cell::new(0u32);
+    let answer = |found: &Match| {
+        calls.set(calls.get().wrapping_add(1));
+        answer_to(alloc, number_of(text, found), answers)
+    };
+    let made = match which {
+        "all" => re.replace_all_with(text, answer),
+        _ => re.replace_with(text, answer),
+    };
+    (calls.get(), made)
+}
+
 fn write_made(
     line: &mut String,
     calls: u32,
@@ -52,36 +72,6 @@ fn write_made(
         Err(ReplaceError::Closure(number)) => write!(line, "{calls} refused {number}"),
         Err(ReplaceError::Search(_)) => line.push_str("no memory"),
     }
-}
-
-fn write_replaced(
-    alloc: Global,
-    line: &mut String,
-    re: &Regex,
-    text: &str,
-    answers: &str,
-) -> Result<(), AllocError> {
-    let calls = Cell::new(0u32);
-    let made = re.replace_with(text, |found| {
-        calls.set(calls.get().wrapping_add(1));
-        answer_to(alloc, number_of(text, found), answers)
-    });
-    write_made(line, calls.get(), made)
-}
-
-fn write_all_replaced(
-    alloc: Global,
-    line: &mut String,
-    re: &Regex,
-    text: &str,
-    answers: &str,
-) -> Result<(), AllocError> {
-    let calls = Cell::new(0u32);
-    let made = re.replace_all_with(text, |found| {
-        calls.set(calls.get().wrapping_add(1));
-        answer_to(alloc, number_of(text, found), answers)
-    });
-    write_made(line, calls.get(), made)
 }
 
 pub fn check_closure(
@@ -95,8 +85,10 @@ pub fn check_closure(
     };
     let mut found = String::new(alloc);
     match Regex::new(alloc, pattern) {
-        Ok(re) if which == "all" => write_all_replaced(alloc, &mut found, &re, text, answers)?,
-        Ok(re) => write_replaced(alloc, &mut found, &re, text, answers)?,
+        Ok(re) => {
+            let (calls, made) = replaced(alloc, &re, text, which, answers);
+            write_made(&mut found, calls, made)?;
+        }
         Err(error) => found.push_str(refusal(&error))?,
     }
     compare(differing, row, &found, "")

@@ -1,5 +1,6 @@
 -- What must stand where a match begins, by the operations there.
 use Rattle.std.proofs.Common.{◌≡◌, ◌≢◌, ◌<◌, ◌≤◌, ℕ, zero, suc, ◌+◌, ◌-◌, ◌*◌, ◌/◌, ◌%◌, ◌^◌, min, max, Bool, true, false, not, ◌&&◌, ◌||◌, Option, Some, None, List, [], ◌∷◌, ◌++◌, length, slice_get, get_or, refl, sym, ap, ◌∙◌, subst, arith, bit_and, bit_or, append-nil, div-add-mod', pow_pos}
+use Rattle.regex_meaning.proofs.Options.{some-same}
 use mathlib.Core.Logic.{◌⊎◌, inl, inr}
 use Rattle.std.specs.Prelude.{◌==◌, if◌then◌else◌, nat_lt, slice_index, slice_index_or}
 use Rattle.std.specs.Int.{bit_at}
@@ -393,9 +394,6 @@ said-unit plan ip c set low has program ops there =
           let e : c ≡ d = eqb-true c d accepted in
           ap (λ (d : ℕ). length (spelled_in utf8 d)) (sym e) ∙ ap (λ (l : List ℕ). length (l ++ [])) (encode_ascii c low);
     }))
-  where
-    some-same : (f g : ℕ → Bool) → Some f ≡ Some g → f ≡ g
-    some-same f g e = cc
 
 -- the characters of a narrow class
 class-units : (program : Program) (class : Class) (set : Beginnings) (insn : Insn) → IsClass false program class → class.narrow ≡ true → insn ≡ insn_of class.insn
@@ -436,15 +434,12 @@ reads-as program MatchAny r = λ text s. refl
 reads-as program MatchAnyExceptLineTerminator r = λ text s. refl
 reads-as program _ r = cc
 
-some-class : (a b : Class) → Some a ≡ Some b → a ≡ b
-some-class a b e = cc
-
 pub said-class : (plan : Plan) (ip number : ℕ) (class : Class) (set : Beginnings) → slice_get plan.classes.items number ≡ Some class → class.narrow ≡ true
     → ((k : ℕ) → k < 256 → (table_of set).keys k ≡ not (slice_index_or class.steps k 0 == 0)) → LeadsFrom plan (op.One number) ip (ahead.Units set 1 (Some (ip + 1)))
 said-class plan ip number class set here narrow keys program ops there =
     let i = insn-of plan program ops (op.One number) ip there in
     let h = i.2.0 in
-    let same = some-class h.class class (sym h.is_there ∙ here) in
+    let same = some-same h.class class (sym h.is_there ∙ here) in
     reads-front program ip i.0 set i.1 (reads-as program i.0 i.2.1)
     (class-units program class set i.0 (ops.classes number class here) narrow (h.is_class ∙ ap (λ (c : Class). insn_of c.insn) same) keys)
 
@@ -472,7 +467,7 @@ said-run plan ip r class bounds set to here bounded narrow keys way program ops 
         by None at t = cc
         by (Some read) at t =
             let h = runs.body read at in
-            let same = some-class h.class class (sym h.is_there ∙ here) in
+            let same = some-same h.class class (sym h.is_there ∙ here) in
             class-units program class set read (ops.classes r.class class here) narrow (h.is_class ∙ ap (λ (c : Class). insn_of c.insn) same) keys test t bounds.min allowed
 
     exactly : ((to ≡ Some (ip + 2)) × (bounds.min ≡ bounds.max)) ⊎ (to ≡ None) → (bounds.min ≡ bounds.max) ⊎ (len ≡ 0)

@@ -1,5 +1,5 @@
 -- Optimizing keeps trees well formed, and their outcomes.
-use Rattle.std.proofs.Common.{◌≡◌, ℕ, zero, suc, ◌-◌, Bool, true, false, ◌&&◌, List, [], ◌∷◌, length, refl, ap, arith}
+use Rattle.std.proofs.Common.{◌≡◌, ◌∙◌, ℕ, zero, suc, ◌-◌, Bool, true, false, ◌&&◌, List, [], ◌∷◌, length, refl, ap, arith}
 use mathlib.Core.Path.{fun_ext}
 use Rattle.std.specs.Prelude.{if◌then◌else◌, nat_le, map, ◌==◌}
 use Rattle.std.specs.List.{list_all}
@@ -9,6 +9,7 @@ use Rattle.regex_meaning.specs.Tree.{Quantifier, Node, empty, goal, char, char_s
 use Rattle.regex_meaning.specs.Names.{name_of, named_ids, names_by_id}
 use Rattle.regex_meaning.specs.Text.{Text, Direction}
 use Rattle.regex_meaning.specs.Outcomes.{Groups, Outcome, outcomes}
+use Rattle.regex_meaning.specs.Layout.{reads_bytes}
 use Rattle.regex_meaning.specs.WellFormed.{goal_count, is_end_of_cat, ends_in_goal, encloses, names_the_groups_inside, refers_to_a_group, has_order_in_quantifier, is_one_character, has_one_character_body, has_text_in_sequence, fits_instructions}
 use Rattle.regex_meaning.proofs.WellFormedLemmas.{clauses, by_clauses}
 use Rattle.regex_pattern_front.specs.Optimized.{reads_one_character, optimized, OptimizedIsWellFormed, OptimizedHasSameOutcomes, OptimizedHasSameAnswers}
@@ -62,6 +63,21 @@ named_ids-optimized (loop q s e loopee) = go (reads_one_character loopee) (named
     go false h = h
 named_ids-optimized (loop_1_char_body q loopee) = named_ids-optimized loopee
 named_ids-optimized _ = refl
+
+pub reads_bytes-optimized : (n : Node) → reads_bytes (optimized n) ≡ reads_bytes n
+unfolding optimized
+reads_bytes-optimized (cat first rest) = rw (reads_bytes-optimized first, reads_bytes-optimized rest)
+reads_bytes-optimized (alt left right) = rw (reads_bytes-optimized left, reads_bytes-optimized right)
+reads_bytes-optimized (capture_group id name contents) = rw (reads_bytes-optimized contents)
+reads_bytes-optimized (lookaround l contents) = rw (reads_bytes-optimized contents)
+reads_bytes-optimized (loop q s e loopee) = go (reads_one_character loopee) (reads_bytes-optimized loopee)
+  where
+    go : (r : Bool) → reads_bytes (optimized loopee) ≡ reads_bytes loopee
+        → reads_bytes (if r then loop_1_char_body q loopee else loop q s e (optimized loopee)) ≡ reads_bytes (loop q s e loopee)
+    go true h = refl
+    go false h = rw h
+reads_bytes-optimized (loop_1_char_body q loopee) = rw (reads_bytes-optimized loopee)
+reads_bytes-optimized _ = refl
 
 names_by_id-optimized : (n : Node) → names_by_id (optimized n) ≡ names_by_id n
 names_by_id-optimized n = ap by_id (named_ids-optimized n)
@@ -274,3 +290,39 @@ outcomes-optimized root h text d p g = ap (λ F. F d p g) (same text root (claus
 pub answers-optimized : OptimizedHasSameAnswers
 answers-optimized root h text start =
     answers-same (optimized root) root text (same text root (clauses root h).enclosed) (group_ids-optimized root) (names_by_id-optimized root) start
+
+-- ---- Optimizing what is optimized
+
+reads_one-optimized : (n : Node) → reads_one_character (optimized n) ≡ reads_one_character n
+unfolding optimized
+reads_one-optimized (loop q s e loopee) = go (reads_one_character loopee)
+  where
+    go : (r : Bool) → reads_one_character (if r then loop_1_char_body q loopee else loop q s e (optimized loopee)) ≡ false
+    go true = refl
+    go false = refl
+reads_one-optimized _ = refl
+
+one-optimized : (n : Node) → reads_one_character n ≡ true → optimized n ≡ n
+unfolding optimized
+one-optimized (char c) h = refl
+one-optimized (char_set members) h = refl
+one-optimized (byte_set members) h = refl
+one-optimized (bracket contents) h = refl
+one-optimized match_any h = refl
+one-optimized match_any_except_line_terminator h = refl
+one-optimized _ h = cc
+
+pub optimized-twice : (n : Node) → optimized (optimized n) ≡ optimized n
+unfolding optimized
+optimized-twice (cat first rest) = rw (optimized-twice first, optimized-twice rest)
+optimized-twice (alt left right) = rw (optimized-twice left, optimized-twice right)
+optimized-twice (capture_group id name contents) = rw (optimized-twice contents)
+optimized-twice (lookaround l contents) = rw (optimized-twice contents)
+optimized-twice (loop q s e loopee) = go (reads_one_character loopee) refl (optimized-twice loopee)
+  where
+    go : (r : Bool) → reads_one_character loopee ≡ r → optimized (optimized loopee) ≡ optimized loopee
+        → optimized (if r then loop_1_char_body q loopee else loop q s e (optimized loopee)) ≡ (if r then loop_1_char_body q loopee else loop q s e (optimized loopee))
+    go true is h = rw (one-optimized loopee is)
+    go false is h = rw (reads_one-optimized loopee ∙ is, h)
+optimized-twice (loop_1_char_body q loopee) = rw (optimized-twice loopee)
+optimized-twice _ = refl

@@ -78,8 +78,8 @@ impl Regex {
         Regex::new(alloc, pattern)
     }
 
-    /// Compiles a pattern with these flags: parses it, emits the program for 16-bit units, optimizes the tree unless
-    /// `no_opt` is set, and emits the program for bytes.
+    /// Compiles a pattern with these flags: parses it, optimizes the tree unless `no_opt` is set, and emits the programs
+    /// for 16-bit units and for bytes.
     ///
     /// # Errors
     ///
@@ -102,9 +102,10 @@ impl Regex {
         ensures compiled { IfOk result (IsCompiledWith (flags_of flags)) }
         ensures refused { IfErr result CanRefuse }
     {
-        let tree = try_parse(alloc, pattern, flags.for_front())?;
+        let parsed = try_parse(alloc, pattern, flags.for_front())?;
+        let tree = to_run(parsed);
         let units = emit_units(alloc, &tree)?;
-        let cr = emit(alloc, &to_run(tree))?;
+        let cr = emit(alloc, &tree)?;
         Ok(Regex { cr, units })
     }
 

@@ -302,16 +302,6 @@ reads_one-optimized (loop q s e loopee) = go (reads_one_character loopee)
     go false = refl
 reads_one-optimized _ = refl
 
-one-optimized : (n : Node) → reads_one_character n ≡ true → optimized n ≡ n
-unfolding optimized
-one-optimized (char c) h = refl
-one-optimized (char_set members) h = refl
-one-optimized (byte_set members) h = refl
-one-optimized (bracket contents) h = refl
-one-optimized match_any h = refl
-one-optimized match_any_except_line_terminator h = refl
-one-optimized _ h = cc
-
 pub optimized-twice : (n : Node) → optimized (optimized n) ≡ optimized n
 unfolding optimized
 optimized-twice (cat first rest) = rw (optimized-twice first, optimized-twice rest)
@@ -322,7 +312,7 @@ optimized-twice (loop q s e loopee) = go (reads_one_character loopee) refl (opti
   where
     go : (r : Bool) → reads_one_character loopee ≡ r → optimized (optimized loopee) ≡ optimized loopee
         → optimized (if r then loop_1_char_body q loopee else loop q s e (optimized loopee)) ≡ (if r then loop_1_char_body q loopee else loop q s e (optimized loopee))
-    go true is h = rw (one-optimized loopee is)
+    go true is h = rw (one_character-optimized loopee (is_one-reads loopee is))
     go false is h = rw (reads_one-optimized loopee ∙ is, h)
 optimized-twice (loop_1_char_body q loopee) = rw (optimized-twice loopee)
 optimized-twice _ = refl

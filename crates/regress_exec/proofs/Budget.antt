@@ -1,6 +1,5 @@
 -- What the places that are tried in a row take off a budget.
 use Rattle.std.proofs.Common.{◌≡◌, ℕ, zero, suc, ◌+◌, ◌-◌, ◌<◌, ◌≤◌, List, [], ◌∷◌, Option, Some, None, Err, Bool, true, false, refl, ap, ap₂, sym, ◌∙◌, subst, arith, inl, inr}
-use Rattle.regex_meaning.proofs.Options.{some-same}
 use Rattle.std.proofs.lemmas.Bool.{cases_lt, le-leb, leb-true, leb-false, lt-leb}
 use Rattle.std.specs.Prelude.{if◌then◌else◌, nat_le, filter, IsErrAnd, Result, Ok, option_map, option_and_then, is_some, IsTrue}
 use Rattle.std.specs.Option.{option_map_or}
@@ -13,6 +12,7 @@ use Rattle.regex_meaning.specs.StartPredicate.{StartPredicate, start_arbitrary, 
 use Rattle.regex_meaning.specs.Steps.{IsNoMore, is_within, left_of, need_from}
 use Rattle.regex_meaning.specs.Ticks.{Item, tick, pair, pairs, is_empty, items_at, need, ticks_at, ticks_to_first, tried_places}
 use Rattle.regex_meaning.proofs.TextLemmas.{IsBoundary-place, offset-place_at, place_at-offset}
+use Rattle.regex_meaning.proofs.Options.{some-same}
 use Rattle.regress_machine.specs.Finds.{end_in_offsets, first_pair}
 use Rattle.regress_exec.specs.Attempts.{IsVain, behind_tried, end_from, first_of_places, first_tried, next_tried, ticks_from}
 use Rattle.regress_exec.specs.Spends.{Spends}

@@ -1,6 +1,5 @@
 -- What must stand where a match begins, by the operations there.
 use Rattle.std.proofs.Common.{◌≡◌, ◌≢◌, ◌<◌, ◌≤◌, ℕ, zero, suc, ◌+◌, ◌-◌, ◌*◌, ◌/◌, ◌%◌, ◌^◌, min, max, Bool, true, false, not, ◌&&◌, ◌||◌, Option, Some, None, List, [], ◌∷◌, ◌++◌, length, slice_get, get_or, refl, sym, ap, ◌∙◌, subst, arith, bit_and, bit_or, append-nil, div-add-mod', pow_pos}
-use Rattle.regex_meaning.proofs.Options.{some-same}
 use mathlib.Core.Logic.{◌⊎◌, inl, inr}
 use Rattle.std.specs.Prelude.{◌==◌, if◌then◌else◌, nat_lt, slice_index, slice_index_or}
 use Rattle.std.specs.Int.{bit_at}
@@ -12,6 +11,7 @@ use Rattle.std.proofs.lemmas.Str.{encode_ascii}
 use Rattle.regex_meaning.specs.Text.{Text}
 use Rattle.regex_meaning.specs.Units.{utf8, spelled_in}
 use Rattle.regex_meaning.specs.Layout.{Program, Insn, Char, CharSet, ByteSet, AsciiBracket, Bracket, MatchAny, MatchAnyExceptLineTerminator, StartOfLine, WordBoundary, WordBoundaryUnicodeICase, Alt, Jump, EnterLoop, Loop1CharBody, ResetCaptureGroup, BeginCaptureGroup, EndCaptureGroup, Lookahead, Lookbehind}
+use Rattle.regex_meaning.proofs.Options.{some-same}
 use Rattle.regress_machine.specs.Machine.{test_of}
 use Rattle.regress_insn.specs.Insns.{insn_of}
 use Rattle.regress_serves.specs.Barred.{may_at}

@@ -1,16 +1,16 @@
 -- Optimizing keeps trees well formed, and their outcomes.
-use Rattle.std.proofs.Common.{◌≡◌, ◌∙◌, ℕ, zero, suc, ◌-◌, Bool, true, false, ◌&&◌, List, [], ◌∷◌, length, refl, ap, arith}
+use Rattle.std.proofs.Common.{◌≡◌, ◌∙◌, ℕ, zero, suc, ◌-◌, Bool, true, false, ◌&&◌, ◌||◌, ◌+◌, List, [], ◌∷◌, ◌++◌, length, refl, ap, arith}
 use mathlib.Core.Path.{fun_ext}
 use Rattle.std.specs.Prelude.{if◌then◌else◌, nat_le, map, ◌==◌}
 use Rattle.std.specs.List.{list_all}
 use Rattle.regex_pattern_front.proofs.BoolLemmas.{left, right, and_from}
 use Rattle.regex_meaning.specs.Lists.{contains, numbers_from}
-use Rattle.regex_meaning.specs.Tree.{Quantifier, Node, empty, goal, char, char_set, byte_set, byte_sequence, cat, end_of_cat, alt, bracket, string_set, match_any, match_any_except_line_terminator, anchor, word_boundary, capture_group, back_ref, lookaround, loop, loop_1_char_body, group_ids, every}
-use Rattle.regex_meaning.specs.Names.{name_of, named_ids, names_by_id}
+use Rattle.regex_meaning.specs.Tree.{Quantifier, Node, empty, goal, char, char_set, byte_set, byte_sequence, cat, end_of_cat, alt, bracket, string_set, match_any, match_any_except_line_terminator, anchor, word_boundary, capture_group, back_ref, lookaround, loop, loop_1_char_body, group_ids, own_id, gathered, every}
+use Rattle.regex_meaning.specs.Names.{name_of, named_ids, names_by_id, own_name}
 use Rattle.regex_meaning.specs.Text.{Text, Direction}
 use Rattle.regex_meaning.specs.Outcomes.{Groups, Outcome, outcomes}
-use Rattle.regex_meaning.specs.Layout.{reads_bytes}
-use Rattle.regex_meaning.specs.WellFormed.{goal_count, is_end_of_cat, ends_in_goal, encloses, names_the_groups_inside, refers_to_a_group, has_order_in_quantifier, is_one_character, has_one_character_body, has_text_in_sequence, fits_instructions}
+use Rattle.regex_meaning.specs.Layout.{reads_bytes, is_of_bytes}
+use Rattle.regex_meaning.specs.WellFormed.{goal_count, own_goals, is_end_of_cat, ends_in_goal, encloses, names_the_groups_inside, refers_to_a_group, has_order_in_quantifier, is_one_character, has_one_character_body, has_text_in_sequence, fits_instructions}
 use Rattle.regex_meaning.proofs.WellFormedLemmas.{clauses, by_clauses}
 use Rattle.regex_pattern_front.specs.Optimized.{reads_one_character, optimized, OptimizedIsWellFormed, OptimizedHasSameOutcomes, OptimizedHasSameAnswers}
 use Rattle.regex_pattern_front.proofs.MatchLemmas.{answers-same}
@@ -19,65 +19,65 @@ use Rattle.regex_meaning.proofs.Booleans.{and-left, and-right}
 
 -- ---- What is read off a tree
 
-goal_count-optimized : (n : Node) → goal_count (optimized n) ≡ goal_count n
+-- what is gathered of a tree is gathered of the optimized one, if of each node as much is
+module _ {A : Type 0} (own : Node → A) where
+  loop-keeps : (q : Quantifier) (s e : ℕ) (loopee : Node) → own (loop_1_char_body q loopee) ≡ own (loop q s e loopee)
+      → own (loop q s e (optimized loopee)) ≡ own (loop q s e loopee) → own (optimized (loop q s e loopee)) ≡ own (loop q s e loopee)
+  unfolding optimized
+  loop-keeps q s e loopee one many = go (reads_one_character loopee)
+    where
+      go : (r : Bool) → own (if r then loop_1_char_body q loopee else loop q s e (optimized loopee)) ≡ own (loop q s e loopee)
+      go true = one
+      go false = many
+
+  module _ (join : A → A → A) (keeps : (n : Node) → own (optimized n) ≡ own n) where
+    gathered-optimized : (n : Node) → gathered join own (optimized n) ≡ gathered join own n
+    unfolding optimized
+    gathered-optimized (cat first rest) = rw (keeps (cat first rest), gathered-optimized first, gathered-optimized rest)
+    gathered-optimized (alt left right) = rw (keeps (alt left right), gathered-optimized left, gathered-optimized right)
+    gathered-optimized (capture_group id name contents) = rw (keeps (capture_group id name contents), gathered-optimized contents)
+    gathered-optimized (lookaround l contents) = rw (keeps (lookaround l contents), gathered-optimized contents)
+    gathered-optimized (loop q s e loopee) = go (reads_one_character loopee) (keeps (loop q s e loopee)) (gathered-optimized loopee)
+      where
+        go : (r : Bool) → own (if r then loop_1_char_body q loopee else loop q s e (optimized loopee)) ≡ own (loop q s e loopee)
+            → gathered join own (optimized loopee) ≡ gathered join own loopee
+            → gathered join own (if r then loop_1_char_body q loopee else loop q s e (optimized loopee)) ≡ gathered join own (loop q s e loopee)
+        go true here below = rw here
+        go false here below = rw (here, below)
+    gathered-optimized (loop_1_char_body q loopee) = rw (keeps (loop_1_char_body q loopee), gathered-optimized loopee)
+    gathered-optimized _ = refl
+
+own_goals-optimized : (n : Node) → own_goals (optimized n) ≡ own_goals n
 unfolding optimized
-goal_count-optimized (cat first rest) = rw (goal_count-optimized first, goal_count-optimized rest)
-goal_count-optimized (alt left right) = rw (goal_count-optimized left, goal_count-optimized right)
-goal_count-optimized (capture_group id name contents) = rw (goal_count-optimized contents)
-goal_count-optimized (lookaround l contents) = rw (goal_count-optimized contents)
-goal_count-optimized (loop q s e loopee) = go (reads_one_character loopee) (goal_count-optimized loopee)
-  where
-    go : (r : Bool) → goal_count (optimized loopee) ≡ goal_count loopee
-        → goal_count (if r then loop_1_char_body q loopee else loop q s e (optimized loopee)) ≡ goal_count (loop q s e loopee)
-    go true h = refl
-    go false h = rw h
-goal_count-optimized (loop_1_char_body q loopee) = rw (goal_count-optimized loopee)
-goal_count-optimized _ = refl
+own_goals-optimized (loop q s e loopee) = loop-keeps own_goals q s e loopee refl refl
+own_goals-optimized _ = refl
+
+goal_count-optimized : (n : Node) → goal_count (optimized n) ≡ goal_count n
+goal_count-optimized = gathered-optimized own_goals ◌+◌ own_goals-optimized
+
+own_id-optimized : (n : Node) → own_id (optimized n) ≡ own_id n
+unfolding optimized
+own_id-optimized (loop q s e loopee) = loop-keeps own_id q s e loopee refl refl
+own_id-optimized _ = refl
 
 pub group_ids-optimized : (n : Node) → group_ids (optimized n) ≡ group_ids n
+group_ids-optimized = gathered-optimized own_id ◌++◌ own_id-optimized
+
+own_name-optimized : (n : Node) → own_name (optimized n) ≡ own_name n
 unfolding optimized
-group_ids-optimized (cat first rest) = rw (group_ids-optimized first, group_ids-optimized rest)
-group_ids-optimized (alt left right) = rw (group_ids-optimized left, group_ids-optimized right)
-group_ids-optimized (capture_group id name contents) = ap (λ ids. id ∷ ids) (group_ids-optimized contents)
-group_ids-optimized (lookaround l contents) = group_ids-optimized contents
-group_ids-optimized (loop q s e loopee) = go (reads_one_character loopee) (group_ids-optimized loopee)
-  where
-    go : (r : Bool) → group_ids (optimized loopee) ≡ group_ids loopee
-        → group_ids (if r then loop_1_char_body q loopee else loop q s e (optimized loopee)) ≡ group_ids loopee
-    go true h = refl
-    go false h = h
-group_ids-optimized (loop_1_char_body q loopee) = group_ids-optimized loopee
-group_ids-optimized _ = refl
+own_name-optimized (loop q s e loopee) = loop-keeps own_name q s e loopee refl refl
+own_name-optimized _ = refl
 
 pub named_ids-optimized : (n : Node) → named_ids (optimized n) ≡ named_ids n
+named_ids-optimized = gathered-optimized own_name ◌++◌ own_name-optimized
+
+is_of_bytes-optimized : (n : Node) → is_of_bytes (optimized n) ≡ is_of_bytes n
 unfolding optimized
-named_ids-optimized (cat first rest) = rw (named_ids-optimized first, named_ids-optimized rest)
-named_ids-optimized (alt left right) = rw (named_ids-optimized left, named_ids-optimized right)
-named_ids-optimized (capture_group id name contents) = ap (λ ids. (id, name) ∷ ids) (named_ids-optimized contents)
-named_ids-optimized (lookaround l contents) = named_ids-optimized contents
-named_ids-optimized (loop q s e loopee) = go (reads_one_character loopee) (named_ids-optimized loopee)
-  where
-    go : (r : Bool) → named_ids (optimized loopee) ≡ named_ids loopee
-        → named_ids (if r then loop_1_char_body q loopee else loop q s e (optimized loopee)) ≡ named_ids loopee
-    go true h = refl
-    go false h = h
-named_ids-optimized (loop_1_char_body q loopee) = named_ids-optimized loopee
-named_ids-optimized _ = refl
+is_of_bytes-optimized (loop q s e loopee) = loop-keeps is_of_bytes q s e loopee refl refl
+is_of_bytes-optimized _ = refl
 
 pub reads_bytes-optimized : (n : Node) → reads_bytes (optimized n) ≡ reads_bytes n
-unfolding optimized
-reads_bytes-optimized (cat first rest) = rw (reads_bytes-optimized first, reads_bytes-optimized rest)
-reads_bytes-optimized (alt left right) = rw (reads_bytes-optimized left, reads_bytes-optimized right)
-reads_bytes-optimized (capture_group id name contents) = rw (reads_bytes-optimized contents)
-reads_bytes-optimized (lookaround l contents) = rw (reads_bytes-optimized contents)
-reads_bytes-optimized (loop q s e loopee) = go (reads_one_character loopee) (reads_bytes-optimized loopee)
-  where
-    go : (r : Bool) → reads_bytes (optimized loopee) ≡ reads_bytes loopee
-        → reads_bytes (if r then loop_1_char_body q loopee else loop q s e (optimized loopee)) ≡ reads_bytes (loop q s e loopee)
-    go true h = refl
-    go false h = rw h
-reads_bytes-optimized (loop_1_char_body q loopee) = rw (reads_bytes-optimized loopee)
-reads_bytes-optimized _ = refl
+reads_bytes-optimized = gathered-optimized is_of_bytes ◌||◌ is_of_bytes-optimized
 
 names_by_id-optimized : (n : Node) → names_by_id (optimized n) ≡ names_by_id n
 names_by_id-optimized n = ap by_id (named_ids-optimized n)

@@ -1,22 +1,22 @@
 -- What must stand where a match begins, by the operations there.
-use Rattle.std.proofs.Common.{◌≡◌, ◌≢◌, ◌<◌, ◌≤◌, ℕ, zero, suc, ◌+◌, ◌-◌, ◌*◌, ◌/◌, ◌%◌, ◌^◌, min, max, Bool, true, false, not, ◌&&◌, ◌||◌, Option, Some, None, List, [], ◌∷◌, ◌++◌, length, slice_get, get_or, refl, sym, ap, ◌∙◌, subst, arith, bit_and, bit_or, append-nil, div-add-mod', pow_pos}
+use Rattle.std.proofs.Common.{◌≡◌, ◌≢◌, ◌<◌, ◌≤◌, ℕ, zero, suc, ◌+◌, ◌-◌, ◌*◌, ◌/◌, ◌%◌, ◌^◌, min, max, Bool, true, false, not, ◌&&◌, ◌||◌, Option, Some, None, List, [], ◌∷◌, ◌++◌, length, slice_get, get_or, refl, sym, ap, ◌∙◌, subst, arith, bit_and, div-add-mod', pow_pos}
 use mathlib.Core.Logic.{◌⊎◌, inl, inr}
-use Rattle.std.specs.Prelude.{◌==◌, if◌then◌else◌, nat_lt, slice_index, slice_index_or}
+use Rattle.std.specs.Prelude.{◌==◌, if◌then◌else◌, nat_lt, slice_index_or}
 use Rattle.std.specs.Int.{bit_at}
-use Rattle.std.proofs.lemmas.Bool.{cases_lt, lt-ltb, le-ltb, eq-eqb, eqb-true, ne_eqb}
+use Rattle.std.proofs.lemmas.Bool.{cases_lt, lt-ltb, le-ltb, eqb-true, ne_eqb}
 use Rattle.std.proofs.lemmas.Nat.Bits.{bit_at_or, bit_at_and, bit_at_ones, bit_at_ones_above, bit_at_cat_low, bit_at_cat_high, bit_at-lt, bit_at-zero}
 use Rattle.std.proofs.lemmas.List.{get_or_past}
 use Rattle.std.proofs.lemmas.Option.{slice_get_within}
 use Rattle.std.proofs.lemmas.Str.{encode_ascii}
 use Rattle.regex_meaning.specs.Text.{Text}
-use Rattle.regex_meaning.specs.Units.{utf8, spelled_in}
-use Rattle.regex_meaning.specs.Layout.{Program, Insn, Char, CharSet, ByteSet, AsciiBracket, Bracket, MatchAny, MatchAnyExceptLineTerminator, StartOfLine, WordBoundary, WordBoundaryUnicodeICase, Alt, Jump, EnterLoop, Loop1CharBody, ResetCaptureGroup, BeginCaptureGroup, EndCaptureGroup, Lookahead, Lookbehind}
+use Rattle.regex_meaning.specs.Units.{Encoding, utf8, utf16, ucs2, spelled_in, pair_of}
+use Rattle.regex_meaning.specs.Layout.{Program, Insn, Char, CharSet, ByteSet, AsciiBracket, Bracket, MatchAny, MatchAnyExceptLineTerminator, StartOfLine, WordBoundary, WordBoundaryUnicodeICase, Jump, EnterLoop, Loop1CharBody, ResetCaptureGroup, BeginCaptureGroup, EndCaptureGroup, Lookahead, Lookbehind}
 use Rattle.regex_meaning.proofs.Options.{some-same}
 use Rattle.regress_machine.specs.Machine.{test_of}
 use Rattle.regress_insn.specs.Insns.{insn_of}
 use Rattle.regress_serves.specs.Barred.{may_at}
 use Rattle.regress_serves.specs.Tables.{is_character, first_key}
-use Rattle.regress_serves.specs.Fronts.{Allowed, may_stand, IsFront}
+use Rattle.regress_serves.specs.Fronts.{Allowed, may_stand}
 use Rattle.regress_serves.proofs.Fronts.{front-none, front-less, front-on, front-either, AreUnits, Reads, front-reads, front-run}
 use Rattle.regress_plan.specs.declared.beginnings.Beginnings.{Beginnings}
 use Rattle.regress_plan.specs.declared.class.Class.{Class}
@@ -30,11 +30,11 @@ use Rattle.regress_plan.specs.declared.ops.Op.{Op}
 use Rattle.regress_plan.specs.declared.ops.Op.TheVariants as op
 use Rattle.regress_plan.specs.declared.ops.Run as run
 use Rattle.regress_plan.specs.declared.plan.Plan.{Plan}
-use Rattle.regress_plan.specs.Keys.{key, lead, is_told, step_at, table_of}
-use Rattle.regress_plan.specs.Plans.{IsClass, reads_one, Runs, IsOpOf}
+use Rattle.regress_plan.specs.Keys.{key, is_wide, is_told, step_at, table_of}
+use Rattle.regress_plan.specs.Plans.{IsClass, reads_one, IsOpOf}
 use Rattle.regress_plan.specs.Fronts.{allowed_of, FrontAt, IsFrontAt}
 use Rattle.regress_plan.specs.Leading.{joined_of, then_allowed, units_of, leads_on, IsUnitOf, IsThen, IsOfEither, IsPath, AreOps, FrontBehind, Leads, LeadsFrom, LeadsFromRun}
-use Rattle.regress_plan.proofs.KeyLemmas.{first-byte, first-key-at, first-key-below, key_of_first}
+use Rattle.regress_plan.proofs.KeyLemmas.{first-key-at, first-key-below, key_of_first}
 use Rattle.regress_plan.proofs.ClosingLemmas.{told-some}
 use Rattle.regress_plan.proofs.RowLemmas.{get-below}
 
@@ -167,65 +167,74 @@ either-of a b front sized len each = record {
 
 -- ---- What is made of what operations say
 
-pub front-unknown : (program : Program) (ip : ℕ) (front : Front) → front.len ≡ 0 → IsFrontAt program ip front
-front-unknown program ip front none =
-    let P : ℕ → Type 0 = λ n. FrontAt program ip n (allowed_of front) in
-    subst P (sym none) (front-none utf8 (key false) program ip (allowed_of front))
+-- of no unit anything is known
+none-front : (wide : Bool) (program : Program) (ip : ℕ) (allowed : Allowed) → FrontAt wide program ip 0 allowed
+none-front wide program ip allowed = λ e same. front-none e (key wide) program ip allowed
 
-pub front-of-either : (program : Program) (ip x y : ℕ) (a b front : Front) → Leads program ip (ahead.Either x y) → IsFrontAt program x a → IsFrontAt program y b
-    → IsOfEither a b front → IsFrontAt program ip front
-front-of-either program ip x y a b front leads first second either =
+-- less is known of fewer units
+less-front : (wide : Bool) (program : Program) (ip len most : ℕ) (a b : Allowed) → FrontAt wide program ip most a → len ≤ most
+    → ((ahead k : ℕ) → ahead < len → a ahead k ≡ true → b ahead k ≡ true) → FrontAt wide program ip len b
+less-front wide program ip len most a b front le within = λ e same. front-less e (key wide) program ip len most a b (front e same) le within
+
+pub front-unknown : (wide : Bool) (program : Program) (ip : ℕ) (front : Front) → front.len ≡ 0 → IsFrontAt wide program ip front
+front-unknown wide program ip front none =
+    let P : ℕ → Type 0 = λ n. FrontAt wide program ip n (allowed_of front) in
+    subst P (sym none) (none-front wide program ip (allowed_of front))
+
+pub front-of-either : (wide : Bool) (program : Program) (ip x y : ℕ) (a b front : Front) → Leads wide program ip (ahead.Either x y) → IsFrontAt wide program x a → IsFrontAt wide program y b
+    → IsOfEither a b front → IsFrontAt wide program ip front
+front-of-either wide program ip x y a b front leads first second either =
     leads front.len (allowed_of front)
-    (front-less utf8 (key false) program x front.len a.len (allowed_of a) (allowed_of front) first either.first (λ n k less h. either.within_first n k h))
-    (front-less utf8 (key false) program y front.len b.len (allowed_of b) (allowed_of front) second either.second (λ n k less h. either.within_second n k h))
+    (less-front wide program x front.len a.len (allowed_of a) (allowed_of front) first either.first (λ n k less h. either.within_first n k h))
+    (less-front wide program y front.len b.len (allowed_of b) (allowed_of front) second either.second (λ n k less h. either.within_second n k h))
 
 -- ---- The path of operations
 
 -- nothing is known yet
-pub path-start : (program : Program) (ip : ℕ) (front : Front) → front.len ≡ 0 → IsPath program ip front ip
-path-start program ip front none = record {
-  so_far = front-unknown program ip front none;
+pub path-start : (wide : Bool) (program : Program) (ip : ℕ) (front : Front) → front.len ≡ 0 → IsPath wide program ip front ip
+path-start wide program ip front none = record {
+  so_far = front-unknown wide program ip front none;
   on = λ room len allowed there.
-      front-less utf8 (key false) program ip (front.len + len) len allowed (then_allowed front.len (allowed_of front) allowed) there (omega (arith, none))
+      less-front wide program ip (front.len + len) len allowed (then_allowed front.len (allowed_of front) allowed) there (omega (arith, none))
       (λ ahead k less h.
       then-late front.len (allowed_of front) allowed ahead k (omega (arith, none)) ∙ ap (λ n. allowed n k) (let z : ahead - front.len ≡ ahead = omega (arith, none) in z) ∙ h);
 }
 
 -- an operation that leads on to another one
-pub path-at : (program : Program) (from ip to : ℕ) (front : Front) → IsPath program from front ip → Leads program ip (ahead.At to) → IsPath program from front to
-path-at program from ip to front path leads = record { so_far = path.so_far; on = λ room len allowed there. path.on room len allowed (leads len allowed there) }
+pub path-at : (wide : Bool) (program : Program) (from ip to : ℕ) (front : Front) → IsPath wide program from front ip → Leads wide program ip (ahead.At to) → IsPath wide program from front to
+path-at wide program from ip to front path leads = record { so_far = path.so_far; on = λ room len allowed there. path.on room len allowed (leads len allowed there) }
 
 -- what stands at the operation stands behind the units
-pub path-then : (program : Program) (from ip len : ℕ) (front next : Front) (allowed : Allowed) → IsPath program from front ip → front.len < 15
-    → FrontAt program ip len allowed → IsThen front len allowed next → IsFrontAt program from next
-path-then program from ip len front next allowed path room there is =
-    front-less utf8 (key false) program from next.len (front.len + len) (then_allowed front.len (allowed_of front) allowed) (allowed_of next) (path.on room len allowed there)
+pub path-then : (wide : Bool) (program : Program) (from ip len : ℕ) (front next : Front) (allowed : Allowed) → IsPath wide program from front ip → front.len < 15
+    → FrontAt wide program ip len allowed → IsThen front len allowed next → IsFrontAt wide program from next
+path-then wide program from ip len front next allowed path room there is =
+    less-front wide program from next.len (front.len + len) (then_allowed front.len (allowed_of front) allowed) (allowed_of next) (path.on room len allowed there)
     (let l = is.len in omega (arith, l)) (λ ahead k less h. is.within ahead k less h)
 
 -- the units of an operation
-units-there : (program : Program) (ip count : ℕ) (set : Beginnings) (to : Option ℕ) → Leads program ip (ahead.Units set count to)
-    → FrontAt program ip count (units_of set)
-units-there program ip count set to leads =
-    front-less utf8 (key false) program ip count (count + 0) (then_allowed count (units_of set) (units_of set)) (units_of set) (leads 0 (units_of set) (nothing to))
+units-there : (wide : Bool) (program : Program) (ip count : ℕ) (set : Beginnings) (to : Option ℕ) → Leads wide program ip (ahead.Units set count to)
+    → FrontAt wide program ip count (units_of set)
+units-there wide program ip count set to leads =
+    less-front wide program ip count (count + 0) (then_allowed count (units_of set) (units_of set)) (units_of set) (leads 0 (units_of set) (nothing to))
     (omega arith) (λ ahead k less h. sym (then-early count (units_of set) (units_of set) ahead k less) ∙ h)
   where
-    nothing : (to : Option ℕ) → FrontBehind program to 0 (units_of set)
+    nothing : (to : Option ℕ) → FrontBehind wide program to 0 (units_of set)
     nothing None = refl
-    nothing (Some next) = front-none utf8 (key false) program next (units_of set)
+    nothing (Some next) = none-front wide program next (units_of set)
 
-pub path-last : (program : Program) (from ip count : ℕ) (set : Beginnings) (to : Option ℕ) (front next : Front) → IsPath program from front ip → front.len < 15
-    → Leads program ip (ahead.Units set count to) → IsThen front count (units_of set) next → IsFrontAt program from next
-path-last program from ip count set to front next path room leads is =
-    path-then program from ip count front next (units_of set) path room (units-there program ip count set to leads) is
+pub path-last : (wide : Bool) (program : Program) (from ip count : ℕ) (set : Beginnings) (to : Option ℕ) (front next : Front) → IsPath wide program from front ip → front.len < 15
+    → Leads wide program ip (ahead.Units set count to) → IsThen front count (units_of set) next → IsFrontAt wide program from next
+path-last wide program from ip count set to front next path room leads is =
+    path-then wide program from ip count front next (units_of set) path room (units-there wide program ip count set to leads) is
 
 -- behind which it leads on
-pub path-units : (program : Program) (from ip count to : ℕ) (set : Beginnings) (front next : Front) → IsPath program from front ip → front.len < 15
-    → Leads program ip (ahead.Units set count (Some to)) → IsThen front count (units_of set) next → IsPath program from next to
-path-units program from ip count to set front next path room leads is = record {
-  so_far = path-last program from ip count set (Some to) front next path room leads is;
+pub path-units : (wide : Bool) (program : Program) (from ip count to : ℕ) (set : Beginnings) (front next : Front) → IsPath wide program from front ip → front.len < 15
+    → Leads wide program ip (ahead.Units set count (Some to)) → IsThen front count (units_of set) next → IsPath wide program from next to
+path-units wide program from ip count to set front next path room leads is = record {
+  so_far = path-last wide program from ip count set (Some to) front next path room leads is;
   on = λ more len allowed there.
       let all : next.len ≡ front.len + count = let l = is.len in omega (arith, l, more) in
-      front-less utf8 (key false) program from (next.len + len) (front.len + (count + len))
+      less-front wide program from (next.len + len) (front.len + (count + len))
       (then_allowed front.len (allowed_of front) (then_allowed count (units_of set) allowed)) (then_allowed next.len (allowed_of next) allowed)
       (path.on room (count + len) (then_allowed count (units_of set) allowed) (leads len allowed there)) (omega (arith, all))
       (λ ahead k less h. by allowed all ahead k h (cases_lt ahead next.len));
@@ -255,15 +264,15 @@ path-units program from ip count to set front next path room leads is = record {
         ∙ sym (then-late front.len (allowed_of front) (then_allowed count (units_of set) allowed) ahead k past) ∙ h
 
 -- one of two operations
-pub path-either : (program : Program) (from ip x y : ℕ) (front a b either next : Front) → IsPath program from front ip → front.len < 15
-    → Leads program ip (ahead.Either x y) → IsFrontAt program x a → IsFrontAt program y b → IsOfEither a b either → IsThen front either.len (allowed_of either) next
-    → IsFrontAt program from next
-path-either program from ip x y front a b either next path room leads first second of is =
-    path-then program from ip either.len front next (allowed_of either) path room (front-of-either program ip x y a b either leads first second of) is
+pub path-either : (wide : Bool) (program : Program) (from ip x y : ℕ) (front a b either next : Front) → IsPath wide program from front ip → front.len < 15
+    → Leads wide program ip (ahead.Either x y) → IsFrontAt wide program x a → IsFrontAt wide program y b → IsOfEither a b either → IsThen front either.len (allowed_of either) next
+    → IsFrontAt wide program from next
+path-either wide program from ip x y front a b either next path room leads first second of is =
+    path-then wide program from ip either.len front next (allowed_of either) path room (front-of-either wide program ip x y a b either leads first second of) is
 
 -- ---- What operations say
 
-module _ (plan : Plan) (program : Program) (ops : AreOps false program plan) where
+module _ (plan : Plan) {wide : Bool} (program : Program) (ops : AreOps wide program plan) where
   -- the instruction of an operation
   pub insn-of : (o : Op) (ip : ℕ) → slice_get plan.ops.items ip ≡ Some o → (insn : Insn) × (slice_get program.insns ip ≡ Some insn) × IsOpOf program plan o ip insn
   insn-of o ip there =
@@ -272,10 +281,10 @@ module _ (plan : Plan) (program : Program) (ops : AreOps false program plan) whe
       (insn.0, insn.1, ops.each ip o insn.0 there insn.1)
 
 -- an instruction that leads on to one other
-led-on : (program : Program) (ip to : ℕ) (insn form : Insn) → slice_get program.insns ip ≡ Some insn → insn ≡ form
-    → ((may : ℕ → Bool) → may to ≡ false → (text : Text) (at : ℕ) → may_at program text at may (Some form) ip ≡ false) → Leads program ip (ahead.At to)
-led-on program ip to insn form there is leads len allowed front =
-    front-on utf8 (key false) program ip to len allowed front
+led-on : (wide : Bool) (program : Program) (ip to : ℕ) (insn form : Insn) → slice_get program.insns ip ≡ Some insn → insn ≡ form
+    → ((may : ℕ → Bool) → may to ≡ false → (text : Text) (at : ℕ) → may_at program text at may (Some form) ip ≡ false) → Leads wide program ip (ahead.At to)
+led-on wide program ip to insn form there is leads len allowed front =
+    λ e same. front-on e (key wide) program ip to len allowed (front e same)
     (λ may never text at.
     let P : Option Insn → Type 0 = λ o. may_at program text at may o ip ≡ false in
     subst P (sym (there ∙ ap Some is)) (leads may never text at))
@@ -285,33 +294,33 @@ and-never true b h = h
 and-never false b h = refl
 
 said-line : (plan : Plan) (ip : ℕ) (multiline : Bool) → LeadsFrom plan (op.LineStart multiline) ip (ahead.At (ip + 1))
-said-line plan ip multiline program ops there =
+said-line plan ip multiline wide program ops there =
     let i = insn-of plan program ops (op.LineStart multiline) ip there in
-    led-on program ip (ip + 1) i.0 (StartOfLine multiline) i.1 i.2 (λ may never text at. and-never _ (may (ip + 1)) never)
+    led-on wide program ip (ip + 1) i.0 (StartOfLine multiline) i.1 i.2 (λ may never text at. and-never _ (may (ip + 1)) never)
 
 said-open : (plan : Plan) (ip slot : ℕ) → LeadsFrom plan (op.Open slot) ip (ahead.At (ip + 1))
-said-open plan ip slot program ops there =
+said-open plan ip slot wide program ops there =
     let i = insn-of plan program ops (op.Open slot) ip there in
-    led-on program ip (ip + 1) i.0 (BeginCaptureGroup slot) i.1 i.2 (λ may never text at. never)
+    led-on wide program ip (ip + 1) i.0 (BeginCaptureGroup slot) i.1 i.2 (λ may never text at. never)
 
 said-close : (plan : Plan) (ip slot : ℕ) → LeadsFrom plan (op.Close slot) ip (ahead.At (ip + 1))
-said-close plan ip slot program ops there =
+said-close plan ip slot wide program ops there =
     let i = insn-of plan program ops (op.Close slot) ip there in
-    led-on program ip (ip + 1) i.0 (EndCaptureGroup slot) i.1 i.2 (λ may never text at. never)
+    led-on wide program ip (ip + 1) i.0 (EndCaptureGroup slot) i.1 i.2 (λ may never text at. never)
 
 said-reset : (plan : Plan) (ip slot : ℕ) → LeadsFrom plan (op.Reset slot) ip (ahead.At (ip + 1))
-said-reset plan ip slot program ops there =
+said-reset plan ip slot wide program ops there =
     let i = insn-of plan program ops (op.Reset slot) ip there in
-    led-on program ip (ip + 1) i.0 (ResetCaptureGroup slot) i.1 i.2 (λ may never text at. never)
+    led-on wide program ip (ip + 1) i.0 (ResetCaptureGroup slot) i.1 i.2 (λ may never text at. never)
 
 said-edge : (plan : Plan) (ip : ℕ) (e : edge.Edge) → LeadsFrom plan (op.WordEdge e) ip (ahead.At (ip + 1))
-said-edge plan ip e program ops there =
+said-edge plan ip e wide program ops there =
     let i = insn-of plan program ops (op.WordEdge e) ip there in by e.unicode_icase i.0 i.1 i.2
   where
     by : (icase : Bool) (insn : Insn) → slice_get program.insns ip ≡ Some insn → insn ≡ (if icase then WordBoundaryUnicodeICase e.invert else WordBoundary e.invert)
-        → Leads program ip (ahead.At (ip + 1))
-    by true insn there is = led-on program ip (ip + 1) insn (WordBoundaryUnicodeICase e.invert) there is (λ may never text at. and-never _ (may (ip + 1)) never)
-    by false insn there is = led-on program ip (ip + 1) insn (WordBoundary e.invert) there is (λ may never text at. and-never _ (may (ip + 1)) never)
+        → Leads wide program ip (ahead.At (ip + 1))
+    by true insn there is = led-on wide program ip (ip + 1) insn (WordBoundaryUnicodeICase e.invert) there is (λ may never text at. and-never _ (may (ip + 1)) never)
+    by false insn there is = led-on wide program ip (ip + 1) insn (WordBoundary e.invert) there is (λ may never text at. and-never _ (may (ip + 1)) never)
 
 -- each that reads nothing and leads on
 pub said-on : (plan : Plan) (ip : ℕ) (o : Op) → leads_on o ≡ true → LeadsFrom plan o ip (ahead.At (ip + 1))
@@ -323,12 +332,12 @@ said-on plan ip (op.Reset slot) h = said-reset plan ip slot
 said-on plan ip _ h = cc
 
 pub said-go : (plan : Plan) (ip to : ℕ) → LeadsFrom plan (op.Go to) ip (ahead.At to)
-said-go plan ip to program ops there =
+said-go plan ip to wide program ops there =
     let i = insn-of plan program ops (op.Go to) ip there in
-    led-on program ip to i.0 (Jump to) i.1 i.2 (λ may never text at. never)
+    led-on wide program ip to i.0 (Jump to) i.1 i.2 (λ may never text at. never)
 
 pub said-look : (plan : Plan) (ip : ℕ) (l : look.Look) → LeadsFrom plan (op.Look l) ip (ahead.At l.past)
-said-look plan ip l program ops there =
+said-look plan ip l wide program ops there =
     let i = insn-of plan program ops (op.Look l) ip there in by l.forward i.0 i.1 i.2.start_group i.2.end_group i.2.insn_is
   where
     never-then : (a b : Bool) → a ≡ false → (a && b) ≡ false
@@ -336,15 +345,15 @@ said-look plan ip l program ops there =
     never-then false b h = refl
 
     by : (forward : Bool) (insn : Insn) → slice_get program.insns ip ≡ Some insn → (first last : ℕ)
-        → insn ≡ (if forward then Lookahead l.negate first last l.past else Lookbehind l.negate first last l.past) → Leads program ip (ahead.At l.past)
+        → insn ≡ (if forward then Lookahead l.negate first last l.past else Lookbehind l.negate first last l.past) → Leads wide program ip (ahead.At l.past)
     by true insn there first last is =
-        led-on program ip l.past insn (Lookahead l.negate first last l.past) there is (λ may never text at. never-then (may l.past) _ never)
-    by false insn there first last is = led-on program ip l.past insn (Lookbehind l.negate first last l.past) there is (λ may never text at. never)
+        led-on wide program ip l.past insn (Lookahead l.negate first last l.past) there is (λ may never text at. never-then (may l.past) _ never)
+    by false insn there first last is = led-on wide program ip l.past insn (Lookbehind l.negate first last l.past) there is (λ may never text at. never)
 
 pub said-either : (plan : Plan) (ip other : ℕ) → LeadsFrom plan (op.Either other) ip (ahead.Either (ip + 1) other)
-said-either plan ip other program ops there len allowed first second =
+said-either plan ip other wide program ops there len allowed first second =
     let i = insn-of plan program ops (op.Either other) ip there in
-    front-either utf8 (key false) program ip (ip + 1) other len allowed first second
+    λ e same. front-either e (key wide) program ip (ip + 1) other len allowed (first e same) (second e same)
     (λ may none never text at.
     let P : Option Insn → Type 0 = λ o. may_at program text at may o ip ≡ false in
     subst P (sym (i.1 ∙ ap Some i.2)) (ap (λ b. b || may other) none ∙ never))
@@ -352,132 +361,147 @@ said-either plan ip other program ops there len allowed first second =
 -- the head of a loop that has to come at least once
 pub said-entry : (plan : Plan) (ip number : ℕ) (counted : Counted) → slice_get plan.counted.items number ≡ Some counted → 0 < counted.min
     → LeadsFrom plan (op.Enter number) ip (ahead.At (ip + 1))
-said-entry plan ip number counted here some program ops there =
+said-entry plan ip number counted here some wide program ops there =
     let i = insn-of plan program ops (op.Enter number) ip there in
     let r = i.2.row in
     let row : Some counted ≡ Some r.counted = sym here ∙ r.is_there in
     let same : counted ≡ r.counted = cc in
     let least : counted.min ≡ i.2.fields.min_iters = ap (λ (c : Counted). c.min) same ∙ r.is_row.4 in
-    led-on program ip (ip + 1) i.0 (EnterLoop i.2.fields) i.1 i.2.insn_is
+    led-on wide program ip (ip + 1) i.0 (EnterLoop i.2.fields) i.1 i.2.insn_is
     (λ may never text at.
     ap (λ b. b || i.2.fields.min_iters == 0 && may i.2.fields.exit) never
     ∙ ap (λ b. b && may i.2.fields.exit) (ne_eqb i.2.fields.min_iters 0 (λ z. omega (arith, z, least, some))))
 
 -- ---- Operations that read
 
+-- in texts of such units, what passes the test has one unit, of which so many may stand
+abbrev UnitsOf : (wide : Bool) (test : ℕ → Bool) (count : ℕ) → Allowed → Type 0
+UnitsOf wide test count allowed = (e : Encoding) → is_wide e ≡ wide → AreUnits e (key wide) test count allowed
+
 -- one that reads one character, behind which this one stands
-reads-front : (program : Program) (ip : ℕ) (insn : Insn) (set : Beginnings) → slice_get program.insns ip ≡ Some insn → Reads utf8 (key false) program insn
-    → ((test : ℕ → Bool) → test_of program (Some insn) ≡ Some test → (count : ℕ) (allowed : Allowed)
-    → AreUnits utf8 (key false) test count (then_allowed count (units_of set) allowed)) → Leads program ip (ahead.Units set 1 (Some (ip + 1)))
-reads-front program ip insn set there reads are len allowed front =
-    front-reads utf8 (key false) program ip len insn (then_allowed 1 (units_of set) allowed) allowed there reads (λ test t. are test t 1 allowed)
+reads-front : (wide : Bool) (program : Program) (ip : ℕ) (insn : Insn) (set : Beginnings) → slice_get program.insns ip ≡ Some insn
+    → ((e : Encoding) → Reads e (key wide) program insn)
+    → ((test : ℕ → Bool) → test_of program (Some insn) ≡ Some test → (count : ℕ) (allowed : Allowed) → UnitsOf wide test count (then_allowed count (units_of set) allowed))
+    → Leads wide program ip (ahead.Units set 1 (Some (ip + 1)))
+reads-front wide program ip insn set there reads are len allowed front = λ e same.
+    front-reads e (key wide) program ip len insn (then_allowed 1 (units_of set) allowed) allowed there (reads e) (λ test t. are test t 1 allowed e same)
     (λ ahead k.
     then-late 1 (units_of set) allowed (ahead + 1) k (omega arith) ∙ ap (λ n. allowed n k) (let z : ahead + 1 - 1 ≡ ahead = omega arith in z))
-    front
+    (front e same)
+
+-- a character below 128 is its own key, and has one unit
+low-key : (wide : Bool) (c : ℕ) → c < 128 → key_of_first wide c ≡ c
+low-key false c low =
+    ap (λ (b : Bool). if b then c else if nat_lt c 0x800 then 0xC0 + c / 0x40 else if nat_lt c 0x1_0000 then 0xE0 + c / 0x1000 else 0xF0 + c / 0x4_0000) (lt-ltb c 0x80 low)
+low-key true c low =
+    ap (key true) (ap (λ (b : Bool). if b then c else 0xD800 + (c - 0x1_0000) / 0x400) (lt-ltb c 0x1_0000 (omega (arith, low))))
+    ∙ ap (λ (b : Bool). if b then c else 128 + c / 512) (lt-ltb c 128 low)
+
+low-single : (e : Encoding) (c : ℕ) → c < 128 → length (spelled_in e c) ≡ 1
+low-single utf8 c low = ap (λ (l : List ℕ). length (l ++ [])) (encode_ascii c low)
+low-single utf16 c low = ap (λ (b : Bool). length (if b then c ∷ [] else pair_of c)) (lt-ltb c 0x1_0000 (omega (arith, low)))
+low-single ucs2 c low = refl
 
 -- a character below 128
 pub said-unit : (plan : Plan) (ip c : ℕ) (set : Beginnings) → c < 128 → (table_of set).keys c ≡ true → LeadsFrom plan (op.Unit c) ip (ahead.Units set 1 (Some (ip + 1)))
-said-unit plan ip c set low has program ops there =
+said-unit plan ip c set low has wide program ops there =
     let i = insn-of plan program ops (op.Unit c) ip there in
-    reads-front program ip (Char c) set (i.1 ∙ ap Some i.2) (λ text s. refl)
-    (λ test t count allowed.
-    let P : (ℕ → Bool) → Type 0 = λ test. AreUnits utf8 (key false) test count (then_allowed count (units_of set) allowed) in
-    let same : (λ d. c == d) ≡ test = some-same (λ d. c == d) test t in
-    subst P same (record {
+    reads-front wide program ip (Char c) set (i.1 ∙ ap Some i.2) (λ e text s. refl)
+    (λ test t count allowed e same.
+    let P : (ℕ → Bool) → Type 0 = λ test. AreUnits e (key wide) test count (then_allowed count (units_of set) allowed) in
+    let tested : (λ d. c == d) ≡ test = some-same (λ d. c == d) test t in
+    subst P tested (record {
       keys = λ d is accepted ahead less.
-          let e : c ≡ d = eqb-true c d accepted in
-          let at : first_key utf8 (key false) d ≡ Some c =
-          ap (first_key utf8 (key false)) (sym e) ∙ first-byte c
-          ∙ ap Some (ap (λ (b : Bool). if b then c else if nat_lt c 0x800 then 0xC0 + c / 0x40 else if nat_lt c 0x1_0000 then 0xE0 + c / 0x1000 else 0xF0 + c / 0x4_0000) (lt-ltb c 0x80 low)) in
+          let one : c ≡ d = eqb-true c d accepted in
+          let at : first_key e (key wide) d ≡ Some c =
+          first-key-at e wide same d is ∙ ap Some (ap (key_of_first wide) (sym one) ∙ low-key wide c low) in
           ap (may_stand (then_allowed count (units_of set) allowed) ahead) at ∙ then-early count (units_of set) allowed ahead c less ∙ has;
-      single = λ d is accepted.
-          let e : c ≡ d = eqb-true c d accepted in
-          ap (λ (d : ℕ). length (spelled_in utf8 d)) (sym e) ∙ ap (λ (l : List ℕ). length (l ++ [])) (encode_ascii c low);
+      single = λ d is accepted. ap (λ (d : ℕ). length (spelled_in e d)) (sym (eqb-true c d accepted)) ∙ low-single e c low;
     }))
 
 -- the characters of a narrow class
-class-units : (program : Program) (class : Class) (set : Beginnings) (insn : Insn) → IsClass false program class → class.narrow ≡ true → insn ≡ insn_of class.insn
+class-units : (wide : Bool) (program : Program) (class : Class) (set : Beginnings) (insn : Insn) → IsClass wide program class → class.narrow ≡ true
+    → insn ≡ insn_of class.insn
     → ((k : ℕ) → k < 256 → (table_of set).keys k ≡ not (slice_index_or class.steps k 0 == 0)) → (test : ℕ → Bool) → test_of program (Some insn) ≡ Some test
-    → (count : ℕ) (allowed : Allowed) → AreUnits utf8 (key false) test count (then_allowed count (units_of set) allowed)
-class-units program class set insn is narrow same keys test t count allowed = record {
+    → (count : ℕ) (allowed : Allowed) → UnitsOf wide test count (then_allowed count (units_of set) allowed)
+class-units wide program class set insn is narrow same keys test t count allowed e units = record {
   keys = λ c character accepted ahead less.
-      ap (may_stand (then_allowed count (units_of set) allowed) ahead) (first-key-at utf8 false refl c character)
-      ∙ then-early count (units_of set) allowed ahead (key_of_first false c) less
-      ∙ keys (key_of_first false c) (first-key-below utf8 false refl c character)
-      ∙ ap not (ne_eqb (slice_index_or class.steps (key_of_first false c) 0) 0 (some c character accepted));
+      ap (may_stand (then_allowed count (units_of set) allowed) ahead) (first-key-at e wide units c character)
+      ∙ then-early count (units_of set) allowed ahead (key_of_first wide c) less
+      ∙ keys (key_of_first wide c) (first-key-below e wide units c character)
+      ∙ ap not (ne_eqb (slice_index_or class.steps (key_of_first wide c) 0) 0 (some c character accepted));
   single = λ c character accepted.
-      let step = slice_index_or class.steps (key_of_first false c) 0 in
-      let one : step ≡ 1 = let most = is.narrow narrow (key_of_first false c) in least step (some c character accepted) most in
-      let h : is_told 1 true (length (spelled_in utf8 c)) ≡ true = ap (λ s. is_told s true (length (spelled_in utf8 c))) (sym one) ∙ ap (λ a. is_told step a (length (spelled_in utf8 c))) (sym accepted) ∙ told c character in
-      let e : 1 ≡ length (spelled_in utf8 c) = eqb-true 1 (length (spelled_in utf8 c)) h in
-      sym e;
+      let step = slice_index_or class.steps (key_of_first wide c) 0 in
+      let one : step ≡ 1 = let most = is.narrow narrow (key_of_first wide c) in least step (some c character accepted) most in
+      let h : is_told 1 true (length (spelled_in e c)) ≡ true = ap (λ s. is_told s true (length (spelled_in e c))) (sym one) ∙ ap (λ a. is_told step a (length (spelled_in e c))) (sym accepted) ∙ told c character in
+      sym (eqb-true 1 (length (spelled_in e c)) h);
 }
   where
-    told : (c : ℕ) → is_character utf8 c ≡ true → is_told (slice_index_or class.steps (key_of_first false c) 0) (test c) (length (spelled_in utf8 c)) ≡ true
+    told : (c : ℕ) → is_character e c ≡ true → is_told (slice_index_or class.steps (key_of_first wide c) 0) (test c) (length (spelled_in e c)) ≡ true
     told c character =
-        ap (λ o. is_told (step_at class.steps o) (test c) (length (spelled_in utf8 c))) (sym (first-key-at utf8 false refl c character))
-        ∙ is.steps test (ap (λ i. test_of program (Some i)) (sym same) ∙ t) utf8 refl c character
+        ap (λ o. is_told (step_at class.steps o) (test c) (length (spelled_in e c))) (sym (first-key-at e wide units c character))
+        ∙ is.steps test (ap (λ i. test_of program (Some i)) (sym same) ∙ t) e units c character
 
-    some : (c : ℕ) → is_character utf8 c ≡ true → test c ≡ true → slice_index_or class.steps (key_of_first false c) 0 ≢ 0
-    some c character accepted = told-some (slice_index_or class.steps (key_of_first false c) 0) (length (spelled_in utf8 c)) (test c) (told c character) accepted
+    some : (c : ℕ) → is_character e c ≡ true → test c ≡ true → slice_index_or class.steps (key_of_first wide c) 0 ≢ 0
+    some c character accepted = told-some (slice_index_or class.steps (key_of_first wide c) 0) (length (spelled_in e c)) (test c) (told c character) accepted
 
     least : (n : ℕ) → n ≢ 0 → n ≤ 1 → n ≡ 1
     least zero none most = absurd (none refl)
     least (suc n) none most = omega (arith, most)
 
-reads-as : (program : Program) (insn : Insn) → reads_one insn ≡ true → Reads utf8 (key false) program insn
-reads-as program (CharSet members) r = λ text s. refl
-reads-as program (ByteSet members) r = λ text s. refl
-reads-as program (AsciiBracket members) r = λ text s. refl
-reads-as program (Bracket index) r = λ text s. refl
-reads-as program MatchAny r = λ text s. refl
-reads-as program MatchAnyExceptLineTerminator r = λ text s. refl
-reads-as program _ r = cc
+reads-as : (wide : Bool) (program : Program) (insn : Insn) → reads_one insn ≡ true → (e : Encoding) → Reads e (key wide) program insn
+reads-as wide program (CharSet members) r = λ e text s. refl
+reads-as wide program (ByteSet members) r = λ e text s. refl
+reads-as wide program (AsciiBracket members) r = λ e text s. refl
+reads-as wide program (Bracket index) r = λ e text s. refl
+reads-as wide program MatchAny r = λ e text s. refl
+reads-as wide program MatchAnyExceptLineTerminator r = λ e text s. refl
+reads-as wide program _ r = cc
 
 pub said-class : (plan : Plan) (ip number : ℕ) (class : Class) (set : Beginnings) → slice_get plan.classes.items number ≡ Some class → class.narrow ≡ true
     → ((k : ℕ) → k < 256 → (table_of set).keys k ≡ not (slice_index_or class.steps k 0 == 0)) → LeadsFrom plan (op.One number) ip (ahead.Units set 1 (Some (ip + 1)))
-said-class plan ip number class set here narrow keys program ops there =
+said-class plan ip number class set here narrow keys wide program ops there =
     let i = insn-of plan program ops (op.One number) ip there in
     let h = i.2.0 in
     let same = some-same h.class class (sym h.is_there ∙ here) in
-    reads-front program ip i.0 set i.1 (reads-as program i.0 i.2.1)
-    (class-units program class set i.0 (ops.classes number class here) narrow (h.is_class ∙ ap (λ (c : Class). insn_of c.insn) same) keys)
+    reads-front wide program ip i.0 set i.1 (reads-as wide program i.0 i.2.1)
+    (class-units wide program class set i.0 (ops.classes number class here) narrow (h.is_class ∙ ap (λ (c : Class). insn_of c.insn) same) keys)
 
 pub said-run : (plan : Plan) (ip : ℕ) (r : run.Run) (class : Class) (bounds : Bounds) (set : Beginnings) (to : Option ℕ) → slice_get plan.classes.items r.class ≡ Some class
     → slice_get plan.bounds.items r.bounds ≡ Some bounds → class.narrow ≡ true
     → ((k : ℕ) → k < 256 → (table_of set).keys k ≡ not (slice_index_or class.steps k 0 == 0))
     → ((to ≡ Some (ip + 2)) × (bounds.min ≡ bounds.max)) ⊎ (to ≡ None) → LeadsFromRun plan r ip (ahead.Units set bounds.min to)
-said-run plan ip r class bounds set to here bounded narrow keys way program ops greedy insn there runs len allowed behind =
-    front-run utf8 (key false) program ip len bounds.min bounds.max greedy (then_allowed bounds.min (units_of set) allowed) allowed
-    (there ∙ ap Some (runs.insn_is ∙ ap (λ (b : Bounds). Loop1CharBody b.min b.max greedy) same_bounds)) are
+said-run plan ip r class bounds set to here bounded narrow keys way wide program ops greedy insn there runs len allowed behind =
+    λ e same. front-run e (key wide) program ip len bounds.min bounds.max greedy (then_allowed bounds.min (units_of set) allowed) allowed
+    (there ∙ ap Some (runs.insn_is ∙ ap (λ (b : Bounds). Loop1CharBody b.min b.max greedy) same_bounds)) (λ test t. are test t e same)
     (λ ahead k.
     then-late bounds.min (units_of set) allowed (bounds.min + ahead) k (omega arith)
     ∙ ap (λ n. allowed n k) (let z : bounds.min + ahead - bounds.min ≡ ahead = omega arith in z))
-    (exactly way) (front way)
+    (exactly way) (front way e same)
   where
     same_bounds : runs.bounds ≡ bounds
     same_bounds = let e : Some runs.bounds ≡ Some bounds = sym runs.are_there ∙ bounded in cc
 
     are : (test : ℕ → Bool) → test_of program (slice_get program.insns (ip + 1)) ≡ Some test
-        → AreUnits utf8 (key false) test bounds.min (then_allowed bounds.min (units_of set) allowed)
+        → UnitsOf wide test bounds.min (then_allowed bounds.min (units_of set) allowed)
     are test t = by (slice_get program.insns (ip + 1)) refl t
       where
         by : (o : Option Insn) → slice_get program.insns (ip + 1) ≡ o → test_of program o ≡ Some test
-            → AreUnits utf8 (key false) test bounds.min (then_allowed bounds.min (units_of set) allowed)
+            → UnitsOf wide test bounds.min (then_allowed bounds.min (units_of set) allowed)
         by None at t = cc
         by (Some read) at t =
             let h = runs.body read at in
             let same = some-same h.class class (sym h.is_there ∙ here) in
-            class-units program class set read (ops.classes r.class class here) narrow (h.is_class ∙ ap (λ (c : Class). insn_of c.insn) same) keys test t bounds.min allowed
+            class-units wide program class set read (ops.classes r.class class here) narrow (h.is_class ∙ ap (λ (c : Class). insn_of c.insn) same) keys test t bounds.min allowed
 
     exactly : ((to ≡ Some (ip + 2)) × (bounds.min ≡ bounds.max)) ⊎ (to ≡ None) → (bounds.min ≡ bounds.max) ⊎ (len ≡ 0)
     exactly (inl more) = inl more.1
-    exactly (inr none) = let P : Option ℕ → Type 0 = λ o. FrontBehind program o len allowed in inr (subst P none behind)
+    exactly (inr none) = let P : Option ℕ → Type 0 = λ o. FrontBehind wide program o len allowed in inr (subst P none behind)
 
-    front : ((to ≡ Some (ip + 2)) × (bounds.min ≡ bounds.max)) ⊎ (to ≡ None) → FrontAt program (ip + 2) len allowed
-    front (inl more) = let P : Option ℕ → Type 0 = λ o. FrontBehind program o len allowed in subst P more.0 behind
+    front : ((to ≡ Some (ip + 2)) × (bounds.min ≡ bounds.max)) ⊎ (to ≡ None) → FrontAt wide program (ip + 2) len allowed
+    front (inl more) = let P : Option ℕ → Type 0 = λ o. FrontBehind wide program o len allowed in subst P more.0 behind
     front (inr none) =
-        let P : Option ℕ → Type 0 = λ o. FrontBehind program o len allowed in
+        let P : Option ℕ → Type 0 = λ o. FrontBehind wide program o len allowed in
         let zero_len : len ≡ 0 = subst P none behind in
-        let Q : ℕ → Type 0 = λ n. FrontAt program (ip + 2) n allowed in
-        subst Q (sym zero_len) (front-none utf8 (key false) program (ip + 2) allowed)
+        let Q : ℕ → Type 0 = λ n. FrontAt wide program (ip + 2) n allowed in
+        subst Q (sym zero_len) (none-front wide program (ip + 2) allowed)

@@ -6,3 +6,4 @@ pub mod ClosingLemmas
 pub mod PeekLemmas
 pub mod SetLemmas
 pub mod FrontLemmas
+pub mod BeforeLemmas

@@ -1,5 +1,5 @@
--- What operations say of the units that must stand where they do, in bytes.
-use Rattle.std.specs.Prelude.{◌≡◌, ◌≤◌, ◌<◌, ℕ, ◌+◌, ◌-◌, ◌*◌, ◌%◌, ◌^◌, min, bit_and, bit_or, Bool, true, false, List, Option, Some, None, length, if◌then◌else◌, nat_lt, slice_get, ⊤}
+-- What operations say of the units that must stand where they do.
+use Rattle.std.specs.Prelude.{◌≡◌, ◌≤◌, ◌<◌, ℕ, ◌+◌, ◌-◌, ◌*◌, ◌%◌, ◌^◌, min, bit_and, bit_or, Bool, true, false, Option, Some, None, length, if◌then◌else◌, nat_lt, slice_get, ⊤}
 use Rattle.regex_meaning.specs.Layout.{Program, Insn}
 use Rattle.regress_serves.specs.Fronts.{Allowed}
 use Rattle.regress_plan.specs.declared.beginnings.Beginnings.{Beginnings}
@@ -55,24 +55,24 @@ pub record AreOps (wide : Bool) (program : Program) (plan : Plan) : Type 0 where
   pub classes : (number : ℕ) (class : Class) → slice_get plan.classes.items number ≡ Some class → IsClass wide program class
 
 -- what must stand at an instruction, or nothing where there is none
-abbrev pub FrontBehind : Program → Option ℕ → (len : ℕ) → Allowed → Type 0
-FrontBehind program None len allowed = len ≡ 0
-FrontBehind program (Some ip) len allowed = FrontAt program ip len allowed
+abbrev pub FrontBehind : (wide : Bool) → Program → Option ℕ → (len : ℕ) → Allowed → Type 0
+FrontBehind wide program None len allowed = len ≡ 0
+FrontBehind wide program (Some ip) len allowed = FrontAt wide program ip len allowed
 
 -- what must stand at the instruction follows so from what must stand at others
-abbrev pub Leads : Program → (ip : ℕ) → Ahead → Type 0
-Leads program ip Unknown = ⊤
-Leads program ip (At to) = (len : ℕ) (allowed : Allowed) → FrontAt program to len allowed → FrontAt program ip len allowed
-Leads program ip (Either a b) =
-    (len : ℕ) (allowed : Allowed) → FrontAt program a len allowed → FrontAt program b len allowed → FrontAt program ip len allowed
-Leads program ip (Units set count to) =
-    (len : ℕ) (allowed : Allowed) → FrontBehind program to len allowed → FrontAt program ip (count + len) (then_allowed count (units_of set) allowed)
+abbrev pub Leads : (wide : Bool) → Program → (ip : ℕ) → Ahead → Type 0
+Leads wide program ip Unknown = ⊤
+Leads wide program ip (At to) = (len : ℕ) (allowed : Allowed) → FrontAt wide program to len allowed → FrontAt wide program ip len allowed
+Leads wide program ip (Either a b) =
+    (len : ℕ) (allowed : Allowed) → FrontAt wide program a len allowed → FrontAt wide program b len allowed → FrontAt wide program ip len allowed
+Leads wide program ip (Units set count to) =
+    (len : ℕ) (allowed : Allowed) → FrontBehind wide program to len allowed → FrontAt wide program ip (count + len) (then_allowed count (units_of set) allowed)
 
 -- The units stand from the one instruction on. If there is room for more, what is behind them stands at the other one.
-pub record IsPath (program : Program) (from : ℕ) (front : Front) (ip : ℕ) : Type 0 where
-  pub so_far : FrontAt program from front.len (allowed_of front)
-  pub on : front.len < 15 → (len : ℕ) (allowed : Allowed) → FrontAt program ip len allowed
-      → FrontAt program from (front.len + len) (then_allowed front.len (allowed_of front) allowed)
+pub record IsPath (wide : Bool) (program : Program) (from : ℕ) (front : Front) (ip : ℕ) : Type 0 where
+  pub so_far : FrontAt wide program from front.len (allowed_of front)
+  pub on : front.len < 15 → (len : ℕ) (allowed : Allowed) → FrontAt wide program ip len allowed
+      → FrontAt wide program from (front.len + len) (then_allowed front.len (allowed_of front) allowed)
 
 -- it reads nothing and leads on to the next one, or nowhere
 abbrev pub leads_on : Op → Bool
@@ -85,9 +85,11 @@ leads_on _ = false
 
 -- an operation says so much, if it stands there
 abbrev pub LeadsFrom : Plan → Op → (ip : ℕ) → Ahead → Type 0
-LeadsFrom plan op ip ahead = (program : Program) → AreOps false program plan → slice_get plan.ops.items ip ≡ Some op → Leads program ip ahead
+LeadsFrom plan op ip ahead =
+    (wide : Bool) (program : Program) → AreOps wide program plan → slice_get plan.ops.items ip ≡ Some op → Leads wide program ip ahead
 
 -- a run of these rows says so much, if it stands there
 abbrev pub LeadsFromRun : Plan → run.Run → (ip : ℕ) → Ahead → Type 0
 LeadsFromRun plan r ip ahead =
-    (program : Program) → AreOps false program plan → (greedy : Bool) (insn : Insn) → slice_get program.insns ip ≡ Some insn → Runs program plan greedy r ip insn → Leads program ip ahead
+    (wide : Bool) (program : Program) → AreOps wide program plan → (greedy : Bool) (insn : Insn) → slice_get program.insns ip ≡ Some insn
+    → Runs program plan greedy r ip insn → Leads wide program ip ahead

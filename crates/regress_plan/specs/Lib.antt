@@ -6,3 +6,5 @@ pub mod Closing
 pub mod Peeking
 pub mod Fronts
 pub mod Leading
+pub mod Before
+pub mod BeforeKeys

@@ -1,4 +1,4 @@
-//! Which units may stand where a match begins.
+//! Which units may stand where a match begins, and what is looked for first.
 
 ghost use Rattle.std.specs.Prelude.{◌≡◌, ◌≤◌, ◌<◌, ◌==◌};
 ghost use Rattle.std.specs.Int.{bit_at};

@@ -1,16 +1,16 @@
-//! What must stand where a match begins, unit by unit, in texts of bytes.
+//! What must stand where a match begins, unit by unit.
 //!
 //! It is read off the operations that stand at the beginning of a program: those that read no character lead on, and
 //! those that read one whose unit is known say what stands first. Where the operations do not tell it ends.
 
-ghost use Rattle.std.specs.Prelude.{◌≡◌, ◌<◌, ◌+◌, ◌^◌, true, false, length, IfSome};
+ghost use Rattle.std.specs.Prelude.{Bool, ◌≡◌, ◌<◌, ◌+◌, ◌^◌, true, length};
 ghost use Rattle.regex_meaning.specs.Layout.{Program};
 ghost use Rattle.regress_plan.specs.declared.ops.Op.TheVariants.{Unit, One, Enter};
-ghost use Rattle.regress_plan.specs.Fronts.{allowed_of, IsFrontAt, IsInAscii, IsRare};
+ghost use Rattle.regress_plan.specs.Fronts.{allowed_of, IsFrontAt, IsInAsciiAt};
 ghost use Rattle.regress_plan.specs.Leading.{units_of, joined_of, leads_on as leads_on_op, IsUnitOf, IsThen, IsOfEither, AreOps, Leads, LeadsFrom, LeadsFromRun};
 
 use crate::beginnings::Beginnings;
-use crate::front::{Front, MOST, Rare, is_clear};
+use crate::front::{Front, MOST, is_clear};
 use crate::keys::KEYS;
 use crate::ops::{Op, Run};
 use crate::plan::Plan;
@@ -106,85 +106,16 @@ impl Front {
         is_clear(self.masks[key], ahead)
     }
 
-    /// Whether bytes below 128 alone may stand first.
-    pub(crate) fn is_in_ascii(&self) -> bool
-        ensures { result ≡ true → IsInAscii self.now }
+    /// Whether units below 128 alone may stand so many units on.
+    pub(crate) fn is_in_ascii_at(&self, ahead: usize) -> bool
+        requires { ahead < 16 }
+        ensures { result ≡ true → IsInAsciiAt self.now ahead }
     {
         let mut others = false;
         for key in 128..KEYS {
-            others |= self.may_stand(key, 0);
+            others |= self.may_stand(key, ahead);
         }
         !others
-    }
-
-    /// The unit to look for first, if one alone may stand somewhere that texts have seldom.
-    pub(crate) fn rare(&self) -> Option<Rare>
-        ensures { IfSome result (λ rare. IsRare self.now rare) }
-    {
-        let rare = self.rarest()?;
-        if self.has_alone(rare) {
-            Some(rare)
-        } else {
-            None
-        }
-    }
-
-    // Whether this unit alone may stand there.
-    fn has_alone(&self, rare: Rare) -> bool
-        ensures { result ≡ true → IsRare self.now rare }
-    {
-        if rare.ahead >= self.len {
-            return false;
-        }
-        let mut others = false;
-        for key in 0..KEYS {
-            others |= self.may_stand(key, rare.ahead) & (key != usize::from(rare.unit));
-        }
-        !others
-    }
-
-    // Of the units below 128 that alone may stand somewhere, the one that texts have most seldom.
-    fn rarest(&self) -> Option<Rare> {
-        let alone = self.alone();
-        let mut rarest = None;
-        let mut least = OFTEN;
-        for unit in 0..128u8 {
-            let here = !self.masks[usize::from(unit)] & alone;
-            if here != 0 && how_often(unit) < least {
-                least = how_often(unit);
-                rarest = Some(Rare {
-                    unit,
-                    ahead: here.trailing_zeros() as usize,
-                });
-            }
-        }
-        rarest
-    }
-
-    // A bit for each number of units on where one unit alone may stand.
-    fn alone(&self) -> u16 {
-        let mut once = 0;
-        let mut twice = 0;
-        for mask in self.masks {
-            twice |= once & !mask;
-            once |= !mask;
-        }
-        once & !twice
-    }
-}
-
-/// A unit that stands so often, in a thousand, is not looked for.
-const OFTEN: u8 = 15;
-
-// How often a unit stands in texts, roughly, in a thousand.
-fn how_often(unit: u8) -> u8 {
-    match unit {
-        b' ' => 150,
-        b'e' | b't' | b'a' | b'o' | b'i' | b'n' | b's' | b'r' | b'h' | b'l' | b'd' | b'u' => 50,
-        b'c' | b'm' | b'f' | b'p' | b'g' | b'w' | b'y' | b'b' | b'0'..=b'9' | b'\n' => 20,
-        b'v' | b'k' | b'.' | b',' => 10,
-        b'A'..=b'Z' => 3,
-        _ => 5,
     }
 }
 
@@ -199,14 +130,14 @@ fn joined(first: u16, count: usize, behind: u16) -> u16
 
 /// What must stand where the program of this plan begins to match.
 pub(crate) fn front_of(plan: &Plan) -> Front
-    ensures { (program : Program) → AreOps false program plan.now → IsFrontAt program 0 result }
+    ensures { (wide : Bool) (program : Program) → AreOps wide program plan.now → IsFrontAt wide program 0 result }
 {
     front_at(plan, 0, STEPS)
 }
 
 // What must stand from an operation on, as far as so many operations tell. Where two of them lead on, either has half of the rest.
 fn front_at(plan: &Plan, from: usize, steps: usize) -> Front
-    ensures { (program : Program) → AreOps false program plan.now → IsFrontAt program from result }
+    ensures { (wide : Bool) (program : Program) → AreOps wide program plan.now → IsFrontAt wide program from result }
 {
     let mut front = Front::unknown();
     let mut ip = from;
@@ -234,7 +165,7 @@ fn front_at(plan: &Plan, from: usize, steps: usize) -> Front
 
 // What an operation says.
 fn said_at(plan: &Plan, ip: usize) -> Ahead
-    ensures { (program : Program) → AreOps false program plan.now → Leads program ip result }
+    ensures { (wide : Bool) (program : Program) → AreOps wide program plan.now → Leads wide program ip result }
 {
     match plan.ops.get(ip) {
         Some(op) => said_of_op(plan, *op, ip),

@@ -4,10 +4,12 @@ ghost use Rattle.std.specs.Prelude.{◌<◌};
 
 use regex_pattern_front::ir::Regex;
 use regress_plan::beginnings::Beginnings;
-use regress_plan::front::{Front, Rare};
+use regress_plan::before::Before;
+use regress_plan::front::Front;
 use regress_plan::keys::KEYS;
 use regress_plan::ops::Op;
 use regress_plan::plan::{ANYTHING, Plan, Start};
+use regress_plan::prefilters::{Prefilter, Probe};
 use regress_program::emit::{emit, emit_units};
 use std::alloc::{AllocError, Global};
 
@@ -37,7 +39,8 @@ fn write_sets(text: &mut String, plan: &Plan) -> Result<(), AllocError> {
         Start::Anywhere => text.push_str("anywhere")?,
         Start::Among { set } => write_set(text, plan, "among", set)?,
         Start::Few { units, len } => write!(text, "few {len} {units:?}")?,
-        Start::Front { front, rare } => write_front(text, &front, rare)?,
+        Start::Behind(before) => write_before(text, before)?,
+        Start::Front { front, prefilter } => write_front(text, &front, prefilter)?,
     }
     for op in &plan.ops {
         match op {
@@ -50,8 +53,19 @@ fn write_sets(text: &mut String, plan: &Plan) -> Result<(), AllocError> {
     Ok(())
 }
 
-// Which keys may stand first, second and so on, and the unit that is looked for first.
-fn write_front(text: &mut String, front: &Front, rare: Option<Rare>) -> Result<(), AllocError> {
+// The keys of which one must begin the character before, and whether the left end serves too.
+fn write_before(text: &mut String, before: Before) -> Result<(), AllocError> {
+    let Before { keys, len, edge } = before;
+    write!(text, "behind {len} {keys:?}")?;
+    if edge {
+        text.push_str(" edge")
+    } else {
+        Ok(())
+    }
+}
+
+// Which keys may stand first, second and so on, and what is looked for first.
+fn write_front(text: &mut String, front: &Front, prefilter: Prefilter) -> Result<(), AllocError> {
     text.push_str("front")?;
     for ahead in 0..front.len {
         if ahead > 0 {
@@ -59,10 +73,20 @@ fn write_front(text: &mut String, front: &Front, rare: Option<Rare>) -> Result<(
         }
         write_edges(text, &keys_at(front, ahead))?;
     }
-    match rare {
-        Some(rare) => write!(text, " rare {} at {}", rare.unit, rare.ahead),
-        None => Ok(()),
+    match prefilter {
+        Prefilter::Absent => Ok(()),
+        Prefilter::Rare(rare) => write!(text, " rare {} at {}", rare.unit, rare.ahead),
+        Prefilter::Probes(probes) => write_probes(text, &probes),
     }
+}
+
+// The masks that are looked through, with the bits that stay, and how many units on.
+fn write_probes(text: &mut String, probes: &[Probe]) -> Result<(), AllocError> {
+    for probe in probes {
+        let Probe { ahead, mask, bits } = *probe;
+        write!(text, " bits {bits} of {mask} at {ahead}")?;
+    }
+    Ok(())
 }
 
 // The keys of units that may stand so many units on.

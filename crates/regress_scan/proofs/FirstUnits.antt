@@ -85,6 +85,10 @@ module _ (allowed : Allowed) (us : List ℕ) (at : ℕ) where
           let less = one.1 in
           (one.0, omega (arith, less), one.2)
 
+  -- one more
+  pub fits-more : (len : ℕ) → fits allowed us at len ≡ true → stands len ≡ true → fits allowed us at (suc len) ≡ true
+  fits-more len all here = and-both (fits allowed us at len) (stands len) all here
+
   -- at the end there is no unit
   pub fits-past : (len ahead : ℕ) → ahead < len → length us ≤ at + ahead → fits allowed us at len ≡ false
   fits-past len ahead less past = fits-fails len ahead less (ap (may_stand allowed ahead) (slice_get_past us (at + ahead) past))

@@ -1,6 +1,7 @@
 pub mod Advancing
 pub mod Allowing
 pub mod Barring
+pub mod Behind
 pub mod FurtherPlaces
 pub mod LazyClass
 pub mod LeavingOut
@@ -13,3 +14,5 @@ pub mod RunPlaces
 pub mod Scanning
 pub mod Starting
 pub mod FirstUnits
+pub mod LowUnits
+pub mod ProbeLemmas

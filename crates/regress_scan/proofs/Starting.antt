@@ -1,9 +1,9 @@
 -- Scans for the first place at which a table allows what stands next.
-use Rattle.std.proofs.Common.{◌≡◌, ℕ, zero, suc, ◌+◌, ◌-◌, ◌<◌, ◌≤◌, Bool, true, false, not, List, [], ◌∷◌, length, drop, take, get_or, Option, Some, None, refl, ap, sym, ◌∙◌, subst, arith, slice_get, le_refl}
+use Rattle.std.proofs.Common.{map, ◌≡◌, ℕ, zero, suc, ◌+◌, ◌-◌, ◌<◌, ◌≤◌, Bool, true, false, not, List, [], ◌∷◌, length, drop, take, get_or, Option, Some, None, refl, ap, sym, ◌∙◌, subst, arith, slice_get, le_refl}
 use Rattle.std.specs.Prelude.{option_map, slice_index, nat_lt, nat_le, nat_eq, ◌&&◌, ◌||◌}
 use Rattle.std.proofs.lemmas.Bool.{cases_lt, lt-ltb, le-ltb, lt-leb, leb-true, eqb-true}
 use Rattle.std.proofs.lemmas.Option.{slice_get-get_or}
-use Rattle.std.proofs.lemmas.List.{get_or-drop, length-drop}
+use Rattle.std.proofs.lemmas.List.{get_or-drop, length-drop, map-id}
 use Rattle.std.proofs.Math.Bool.{and-false}
 use mathlib.Core.Logic.{inl, inr}
 use Rattle.regex_meaning.specs.Lists.{contains}
@@ -24,10 +24,10 @@ use Rattle.regress_plan.specs.Keys.{key, is_wide, is_lead}
 use Rattle.regress_scan.specs.Searching.{Searching}
 use Rattle.regress_scan.proofs.Allowing.{no-key}
 use Rattle.regress_scan.proofs.NextUnits.{unit-fits}
-use Rattle.regress_scan.proofs.FirstUnits.{own-key, fits-past, fits-each, fits-behind}
-use Rattle.regress_serves.specs.Fronts.{may_stand}
+use Rattle.regress_scan.proofs.FirstUnits.{own-key, fits-past, fits-behind}
 use Rattle.regress_plan.specs.declared.front.Front.{Front}
 use Rattle.regress_plan.specs.Fronts.{allowed_of, fits, IsInAscii}
+use Rattle.regress_scan.proofs.LowUnits.{fit-boundary}
 use Rattle.regress_scan.specs.Starts.{allows_at, AllowsNone, IsFirstAllowed, IsFirstWhere, AllowsLeads, IsPast, few_allowed, fits_in}
 
 -- ---- Past a unit
@@ -305,8 +305,8 @@ fitting-found w has front narrow some ascii from found f = by f.0 f.1 found f.2
     test : (at : ℕ) → Bool
     test at = fits (allowed_of front) all at front.len
 
-    same-units : (e : Encoding) → is_wide e ≡ false → units_in e w.text ≡ all
-    same-units utf8 n = utf8-units w.text.characters
+    same-units : (e : Encoding) → is_wide e ≡ false → map (key (is_wide e)) (units_in e w.text) ≡ all
+    same-units utf8 n = map-id (units_in utf8 w.text) ∙ utf8-units w.text.characters
     same-units utf16 n = cc
     same-units ucs2 n = cc
 
@@ -324,21 +324,6 @@ fitting-found w has front narrow some ascii from found f = by f.0 f.1 found f.2
     past : (at : ℕ) → length all ≤ at → fits_in w front at ≡ false
     past at end = same at ∙ fits-past (allowed_of front) all at front.len 0 some (omega (arith, end))
 
-    -- a place at which they fit is a boundary
-    bounded : (e : Encoding) → HasUnits e w.text → is_wide e ≡ false → (at : ℕ) → test at ≡ true → IsBoundary w.text at
-    bounded utf8 units n at fit = unit (slice_get all (at + 0)) refl (fits-each (allowed_of front) all at front.len 0 some fit)
-      where
-        unit : (o : Option ℕ) → slice_get all (at + 0) ≡ o → may_stand (allowed_of front) 0 o ≡ true → IsBoundary w.text at
-        unit None there may = cc
-        unit (Some b) there may =
-            let here : slice_get (units_in utf8 w.text) at ≡ Some b =
-            ap (λ (us : List ℕ). slice_get us at) (utf8-units w.text.characters) ∙ ap (slice_get all) (let z : at ≡ at + 0 = omega arith in z) ∙ there in
-            let low = ascii b (unit-fits utf8 w.text units at b here) may in
-            boundary-byte w.text units.spelled at b here
-            ∙ ap not (lead-begins b (ap (λ (x : Bool). x || (nat_le 0xC2 b && nat_le b 0xF4)) (lt-ltb b 0x80 low)))
-    bounded utf16 units n at fit = cc
-    bounded ucs2 units n at fit = cc
-
     by : (index : Option ℕ) → FindsFirst (λ i. fits (allowed_of front) (drop from all) i front.len) (length (drop from all)) index → (found : Option ℕ)
         → found ≡ option_map (λ i. from + i) index → IsFirstWhere w (fits_in w front) from found
     by None none None e = λ x on le less. elim (cases_lt x (length all)) [
@@ -351,7 +336,7 @@ fitting-found w has front narrow some ascii from found f = by f.0 f.1 found f.2
         let there : to ≡ from + i = cc in
         let within = first.within in
         let fit : test to ≡ true = ap test there ∙ sym (fits-behind (allowed_of front) all from i front.len) ∙ first.passes in (
-          bounded w.encoding has narrow to fit,
+          fit-boundary w has front to (same to ∙ fit) some ascii,
           omega (arith, there),
           same to ∙ fit,
           λ x on le before. barred x le (first.none_before (x - from) (omega (arith, le, before, there))),

@@ -1,6 +1,7 @@
 pub mod Searching
 pub mod Ranges
 pub mod Planning
+pub mod Probing
 pub mod Reading
 pub mod Starts
 pub mod Reached

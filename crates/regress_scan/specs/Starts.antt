@@ -1,9 +1,11 @@
 -- What tables let through at offsets, and where a search tries.
-use Rattle.std.specs.Prelude.{◌≡◌, ◌≤◌, ◌<◌, ℕ, ◌+◌, Bool, true, false, List, take, Option, Some, None}
+use Rattle.std.specs.Prelude.{◌≡◌, ◌≤◌, ◌<◌, ℕ, ◌+◌, Bool, true, false, List, map, take, Option, Some, None}
 use Rattle.regex_meaning.specs.Lists.{contains}
-use Rattle.regex_meaning.specs.Text.{Text}
+use Rattle.regex_meaning.specs.Text.{Text, rightwards}
 use Rattle.regex_meaning.specs.Offsets.{IsBoundary, units}
 use Rattle.regex_meaning.specs.Units.{units_in}
+use Rattle.regress_input.specs.Reading.{past}
+use Rattle.regress_plan.specs.Before.{lets_begin}
 use Rattle.regress_plan.specs.declared.front.Front.{Front}
 use Rattle.regress_plan.specs.declared.plan.Start.{Start}
 use Rattle.regress_plan.specs.declared.plan.Start.TheVariants as variant
@@ -48,13 +50,23 @@ pub record IsPast (text : Text) (are_bytes : Bool) (at to : ℕ) : Type 0 where
   pub alone : (x : ℕ) → IsBoundary text x → at < x → x < to → ⊥
   pub boundary : are_bytes ≡ false → IsBoundary text to
 
+-- the keys of the text's units
+abbrev pub keys_in : Searching → List ℕ
+keys_in w = map (key (is_wide w.encoding)) (units_in w.encoding w.text)
+
 -- whether each of the first units may stand at an offset
 abbrev pub fits_in : Searching → Front → (at : ℕ) → Bool
-fits_in w front at = fits (allowed_of front) (units_in w.encoding w.text) at front.len
+fits_in w front at = fits (allowed_of front) (keys_in w) at front.len
+
+-- past the first character that the table allows
+abbrev pub IsPastFirst : Searching → Table → (from : ℕ) → Option ℕ → Type 0
+IsPastFirst w table from None = IsFirstAllowed w table from None
+IsPastFirst w table from (Some to) = (hit : ℕ) × IsFirstAllowed w table from (Some hit) × (past w.text rightwards hit ≡ Some to)
 
 -- whether a search tries at an offset, where it has to start so
 abbrev pub tries_at : Searching → Start → (at : ℕ) → Bool
-tries_at w (variant.Front front rare) at = fits_in w front at
+tries_at w (variant.Front front prefilter) at = fits_in w front at
+tries_at w (variant.Behind before) at = lets_begin w.encoding before w.text at
 tries_at w start at = allows_at w (tried w.plan start) at
 
 -- the first boundary from an offset on at which a search tries, by its plan

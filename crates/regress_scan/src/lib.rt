@@ -7,6 +7,7 @@ mod fitting;
 pub mod further;
 pub mod peeks;
 pub mod planned;
+mod probing;
 pub mod reads;
 pub mod rows;
 pub mod scans;

@@ -4,21 +4,26 @@ ghost use Rattle.std.specs.Prelude.{◌≡◌, ◌<◌, ℕ, false, slice_index_
 ghost use Rattle.regex_meaning.specs.Offsets.{IsBoundary, units};
 ghost use Rattle.regress_exec.specs.Attempts.{IsNextTry};
 ghost use Rattle.regress_machine.specs.Finds.{CanSearch};
-ghost use Rattle.regress_plan.specs.Fronts.{IsInAscii};
+ghost use Rattle.regress_plan.specs.Before.{HasLeadKeys, lets_begin};
+ghost use Rattle.regress_plan.specs.Fronts.{IsInAscii, IsPrefilter};
 ghost use Rattle.regress_plan.specs.Keys.{is_wide};
 ghost use Rattle.regress_plan.specs.Plans.{numbered};
 ghost use Rattle.regress_serves.specs.Tables.{Table};
 ghost use Rattle.regress_scan.specs.Searching.{program_of};
-ghost use Rattle.regress_scan.specs.Starts.{IsFirstAllowed, IsFirstWhere, IsFirstTry, AllowsLeads, IsPast, few_allowed, fits_in};
+ghost use Rattle.regress_scan.specs.Starts.{IsFirstAllowed, IsFirstWhere, IsFirstTry, AllowsLeads, IsPast, IsPastFirst, few_allowed, fits_in};
 
 use crate::characters::key_here;
 use crate::few::Few;
 use crate::fitting::Fitting;
 use crate::planned::{At, Planned};
+use crate::probing::next_probed;
 use regress_input::indexing::{CodeUnits, InputIndexer};
 use regress_input::position::PositionType;
+use regress_plan::before::Before;
 use regress_plan::beginnings::Beginnings;
+use regress_plan::front::Front;
 use regress_plan::plan::Start;
+use regress_plan::prefilters::Prefilter;
 
 /// What may stand next where a search starts. Contracts see the table.
 pub(crate) trait MayStand {
@@ -135,6 +140,60 @@ fn next_fitting<W: Planned>(planned: &W, fitting: Fitting<'_>, from: At<W>) -> O
     planned.input().find_bytes(from, &fitting)
 }
 
+// The same, by what is looked for first.
+#[inline(always)]
+fn first_filtered<W: Planned>(
+    planned: &W,
+    front: &Front,
+    prefilter: Prefilter,
+    from: At<W>,
+) -> Option<At<W>>
+    requires at { IsBoundary (W.searching planned.now).text (W.Input.Position.offset from) }
+    requires some { 0 < front.now.len }
+    requires ascii { IsInAscii front.now }
+    requires filter { IsPrefilter (is_wide (W.searching planned.now).encoding) front.now prefilter }
+    ensures { IsFirstWhere (W.searching planned.now) (fits_in (W.searching planned.now) front.now) (W.Input.Position.offset from) (option_map (λ p. W.Input.Position.offset p) result) }
+{
+    let rare = match prefilter {
+        Prefilter::Probes(probes) => return next_probed(planned, front, &probes, from),
+        Prefilter::Rare(rare) => Some(rare),
+        Prefilter::Absent => None,
+    };
+    next_fitting(planned, Fitting { front, rare }, from)
+}
+
+// The place past the first character from one on that begins with one of a few units.
+#[inline(always)]
+fn next_past<W: Planned>(planned: &W, few: Few, from: At<W>) -> Option<At<W>>
+    requires at { IsBoundary (W.searching planned.now).text (W.Input.Position.offset from) }
+    requires leads { AllowsLeads (is_wide (W.searching planned.now).encoding) (few_allowed few.units few.len) }
+    ensures { IsPastFirst (W.searching planned.now) (few_allowed few.units few.len) (W.Input.Position.offset from) (option_map (λ p. W.Input.Position.offset p) result) }
+{
+    let hit = next_of_few(planned, few, from)?;
+    Some(planned.input().past(hit))
+}
+
+// The first place from one on where what stands before lets a match begin.
+#[inline(never)]
+fn next_behind<W: Planned>(planned: &W, before: Before, from: At<W>) -> Option<At<W>>
+    requires at { IsBoundary (W.searching planned.now).text (W.Input.Position.offset from) }
+    requires leads { HasLeadKeys (is_wide (W.searching planned.now).encoding) before }
+    ensures { IsFirstWhere (W.searching planned.now) (λ at. lets_begin (W.searching planned.now).encoding before (W.searching planned.now).text at) (W.Input.Position.offset from) (option_map (λ p. W.Input.Position.offset p) result) }
+{
+    let Before { keys, len, edge } = before;
+    let few = Few { units: keys, len };
+    match planned.input().next_left_pos(from) {
+        Some(start) => next_past(planned, few, start),
+        None => {
+            if edge {
+                Some(from)
+            } else {
+                next_past(planned, few, from)
+            }
+        }
+    }
+}
+
 // The first place from one on where the plan says to try.
 #[inline(always)]
 fn first_try<W: Planned>(planned: &W, from: At<W>) -> Option<At<W>>
@@ -152,10 +211,8 @@ fn first_try<W: Planned>(planned: &W, from: At<W>) -> Option<At<W>>
             };
             next_of_few(planned, few, from)
         }
-        Start::Front { front, rare } => {
-            let fitting = Fitting { front, rare: *rare };
-            next_fitting(planned, fitting, from)
-        }
+        Start::Behind(before) => next_behind(planned, *before, from),
+        Start::Front { front, prefilter } => first_filtered(planned, front, *prefilter, from),
     }
 }
 

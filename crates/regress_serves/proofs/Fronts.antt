@@ -1,12 +1,11 @@
 -- What must stand where a thread is to find something, by what must stand behind it.
 use Rattle.std.proofs.Common.{◌≡◌, ◌<◌, ◌≤◌, ℕ, zero, suc, ◌+◌, ◌-◌, min, List, [], ◌∷◌, Option, Some, None, Bool, true, false, not, ◌||◌, refl, ap, ◌∙◌, sym, subst, arith, slice_get, length, drop}
-use Rattle.std.specs.Prelude.{◌==◌, option_map}
+use Rattle.std.specs.Prelude.{◌==◌}
 use Rattle.std.specs.List.{prefix_len}
 use Rattle.std.proofs.lemmas.Bool.{eq-eqb, eqb-true, cases_lt}
 use mathlib.Core.Logic.{◌⊎◌, inl, inr}
 use Rattle.regex_meaning.specs.Text.{Text, rightwards, next_character, moved}
 use Rattle.regex_meaning.specs.Offsets.{offset, place_at}
-use Rattle.regex_meaning.specs.Find.{match_at}
 use Rattle.regex_meaning.specs.Outcomes.{is_some_and}
 use Rattle.regex_meaning.specs.Ticks.{nearest_first}
 use Rattle.regex_meaning.specs.Units.{Encoding, spelled_in}
@@ -14,9 +13,7 @@ use Rattle.regex_meaning.specs.Layout.{Program, Insn, Loop1CharBody}
 use Rattle.regex_meaning.proofs.Each.{Each-map}
 use Rattle.regex_meaning.proofs.TextLemmas.{offset-place_at, place_at-offset}
 use Rattle.regress_machine.specs.Machine.{State, running, Next, with_some, go_if, scan, act, act_on, test_of, on_to, read_one, run_states}
-use Rattle.regress_machine.specs.Finds.{initial, end_of, turns_at}
-use Rattle.regress_machine.proofs.Whole.{searches-find}
-use Rattle.regress_machine.proofs.Follows.{finds-match}
+use Rattle.regress_machine.specs.Finds.{initial}
 use Rattle.regress_serves.specs.Serves.{FindsNothing}
 use Rattle.regress_serves.specs.Barred.{may_at}
 use Rattle.regress_serves.specs.Tables.{is_character, HasUnits, first_key, key_at}
@@ -27,8 +24,7 @@ use Rattle.regress_serves.proofs.Barred.{insn-nothing}
 use Rattle.regress_serves.proofs.Ends.{one-of-run, slice_get-behind, inside-of}
 use Rattle.regress_serves.proofs.Rows.{EachFindsNothing}
 use Rattle.regress_serves.proofs.Runs.{most-barred, fewest-barred}
-use Rattle.regress_serves.proofs.Serves.{nothing-ends}
-use Rattle.regress_serves.proofs.Starts.{no-match}
+use Rattle.regress_serves.proofs.Starts.{nothing-no-match}
 use Rattle.regress_serves.proofs.Tables.{seen-next}
 use Rattle.regress_serves.proofs.Units.{passes-one, one-unit-on}
 
@@ -319,9 +315,4 @@ module _ (e : Encoding) (key : ℕ → ℕ) (program : Program) where
 
 pub fronts-bar : FrontsBar
 fronts-bar e key program tree text len allowed can units front place inside ahead less bar =
-    let s = initial program (offset text place) in
-    let first = searches-find program tree text can place inside in
-    let nothing = front.bars text units s refl ahead less bar in
-    let none = nothing-ends program text (turns_at tree text place) rightwards (running s) first.found nothing first.searches in
-    no-match text (match_at tree.root text place)
-    (ap (option_map end_of) none ∙ finds-match program tree text can place inside (turns_at tree text place) first.found first.searches)
+    nothing-no-match program tree text can place inside (front.bars text units (initial program (offset text place)) refl ahead less bar)

@@ -3,7 +3,7 @@
 //! Each node stands before its children, as in `cat:2 alt a b goal`. Behind a colon are numbers in hexadecimal, with
 //! commas between them. A word of one letter is that character. The other words are:
 //!
-//! - with no child `goal`, `empty`, `any`, `start`, `char:C`, `ref:GROUP`, `set:C,..`, `byteset:B,..`, `bytes:B,..`, and
+//! - with no child `goal`, `empty`, `any`, `start`, `line`, `char:C`, `ref:GROUP`, `set:C,..`, `byteset:B,..`, `bytes:B,..`, and
 //!   `class:FIRST,LAST,..` and `not:FIRST,LAST,..`;
 //! - with one child `group:ID`, `named:ID,LETTER`, `ahead:FIRST,END`, `behind:FIRST,END`, `loop:FIRST,END,MIN`,
 //!   `loop:FIRST,END,MIN,MAX`, `loop1:MIN` and `loop1:MIN,MAX`, where `FFFFFFFF` is the greatest minimum there is;
@@ -176,16 +176,21 @@ fn quantifier(bounds: &[u32]) -> Option<Quantifier> {
     })
 }
 
+fn start_of_line(multiline: bool) -> Node {
+    Node::Anchor {
+        anchor_type: AnchorType::StartOfLine,
+        multiline,
+    }
+}
+
 // A node with no child.
 fn leaf(alloc: Global, name: &str, numbers: &[u32]) -> Option<Node> {
     match (name, numbers) {
         ("goal", []) => Some(Node::Goal),
         ("empty", []) => Some(Node::Empty),
         ("any", []) => Some(Node::MatchAny),
-        ("start", []) => Some(Node::Anchor {
-            anchor_type: AnchorType::StartOfLine,
-            multiline: false,
-        }),
+        ("start", []) => Some(start_of_line(false)),
+        ("line", []) => Some(start_of_line(true)),
         ("char", [c]) => Some(Node::Char { c: *c }),
         ("ref", [group]) => Some(Node::BackRef {
             group: *group,

@@ -5,40 +5,40 @@ use Rattle.regress_plan.proofs.FrontLemmas.{path-start, path-at, path-last, path
 use Rattle.regress_plan.proofs.fronts.+front_at.Goals as goal
 
 pub path-init : goal.path-init
-path-init t c = (omega arith, λ program ops. path-start program c.args.from c.unknown-front.result c.unknown-front.ensures)
+path-init t c = (omega arith, λ wide program ops. path-start wide program c.args.from c.unknown-front.result c.unknown-front.ensures)
 
 pub returns-in-Unknown : goal.returns-in-Unknown
-returns-in-Unknown t c = λ program ops. (c.path.invariant.1 program ops).so_far
+returns-in-Unknown t c = λ wide program ops. (c.path.invariant.1 wide program ops).so_far
 
 pub path-preserved-in-At : goal.path-preserved-in-At
 path-preserved-in-At t c = (
   omega (arith, c.path.invariant.0),
-  λ program ops.
-      path-at program c.args.from c.path.ip c.in-At.to c.path.front (c.path.invariant.1 program ops) (c.in-At.ensures program ops),
+  λ wide program ops.
+      path-at wide program c.args.from c.path.ip c.in-At.to c.path.front (c.path.invariant.1 wide program ops) (c.in-At.ensures wide program ops),
 )
 
 pub returns-in-Either : goal.returns-in-Either
-returns-in-Either t c = λ program ops.
-    path-either program c.args.from c.path.ip c.in-Either.a c.in-Either.b c.path.front c.front_at.result c.front_at-in-Either.result c.or-either.result c.followed_by.result
-    (c.path.invariant.1 program ops) c.if-front-lt-MOST.true (c.in-Either.ensures program ops) (c.front_at.ensures program ops)
-    (c.front_at-in-Either.ensures program ops) c.or-either.ensures c.followed_by.ensures
+returns-in-Either t c = λ wide program ops.
+    path-either wide program c.args.from c.path.ip c.in-Either.a c.in-Either.b c.path.front c.front_at.result c.front_at-in-Either.result c.or-either.result c.followed_by.result
+    (c.path.invariant.1 wide program ops) c.if-front-lt-MOST.true (c.in-Either.ensures wide program ops) (c.front_at.ensures wide program ops)
+    (c.front_at-in-Either.ensures wide program ops) c.or-either.ensures c.followed_by.ensures
 
 pub returns-in_default : goal.returns-in_default
-returns-in_default t c = λ program ops.
-    path-last program c.args.from c.path.ip c.in-Units.count c.in-Units.set c.in-Units.to c.path.front c.followed_by_units-front.result (c.path.invariant.1 program ops)
-    c.if-front-lt-MOST.true (c.in-Units.ensures program ops) c.followed_by_units-front.ensures
+returns-in_default t c = λ wide program ops.
+    path-last wide program c.args.from c.path.ip c.in-Units.count c.in-Units.set c.in-Units.to c.path.front c.followed_by_units-front.result (c.path.invariant.1 wide program ops)
+    c.if-front-lt-MOST.true (c.in-Units.ensures wide program ops) c.followed_by_units-front.ensures
 
 pub path-preserved : goal.path-preserved
 path-preserved t c = (
   omega (arith, c.path.invariant.0),
-  λ program ops.
-      let P : Option ℕ → Type 0 = λ to. Leads program c.path.ip (ahead.Units c.in-Units.set c.in-Units.count to) in
-      path-units program c.args.from c.path.ip c.in-Units.count c.in-Some.next c.in-Units.set c.path.front c.followed_by_units-front.result (c.path.invariant.1 program ops)
-      c.if-front-lt-MOST.true (subst P c.in-Some.is (c.in-Units.ensures program ops)) c.followed_by_units-front.ensures,
+  λ wide program ops.
+      let P : Option ℕ → Type 0 = λ to. Leads wide program c.path.ip (ahead.Units c.in-Units.set c.in-Units.count to) in
+      path-units wide program c.args.from c.path.ip c.in-Units.count c.in-Some.next c.in-Units.set c.path.front c.followed_by_units-front.result (c.path.invariant.1 wide program ops)
+      c.if-front-lt-MOST.true (subst P c.in-Some.is (c.in-Units.ensures wide program ops)) c.followed_by_units-front.ensures,
 )
 
 pub returns-after-path : goal.returns-after-path
-returns-after-path t c = λ program ops. (c.path.invariant.1 program ops).so_far
+returns-after-path t c = λ wide program ops. (c.path.invariant.1 wide program ops).so_far
 
 pub returns-else-front-lt-MOST : goal.returns-else-front-lt-MOST
-returns-else-front-lt-MOST t c = λ program ops. (c.path.invariant.1 program ops).so_far
+returns-else-front-lt-MOST t c = λ wide program ops. (c.path.invariant.1 wide program ops).so_far

@@ -1,4 +1,4 @@
-use Rattle.std.proofs.Common.{◌≤◌, false}
+use Rattle.std.proofs.Common.{◌≤◌, Bool}
 use Rattle.regex_meaning.specs.Layout.{Program}
 use Rattle.regress_plan.specs.Leading.{AreOps, IsPath}
 use Rattle.regress_plan.proofs.fronts.+front_at.Given as goal
@@ -7,7 +7,7 @@ abbrev pub decreases-front_at : goal.decreases-front_at
 decreases-front_at l = l.steps
 
 abbrev pub invariant-path : goal.invariant-path
-invariant-path l = (l.left ≤ l.fn.steps) × ((program : Program) → AreOps false program l.plan → IsPath program l.fn.from l.front l.ip)
+invariant-path l = (l.left ≤ l.fn.steps) × ((wide : Bool) (program : Program) → AreOps wide program l.plan → IsPath wide program l.fn.from l.front l.ip)
 
 abbrev pub decreases-path : goal.decreases-path
 decreases-path l = l.left

@@ -1,4 +1,4 @@
-use Rattle.std.proofs.Common.{ℕ, ◌-◌, ◌*◌, ◌%◌, ◌^◌, bit_and, bit_or, ap}
+use Rattle.std.proofs.Common.{◌-◌, ◌*◌, ◌%◌, ◌^◌, bit_and, bit_or, ap}
 use Rattle.std.proofs.lemmas.Nat.{one_shl}
 use Rattle.regress_plan.proofs.fronts.joined.Goals as goal
 

@@ -30,20 +30,20 @@ returns-in-Enter c = let P : Op → Type 0 = λ o. LeadsFrom c.args.plan.now o c
 pub returns-in-RunNarrow : goal.returns-in-RunNarrow
 returns-in-RunNarrow c =
     let P : Op → Type 0 = λ o. LeadsFrom c.args.plan.now o c.args.ip c.said_of_run.result in
-    subst P (sym c.in-RunNarrow.is) (λ program ops there.
+    subst P (sym c.in-RunNarrow.is) (λ wide program ops there.
     let i = insn-of c.args.plan.now program ops (op.RunNarrow c.in-RunNarrow.ran) c.args.ip there in
-    c.said_of_run.ensures program ops true i.0 i.1 i.2.runs)
+    c.said_of_run.ensures wide program ops true i.0 i.1 i.2.runs)
 
 pub returns-in-Run : goal.returns-in-Run
 returns-in-Run c =
     let P : Op → Type 0 = λ o. LeadsFrom c.args.plan.now o c.args.ip c.said_of_run-in-Run.result in
-    subst P (sym c.in-Run.is) (λ program ops there.
+    subst P (sym c.in-Run.is) (λ wide program ops there.
     let i = insn-of c.args.plan.now program ops (op.Run c.in-Run.ran) c.args.ip there in
-    c.said_of_run-in-Run.ensures program ops true i.0 i.1 i.2)
+    c.said_of_run-in-Run.ensures wide program ops true i.0 i.1 i.2)
 
 pub returns-in-LazyRun : goal.returns-in-LazyRun
 returns-in-LazyRun c =
     let P : Op → Type 0 = λ o. LeadsFrom c.args.plan.now o c.args.ip c.said_of_run-in-LazyRun.result in
-    subst P (sym c.in-LazyRun.is) (λ program ops there.
+    subst P (sym c.in-LazyRun.is) (λ wide program ops there.
     let i = insn-of c.args.plan.now program ops (op.LazyRun c.in-LazyRun.ran) c.args.ip there in
-    c.said_of_run-in-LazyRun.ensures program ops false i.0 i.1 i.2)
+    c.said_of_run-in-LazyRun.ensures wide program ops false i.0 i.1 i.2)

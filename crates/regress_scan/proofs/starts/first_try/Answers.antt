@@ -1,7 +1,7 @@
 use Rattle.std.proofs.Common.{Some, sym, ◌∙◌}
 use Rattle.std.specs.Prelude.{option_map}
 use Rattle.regress_plan.specs.Keys.{is_wide}
-use Rattle.regress_plan.specs.declared.plan.Start.TheVariants.{Anywhere, Among, Few, Front}
+use Rattle.regress_plan.specs.declared.plan.Start.TheVariants.{Anywhere, Among, Few, Behind, Front}
 use Rattle.regress_scan.proofs.Allowing.{try-as, few-known, front-known, try-anywhere}
 use Rattle.regress_scan.proofs.Starting.{low-leads}
 use Rattle.regress_scan.proofs.starts.first_try.Goals as goal
@@ -30,18 +30,34 @@ returns-in-Few g c =
     let offset = g.W.Input.Position.PositionType.offset in
     try-as w (Few c.in-Few.units c.in-Few.len) (sym c.start.ensures ∙ c.in-Few.is) (offset c.args.from) (option_map offset c.next_of_few.result) c.next_of_few.ensures
 
-pub next_fitting-requires-clause-bytes : goal.next_fitting-requires-clause-bytes
-next_fitting-requires-clause-bytes g c =
+pub next_behind-requires-clause-leads : goal.next_behind-requires-clause-leads
+next_behind-requires-clause-leads g c =
     let w = g.W.Planned.searching c.args.planned.now in
-    (front-known w (Front c.in-Front.front c.in-Front.rare) (sym c.start.ensures ∙ c.in-Front.is) c.is_of_program.ensures.front).0
+    (front-known w (Behind c.in-Behind.before) (sym c.start.ensures ∙ c.in-Behind.is) c.is_of_program.ensures.front).leads
 
-pub next_fitting-requires-clause-ascii : goal.next_fitting-requires-clause-ascii
-next_fitting-requires-clause-ascii g c =
+pub returns-in-Behind : goal.returns-in-Behind
+returns-in-Behind g c =
     let w = g.W.Planned.searching c.args.planned.now in
-    (front-known w (Front c.in-Front.front c.in-Front.rare) (sym c.start.ensures ∙ c.in-Front.is) c.is_of_program.ensures.front).3
+    let offset = g.W.Input.Position.PositionType.offset in
+    try-as w (Behind c.in-Behind.before) (sym c.start.ensures ∙ c.in-Behind.is) (offset c.args.from) (option_map offset c.next_behind.result) c.next_behind.ensures
+
+pub first_filtered-requires-clause-some : goal.first_filtered-requires-clause-some
+first_filtered-requires-clause-some g c =
+    let w = g.W.Planned.searching c.args.planned.now in
+    (front-known w (Front c.in-Front.front c.in-Front.prefilter) (sym c.start.ensures ∙ c.in-Front.is) c.is_of_program.ensures.front).0
+
+pub first_filtered-requires-clause-ascii : goal.first_filtered-requires-clause-ascii
+first_filtered-requires-clause-ascii g c =
+    let w = g.W.Planned.searching c.args.planned.now in
+    (front-known w (Front c.in-Front.front c.in-Front.prefilter) (sym c.start.ensures ∙ c.in-Front.is) c.is_of_program.ensures.front).2
+
+pub first_filtered-requires-clause-filter : goal.first_filtered-requires-clause-filter
+first_filtered-requires-clause-filter g c =
+    let w = g.W.Planned.searching c.args.planned.now in
+    (front-known w (Front c.in-Front.front c.in-Front.prefilter) (sym c.start.ensures ∙ c.in-Front.is) c.is_of_program.ensures.front).3
 
 pub returns-in-Front : goal.returns-in-Front
 returns-in-Front g c =
     let w = g.W.Planned.searching c.args.planned.now in
     let offset = g.W.Input.Position.PositionType.offset in
-    try-as w (Front c.in-Front.front c.in-Front.rare) (sym c.start.ensures ∙ c.in-Front.is) (offset c.args.from) (option_map offset c.next_fitting.result) c.next_fitting.ensures
+    try-as w (Front c.in-Front.front c.in-Front.prefilter) (sym c.start.ensures ∙ c.in-Front.is) (offset c.args.from) (option_map offset c.first_filtered.result) c.first_filtered.ensures

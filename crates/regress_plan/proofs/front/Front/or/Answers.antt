@@ -1,4 +1,4 @@
-use Rattle.std.proofs.Common.{◌≡◌, length, rules, arith}
+use Rattle.std.proofs.Common.{rules, arith}
 use Rattle.regress_plan.proofs.FrontLemmas.{either-of}
 use Rattle.regress_plan.proofs.front.Front.or.Goals as goal
 

@@ -1,0 +1,296 @@
+//! What is looked for before each of the first units of a match is asked.
+
+ghost use Rattle.std.specs.Prelude.{◌≡◌, ◌<◌, ℕ, true, IfSome};
+ghost use Rattle.regress_plan.specs.Fronts.{allowed_of, passes as has_bits, IsRare, IsProbe, AreProbes, IsPrefilter};
+ghost use Rattle.regress_plan.specs.Keys.{wide_of};
+
+use crate::front::{Front, Rare, is_clear};
+use crate::keys::{KEYS, Units};
+
+/// What the low eight bits of the unit so many units on must have: of these bits those, and no others, are set.
+#[derive(Clone, Copy)]
+pub struct Probe {
+    pub ahead: usize,
+    pub mask: u8,
+    pub bits: u8,
+}
+
+impl Probe {
+    /// Whether a unit has the bits.
+    #[inline(always)]
+    pub fn passes(&self, unit: u32) -> bool
+        ensures { result ≡ has_bits self.now unit }
+    {
+        (unit % 256) as u8 & self.mask == self.bits
+    }
+}
+
+/// What is looked for before each of the first units is asked.
+#[derive(Clone, Copy)]
+pub enum Prefilter {
+    /// Nothing.
+    Absent,
+    /// One unit, in bytes.
+    Rare(Rare),
+    /// Bits of some units.
+    Probes([Probe; 4]),
+}
+
+/// A unit that stands so often, in a thousand, is not looked for.
+const OFTEN: u32 = 15;
+
+/// As often as a unit can stand, in a thousand.
+const ALWAYS: u32 = 1000;
+
+/// How seldom bits have to be to be looked for.
+#[derive(Clone, Copy)]
+struct Limits {
+    /// The most seldom of them stand so often, in a thousand, at most.
+    most: u32,
+    /// So many places in a million have all of them, at most.
+    pass: u32,
+}
+
+impl Limits {
+    // In bytes masks go over a text fast. In 16-bit units each place would be asked.
+    fn of(units: Units) -> Limits {
+        match units {
+            Units::Bytes => Limits {
+                most: 30,
+                pass: 10_000,
+            },
+            Units::Wide => Limits {
+                most: ALWAYS,
+                pass: 100_000,
+            },
+        }
+    }
+}
+
+/// What the units have in common that may stand somewhere: the bits that all of them have, and those that some have. And
+/// how many they are, and how often they stand in texts.
+#[derive(Clone, Copy)]
+struct Common {
+    all: u8,
+    some: u8,
+    count: u32,
+    often: u32,
+}
+
+const NO_UNIT: Common = Common {
+    all: 0xFF,
+    some: 0,
+    count: 0,
+    often: 0,
+};
+
+impl Common {
+    // The same of one unit more.
+    #[inline(always)]
+    fn with(self, unit: u8) -> Common {
+        Common {
+            all: self.all & unit,
+            some: self.some | unit,
+            count: self.count.saturating_add(1),
+            often: self.often.saturating_add(u32::from(how_often(unit))),
+        }
+    }
+
+    // Whether it is one unit alone.
+    fn is_unit(self) -> bool {
+        self.count == 1
+    }
+
+    // How often units with these bits stand in texts, roughly, in a thousand: as often as those that may stand there, for
+    // each of them.
+    fn how_often(self) -> u32 {
+        if self.some >= 128 || self.count == 0 {
+            return ALWAYS;
+        }
+        let free = (self.all ^ self.some).count_ones().min(8);
+        (self.often.min(ALWAYS) << free).min(1_000_000) / self.count.max(1)
+    }
+
+    // The bits, so many units on.
+    fn probe(self, ahead: usize) -> Probe {
+        Probe {
+            ahead,
+            mask: !(self.all ^ self.some),
+            bits: self.all,
+        }
+    }
+}
+
+impl Front {
+    /// What to look for first: in bytes, where each unit is known, the one that texts have most seldom; else bits of
+    /// some units, if few places have them.
+    pub(crate) fn prefilter(&self, units: Units) -> Option<Prefilter>
+        ensures { IfSome result (IsPrefilter (wide_of units) self.now) }
+    {
+        let commons = self.commons();
+        if let Units::Bytes = units {
+            if let Some(rare) = self.rare(&commons) {
+                return Some(Prefilter::Rare(rare));
+            }
+        }
+        if let Some(probes) = self.probes(&commons, Limits::of(units)) {
+            return Some(Prefilter::Probes(probes));
+        }
+        match units {
+            Units::Bytes => Some(Prefilter::Absent),
+            Units::Wide => None,
+        }
+    }
+
+    // What the units have in common that may stand there, by how many units on that is; nothing where some are not below
+    // 128.
+    fn commons(&self) -> [Common; 16] {
+        let others = self.beyond_ascii();
+        let mut commons = [NO_UNIT; 16];
+        for key in 0..128 {
+            let mask = self.masks[key] | others;
+            if mask != u16::MAX {
+                add_key(&mut commons, mask, key as u8);
+            }
+        }
+        commons
+    }
+
+    // A bit for each number of units on where some unit may stand that is not below 128.
+    fn beyond_ascii(&self) -> u16 {
+        let mut others = 0;
+        for key in 128..KEYS {
+            others |= !self.masks[key];
+        }
+        others
+    }
+
+    // The unit to look for, if each is known and one stands in texts seldom.
+    fn rare(&self, commons: &[Common; 16]) -> Option<Rare>
+        ensures { IfSome result (λ rare. IsRare self.now rare) }
+    {
+        let mut rare = Rare { unit: 0, ahead: 0 };
+        let mut least = OFTEN;
+        for ahead in 0..self.len {
+            let common = commons[ahead];
+            if !common.is_unit() {
+                return None;
+            }
+            if common.how_often() < least {
+                least = common.how_often();
+                rare = Rare {
+                    unit: common.all,
+                    ahead,
+                };
+            }
+        }
+        if self.has_alone(rare) {
+            Some(rare)
+        } else {
+            None
+        }
+    }
+
+    // Whether this unit alone may stand there.
+    fn has_alone(&self, rare: Rare) -> bool
+        ensures { result ≡ true → IsRare self.now rare }
+    {
+        if rare.ahead >= self.len {
+            return false;
+        }
+        let mut others = false;
+        for key in 0..KEYS {
+            others |= self.may_stand(key, rare.ahead) & (key != usize::from(rare.unit));
+        }
+        !others
+    }
+
+    // Bits to look for, if they are seldom.
+    fn probes(&self, commons: &[Common; 16], limits: Limits) -> Option<[Probe; 4]>
+        ensures { IfSome result (λ probes. AreProbes self.now probes) }
+    {
+        let [a, b, c, d] = seldom(commons, limits)?;
+        if self.has_probe(a) && self.has_probe(b) && self.has_probe(c) && self.has_probe(d) {
+            Some([a, b, c, d])
+        } else {
+            None
+        }
+    }
+
+    // Whether only units below 128 that pass may stand there.
+    fn has_probe(&self, probe: Probe) -> bool
+        ensures { result ≡ true → IsProbe self.now probe }
+    {
+        probe.ahead < self.len && self.is_in_ascii_at(probe.ahead) && self.all_pass(probe)
+    }
+
+    // Whether only units that pass may stand there.
+    fn all_pass(&self, probe: Probe) -> bool
+        requires { probe.ahead < 16 }
+        ensures { result ≡ true → (k : ℕ) → k < 256 → allowed_of self.now probe.ahead k ≡ true → has_bits probe k ≡ true }
+    {
+        let mut others = false;
+        for key in 0..KEYS {
+            others |= self.may_stand(key, probe.ahead) & !probe.passes(key as u32);
+        }
+        !others
+    }
+}
+
+// One key more, wherever its mask lets it stand.
+fn add_key(commons: &mut [Common; 16], mask: u16, key: u8) {
+    for ahead in 0..16 {
+        if is_clear(mask, ahead) {
+            commons[ahead] = commons[ahead].with(key);
+        }
+    }
+}
+
+// The four that texts have most seldom, the most seldom one first, if they are seldom.
+fn seldom(commons: &[Common; 16], limits: Limits) -> Option<[Probe; 4]> {
+    let mut often = [ALWAYS; 16];
+    for ahead in 0..16 {
+        often[ahead] = commons[ahead].how_often().min(ALWAYS);
+    }
+    if often[least(&often)] > limits.most {
+        return None;
+    }
+    let mut probes = [commons[0].probe(0); 4];
+    let mut pass = 1_000_000u32;
+    for i in 0..4 {
+        let ahead = least(&often);
+        pass = pass.saturating_mul(often[ahead]) / 1000;
+        probes[i] = commons[ahead].probe(ahead);
+        often[ahead] = ALWAYS;
+    }
+    if pass > limits.pass {
+        None
+    } else {
+        Some(probes)
+    }
+}
+
+// The index of the least number.
+fn least(numbers: &[u32; 16]) -> usize
+    ensures { result < 16 }
+{
+    let mut at = 0;
+    'numbers: for i in 1..16 {
+        if numbers[i] < numbers[at] {
+            at = i;
+        }
+    }
+    at
+}
+
+// How often a unit stands in texts, roughly, in a thousand.
+fn how_often(unit: u8) -> u8 {
+    match unit {
+        b' ' => 150,
+        b'e' | b't' | b'a' | b'o' | b'i' | b'n' | b's' | b'r' | b'h' | b'l' | b'd' | b'u' => 50,
+        b'c' | b'm' | b'f' | b'p' | b'g' | b'w' | b'y' | b'b' | b'0'..=b'9' | b'\n' => 20,
+        b'v' | b'k' | b'.' | b',' => 10,
+        b'A'..=b'Z' => 3,
+        _ => 5,
+    }
+}

@@ -1,0 +1,114 @@
+-- Units below 128: each is a character, and its own key.
+use Rattle.std.proofs.Common.{◌≡◌, ℕ, zero, suc, ◌+◌, ◌-◌, ◌/◌, ◌%◌, ◌<◌, ◌≤◌, Bool, true, false, not, ◌&&◌, List, [], ◌∷◌, ◌++◌, length, take, Option, Some, None, refl, ap, sym, ◌∙◌, subst, arith, slice_get}
+use Rattle.std.specs.Prelude.{option_map, flat_map, nat_le, nat_lt, if◌then◌else◌}
+use Rattle.std.proofs.lemmas.Bool.{cases_lt, lt-ltb, le-ltb, lt-leb}
+use Rattle.std.proofs.lemmas.Option.{slice_get-map}
+use Rattle.std.proofs.lemmas.List.{length-append}
+use mathlib.Core.Logic.{◌⊎◌, inl, inr}
+use Rattle.regex_meaning.specs.Text.{Text}
+use Rattle.regex_meaning.specs.Offsets.{IsBoundary}
+use Rattle.regex_meaning.specs.Units.{Encoding, utf8, utf16, ucs2, spelled_in, units_in, pair_of}
+use Rattle.regex_meaning.proofs.Options.{some-same}
+use Rattle.regex_meaning.proofs.TextLemmas.{offset-IsBoundary}
+use Rattle.regress_input.proofs.Boundaries.{boundary-byte, offset-units}
+use Rattle.regress_input.proofs.Lists.{get-front, get-behind}
+use Rattle.regress_serves.specs.Tables.{HasUnits}
+use Rattle.regress_serves.specs.Fronts.{may_stand}
+use Rattle.regress_plan.specs.declared.front.Front.{Front}
+use Rattle.regress_plan.specs.Fronts.{allowed_of, IsInAsciiAt, IsInAscii}
+use Rattle.regress_plan.specs.Keys.{key, is_wide}
+use Rattle.regress_scan.specs.Searching.{Searching}
+use Rattle.regress_scan.specs.Starts.{keys_in, fits_in}
+use Rattle.regress_scan.proofs.FirstUnits.{fits-each}
+use Rattle.regress_scan.proofs.NextUnits.{unit-fits}
+
+-- ---- Units below 128
+
+-- such a unit is the first one of its character
+module _ (e : Encoding) (later : (c i u : ℕ) → slice_get (spelled_in e c) (suc i) ≡ Some u → u < 128 → ⊥) where
+  abbrev spell : List ℕ → List ℕ
+  spell = flat_map (spelled_in e)
+
+  located : (cs : List ℕ) (i u : ℕ) → slice_get (spell cs) i ≡ Some u → u < 128 → (p : ℕ) × (p ≤ length cs) × (length (spell (take p cs)) ≡ i)
+  located [] i u there low = cc
+  located (c ∷ cs) i u there low = by (cases_lt i (length (spelled_in e c))) (λ j rest. located cs j u rest low)
+    where
+      here : (i : ℕ) → slice_get (spelled_in e c) i ≡ Some u → (p : ℕ) × (p ≤ length (c ∷ cs)) × (length (spell (take p (c ∷ cs))) ≡ i)
+      here zero at = (0, omega arith, refl)
+      here (suc i) at = absurd (later c i u at low)
+
+      by : (i < length (spelled_in e c)) ⊎ (length (spelled_in e c) ≤ i)
+          → ((j : ℕ) → slice_get (spell cs) j ≡ Some u → (p : ℕ) × (p ≤ length cs) × (length (spell (take p cs)) ≡ j))
+          → (p : ℕ) × (p ≤ length (c ∷ cs)) × (length (spell (take p (c ∷ cs))) ≡ i)
+      by (inl less) more = here i (sym (get-front (spelled_in e c) (spell cs) i less) ∙ there)
+      by (inr le) more =
+          let back : i ≡ length (spelled_in e c) + (i - length (spelled_in e c)) = omega (arith, le) in
+          let rest = more (i - length (spelled_in e c))
+          (sym (get-behind (spelled_in e c) (spell cs) (i - length (spelled_in e c))) ∙ ap (slice_get (spelled_in e c ++ spell cs)) (sym back) ∙ there) in
+          let inside = rest.1 in
+          let same = rest.2 in
+          let both = length-append (spelled_in e c) (spell (take rest.0 cs)) in
+          (suc rest.0, omega (arith, inside), omega (arith, both, same, back))
+
+  located-boundary : (text : Text) → HasUnits e text → (at u : ℕ) → slice_get (units_in e text) at ≡ Some u → u < 128 → IsBoundary text at
+  located-boundary text has at u there low =
+      let p = located text.characters at u there low in
+      subst (IsBoundary text) (offset-units e text has.spelled p.0 p.1 ∙ p.2) (offset-IsBoundary text p.0 has.is_text p.1)
+
+pub low-boundary : (e : Encoding) (text : Text) → HasUnits e text → (at u : ℕ) → slice_get (units_in e text) at ≡ Some u → u < 128 → IsBoundary text at
+low-boundary utf8 text has at u there low = boundary-byte text has.spelled at u there ∙ ap (λ (b : Bool). not (b && nat_le u 0xBF)) (lt-leb 0x80 u low)
+low-boundary utf16 text has at u there low = located-boundary utf16 later text has at u there low
+  where
+    later : (c i u : ℕ) → slice_get (spelled_in utf16 c) (suc i) ≡ Some u → u < 128 → ⊥
+    later c i u there low = by (nat_lt c 0x1_0000) there
+      where
+        by : (b : Bool) → slice_get (if b then c ∷ [] else pair_of c) (suc i) ≡ Some u → ⊥
+        by true at = cc
+        by false at = second i at
+          where
+            second : (i : ℕ) → slice_get (pair_of c) (suc i) ≡ Some u → ⊥
+            second zero at = let e : 0xDC00 + (c - 0x1_0000) % 0x400 ≡ u = some-same _ u at in omega (arith, e, low)
+            second (suc i) at = cc
+low-boundary ucs2 text has at u there low = located-boundary ucs2 (λ c i u there low. cc there) text has at u there low
+
+-- ---- Keys
+
+-- the key of a unit is small, and one below 128 is that of the unit itself
+key-small : (wide : Bool) (u : ℕ) → u < (if wide then 0x1_0000 else 0x100) → key wide u < 256
+key-small false u less = less
+key-small true u less = elim (cases_lt u 128) [
+  | inl low ↦ subst (λ (b : Bool). (if b then u else 128 + u / 512) < 256) (sym (lt-ltb u 128 low)) (omega (arith, low))
+  | inr high ↦ subst (λ (b : Bool). (if b then u else 128 + u / 512) < 256) (sym (le-ltb u 128 high)) (omega (arith, less))
+]
+
+key-own : (wide : Bool) (u : ℕ) → key wide u < 128 → u ≡ key wide u
+key-own false u low = refl
+key-own true u low = elim (cases_lt u 128) [
+  | inl less ↦ sym (ap (λ (b : Bool). if b then u else 128 + u / 512) (lt-ltb u 128 less))
+  | inr more ↦
+      let high : key true u ≡ 128 + u / 512 = ap (λ (b : Bool). if b then u else 128 + u / 512) (le-ltb u 128 more) in
+      absurd (omega (arith, low, high))
+]
+
+module _ (w : Searching) (has : HasUnits w.encoding w.text) (front : Front) (at : ℕ) (fit : fits_in w front at ≡ true) where
+  -- where the first units may stand, and only those below 128 so many units on, there is one
+  pub fit-unit : (ahead : ℕ) → ahead < front.len → IsInAsciiAt front ahead
+      → (u : ℕ) × (slice_get (units_in w.encoding w.text) (at + ahead) ≡ Some u) × (u < 128) × (allowed_of front ahead u ≡ true)
+  fit-unit ahead less ascii =
+      by (slice_get (units_in w.encoding w.text) (at + ahead)) refl
+      (sym (ap (may_stand (allowed_of front) ahead) (slice_get-map (key (is_wide w.encoding)) (units_in w.encoding w.text) (at + ahead)))
+      ∙ fits-each (allowed_of front) (keys_in w) at front.len ahead less fit)
+    where
+      by : (o : Option ℕ) → slice_get (units_in w.encoding w.text) (at + ahead) ≡ o → may_stand (allowed_of front) ahead (option_map (key (is_wide w.encoding)) o) ≡ true
+          → (u : ℕ) × (slice_get (units_in w.encoding w.text) (at + ahead) ≡ Some u) × (u < 128) × (allowed_of front ahead u ≡ true)
+      by None there may = cc
+      by (Some u) there may =
+          let low = ascii (key (is_wide w.encoding) u) (key-small (is_wide w.encoding) u (unit-fits w.encoding w.text has (at + ahead) u there)) may in
+          let own = key-own (is_wide w.encoding) u low in
+          (u, there, subst (λ k. k < 128) (sym own) low, ap (allowed_of front ahead) own ∙ may)
+
+  -- and it is a boundary
+  pub fit-boundary : 0 < front.len → IsInAscii front → IsBoundary w.text at
+  fit-boundary some ascii =
+      let one = fit-unit 0 some ascii in
+      low-boundary w.encoding w.text has at one.0 (ap (slice_get (units_in w.encoding w.text)) (let z : at ≡ at + 0 = omega arith in z) ∙ one.1) one.2

@@ -1,0 +1,96 @@
+-- Where the first units of a match may stand: their keys, bits of them, and places in a row.
+use Rattle.std.proofs.Common.{◌≡◌, ℕ, suc, ◌+◌, ◌-◌, ◌<◌, ◌≤◌, Bool, true, false, length, Option, Some, None, ap, sym, ◌∙◌, subst, arith, slice_get}
+use Rattle.std.proofs.lemmas.Bool.{cases_lt}
+use Rattle.std.proofs.lemmas.Option.{slice_get-map}
+use Rattle.std.proofs.lemmas.List.{length-map}
+use mathlib.Core.Logic.{inl, inr}
+use Rattle.regex_meaning.specs.Offsets.{units}
+use Rattle.regex_meaning.specs.Units.{units_in}
+use Rattle.regex_meaning.proofs.Options.{some-same}
+use Rattle.regress_input.proofs.Boundaries.{units-length}
+use Rattle.regress_serves.specs.Tables.{HasUnits, key_at}
+use Rattle.regress_serves.specs.Fronts.{may_stand}
+use Rattle.regress_plan.specs.declared.front.Front.{Front}
+use Rattle.regress_plan.specs.declared.prefilters.Probe.{Probe}
+use Rattle.regress_plan.specs.Fronts.{allowed_of, fits, passes, IsProbe, IsInAscii}
+use Rattle.regress_plan.specs.Keys.{key, is_wide}
+use Rattle.regress_scan.specs.Searching.{Searching}
+use Rattle.regress_scan.specs.Starts.{keys_in, fits_in, IsFirstWhere}
+use Rattle.regress_scan.specs.Probing.{NoneFits, IsFirstFit}
+use Rattle.regress_scan.proofs.FirstUnits.{fits-fails, fits-past, fits-more}
+use Rattle.regress_scan.proofs.LowUnits.{fit-unit, fit-boundary}
+
+-- ---- Keys
+
+module _ (w : Searching) where
+  pub key-got : (at k : ℕ) → key_at w.encoding (key (is_wide w.encoding)) w.text at ≡ Some k → slice_get (keys_in w) at ≡ Some k
+  key-got at k there = slice_get-map (key (is_wide w.encoding)) (units_in w.encoding w.text) at ∙ there
+
+  -- one unit more, which may stand there
+  pub fits-goes : (front : Front) (at ahead k : ℕ) (may : Bool) → key_at w.encoding (key (is_wide w.encoding)) w.text (at + ahead) ≡ Some k
+      → may ≡ allowed_of front ahead k → may ≡ true → fits (allowed_of front) (keys_in w) at ahead ≡ true → fits (allowed_of front) (keys_in w) at (ahead + 1) ≡ true
+  fits-goes front at ahead k may there asked holds all =
+      ap (fits (allowed_of front) (keys_in w) at) (let z : ahead + 1 ≡ suc ahead = omega arith in z)
+      ∙ fits-more (allowed_of front) (keys_in w) at ahead all (ap (may_stand (allowed_of front) ahead) (key-got (at + ahead) k there) ∙ sym asked ∙ holds)
+
+  -- one that may not
+  pub fits-stops : (front : Front) (at ahead k : ℕ) (may : Bool) → ahead < front.len → key_at w.encoding (key (is_wide w.encoding)) w.text (at + ahead) ≡ Some k
+      → may ≡ allowed_of front ahead k → may ≡ false → fits_in w front at ≡ false
+  fits-stops front at ahead k may less there asked fails =
+      fits-fails (allowed_of front) (keys_in w) at front.len ahead less
+      (ap (may_stand (allowed_of front) ahead) (key-got (at + ahead) k there) ∙ sym asked ∙ fails)
+
+-- ---- Bits
+
+-- where the first units may stand a probe passes
+pub probe-passes : (w : Searching) → HasUnits w.encoding w.text → (front : Front) (at : ℕ) → fits_in w front at ≡ true → (probe : Probe) → IsProbe front probe
+    → (u : ℕ) → slice_get (units_in w.encoding w.text) (at + probe.ahead) ≡ Some u → passes probe u ≡ true
+probe-passes w has front at fit probe is u there =
+    let one = fit-unit w has front at fit probe.ahead is.inside is.low in
+    let small = one.2 in
+    let same : one.0 ≡ u = some-same one.0 u (sym one.1 ∙ there) in
+    ap (passes probe) (sym same) ∙ is.only one.0 (omega (arith, small)) one.3
+
+-- ---- Places in a row
+
+module _ (w : Searching) (front : Front) where
+  pub none-here : (at : ℕ) → NoneFits w front at at
+  none-here at x le less = absurd (omega (arith, le, less))
+
+  pub none-one : (from to : ℕ) → NoneFits w front from to → fits_in w front to ≡ false → NoneFits w front from (to + 1)
+  none-one from to none not x le less = elim (cases_lt x to) [
+    | inl before ↦ none x le before
+    | inr after ↦ subst (λ x. fits_in w front x ≡ false) (let z : to ≡ x = omega (arith, after, less) in z) not
+  ]
+
+  pub none-then : (from mid to : ℕ) → NoneFits w front from mid → NoneFits w front mid to → NoneFits w front from to
+  none-then from mid to first second x le less = elim (cases_lt x mid) [
+    | inl before ↦ first x le before
+    | inr after ↦ second x after less
+  ]
+
+  -- the first one behind places at which they do not fit
+  pub first-behind : (from mid to : ℕ) (found : Option ℕ) → from ≤ mid → NoneFits w front from mid → IsFirstFit w front mid to found → IsFirstFit w front from to found
+  first-behind from mid to None le none first = none-then from mid to none first
+  first-behind from mid to (Some at) le none first =
+      let more = first.0 in (omega (arith, le, more), first.1, first.2, none-then from mid at none first.3)
+
+  pub first-wider : (from mid to at : ℕ) → mid ≤ to → IsFirstFit w front from mid (Some at) → IsFirstFit w front from to (Some at)
+  first-wider from mid to at le first = let less = first.1 in (first.0, omega (arith, le, less), first.2, first.3)
+
+  -- it is a place to try
+  pub found-where : HasUnits w.encoding w.text → 0 < front.len → IsInAscii front → (from to at : ℕ) → IsFirstFit w front from to (Some at)
+      → IsFirstWhere w (fits_in w front) from (Some at)
+  found-where has some ascii from to at first =
+      (fit-boundary w has front at first.2 some ascii, first.0, first.2, λ x on le less. first.3 x le less)
+
+  -- behind these places there is no room
+  pub first-where : HasUnits w.encoding w.text → 0 < front.len → IsInAscii front → (from to : ℕ) (found : Option ℕ) → units w.text + 1 ≤ to + front.len
+      → IsFirstFit w front from to found → IsFirstWhere w (fits_in w front) from found
+  first-where has some ascii from to None all first = λ at on le less. elim (cases_lt at to) [
+    | inl before ↦ first at le before
+    | inr after ↦
+        let count : length (keys_in w) ≡ units w.text = length-map (units_in w.encoding w.text) (key (is_wide w.encoding)) ∙ sym (units-length w.encoding w.text has.spelled) in
+        fits-past (allowed_of front) (keys_in w) at front.len (front.len - 1) (omega (arith, some)) (omega (arith, after, all, some, count))
+  ]
+  first-where has some ascii from to (Some at) all first = found-where has some ascii from to at first

@@ -1,0 +1,11 @@
+use Rattle.std.proofs.Common.{◌≤◌, ◌+◌, ◌-◌}
+use Rattle.regress_scan.specs.Probing.{NoneFits}
+use Rattle.regress_scan.proofs.probing.first_fitting.Given as goal
+
+abbrev pub invariant-places : goal.invariant-places
+invariant-places g l =
+    let from = g.W.Input.Position.PositionType.offset l.from in
+    (l.i ≤ l.count) × NoneFits (g.W.Planned.searching l.planned) l.front from (from + l.i)
+
+abbrev pub decreases-places : goal.decreases-places
+decreases-places g l = l.count - l.i

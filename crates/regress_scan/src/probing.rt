@@ -1,0 +1,211 @@
+//! Places where the first units of a match may stand, by bits of some of them.
+
+ghost use Rattle.std.specs.Prelude.{◌≡◌, ◌≤◌, ◌<◌, ◌+◌, ◌-◌, ◌^◌, true, false, Some, option_map, slice_get};
+ghost use Rattle.regex_meaning.specs.Offsets.{IsBoundary, units};
+ghost use Rattle.regex_meaning.specs.Units.{units_in};
+ghost use Rattle.regress_plan.specs.Fronts.{AreProbes, IsInAscii};
+ghost use Rattle.regress_plan.specs.declared.front.Front as front;
+ghost use Rattle.regress_scan.specs.Probing.{NoneFits, IsFirstFit, HasRoom};
+ghost use Rattle.regress_scan.specs.Starts.{fits_in, IsFirstWhere};
+
+use crate::characters::key_here;
+use crate::planned::{At, Planned};
+use regress_input::indexing::InputIndexer;
+use regress_input::position::PositionType;
+use regress_plan::front::Front;
+use regress_plan::prefilters::Probe;
+
+/// So many places are asked together.
+const BLOCK: usize = 32;
+
+/// So many of them, where one of all passes.
+const PART: usize = 8;
+
+// The position so many units on.
+#[inline(always)]
+fn units_on<W: Planned>(planned: &W, at: At<W>, count: usize) -> At<W>
+    requires { W.Input.Position.offset at + count ≤ units (W.searching planned.now).text }
+    ensures { W.Input.Position.offset result ≡ W.Input.Position.offset at + count }
+{
+    let _text = planned.input();
+    at + count
+}
+
+// The unit at a place.
+#[inline(always)]
+fn unit_here<W: Planned>(planned: &W, at: At<W>) -> u32
+    requires { W.Input.Position.offset at < units (W.searching planned.now).text }
+    ensures { slice_get (units_in (W.searching planned.now).encoding (W.searching planned.now).text) (W.Input.Position.offset at) ≡ Some result }
+{
+    planned.input().unit(at)
+}
+
+// Whether each of the first units may stand at a place.
+#[inline(always)]
+fn fits_here<W: Planned>(planned: &W, front: &Front, at: At<W>) -> bool
+    requires { W.Input.Position.offset at + front.now.len ≤ units (W.searching planned.now).text }
+    ensures { result ≡ fits_in (W.searching planned.now) front.now (W.Input.Position.offset at) }
+{
+    let mut ahead = 0;
+    'units: while ahead < front.len {
+        let key = key_here(planned, units_on(planned, at, ahead));
+        if !front.may_stand(key, ahead) {
+            return false;
+        }
+        ahead += 1;
+    }
+    true
+}
+
+// Whether all bits stand where they are looked for from a place on, as they do where the first units may stand.
+#[inline(always)]
+fn all_pass<W: Planned>(planned: &W, probes: &[Probe], at: At<W>) -> bool
+    requires { HasRoom probes.now (W.Input.Position.offset at + 1) (units (W.searching planned.now).text) }
+    ensures { (f : front.Front) → AreProbes f probes.now → fits_in (W.searching planned.now) f (W.Input.Position.offset at) ≡ true → result ≡ true }
+{
+    let mut all = true;
+    let mut i = 0;
+    'probes: while i < probes.len() {
+        let probe = probes[i];
+        let there = units_on(planned, at, probe.ahead);
+        all &= probe.passes(unit_here(planned, there));
+        i += 1;
+    }
+    all
+}
+
+// Whether they do at one of so many places.
+#[inline(always)]
+fn some_pass<W: Planned>(planned: &W, probes: &[Probe], from: At<W>, count: usize) -> bool
+    requires room { HasRoom probes.now (W.Input.Position.offset from + count) (units (W.searching planned.now).text) }
+    requires inside { W.Input.Position.offset from + count ≤ units (W.searching planned.now).text }
+    ensures { (f : front.Front) → AreProbes f probes.now → result ≡ false
+        → NoneFits (W.searching planned.now) f (W.Input.Position.offset from) (W.Input.Position.offset from + count) }
+{
+    let mut some = false;
+    let mut i = 0;
+    'places: while i < count {
+        let at = units_on(planned, from, i);
+        some |= all_pass(planned, probes, at);
+        i += 1;
+    }
+    some
+}
+
+// The first of so many places at which the first units may stand.
+#[inline(always)]
+fn first_fitting<W: Planned>(planned: &W, front: &Front, from: At<W>, count: usize) -> Option<At<W>>
+    requires some { 0 < front.now.len }
+    requires room { 0 < count → W.Input.Position.offset from + count + front.now.len ≤ units (W.searching planned.now).text + 1 }
+    ensures { IsFirstFit (W.searching planned.now) front.now (W.Input.Position.offset from) (W.Input.Position.offset from + count) (option_map (λ p. W.Input.Position.offset p) result) }
+{
+    let mut i = 0;
+    'places: while i < count {
+        let at = units_on(planned, from, i);
+        if fits_here(planned, front, at) {
+            return Some(at);
+        }
+        i += 1;
+    }
+    None
+}
+
+// The same of a part, which is asked for bits first.
+#[inline(always)]
+fn first_in_part<W: Planned>(
+    planned: &W,
+    front: &Front,
+    probes: &[Probe; 4],
+    from: At<W>,
+) -> Option<At<W>>
+    requires some { 0 < front.now.len }
+    requires probes { AreProbes front.now probes.now }
+    requires room { W.Input.Position.offset from + 8 + front.now.len ≤ units (W.searching planned.now).text }
+    ensures { IsFirstFit (W.searching planned.now) front.now (W.Input.Position.offset from) (W.Input.Position.offset from + 8) (option_map (λ p. W.Input.Position.offset p) result) }
+{
+    if some_pass(planned, probes, from, PART) {
+        first_fitting(planned, front, from, PART)
+    } else {
+        None
+    }
+}
+
+// The same of a block, part by part. It stands apart from the loop over blocks, of which most have no place that passes.
+#[inline(never)]
+fn first_in_parts<W: Planned>(
+    planned: &W,
+    front: &Front,
+    probes: &[Probe; 4],
+    from: At<W>,
+) -> Option<At<W>>
+    requires some { 0 < front.now.len }
+    requires probes { AreProbes front.now probes.now }
+    requires room { W.Input.Position.offset from + 32 + front.now.len ≤ units (W.searching planned.now).text }
+    ensures { IsFirstFit (W.searching planned.now) front.now (W.Input.Position.offset from) (W.Input.Position.offset from + 32) (option_map (λ p. W.Input.Position.offset p) result) }
+{
+    let mut behind = 0;
+    'parts: while behind < BLOCK {
+        let at = units_on(planned, from, behind);
+        if let Some(found) = first_in_part(planned, front, probes, at) {
+            return Some(found);
+        }
+        behind += PART;
+    }
+    None
+}
+
+// The same, where the whole block is asked for bits first.
+#[inline(always)]
+fn first_in_block<W: Planned>(
+    planned: &W,
+    front: &Front,
+    probes: &[Probe; 4],
+    from: At<W>,
+) -> Option<At<W>>
+    requires some { 0 < front.now.len }
+    requires probes { AreProbes front.now probes.now }
+    requires room { W.Input.Position.offset from + 32 + front.now.len ≤ units (W.searching planned.now).text }
+    ensures { IsFirstFit (W.searching planned.now) front.now (W.Input.Position.offset from) (W.Input.Position.offset from + 32) (option_map (λ p. W.Input.Position.offset p) result) }
+{
+    if some_pass(planned, probes, from, BLOCK) {
+        first_in_parts(planned, front, probes, from)
+    } else {
+        None
+    }
+}
+
+// How many places there are from one on from which so many units stand.
+#[inline(always)]
+fn places_left(units: usize, at: usize, len: usize) -> usize
+    requires { units + 1 < 2 ^ 64 }
+    ensures { result ≡ units + 1 - (at + len) }
+{
+    (units + 1).saturating_sub(at).saturating_sub(len)
+}
+
+/// The first place from one on at which the first units may stand, by bits of some of them.
+#[inline(never)]
+pub(crate) fn next_probed<W: Planned>(
+    planned: &W,
+    front: &Front,
+    probes: &[Probe; 4],
+    from: At<W>,
+) -> Option<At<W>>
+    requires at { IsBoundary (W.searching planned.now).text (W.Input.Position.offset from) }
+    requires probes { AreProbes front.now probes.now }
+    requires some { 0 < front.now.len }
+    requires ascii { IsInAscii front.now }
+    ensures { IsFirstWhere (W.searching planned.now) (fits_in (W.searching planned.now) front.now) (W.Input.Position.offset from) (option_map (λ p. W.Input.Position.offset p) result) }
+{
+    let units = planned.input().unit_count();
+    let mut left = places_left(units, from.to_offset(), front.len);
+    let mut at = from;
+    'blocks: while left > BLOCK {
+        if let Some(found) = first_in_block(planned, front, probes, at) {
+            return Some(found);
+        }
+        at = units_on(planned, at, BLOCK);
+        left -= BLOCK;
+    }
+    first_fitting(planned, front, at, left)
+}

@@ -184,7 +184,7 @@ fn said_of_op(plan: &Plan, op: Op, ip: usize) -> Ahead
     match op {
         Op::Unit(c) => said_of_unit(c, ip),
         Op::One(number) => said_of_class(plan, number, ip),
-        Op::RunNarrow(ran) => said_of_run(plan, ran, ip),
+        Op::RunApart(ran) => said_of_run(plan, ran, ip),
         Op::Run(ran) => said_of_run(plan, ran, ip),
         Op::LazyRun(ran) => said_of_run(plan, ran, ip),
         Op::Go(to) => Ahead::At(to as usize),

@@ -44,7 +44,7 @@ fn write_sets(text: &mut String, plan: &Plan) -> Result<(), AllocError> {
     }
     for op in &plan.ops {
         match op {
-            Op::RunNarrow(run) => write_set(text, plan, ", narrow", run.next)?,
+            Op::RunApart(run) => write_set(text, plan, ", apart", run.next)?,
             Op::Run(run) => write_set(text, plan, ", run", run.next)?,
             Op::LazyRun(run) => write_set(text, plan, ", lazy", run.next)?,
             _ => {}

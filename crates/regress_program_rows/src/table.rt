@@ -111,20 +111,20 @@ plan cat:2 bytes:61,62,63 goal → few 1 [97, 0, 0]
 plan cat:2 alt bytes:61,62,63 bytes:78,79,7A goal → few 2 [97, 120, 0]
 plan cat:3 loop:0,0,0 loop:0,0,0 a b goal → few 2 [97, 98, 0]
 plan cat:3 ahead:0,0 a any goal → few 1 [97, 0, 0]
-plan cat:3 loop1:0 a b goal → few 2 [97, 98, 0], narrow 98 99
+plan cat:3 loop1:0 a b goal → few 2 [97, 98, 0], apart 98 99
 plan cat:3 loop1:0 any b goal → among 0 128 194 245, run 98 99
-plan cat:2 loop1:0 a goal → anywhere, narrow anything
+plan cat:2 loop1:0 a goal → anywhere, run anything
 plan cat:2 set:20AC,E9 goal → among 195 196 226 227
 plan cat:2 byteset goal → few 0 [0, 0, 0]
 plan cat:3 a b goal → front 97 98 / 98 99 bits 98 of 255 at 1 bits 97 of 255 at 0 bits 97 of 255 at 0 bits 97 of 255 at 0
 plan cat:3 a k goal → front 97 98 / 107 108 rare 107 at 1
 plan cat:2 alt cat:2 a b cat:2 b b goal → front 97 99 / 98 99 bits 98 of 255 at 1 bits 96 of 252 at 0 bits 96 of 252 at 0 bits 96 of 252 at 0
 plan cat:2 alt cat:2 a b b goal → few 2 [97, 98, 0]
-plan cat:3 loop1:2,2 a b goal → front 97 98 / 97 98 / 98 99 bits 98 of 255 at 2 bits 97 of 255 at 0 bits 97 of 255 at 1 bits 97 of 255 at 0, narrow 98 99
-plan cat:3 loop1:2,3 a b goal → front 97 98 / 97 98, narrow 98 99
+plan cat:3 loop1:2,2 a b goal → front 97 98 / 97 98 / 98 99 bits 98 of 255 at 2 bits 97 of 255 at 0 bits 97 of 255 at 1 bits 97 of 255 at 0, apart 98 99
+plan cat:3 loop1:2,3 a b goal → front 97 98 / 97 98, apart 98 99
 plan cat:4 loop:0,0,1 a b any goal → few 1 [97, 0, 0]
 unit_plan cat:3 a b goal → front 97 98 / 98 99 bits 98 of 255 at 1 bits 97 of 255 at 0 bits 97 of 255 at 0 bits 97 of 255 at 0
-unit_plan cat:3 loop1:0 a b goal → few 2 [97, 98, 0], narrow 98 99
+unit_plan cat:3 loop1:0 a b goal → few 2 [97, 98, 0], apart 98 99
 unit_plan cat:2 set:20AC,E9 goal → among 128 129 144 145
 plan cat:3 start a goal → few 1 [97, 0, 0]
 plan cat:3 line a goal → behind 3 [10, 13, 226] edge

@@ -16,3 +16,4 @@ pub mod Starting
 pub mod FirstUnits
 pub mod LowUnits
 pub mod ProbeLemmas
+pub mod Apart

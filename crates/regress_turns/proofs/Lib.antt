@@ -11,3 +11,4 @@ pub mod RunTurns
 pub mod RunMarks
 pub mod FurtherTurns
 pub mod Dispatch
+pub mod ApartTurns

@@ -27,12 +27,12 @@ returns-in-Either c = let P : Op → Type 0 = λ o. LeadsFrom c.args.plan.now o 
 pub returns-in-Enter : goal.returns-in-Enter
 returns-in-Enter c = let P : Op → Type 0 = λ o. LeadsFrom c.args.plan.now o c.args.ip c.said_of_entry.result in subst P (sym c.in-Enter.is) (c.said_of_entry.ensures)
 
-pub returns-in-RunNarrow : goal.returns-in-RunNarrow
-returns-in-RunNarrow c =
+pub returns-in-RunApart : goal.returns-in-RunApart
+returns-in-RunApart c =
     let P : Op → Type 0 = λ o. LeadsFrom c.args.plan.now o c.args.ip c.said_of_run.result in
-    subst P (sym c.in-RunNarrow.is) (λ wide program ops there.
-    let i = insn-of c.args.plan.now program ops (op.RunNarrow c.in-RunNarrow.ran) c.args.ip there in
-    c.said_of_run.ensures wide program ops true i.0 i.1 i.2.runs)
+    subst P (sym c.in-RunApart.is) (λ wide program ops there.
+    let i = insn-of c.args.plan.now program ops (op.RunApart c.in-RunApart.ran) c.args.ip there in
+    c.said_of_run.ensures wide program ops true i.0 i.1 i.2)
 
 pub returns-in-Run : goal.returns-in-Run
 returns-in-Run c =

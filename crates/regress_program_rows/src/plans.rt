@@ -3,8 +3,8 @@
 ghost use Rattle.std.specs.Prelude.{◌<◌};
 
 use regex_pattern_front::ir::Regex;
-use regress_plan::beginnings::Beginnings;
 use regress_plan::before::Before;
+use regress_plan::beginnings::Beginnings;
 use regress_plan::front::Front;
 use regress_plan::keys::KEYS;
 use regress_plan::ops::Op;
@@ -57,11 +57,7 @@ fn write_sets(text: &mut String, plan: &Plan) -> Result<(), AllocError> {
 fn write_before(text: &mut String, before: Before) -> Result<(), AllocError> {
     let Before { keys, len, edge } = before;
     write!(text, "behind {len} {keys:?}")?;
-    if edge {
-        text.push_str(" edge")
-    } else {
-        Ok(())
-    }
+    if edge { text.push_str(" edge") } else { Ok(()) }
 }
 
 // Which keys may stand first, second and so on, and what is looked for first.

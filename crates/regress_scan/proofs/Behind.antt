@@ -127,12 +127,15 @@ module _ (w : Searching) (has : HasUnits w.encoding w.text) (before : Before) wh
     -- past the first character that is allowed is the first place
     pub first-behind : (next : Option ℕ) → IsPastFirst w keys start next → IsFirstWhere w lets from next
     first-behind None first = none-behind (units w.text + 1) (units w.text + 1) first (λ x y at less more. omega (arith, less, more))
-    first-behind (Some to) (hit, first, led) =
-        (past_boundary w.text has.is_text hit to led, reached looks, lets-behind to hit (on-back w.text has.is_text hit to led) ∙ first.2,
-        none-behind hit to first.3 (λ x y at less more. elim (cases_lt y hit) [
-          | inl early ↦ early
-          | inr late ↦ absurd (none-between w.text has.is_text hit to led x at (omega (arith, late, less)) more)
-        ]))
+    first-behind (Some to) (hit, first, led) = (
+      past_boundary w.text has.is_text hit to led,
+      reached looks,
+      lets-behind to hit (on-back w.text has.is_text hit to led) ∙ first.2,
+      none-behind hit to first.3 (λ x y at less more. elim (cases_lt y hit) [
+        | inl early ↦ early
+        | inr late ↦ absurd (none-between w.text has.is_text hit to led x at (omega (arith, late, less)) more)
+      ]),
+    )
       where
         after : hit < to
         after = past_ahead w.text has.is_text hit to led

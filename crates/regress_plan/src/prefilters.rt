@@ -56,8 +56,8 @@ impl Limits {
     fn of(units: Units) -> Limits {
         match units {
             Units::Bytes => Limits {
-                most: 30,
-                pass: 10_000,
+                most: 50,
+                pass: 40_000,
             },
             Units::Wide => Limits {
                 most: ALWAYS,

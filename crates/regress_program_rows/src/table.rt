@@ -121,7 +121,8 @@ plan cat:3 a k goal → front 97 98 / 107 108 rare 107 at 1
 plan cat:2 alt cat:2 a b cat:2 b b goal → front 97 99 / 98 99 bits 98 of 255 at 1 bits 96 of 252 at 0 bits 96 of 252 at 0 bits 96 of 252 at 0
 plan cat:2 alt cat:2 a b b goal → few 2 [97, 98, 0]
 plan cat:3 loop1:2,2 a b goal → front 97 98 / 97 98 / 98 99 bits 98 of 255 at 2 bits 97 of 255 at 0 bits 97 of 255 at 1 bits 97 of 255 at 0, apart 98 99
-plan cat:3 loop1:2,3 a b goal → front 97 98 / 97 98, apart 98 99
+plan cat:3 loop1:2,3 a b goal → front 97 98 / 97 98 bits 97 of 255 at 0 bits 97 of 255 at 1 bits 97 of 255 at 0 bits 97 of 255 at 0, apart 98 99
+plan cat:3 loop1:2,3 set:61,65 b goal → front 97 98 101 102 / 97 98 101 102, apart 98 99
 plan cat:4 loop:0,0,1 a b any goal → few 1 [97, 0, 0]
 unit_plan cat:3 a b goal → front 97 98 / 98 99 bits 98 of 255 at 1 bits 97 of 255 at 0 bits 97 of 255 at 0 bits 97 of 255 at 0
 unit_plan cat:3 loop1:0 a b goal → few 2 [97, 98, 0], apart 98 99

@@ -12,3 +12,5 @@ pub mod RunMarks
 pub mod FurtherTurns
 pub mod Dispatch
 pub mod ApartTurns
+mod BeginOtherwise
+mod GoalTurns

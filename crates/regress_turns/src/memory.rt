@@ -16,11 +16,11 @@ pub struct Slot {
     pub has_range: bool,
 }
 
-/// What a slot held before a change.
+/// What a slot held before a change. It is moved to the log as it stands if it comes before the slot's number.
 #[derive(Clone, Copy)]
 pub struct Change {
-    pub slot: usize,
     pub old: Slot,
+    pub slot: usize,
 }
 
 /// Which offsets a mark stands for.
@@ -177,11 +177,11 @@ impl Memory {
         ensures set { OnOk result (IsSet slot value self.old self.new) }
         ensures refused { OnErr result (self.new ≡ self.old) }
     {
-        let old = self.slots[slot];
-        let change = Change { slot, old };
         if self.logged >= self.log.len() {
             grow(&mut self.log, ROOM_FOR_CHANGE)?;
         }
+        let old = self.slots[slot];
+        let change = Change { slot, old };
         self.log[self.logged] = change;
         self.logged += 1;
         self.slots[slot] = value;

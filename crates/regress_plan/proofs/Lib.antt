@@ -7,3 +7,4 @@ pub mod PeekLemmas
 pub mod SetLemmas
 pub mod FrontLemmas
 pub mod BeforeLemmas
+mod StepLemmas

@@ -1,8 +1,8 @@
 -- Where the first units of a match may stand: their keys, bits of them, and places in a row.
-use Rattle.std.proofs.Common.{◌≡◌, ℕ, suc, ◌+◌, ◌-◌, ◌<◌, ◌≤◌, Bool, true, false, length, Option, Some, None, ap, sym, ◌∙◌, subst, arith, slice_get}
+use Rattle.std.proofs.Common.{◌≡◌, ℕ, suc, ◌+◌, ◌-◌, ◌<◌, ◌≤◌, Bool, true, false, List, length, take, Option, Some, None, ap, sym, ◌∙◌, subst, arith, slice_get}
 use Rattle.std.proofs.lemmas.Bool.{cases_lt}
-use Rattle.std.proofs.lemmas.Option.{slice_get-map}
-use Rattle.std.proofs.lemmas.List.{length-map}
+use Rattle.std.proofs.lemmas.Option.{slice_get-map, slice_get_within, slice_get-get_or, get_or_from_slice_get}
+use Rattle.std.proofs.lemmas.List.{length-map, length-take, get_or-take}
 use mathlib.Core.Logic.{inl, inr}
 use Rattle.regex_meaning.specs.Offsets.{units}
 use Rattle.regex_meaning.specs.Units.{units_in}
@@ -50,6 +50,14 @@ probe-passes w has front at fit probe is u there =
     let small = one.2 in
     let same : one.0 ≡ u = some-same one.0 u (sym one.1 ∙ there) in
     ap (passes probe) (sym same) ∙ is.only one.0 (omega (arith, small)) one.3
+
+-- of the first so many of them each is one of them
+pub taken-got : {A : Type 0} (n : ℕ) (xs : List A) (i : ℕ) (x : A) → slice_get (take n xs) i ≡ Some x → slice_get xs i ≡ Some x
+taken-got n xs i x got =
+    let within = slice_get_within (take n xs) i x got in
+    let short = length-take n xs in
+    slice_get-get_or xs i x (omega (arith, within, short))
+    ∙ ap Some (sym (get_or-take n xs i x (omega (arith, within, short))) ∙ get_or_from_slice_get (take n xs) i x x got)
 
 -- ---- Places in a row
 

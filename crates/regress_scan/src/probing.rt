@@ -21,6 +21,9 @@ const BLOCK: usize = 32;
 /// So many of them, where one of all passes.
 const PART: usize = 8;
 
+/// So many of the bits, of which the most seldom ones stand first, are looked for alone in a block.
+const SELDOM: usize = 2;
+
 // The position so many units on.
 #[inline(always)]
 fn units_on<W: Planned>(planned: &W, at: At<W>, count: usize) -> At<W>
@@ -143,6 +146,9 @@ fn first_in_parts<W: Planned>(
     requires room { W.Input.Position.offset from + 32 + front.now.len ≤ units (W.searching planned.now).text }
     ensures { IsFirstFit (W.searching planned.now) front.now (W.Input.Position.offset from) (W.Input.Position.offset from + 32) (option_map (λ p. W.Input.Position.offset p) result) }
 {
+    if !some_pass(planned, probes, from, BLOCK) {
+        return None;
+    }
     let mut behind = 0;
     'parts: while behind < BLOCK {
         let at = units_on(planned, from, behind);
@@ -154,7 +160,7 @@ fn first_in_parts<W: Planned>(
     None
 }
 
-// The same, where the whole block is asked for bits first.
+// The same, where the whole block is asked for the most seldom bits first, and then for all.
 #[inline(always)]
 fn first_in_block<W: Planned>(
     planned: &W,
@@ -167,7 +173,7 @@ fn first_in_block<W: Planned>(
     requires room { W.Input.Position.offset from + 32 + front.now.len ≤ units (W.searching planned.now).text }
     ensures { IsFirstFit (W.searching planned.now) front.now (W.Input.Position.offset from) (W.Input.Position.offset from + 32) (option_map (λ p. W.Input.Position.offset p) result) }
 {
-    if some_pass(planned, probes, from, BLOCK) {
+    if some_pass(planned, &probes[..SELDOM], from, BLOCK) {
         first_in_parts(planned, front, probes, from)
     } else {
         None

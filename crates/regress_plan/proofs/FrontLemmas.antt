@@ -1,15 +1,14 @@
 -- What must stand where a match begins, by the operations there.
-use Rattle.std.proofs.Common.{◌≡◌, ◌≢◌, ◌<◌, ◌≤◌, ℕ, zero, suc, ◌+◌, ◌-◌, ◌*◌, ◌/◌, ◌%◌, ◌^◌, min, max, Bool, true, false, not, ◌&&◌, ◌||◌, Option, Some, None, List, [], ◌∷◌, ◌++◌, length, slice_get, get_or, refl, sym, ap, ◌∙◌, subst, arith, bit_and, div-add-mod', pow_pos}
+use Rattle.std.proofs.Common.{◌≡◌, ◌≢◌, ◌<◌, ◌≤◌, ℕ, zero, suc, ◌+◌, ◌-◌, ◌*◌, ◌/◌, ◌%◌, ◌^◌, min, max, Bool, true, false, not, ◌&&◌, ◌||◌, Option, Some, None, length, slice_get, get_or, refl, sym, ap, ◌∙◌, subst, arith, bit_and, div-add-mod', pow_pos}
 use mathlib.Core.Logic.{◌⊎◌, inl, inr}
-use Rattle.std.specs.Prelude.{◌==◌, if◌then◌else◌, nat_lt, slice_index_or}
+use Rattle.std.specs.Prelude.{◌==◌, if◌then◌else◌, slice_index_or}
 use Rattle.std.specs.Int.{bit_at}
 use Rattle.std.proofs.lemmas.Bool.{cases_lt, lt-ltb, le-ltb, eqb-true, ne_eqb}
 use Rattle.std.proofs.lemmas.Nat.Bits.{bit_at_or, bit_at_and, bit_at_ones, bit_at_ones_above, bit_at_cat_low, bit_at_cat_high, bit_at-lt, bit_at-zero}
 use Rattle.std.proofs.lemmas.List.{get_or_past}
 use Rattle.std.proofs.lemmas.Option.{slice_get_within}
-use Rattle.std.proofs.lemmas.Str.{encode_ascii}
 use Rattle.regex_meaning.specs.Text.{Text}
-use Rattle.regex_meaning.specs.Units.{Encoding, utf8, utf16, ucs2, spelled_in, pair_of}
+use Rattle.regex_meaning.specs.Units.{Encoding, spelled_in}
 use Rattle.regex_meaning.specs.Layout.{Program, Insn, Char, CharSet, ByteSet, AsciiBracket, Bracket, MatchAny, MatchAnyExceptLineTerminator, StartOfLine, WordBoundary, WordBoundaryUnicodeICase, Jump, EnterLoop, Loop1CharBody, ResetCaptureGroup, BeginCaptureGroup, EndCaptureGroup, Lookahead, Lookbehind}
 use Rattle.regex_meaning.proofs.Options.{some-same}
 use Rattle.regress_machine.specs.Machine.{test_of}
@@ -37,6 +36,8 @@ use Rattle.regress_plan.specs.Leading.{joined_of, then_allowed, units_of, leads_
 use Rattle.regress_plan.proofs.KeyLemmas.{first-key-at, first-key-below, key_of_first}
 use Rattle.regress_plan.proofs.ClosingLemmas.{told-some}
 use Rattle.regress_plan.proofs.RowLemmas.{get-below}
+use Rattle.regress_plan.proofs.ShareLemmas.{ascii-key}
+use Rattle.regress_plan.proofs.StepLemmas.{one-unit}
 
 -- ---- Masks
 
@@ -390,18 +391,6 @@ reads-front wide program ip insn set there reads are len allowed front = λ e sa
     (front e same)
 
 -- a character below 128 is its own key, and has one unit
-low-key : (wide : Bool) (c : ℕ) → c < 128 → key_of_first wide c ≡ c
-low-key false c low =
-    ap (λ (b : Bool). if b then c else if nat_lt c 0x800 then 0xC0 + c / 0x40 else if nat_lt c 0x1_0000 then 0xE0 + c / 0x1000 else 0xF0 + c / 0x4_0000) (lt-ltb c 0x80 low)
-low-key true c low =
-    ap (key true) (ap (λ (b : Bool). if b then c else 0xD800 + (c - 0x1_0000) / 0x400) (lt-ltb c 0x1_0000 (omega (arith, low))))
-    ∙ ap (λ (b : Bool). if b then c else 128 + c / 512) (lt-ltb c 128 low)
-
-low-single : (e : Encoding) (c : ℕ) → c < 128 → length (spelled_in e c) ≡ 1
-low-single utf8 c low = ap (λ (l : List ℕ). length (l ++ [])) (encode_ascii c low)
-low-single utf16 c low = ap (λ (b : Bool). length (if b then c ∷ [] else pair_of c)) (lt-ltb c 0x1_0000 (omega (arith, low)))
-low-single ucs2 c low = refl
-
 -- a character below 128
 pub said-unit : (plan : Plan) (ip c : ℕ) (set : Beginnings) → c < 128 → (table_of set).keys c ≡ true → LeadsFrom plan (op.Unit c) ip (ahead.Units set 1 (Some (ip + 1)))
 said-unit plan ip c set low has wide program ops there =
@@ -414,9 +403,9 @@ said-unit plan ip c set low has wide program ops there =
       keys = λ d is accepted ahead less.
           let one : c ≡ d = eqb-true c d accepted in
           let at : first_key e (key wide) d ≡ Some c =
-          first-key-at e wide same d is ∙ ap Some (ap (key_of_first wide) (sym one) ∙ low-key wide c low) in
+          first-key-at e wide same d is ∙ ap Some (ap (key_of_first wide) (sym one) ∙ ascii-key wide c low) in
           ap (may_stand (then_allowed count (units_of set) allowed) ahead) at ∙ then-early count (units_of set) allowed ahead c less ∙ has;
-      single = λ d is accepted. ap (λ (d : ℕ). length (spelled_in e d)) (sym (eqb-true c d accepted)) ∙ low-single e c low;
+      single = λ d is accepted. ap (λ (d : ℕ). length (spelled_in e d)) (sym (eqb-true c d accepted)) ∙ one-unit e c low;
     }))
 
 -- the characters of a narrow class

@@ -1,5 +1,5 @@
 -- Which units may stand where a match begins, and what is looked for first.
-use Rattle.std.specs.Prelude.{◌≡◌, ◌<◌, ℕ, ◌==◌, ◌%◌, Bool, true, false, ◌&&◌, List, Some, bit_and, slice_get, slice_index, ◌+◌, zero, suc}
+use Rattle.std.specs.Prelude.{◌≡◌, ◌<◌, ◌≤◌, ℕ, ◌==◌, ◌%◌, Bool, true, false, ◌&&◌, List, Some, bit_and, slice_get, slice_index, ◌+◌, zero, suc, IfSome}
 use Rattle.std.specs.Int.{bit_at}
 use Rattle.regex_meaning.specs.Units.{Encoding}
 use Rattle.regex_meaning.specs.Layout.{Program}
@@ -9,6 +9,8 @@ use Rattle.regress_plan.specs.declared.prefilters.Prefilter.{Prefilter}
 use Rattle.regress_plan.specs.declared.prefilters.Prefilter.TheVariants as filter
 use Rattle.regress_plan.specs.declared.prefilters.Probe.{Probe}
 use Rattle.regress_plan.specs.declared.front.Rare.{Rare}
+use Rattle.regress_plan.specs.declared.front.Literal.{Literal}
+use Rattle.regress_plan.specs.declared.prefilters.Known.{Known}
 use Rattle.regress_plan.specs.Keys.{key, is_wide}
 
 -- the mask of a key says that such a unit may stand so many units on
@@ -31,6 +33,12 @@ fits allowed units at (suc len) = fits allowed units at len && may_stand allowed
 pub record IsRare (front : Front) (rare : Rare) : Type 0 where
   pub inside : rare.ahead < front.len
   pub only : (k : ℕ) → k < 256 → allowed_of front rare.ahead k ≡ true → k ≡ rare.unit
+
+-- units of which each alone may stand where it stands
+pub record IsLiteral (front : Front) (literal : Literal) : Type 0 where
+  pub some : 0 < literal.len
+  pub inside : literal.ahead + literal.len ≤ front.len
+  pub alone : (i : ℕ) → i < literal.len → IsRare front (record { unit = slice_index literal.units i; ahead = literal.ahead + i })
 
 -- units below 128 alone may stand so many units on
 abbrev pub IsInAsciiAt : Front → (ahead : ℕ) → Type 0
@@ -55,8 +63,14 @@ pub record IsProbe (front : Front) (probe : Probe) : Type 0 where
 abbrev pub AreProbes : Front → List Probe → Type 0
 AreProbes front probes = (i : ℕ) (probe : Probe) → slice_get probes i ≡ Some probe → IsProbe front probe
 
+-- units in a row, and maybe one of all, and bits
+pub record AreKnown (front : Front) (known : Known) : Type 0 where
+  pub literal : IsLiteral front known.literal
+  pub rare : IfSome known.rare (IsRare front)
+  pub probes : IfSome known.probes (AreProbes front)
+
 -- what is looked for stands wherever a match begins; without bits of units, in bytes alone
 abbrev pub IsPrefilter : (wide : Bool) → Front → Prefilter → Type 0
 IsPrefilter wide front filter.Absent = wide ≡ false
-IsPrefilter wide front (filter.Rare rare) = (wide ≡ false) × IsRare front rare
+IsPrefilter wide front (filter.Known known) = (wide ≡ false) × AreKnown front known
 IsPrefilter wide front (filter.Probes probes) = AreProbes front probes

@@ -23,6 +23,14 @@ pub struct Rare {
     pub ahead: usize,
 }
 
+/// Units in a row of which each is the one that may stand where it stands: the first so many of these, so many units on.
+#[derive(Clone, Copy)]
+pub struct Literal {
+    pub units: [u8; 15],
+    pub len: usize,
+    pub ahead: usize,
+}
+
 /// Whether a bit of a mask is not set.
 #[inline(always)]
 pub fn is_clear(mask: u16, bit: usize) -> bool

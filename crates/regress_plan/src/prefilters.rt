@@ -1,10 +1,10 @@
 //! What is looked for before each of the first units of a match is asked.
 
 ghost use Rattle.std.specs.Prelude.{◌≡◌, ◌<◌, ℕ, true, IfSome};
-ghost use Rattle.regress_plan.specs.Fronts.{allowed_of, passes as has_bits, IsRare, IsProbe, AreProbes, IsPrefilter};
+ghost use Rattle.regress_plan.specs.Fronts.{allowed_of, passes as has_bits, IsRare, IsLiteral, IsProbe, AreProbes, IsPrefilter};
 ghost use Rattle.regress_plan.specs.Keys.{wide_of};
 
-use crate::front::{Front, Rare, is_clear};
+use crate::front::{Front, Literal, MOST, Rare, is_clear};
 use crate::keys::{KEYS, Units};
 
 /// What the low eight bits of the unit so many units on must have: of these bits those, and no others, are set.
@@ -25,18 +25,26 @@ impl Probe {
     }
 }
 
+/// Units in a row. In texts that are short it takes longer to look for these than for one that is seldom, or for bits.
+#[derive(Clone, Copy)]
+pub struct Known {
+    pub literal: Literal,
+    pub rare: Option<Rare>,
+    pub probes: Option<[Probe; 4]>,
+}
+
 /// What is looked for before each of the first units is asked.
 #[derive(Clone, Copy)]
 pub enum Prefilter {
     /// Nothing.
     Absent,
-    /// One unit, in bytes.
-    Rare(Rare),
+    /// Units that are known, in bytes.
+    Known(Known),
     /// Bits of some units.
     Probes([Probe; 4]),
 }
 
-/// A unit that stands so often, in a thousand, is not looked for.
+/// A unit that stands so often, in a thousand, is not looked for alone.
 const OFTEN: u32 = 15;
 
 /// As often as a unit can stand, in a thousand.
@@ -122,18 +130,24 @@ impl Common {
 }
 
 impl Front {
-    /// What to look for first: in bytes, where each unit is known, the one that texts have most seldom; else bits of
-    /// some units, if few places have them.
+    /// What to look for first: in bytes units that are known, where some stand in a row; else bits of some units, if few
+    /// places have them.
     pub(crate) fn prefilter(&self, units: Units) -> Option<Prefilter>
         ensures { IfSome result (IsPrefilter (wide_of units) self.now) }
     {
         let commons = self.commons();
+        let probes = self.probes(&commons, Limits::of(units));
         if let Units::Bytes = units {
-            if let Some(rare) = self.rare(&commons) {
-                return Some(Prefilter::Rare(rare));
+            if let Some(literal) = self.literal(&commons) {
+                let rare = self.rare(&commons);
+                return Some(Prefilter::Known(Known {
+                    literal,
+                    rare,
+                    probes,
+                }));
             }
         }
-        if let Some(probes) = self.probes(&commons, Limits::of(units)) {
+        if let Some(probes) = probes {
             return Some(Prefilter::Probes(probes));
         }
         match units {
@@ -163,6 +177,38 @@ impl Front {
             others |= !self.masks[key];
         }
         others
+    }
+
+    // The longest row of units that are known, if it is not a single one of more.
+    fn literal(&self, commons: &[Common; 16]) -> Option<Literal>
+        ensures { IfSome result (IsLiteral self.now) }
+    {
+        let literal = longest(commons, self.len);
+        if (literal.len > 1 || literal.len == self.len) && self.has_literal(&literal) {
+            Some(literal)
+        } else {
+            None
+        }
+    }
+
+    // Whether each of these units alone may stand where it stands.
+    fn has_literal(&self, literal: &Literal) -> bool
+        ensures { result ≡ true → IsLiteral self.now literal.now }
+    {
+        let Literal { units, len, ahead } = *literal;
+        if len == 0 || len > self.len || ahead > self.len - len {
+            return false;
+        }
+        for i in 0..len {
+            let unit = Rare {
+                unit: units[i],
+                ahead: ahead + i,
+            };
+            if !self.has_alone(unit) {
+                return false;
+            }
+        }
+        true
     }
 
     // The unit to look for, if each is known and one stands in texts seldom.
@@ -235,6 +281,32 @@ impl Front {
         }
         !others
     }
+}
+
+// The longest row of units of which each is one alone, of so many.
+fn longest(commons: &[Common; 16], len: usize) -> Literal {
+    let none = Literal {
+        units: [0; 15],
+        len: 0,
+        ahead: 0,
+    };
+    let mut longest = none;
+    let mut row = none;
+    for ahead in 0..MOST {
+        if ahead < len && commons[ahead].is_unit() && row.len < MOST {
+            row.units[row.len] = commons[ahead].all;
+            row.len += 1;
+        } else {
+            row = Literal {
+                ahead: ahead + 1,
+                ..none
+            };
+        }
+        if row.len > longest.len {
+            longest = row;
+        }
+    }
+    longest
 }
 
 // One key more, wherever its mask lets it stand.

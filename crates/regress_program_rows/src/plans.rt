@@ -5,11 +5,11 @@ ghost use Rattle.std.specs.Prelude.{◌<◌};
 use regex_pattern_front::ir::Regex;
 use regress_plan::before::Before;
 use regress_plan::beginnings::Beginnings;
-use regress_plan::front::Front;
+use regress_plan::front::{Front, Literal};
 use regress_plan::keys::KEYS;
 use regress_plan::ops::Op;
 use regress_plan::plan::{ANYTHING, Plan, Start};
-use regress_plan::prefilters::{Prefilter, Probe};
+use regress_plan::prefilters::{Known, Prefilter, Probe};
 use regress_program::emit::{emit, emit_units};
 use std::alloc::{AllocError, Global};
 
@@ -71,8 +71,21 @@ fn write_front(text: &mut String, front: &Front, prefilter: Prefilter) -> Result
     }
     match prefilter {
         Prefilter::Absent => Ok(()),
-        Prefilter::Rare(rare) => write!(text, " rare {} at {}", rare.unit, rare.ahead),
+        Prefilter::Known(known) => write_known(text, &known),
         Prefilter::Probes(probes) => write_probes(text, &probes),
+    }
+}
+
+// The units that are looked for in a row, and how many units on, and what is looked for in a short text.
+fn write_known(text: &mut String, known: &Known) -> Result<(), AllocError> {
+    let Literal { units, len, ahead } = &known.literal;
+    write!(text, " row {len} of {units:?} at {ahead}")?;
+    if let Some(rare) = known.rare {
+        write!(text, " rare {} at {}", rare.unit, rare.ahead)?;
+    }
+    match &known.probes {
+        Some(probes) => write_probes(text, probes),
+        None => Ok(()),
     }
 }
 

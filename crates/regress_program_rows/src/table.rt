@@ -116,12 +116,12 @@ plan cat:3 loop1:0 any b goal → among 0 128 194 245, run 98 99
 plan cat:2 loop1:0 a goal → anywhere, run anything
 plan cat:2 set:20AC,E9 goal → among 195 196 226 227
 plan cat:2 byteset goal → few 0 [0, 0, 0]
-plan cat:3 a b goal → front 97 98 / 98 99 bits 98 of 255 at 1 bits 97 of 255 at 0 bits 97 of 255 at 0 bits 97 of 255 at 0
-plan cat:3 a k goal → front 97 98 / 107 108 rare 107 at 1
+plan cat:3 a b goal → front 97 98 / 98 99 row 2 of [97, 98, 0, 0, 0, 0, 0, 0, 0, 0, 0, 0, 0, 0, 0] at 0 bits 98 of 255 at 1 bits 97 of 255 at 0 bits 97 of 255 at 0 bits 97 of 255 at 0
+plan cat:3 a k goal → front 97 98 / 107 108 row 2 of [97, 107, 0, 0, 0, 0, 0, 0, 0, 0, 0, 0, 0, 0, 0] at 0 rare 107 at 1 bits 107 of 255 at 1 bits 97 of 255 at 0 bits 97 of 255 at 0 bits 97 of 255 at 0
 plan cat:2 alt cat:2 a b cat:2 b b goal → front 97 99 / 98 99 bits 98 of 255 at 1 bits 96 of 252 at 0 bits 96 of 252 at 0 bits 96 of 252 at 0
 plan cat:2 alt cat:2 a b b goal → few 2 [97, 98, 0]
-plan cat:3 loop1:2,2 a b goal → front 97 98 / 97 98 / 98 99 bits 98 of 255 at 2 bits 97 of 255 at 0 bits 97 of 255 at 1 bits 97 of 255 at 0, apart 98 99
-plan cat:3 loop1:2,3 a b goal → front 97 98 / 97 98 bits 97 of 255 at 0 bits 97 of 255 at 1 bits 97 of 255 at 0 bits 97 of 255 at 0, apart 98 99
+plan cat:3 loop1:2,2 a b goal → front 97 98 / 97 98 / 98 99 row 3 of [97, 97, 98, 0, 0, 0, 0, 0, 0, 0, 0, 0, 0, 0, 0] at 0 bits 98 of 255 at 2 bits 97 of 255 at 0 bits 97 of 255 at 1 bits 97 of 255 at 0, apart 98 99
+plan cat:3 loop1:2,3 a b goal → front 97 98 / 97 98 row 2 of [97, 97, 0, 0, 0, 0, 0, 0, 0, 0, 0, 0, 0, 0, 0] at 0 bits 97 of 255 at 0 bits 97 of 255 at 1 bits 97 of 255 at 0 bits 97 of 255 at 0, apart 98 99
 plan cat:3 loop1:2,3 set:61,65 b goal → front 97 98 101 102 / 97 98 101 102, apart 98 99
 plan cat:4 loop:0,0,1 a b any goal → few 1 [97, 0, 0]
 unit_plan cat:3 a b goal → front 97 98 / 98 99 bits 98 of 255 at 1 bits 97 of 255 at 0 bits 97 of 255 at 0 bits 97 of 255 at 0
@@ -136,5 +136,5 @@ unit_plan cat:3 behind:0,0 set:20AC,E9 b goal → front 98 99 bits 98 of 255 at 
 plan cat:6 set:30,31,32,33 set:30,31,32,33 set:30,31,32,33 set:30,31,32,33 set:30,31,32,33 goal → front 48 52 / 48 52 / 48 52 / 48 52 / 48 52
 unit_plan cat:5 a b c d goal → front 97 98 / 98 99 / 99 100 / 100 101 bits 98 of 255 at 1 bits 99 of 255 at 2 bits 97 of 255 at 0 bits 100 of 255 at 3
 unit_plan cat:3 a k goal → front 97 98 / 107 108 bits 107 of 255 at 1 bits 97 of 255 at 0 bits 97 of 255 at 0 bits 97 of 255 at 0
-plan cat:5 J K L M goal → front 74 75 / 75 76 / 76 77 / 77 78 rare 74 at 0
+plan cat:5 J K L M goal → front 74 75 / 75 76 / 76 77 / 77 78 row 4 of [74, 75, 76, 77, 0, 0, 0, 0, 0, 0, 0, 0, 0, 0, 0] at 0 rare 74 at 0 bits 74 of 255 at 0 bits 75 of 255 at 1 bits 76 of 255 at 2 bits 77 of 255 at 3
 ";

@@ -1,20 +1,21 @@
 -- Where units fit that must stand at the beginning of a match, and how they are found.
-use Rattle.std.proofs.Common.{◌≡◌, ℕ, zero, suc, ◌+◌, ◌-◌, ◌<◌, ◌≤◌, Bool, true, false, ◌&&◌, List, length, drop, Option, Some, None, refl, ap, sym, ◌∙◌, arith, slice_get}
+use Rattle.std.proofs.Common.{◌≡◌, ℕ, zero, suc, ◌+◌, ◌-◌, ◌<◌, ◌≤◌, Bool, true, false, ◌&&◌, List, length, drop, take, min, Option, Some, None, refl, ap, sym, ◌∙◌, arith, slice_get}
 use Rattle.std.specs.Prelude.{option_map, slice_index}
 use Rattle.std.specs.Int.{bit_at}
 use Rattle.std.proofs.lemmas.Bool.{cases_lt, eq-eqb, eqb-true}
 use Rattle.std.proofs.lemmas.Option.{slice_get-get_or, slice_get_past}
-use Rattle.std.proofs.lemmas.List.{length-drop, get_or-drop}
+use Rattle.std.proofs.lemmas.List.{length-drop, length-take, get_or-drop, get_or-take}
 use mathlib.Core.Logic.{◌⊎◌, inl, inr}
-use Rattle.memchr.specs.Find.{IsFirstByte, is_byte}
+use Rattle.memchr.specs.Find.{IsFirstByte, is_byte, OccursAt, FindsNeedle}
 use Rattle.memchr.proofs.lemmas.ShiftLemmas.{Window}
 use Rattle.regex_pattern_front.specs.Searching.{IsFirst}
 use Rattle.regex_meaning.proofs.Booleans.{and-left, and-right}
 use Rattle.regress_serves.specs.Fronts.{Allowed, may_stand}
 use Rattle.regress_serves.proofs.Ends.{slice_get-behind}
 use Rattle.regress_plan.specs.declared.front.Front.{Front}
+use Rattle.regress_plan.specs.declared.front.Literal.{Literal}
 use Rattle.regress_plan.specs.declared.front.Rare.{Rare}
-use Rattle.regress_plan.specs.Fronts.{allowed_of, fits, IsRare}
+use Rattle.regress_plan.specs.Fronts.{allowed_of, fits, IsRare, IsLiteral}
 use Rattle.regress_plan.specs.Keys.{key}
 
 and-last : (a b : Bool) → b ≡ false → (a && b) ≡ false
@@ -175,6 +176,26 @@ module _ (front : Front) (rare : Rare) (is : IsRare front rare) (us : List ℕ) 
     | inr late ↦ rare-fails k (λ inside same. absurd (omega (arith, past, inside, late)))
   ]
 
+-- ---- By units in a row
+
+module _ (front : Front) (literal : Literal) (is : IsLiteral front literal) (us : List ℕ) (bytes : (i : ℕ) → slice_index us i < 256) (at : ℕ)
+    (fit : fits (allowed_of front) us at front.len ≡ true) where
+  -- where all fit, each of these stands
+  pub literal-reads : (i : ℕ) → i < literal.len → slice_index us (at + (literal.ahead + i)) ≡ slice_index literal.units i
+  literal-reads i less = by (cases_lt (at + (literal.ahead + i)) (length us))
+    where
+      within : literal.ahead + i < front.len
+      within = let inside = is.inside in omega (arith, inside, less)
+
+      by : (at + (literal.ahead + i) < length us) ⊎ (length us ≤ at + (literal.ahead + i)) → slice_index us (at + (literal.ahead + i)) ≡ slice_index literal.units i
+      by (inl there) =
+          (is.alone i less).only (slice_index us (at + (literal.ahead + i))) (bytes (at + (literal.ahead + i)))
+          (sym (ap (may_stand (allowed_of front) (literal.ahead + i)) (slice_get-get_or us (at + (literal.ahead + i)) 0 there))
+          ∙ fits-each (allowed_of front) us at front.len (literal.ahead + i) within fit)
+      by (inr past) =
+          let never : true ≡ false = sym fit ∙ fits-past (allowed_of front) us at front.len (literal.ahead + i) within past in
+          cc
+
 -- ---- Searches
 
 module _ (front : Front) (us : List ℕ) (at : ℕ) where
@@ -208,6 +229,73 @@ module _ (front : Front) (us : List ℕ) (at : ℕ) where
     passes = window-fits front us to (omega (arith, there, inside)) window;
     none_before = λ k less. before k (omega (arith, less, there));
   }
+
+-- as many stand in a row at most
+pub needle-short : (literal : Literal) → length (take literal.len literal.units) ≤ literal.len
+needle-short literal = let n = length-take literal.len literal.units in omega (arith, n)
+
+module _ (front : Front) (literal : Literal) (is : IsLiteral front literal) (some : 0 < front.len) (us : List ℕ) (bytes : (i : ℕ) → slice_index us i < 256)
+    (at : ℕ) (rest needle : List ℕ) (cut : rest ≡ drop (at + literal.ahead) us) (taken : needle ≡ take literal.len literal.units)
+    (short : length needle ≤ literal.len) (before : (k : ℕ) → k < at → fits (allowed_of front) us k front.len ≡ false) where
+  abbrev FitAll : ℕ → Bool
+  FitAll k = fits (allowed_of front) us k front.len
+
+  length-left : length rest ≡ length us - (at + literal.ahead)
+  length-left = ap (λ (l : List ℕ). length l) cut ∙ length-drop (at + literal.ahead) us
+
+  -- where all fit, they stand in a row
+  literal-occurs : (k : ℕ) → at ≤ k → FitAll k ≡ true → OccursAt rest needle (k - at)
+  literal-occurs k le fit = record {
+    fits =
+        let within = fits-within (allowed_of front) us k front.len some fit in
+        let inside = is.inside in
+        omega (arith, le, within, inside, length-left, short);
+    reads = λ j less.
+        let fewer : j < literal.len = omega (arith, less, short) in
+        ap (λ (l : List ℕ). slice_index l (k - at + j)) cut ∙ get_or-drop (at + literal.ahead) us (k - at + j) 0
+        ∙ ap (slice_index us) (let z : at + literal.ahead + (k - at + j) ≡ k + (literal.ahead + j) = omega (arith, le) in z)
+        ∙ literal-reads front literal is us bytes k fit j fewer
+        ∙ sym (ap (λ (l : List ℕ). slice_index l j) taken ∙ get_or-take literal.len literal.units j 0 fewer);
+  }
+
+  -- they are not there any more
+  pub literal-none : FindsNeedle rest needle 0 None → (k : ℕ) → FitAll k ≡ false
+  literal-none none k = elim (cases_lt k at) [
+    | inl early ↦ before k early
+    | inr late ↦ not-true (FitAll k) (λ fit.
+        let there = literal-occurs k late fit in
+        none (k - at) (omega arith) (let inside = there.fits in omega (arith, inside)) there)
+  ]
+
+  -- too few are left for them
+  pub literal-past : length us ≤ at + literal.ahead → (k : ℕ) → FitAll k ≡ false
+  literal-past past k = elim (cases_lt k at) [
+    | inl early ↦ before k early
+    | inr late ↦ fits-past (allowed_of front) us k front.len (front.len - 1) (omega (arith, some)) (let inside = is.inside in let more = is.some in omega (arith, past, late, inside, more))
+  ]
+
+  -- they are found so many units further on
+  module _ (more : ℕ) (found : FindsNeedle rest needle 0 (Some more)) where
+    pub literal-inside : at + literal.ahead < length us → at + more ≤ length us
+    literal-inside room = let inside = found.1.fits in omega (arith, inside, length-left, room)
+
+    pub literal-before : (k : ℕ) → k < at + more → FitAll k ≡ false
+    literal-before k less = elim (cases_lt k at) [
+      | inl early ↦ before k early
+      | inr late ↦ not-true (FitAll k) (λ fit.
+          found.0.before (k - at) (omega arith) (omega (arith, late, less)) (literal-occurs k late fit))
+    ]
+
+    -- and all fit there
+    pub literal-within : FitAll (at + more) ≡ true → at + more < length us
+    literal-within fit = let within = fits-within (allowed_of front) us (at + more) front.len some fit in omega (arith, within, some)
+
+    -- and not all fit there
+    pub literal-behind : FitAll (at + more) ≡ false → (k : ℕ) → k < at + more + 1 → FitAll k ≡ false
+    literal-behind none k less = elim (cases_lt k (at + more)) [
+      | inl early ↦ literal-before k early
+      | inr here ↦ let same : at + more ≡ k = omega (arith, less, here) in ap FitAll (sym same) ∙ none
+    ]
 
 module _ (front : Front) (rare : Rare) (is : IsRare front rare) (us : List ℕ) (bytes : (i : ℕ) → slice_index us i < 256) (at : ℕ) (rest : List ℕ)
     (cut : rest ≡ drop (at + rare.ahead) us) where

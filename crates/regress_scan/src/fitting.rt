@@ -3,18 +3,20 @@
 ghost use Rattle.std.specs.Prelude.{◌≡◌, ◌≤◌, ◌<◌, length, IfSome};
 ghost use Rattle.std.proofs.Props.{props};
 ghost use Rattle.regex_pattern_front.specs.Searching.{FindsFirst};
-ghost use Rattle.regress_plan.specs.Fronts.{allowed_of, fits, IsRare};
+ghost use Rattle.regress_plan.specs.Fronts.{allowed_of, fits, IsRare, IsLiteral};
 
-use memchr::memchr;
+use memchr::{memchr, memmem};
 use regress_input::front::ByteSearcher;
-use regress_plan::front::{Front, Rare, is_clear};
+use regress_plan::front::{Front, Literal, Rare, is_clear};
 
-/// The first units of a match, of which one may be rare.
+/// The first units of a match, of which some in a row or one may be known.
 #[derive(Clone, Copy)]
 pub(crate) struct Fitting<'p> {
     pub(crate) front: &'p Front,
+    pub(crate) literal: Option<&'p Literal>,
     pub(crate) rare: Option<Rare>,
     ghost some: { 0 < front.now.len },
+    ghost is_literal: { IfSome literal (λ l. IsLiteral front.now l.now) } by { Prim.hlevel props },
     ghost is_rare: { IfSome rare (λ r. IsRare front.now r) } by { Prim.hlevel props },
 }
 
@@ -25,6 +27,9 @@ impl ByteSearcher for Fitting<'_> {
 
     #[inline(always)]
     fn find_in(&self, bytes: &[u8]) -> Option<usize> {
+        if let Some(literal) = self.literal {
+            return find_literal(self.front, literal, bytes);
+        }
         match self.rare {
             Some(rare) => find_rare(self.front, rare, bytes),
             None => find_fitting(self.front, bytes),
@@ -62,6 +67,28 @@ fn find_rare(front: &Front, rare: Rare, bytes: &[u8]) -> Option<usize>
     let mut at = 0;
     'places: while at + rare.ahead < bytes.len() {
         let Some(more) = memchr(rare.unit, &bytes[at + rare.ahead..]) else {
+            return None;
+        };
+        at += more;
+        if fits_at(front, bytes, at) {
+            return Some(at);
+        }
+        at += 1;
+    }
+    None
+}
+
+// The same, by units in a row that alone may stand where they stand.
+#[inline(always)]
+fn find_literal(front: &Front, literal: &Literal, bytes: &[u8]) -> Option<usize>
+    requires some { 0 < front.now.len }
+    requires literal { IsLiteral front.now literal.now }
+    ensures { FindsFirst (λ at. fits (allowed_of front.now) bytes.now at front.now.len) (length bytes.now) result }
+{
+    let needle = &literal.units[..literal.len];
+    let mut at = 0;
+    'places: while at + literal.ahead < bytes.len() {
+        let Some(more) = memmem::find(&bytes[at + literal.ahead..], needle) else {
             return None;
         };
         at += more;

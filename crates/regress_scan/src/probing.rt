@@ -160,12 +160,28 @@ fn first_in_parts<W: Planned>(
     None
 }
 
-// The same, where the whole block is asked for the most seldom bits first, and then for all.
+// Whether bits stand at one of a block's places: all of them, or the most seldom ones alone.
+#[inline(always)]
+fn block_passes<W: Planned>(planned: &W, probes: &[Probe; 4], all: bool, from: At<W>) -> bool
+    requires room { HasRoom probes.now (W.Input.Position.offset from + 32) (units (W.searching planned.now).text) }
+    requires inside { W.Input.Position.offset from + 32 ≤ units (W.searching planned.now).text }
+    ensures { (f : front.Front) → AreProbes f probes.now → result ≡ false
+        → NoneFits (W.searching planned.now) f (W.Input.Position.offset from) (W.Input.Position.offset from + 32) }
+{
+    if all {
+        some_pass(planned, probes, from, BLOCK)
+    } else {
+        some_pass(planned, &probes[..SELDOM], from, BLOCK)
+    }
+}
+
+// The same, where the whole block is asked for bits first: the most seldom ones or, where these stood in vain once, all.
 #[inline(always)]
 fn first_in_block<W: Planned>(
     planned: &W,
     front: &Front,
     probes: &[Probe; 4],
+    all: &mut bool,
     from: At<W>,
 ) -> Option<At<W>>
     requires some { 0 < front.now.len }
@@ -173,11 +189,12 @@ fn first_in_block<W: Planned>(
     requires room { W.Input.Position.offset from + 32 + front.now.len ≤ units (W.searching planned.now).text }
     ensures { IsFirstFit (W.searching planned.now) front.now (W.Input.Position.offset from) (W.Input.Position.offset from + 32) (option_map (λ p. W.Input.Position.offset p) result) }
 {
-    if some_pass(planned, &probes[..SELDOM], from, BLOCK) {
-        first_in_parts(planned, front, probes, from)
-    } else {
-        None
+    if !block_passes(planned, probes, *all, from) {
+        return None;
     }
+    let found = first_in_parts(planned, front, probes, from);
+    *all |= found.is_none();
+    found
 }
 
 // How many places there are from one on from which so many units stand.
@@ -206,8 +223,9 @@ pub(crate) fn next_probed<W: Planned>(
     let units = planned.input().unit_count();
     let mut left = places_left(units, from.to_offset(), front.len);
     let mut at = from;
+    let mut all = false;
     'blocks: while left > BLOCK {
-        if let Some(found) = first_in_block(planned, front, probes, at) {
+        if let Some(found) = first_in_block(planned, front, probes, &mut all, at) {
             return Some(found);
         }
         at = units_on(planned, at, BLOCK);

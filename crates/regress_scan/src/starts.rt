@@ -5,7 +5,7 @@ ghost use Rattle.regex_meaning.specs.Offsets.{IsBoundary, units};
 ghost use Rattle.regress_exec.specs.Attempts.{IsNextTry};
 ghost use Rattle.regress_machine.specs.Finds.{CanSearch};
 ghost use Rattle.regress_plan.specs.Before.{HasLeadKeys, lets_begin};
-ghost use Rattle.regress_plan.specs.Fronts.{IsInAscii, IsPrefilter};
+ghost use Rattle.regress_plan.specs.Fronts.{IsInAscii, AreKnown, IsPrefilter};
 ghost use Rattle.regress_plan.specs.Keys.{is_wide};
 ghost use Rattle.regress_plan.specs.Plans.{numbered};
 ghost use Rattle.regress_serves.specs.Tables.{Table};
@@ -23,7 +23,10 @@ use regress_plan::before::Before;
 use regress_plan::beginnings::Beginnings;
 use regress_plan::front::Front;
 use regress_plan::plan::Start;
-use regress_plan::prefilters::Prefilter;
+use regress_plan::prefilters::{Known, Prefilter};
+
+/// In a text of so many units, or fewer, a literal is not looked for: to make that search takes as long as to go over them.
+const LONG: usize = 1024;
 
 /// What may stand next where a search starts. Contracts see the table.
 pub(crate) trait MayStand {
@@ -140,26 +143,100 @@ fn next_fitting<W: Planned>(planned: &W, fitting: Fitting<'_>, from: At<W>) -> O
     planned.input().find_bytes(from, &fitting)
 }
 
+// The same, by units that are known: in a long text by those in a row.
+#[inline(always)]
+fn next_known<W: Planned>(planned: &W, front: &Front, known: &Known, from: At<W>) -> Option<At<W>>
+    requires at { IsBoundary (W.searching planned.now).text (W.Input.Position.offset from) }
+    requires bytes { is_wide (W.searching planned.now).encoding ≡ false }
+    requires some { 0 < front.now.len }
+    requires ascii { IsInAscii front.now }
+    requires known { AreKnown front.now known.now }
+    ensures { IsFirstWhere (W.searching planned.now) (fits_in (W.searching planned.now) front.now) (W.Input.Position.offset from) (option_map (λ p. W.Input.Position.offset p) result) }
+{
+    let left = planned
+        .input()
+        .unit_count()
+        .saturating_sub(from.to_offset());
+    if left > LONG {
+        let literal = Some(&known.literal);
+        let rare = None;
+        return next_fitting(
+            planned,
+            Fitting {
+                front,
+                literal,
+                rare,
+            },
+            from,
+        );
+    }
+    next_in_short(planned, front, known, from)
+}
+
+// The same in a short text: by one that is seldom, else by bits.
+#[inline(always)]
+fn next_in_short<W: Planned>(
+    planned: &W,
+    front: &Front,
+    known: &Known,
+    from: At<W>,
+) -> Option<At<W>>
+    requires at { IsBoundary (W.searching planned.now).text (W.Input.Position.offset from) }
+    requires bytes { is_wide (W.searching planned.now).encoding ≡ false }
+    requires some { 0 < front.now.len }
+    requires ascii { IsInAscii front.now }
+    requires known { AreKnown front.now known.now }
+    ensures { IsFirstWhere (W.searching planned.now) (fits_in (W.searching planned.now) front.now) (W.Input.Position.offset from) (option_map (λ p. W.Input.Position.offset p) result) }
+{
+    let rare = known.rare;
+    if rare.is_none() {
+        if let Some(probes) = &known.probes {
+            return next_probed(planned, front, probes, from);
+        }
+    }
+    let literal = None;
+    next_fitting(
+        planned,
+        Fitting {
+            front,
+            literal,
+            rare,
+        },
+        from,
+    )
+}
+
 // The same, by what is looked for first.
 #[inline(always)]
 fn first_filtered<W: Planned>(
     planned: &W,
     front: &Front,
-    prefilter: Prefilter,
+    prefilter: &Prefilter,
     from: At<W>,
 ) -> Option<At<W>>
     requires at { IsBoundary (W.searching planned.now).text (W.Input.Position.offset from) }
     requires some { 0 < front.now.len }
     requires ascii { IsInAscii front.now }
-    requires filter { IsPrefilter (is_wide (W.searching planned.now).encoding) front.now prefilter }
+    requires filter { IsPrefilter (is_wide (W.searching planned.now).encoding) front.now prefilter.now }
     ensures { IsFirstWhere (W.searching planned.now) (fits_in (W.searching planned.now) front.now) (W.Input.Position.offset from) (option_map (λ p. W.Input.Position.offset p) result) }
 {
-    let rare = match prefilter {
-        Prefilter::Probes(probes) => return next_probed(planned, front, &probes, from),
-        Prefilter::Rare(rare) => Some(rare),
-        Prefilter::Absent => None,
-    };
-    next_fitting(planned, Fitting { front, rare }, from)
+    match prefilter {
+        Prefilter::Probes(probes) => next_probed(planned, front, probes, from),
+        Prefilter::Known(known) => next_known(planned, front, known, from),
+        Prefilter::Absent => {
+            let literal = None;
+            let rare = None;
+            next_fitting(
+                planned,
+                Fitting {
+                    front,
+                    literal,
+                    rare,
+                },
+                from,
+            )
+        }
+    }
 }
 
 // The place past the first character from one on that begins with one of a few units.
@@ -212,7 +289,7 @@ fn first_try<W: Planned>(planned: &W, from: At<W>) -> Option<At<W>>
             next_of_few(planned, few, from)
         }
         Start::Behind(before) => next_behind(planned, *before, from),
-        Start::Front { front, prefilter } => first_filtered(planned, front, *prefilter, from),
+        Start::Front { front, prefilter } => first_filtered(planned, front, prefilter, from),
     }
 }
 

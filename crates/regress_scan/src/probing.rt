@@ -160,28 +160,24 @@ fn first_in_parts<W: Planned>(
     None
 }
 
-// Whether bits stand at one of a block's places: all of them, or the most seldom ones alone.
+// Whether bits stand at one of a block's places: the most seldom ones are asked first, and then all.
 #[inline(always)]
-fn block_passes<W: Planned>(planned: &W, probes: &[Probe; 4], all: bool, from: At<W>) -> bool
+fn block_passes<W: Planned>(planned: &W, probes: &[Probe; 4], from: At<W>) -> bool
     requires room { HasRoom probes.now (W.Input.Position.offset from + 32) (units (W.searching planned.now).text) }
     requires inside { W.Input.Position.offset from + 32 ≤ units (W.searching planned.now).text }
     ensures { (f : front.Front) → AreProbes f probes.now → result ≡ false
         → NoneFits (W.searching planned.now) f (W.Input.Position.offset from) (W.Input.Position.offset from + 32) }
 {
-    if all {
-        some_pass(planned, probes, from, BLOCK)
-    } else {
-        some_pass(planned, &probes[..SELDOM], from, BLOCK)
-    }
+    let seldom = &probes[..SELDOM];
+    some_pass(planned, seldom, from, BLOCK) && some_pass(planned, probes, from, BLOCK)
 }
 
-// The same, where the whole block is asked for bits first: the most seldom ones or, where these stood in vain once, all.
+// The same, where the whole block is asked for bits first.
 #[inline(always)]
 fn first_in_block<W: Planned>(
     planned: &W,
     front: &Front,
     probes: &[Probe; 4],
-    all: &mut bool,
     from: At<W>,
 ) -> Option<At<W>>
     requires some { 0 < front.now.len }
@@ -189,12 +185,11 @@ fn first_in_block<W: Planned>(
     requires room { W.Input.Position.offset from + 32 + front.now.len ≤ units (W.searching planned.now).text }
     ensures { IsFirstFit (W.searching planned.now) front.now (W.Input.Position.offset from) (W.Input.Position.offset from + 32) (option_map (λ p. W.Input.Position.offset p) result) }
 {
-    if !block_passes(planned, probes, *all, from) {
-        return None;
+    if block_passes(planned, probes, from) {
+        first_in_parts(planned, front, probes, from)
+    } else {
+        None
     }
-    let found = first_in_parts(planned, front, probes, from);
-    *all |= found.is_none();
-    found
 }
 
 // How many places there are from one on from which so many units stand.
@@ -223,9 +218,8 @@ pub(crate) fn next_probed<W: Planned>(
     let units = planned.input().unit_count();
     let mut left = places_left(units, from.to_offset(), front.len);
     let mut at = from;
-    let mut all = false;
     'blocks: while left > BLOCK {
-        if let Some(found) = first_in_block(planned, front, probes, &mut all, at) {
+        if let Some(found) = first_in_block(planned, front, probes, at) {
             return Some(found);
         }
         at = units_on(planned, at, BLOCK);

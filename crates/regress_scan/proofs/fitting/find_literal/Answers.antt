@@ -1,4 +1,4 @@
-use Rattle.std.proofs.Common.{◌≡◌, ◌+◌, ◌-◌, ◌<◌, ◌≤◌, ℕ, slice_index, ◌∙◌, refl, sym, arith}
+use Rattle.std.proofs.Common.{◌+◌, ◌∙◌, refl, sym, arith}
 use Rattle.std.proofs.lemmas.List.{take_rest}
 use Rattle.regress_scan.proofs.FirstUnits.{needle-short, literal-past, literal-none, literal-inside, literal-before, literal-within, literal-behind}
 use Rattle.regress_scan.proofs.fitting.find_literal.Goals as goal

@@ -1,4 +1,4 @@
-use Rattle.std.proofs.Common.{◌+◌, ◌≤◌, arith}
+use Rattle.std.proofs.Common.{arith}
 use Rattle.regress_scan.proofs.probing.first_in_block.Goals as goal
 
 pub block_passes-requires-clause-room : goal.block_passes-requires-clause-room

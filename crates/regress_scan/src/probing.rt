@@ -146,9 +146,6 @@ fn first_in_parts<W: Planned>(
     requires room { W.Input.Position.offset from + 32 + front.now.len ≤ units (W.searching planned.now).text }
     ensures { IsFirstFit (W.searching planned.now) front.now (W.Input.Position.offset from) (W.Input.Position.offset from + 32) (option_map (λ p. W.Input.Position.offset p) result) }
 {
-    if !some_pass(planned, probes, from, BLOCK) {
-        return None;
-    }
     let mut behind = 0;
     'parts: while behind < BLOCK {
         let at = units_on(planned, from, behind);

@@ -4,13 +4,13 @@ ghost use Rattle.std.specs.Prelude.{◌≡◌, ◌<◌, ℕ, false, slice_index_
 ghost use Rattle.regex_meaning.specs.Offsets.{IsBoundary, units};
 ghost use Rattle.regress_exec.specs.Attempts.{IsNextTry};
 ghost use Rattle.regress_machine.specs.Finds.{CanSearch};
-ghost use Rattle.regress_plan.specs.Before.{HasLeadKeys, lets_begin};
+ghost use Rattle.regress_plan.specs.Before.{HasLeadKeys};
 ghost use Rattle.regress_plan.specs.Fronts.{IsInAscii, AreKnown, IsPrefilter};
 ghost use Rattle.regress_plan.specs.Keys.{is_wide};
 ghost use Rattle.regress_plan.specs.Plans.{numbered};
 ghost use Rattle.regress_serves.specs.Tables.{Table};
 ghost use Rattle.regress_scan.specs.Searching.{program_of};
-ghost use Rattle.regress_scan.specs.Starts.{IsFirstAllowed, IsFirstWhere, IsFirstTry, AllowsLeads, IsPast, IsPastFirst, few_allowed, fits_in};
+ghost use Rattle.regress_scan.specs.Starts.{IsFirstAllowed, IsFirstWhere, IsFirstTry, AllowsLeads, IsPast, IsPastFirst, few_allowed, fits_in, tries_at};
 
 use crate::characters::key_here;
 use crate::few::Few;
@@ -255,7 +255,7 @@ fn next_past<W: Planned>(planned: &W, few: Few, from: At<W>) -> Option<At<W>>
 fn next_behind<W: Planned>(planned: &W, before: Before, from: At<W>) -> Option<At<W>>
     requires at { IsBoundary (W.searching planned.now).text (W.Input.Position.offset from) }
     requires leads { HasLeadKeys (is_wide (W.searching planned.now).encoding) before }
-    ensures { IsFirstWhere (W.searching planned.now) (λ at. lets_begin (W.searching planned.now).encoding before (W.searching planned.now).text at) (W.Input.Position.offset from) (option_map (λ p. W.Input.Position.offset p) result) }
+    ensures { IsFirstWhere (W.searching planned.now) (tries_at (W.searching planned.now) (Start.Behind before)) (W.Input.Position.offset from) (option_map (λ p. W.Input.Position.offset p) result) }
 {
     let Before { keys, len, edge } = before;
     let few = Few { units: keys, len };

@@ -2,6 +2,7 @@
 
 ghost use Rattle.std.specs.Prelude.{◌<◌};
 
+use regex_pattern_front::codepointset::Interval;
 use regex_pattern_front::ir::Regex;
 use regress_plan::before::Before;
 use regress_plan::beginnings::Beginnings;
@@ -48,6 +49,17 @@ fn write_sets(text: &mut String, plan: &Plan) -> Result<(), AllocError> {
             Op::Run(run) => write_set(text, plan, ", run", run.next)?,
             Op::LazyRun(run) => write_set(text, plan, ", lazy", run.next)?,
             _ => {}
+        }
+    }
+    write_rows(text, plan)
+}
+
+// The rows of characters that the plan's classes know.
+fn write_rows(text: &mut String, plan: &Plan) -> Result<(), AllocError> {
+    for class in &plan.classes {
+        let Interval { first, last } = class.known;
+        if first <= last {
+            write!(text, ", knows {first} to {last}")?;
         }
     }
     Ok(())

@@ -115,6 +115,8 @@ plan cat:3 loop1:0 a b goal → few 2 [97, 98, 0], apart 98 99
 plan cat:3 loop1:0 any b goal → among 0 128 194 245, run 98 99
 plan cat:2 loop1:0 a goal → anywhere, run anything
 plan cat:2 set:20AC,E9 goal → among 195 196 226 227
+plan cat:2 loop1:0 class:61,7A,430,44F,451,451 goal → anywhere, run anything, knows 1072 to 1103
+plan cat:2 loop1:0 not:430,44F goal → anywhere, run anything
 plan cat:2 byteset goal → few 0 [0, 0, 0]
 plan cat:3 a b goal → front 97 98 / 98 99 row 2 of [97, 98, 0, 0, 0, 0, 0, 0, 0, 0, 0, 0, 0, 0, 0] at 0 bits 98 of 255 at 1 bits 97 of 255 at 0 bits 97 of 255 at 0 bits 97 of 255 at 0
 plan cat:3 a k goal → front 97 98 / 107 108 row 2 of [97, 107, 0, 0, 0, 0, 0, 0, 0, 0, 0, 0, 0, 0, 0] at 0 rare 107 at 1 bits 107 of 255 at 1 bits 97 of 255 at 0 bits 97 of 255 at 0 bits 97 of 255 at 0

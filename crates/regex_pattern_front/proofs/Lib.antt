@@ -8,3 +8,4 @@ pub mod OptimizedLemmas
 pub mod PartLemmas
 pub mod LevelLemmas
 pub mod LeafLemmas
+pub mod FirstByteLemmas

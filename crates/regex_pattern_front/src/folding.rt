@@ -111,7 +111,10 @@ pub fn utf8_first_byte(c: u32) -> u8
 pub fn add_utf8_first_bytes_to_bitmap(interval: Interval, bitmap: &mut ByteBitmap)
     ensures { byte_bitmap_bytes bitmap.new ≡ bytes_where (λ b. contains (byte_bitmap_bytes bitmap.old) b || meet (begun_by b) (interval_of interval ∷ [])) }
 {
-    for byte in 0..=u8::MAX {
+    // No other byte begins one of them, since first bytes rise with the code points.
+    let least = utf8_first_byte(interval.first.min(0x10_FFFF));
+    let greatest = utf8_first_byte(interval.last.min(0x10_FFFF));
+    for byte in least..=greatest {
         if may_begin(byte, interval) {
             bitmap.set(byte);
         }

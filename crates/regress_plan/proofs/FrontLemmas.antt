@@ -1,11 +1,12 @@
 -- What must stand where a match begins, by the operations there.
-use Rattle.std.proofs.Common.{◌≡◌, ◌≢◌, ◌<◌, ◌≤◌, ℕ, zero, suc, ◌+◌, ◌-◌, ◌*◌, ◌/◌, ◌%◌, ◌^◌, min, max, Bool, true, false, not, ◌&&◌, ◌||◌, Option, Some, None, length, slice_get, get_or, refl, sym, ap, ◌∙◌, subst, arith, bit_and, div-add-mod', pow_pos}
+use Rattle.std.proofs.Common.{◌≡◌, ◌≢◌, ◌<◌, ◌≤◌, ℕ, zero, suc, ◌+◌, ◌-◌, ◌*◌, ◌/◌, ◌%◌, ◌^◌, min, max, Bool, true, false, not, ◌&&◌, ◌||◌, Option, Some, None, List, length, slice_get, slice_set, get_or, refl, sym, ap, ◌∙◌, subst, arith, bit_and, div-add-mod', pow_pos}
 use mathlib.Core.Logic.{◌⊎◌, inl, inr}
 use Rattle.std.specs.Prelude.{◌==◌, if◌then◌else◌, slice_index_or}
 use Rattle.std.specs.Int.{bit_at}
-use Rattle.std.proofs.lemmas.Bool.{cases_lt, lt-ltb, le-ltb, eqb-true, ne_eqb}
+use Rattle.std.proofs.lemmas.Bool.{cases_lt, lt-ltb, le-ltb, eqb-true, eq-eqb, ne_eqb}
 use Rattle.std.proofs.lemmas.Nat.Bits.{bit_at_or, bit_at_and, bit_at_ones, bit_at_ones_above, bit_at_cat_low, bit_at_cat_high, bit_at-lt, bit_at-zero}
-use Rattle.std.proofs.lemmas.List.{get_or_past}
+use Rattle.std.proofs.lemmas.Grind.{get_or-set_at}
+use Rattle.std.proofs.lemmas.List.{get_or_past, get_or-set_other, length-set}
 use Rattle.std.proofs.lemmas.Option.{slice_get_within}
 use Rattle.regex_meaning.specs.Text.{Text}
 use Rattle.regex_meaning.specs.Units.{Encoding, spelled_in}
@@ -32,7 +33,7 @@ use Rattle.regress_plan.specs.declared.plan.Plan.{Plan}
 use Rattle.regress_plan.specs.Keys.{key, is_wide, is_told, step_at, table_of}
 use Rattle.regress_plan.specs.Plans.{IsClass, reads_one, IsOpOf}
 use Rattle.regress_plan.specs.Fronts.{allowed_of, FrontAt, IsFrontAt}
-use Rattle.regress_plan.specs.Leading.{joined_of, then_allowed, units_of, leads_on, IsUnitOf, IsThen, IsOfEither, IsPath, AreOps, FrontBehind, Leads, LeadsFrom, LeadsFromRun}
+use Rattle.regress_plan.specs.Leading.{joined_of, then_allowed, unit_of, units_of, leads_on, IsThen, IsOfEither, IsPath, AreOps, FrontBehind, UnitsLead, Leads, LeadsFrom, LeadsFromRun}
 use Rattle.regress_plan.proofs.KeyLemmas.{first-key-at, first-key-below, key_of_first}
 use Rattle.regress_plan.proofs.ClosingLemmas.{told-some}
 use Rattle.regress_plan.proofs.RowLemmas.{get-below}
@@ -69,9 +70,47 @@ joined-behind first count behind ahead more few =
     bit_at_or (bit_and first (2 ^ count - 1)) (behind * 2 ^ count % 2 ^ 16) ahead
     ∙ (let z : max (bit_at (bit_and first (2 ^ count - 1)) ahead) (bit_at (behind * 2 ^ count % 2 ^ 16) ahead) ≡ bit_at behind (ahead - count) = omega (arith, low, high) in z)
 
+-- where either mask has no bit, both together have none
+and-clear : (x y ahead : ℕ) → (bit_at x ahead ≡ 0) ⊎ (bit_at y ahead ≡ 0) → bit_at (bit_and x y) ahead ≡ 0
+and-clear x y ahead (inl none) = bit_at_and x y ahead ∙ (let z : min (bit_at x ahead) (bit_at y ahead) ≡ 0 = omega (arith, none) in z)
+and-clear x y ahead (inr none) = bit_at_and x y ahead ∙ (let z : min (bit_at x ahead) (bit_at y ahead) ≡ 0 = omega (arith, none) in z)
+
+-- so many bits from one on are those that were not moved in
+pub clear-between : (from count ahead : ℕ) → from + count < 16 → from ≤ ahead → ahead < from + count → bit_at (joined_of 65535 from (65535 * 2 ^ count % 2 ^ 16)) ahead ≡ 0
+clear-between from count ahead room more less =
+    joined-behind 65535 from (65535 * 2 ^ count % 2 ^ 16) ahead more (omega (arith, room, less))
+    ∙ moved-bit 65535 count (ahead - from) (omega (arith, room, less))
+    ∙ bit_at_cat_low 65535 count 0 (ahead - from) (omega (arith, more, less)) ∙ bit_at-zero (ahead - from)
+
 -- a key that has no mask is allowed
 allowed-past : (front : Front) (ahead k : ℕ) → length front.masks ≤ k → allowed_of front ahead k ≡ true
 allowed-past front ahead k past = ap (λ m. bit_at m ahead == 0) (get_or_past front.masks k 0 past) ∙ ap (λ b. b == 0) (bit_at-zero ahead)
+
+-- ---- Masks that are changed one after another
+
+-- those before an index are changed, the others are as they were
+pub record AreChanged (old masks : List ℕ) (change : (k mask : ℕ) → ℕ) (index : ℕ) : Type 0 where
+  pub sized : length masks ≡ 256
+  pub changed : (k : ℕ) → k < index → get_or masks k 0 ≡ change k (get_or old k 0)
+  pub same : (k : ℕ) → index ≤ k → get_or masks k 0 ≡ get_or old k 0
+
+pub change-none : (masks : List ℕ) (change : (k mask : ℕ) → ℕ) → length masks ≡ 256 → AreChanged masks masks change 0
+change-none masks change sized = record { sized = sized; changed = λ k less. absurd (omega (arith, less)); same = λ k le. refl }
+
+pub change-next : (old masks : List ℕ) (change : (k mask : ℕ) → ℕ) (index new : ℕ) → AreChanged old masks change index → index < 256
+    → new ≡ change index (get_or masks index 0) → AreChanged old (slice_set masks index new) change (index + 1)
+change-next old masks change index new are below is = record {
+  sized = length-set masks index new ∙ are.sized;
+  changed = λ k less. by k less (cases_lt k index);
+  same = λ k more. get_or-set_other masks index k new 0 (λ same. omega (arith, more, same)) ∙ are.same k (omega (arith, more));
+}
+  where
+    by : (k : ℕ) → k < index + 1 → (k < index) ⊎ (index ≤ k) → get_or (slice_set masks index new) k 0 ≡ change k (get_or old k 0)
+    by k less (inl before) = get_or-set_other masks index k new 0 (λ same. omega (arith, before, same)) ∙ are.changed k before
+    by k less (inr last) =
+        let here : k ≡ index = omega (arith, less, last) in
+        get_or-set_at masks index k new 0 here (let sized = are.sized in omega (arith, below, sized))
+        ∙ is ∙ ap (change index) (are.same index (omega arith)) ∙ ap (λ i. change i (get_or old i 0)) (sym here)
 
 -- ---- Units, and others behind them
 
@@ -80,18 +119,6 @@ then-early count first after ahead k less = ap (λ (b : Bool). if b then first a
 
 then-late : (count : ℕ) (first after : Allowed) (ahead k : ℕ) → count ≤ ahead → then_allowed count first after ahead k ≡ after (ahead - count) k
 then-late count first after ahead k more = ap (λ (b : Bool). if b then first ahead k else after (ahead - count) k) (le-ltb ahead count more)
-
--- one unit of a set
-pub unit-of : (set : Beginnings) (front : Front) → length front.masks ≡ 256 → front.len ≡ 1
-    → ((k : ℕ) → k < 256 → get_or front.masks k 0 ≡ (if (table_of set).keys k then 0 else 1)) → IsUnitOf set front
-unit-of set front sized len each = record {
-  len = len;
-  within = λ k has. elim (cases_lt k 256) [
-    | inl below ↦
-        ap (λ m. bit_at m 0 == 0) (each k below ∙ ap (λ (b : Bool). if b then 0 else 1) has) ∙ ap (λ b. b == 0) (bit_at-zero 0)
-    | inr past ↦ allowed-past front 0 k (omega (arith, past, sized))
-  ];
-}
 
 -- units, and those behind them
 pub then-of : (p q front : Front) → length front.masks ≡ 256 → front.len ≡ min (p.len + q.len) 15
@@ -114,57 +141,80 @@ then-of p q front sized len each = record { len = len; within = λ ahead k less 
     by ahead k less h (inl below) = here ahead k less below h (cases_lt ahead p.len)
     by ahead k less h (inr past) = allowed-past front ahead k (omega (arith, past, sized))
 
--- none behind them
-pub then-none : (p : Front) (allowed : Allowed) → IsThen p 0 allowed p
-then-none p allowed = record {
-  len = let short = p.short in omega (arith, short);
-  within = λ ahead k less h. sym (then-early p.len (allowed_of p) allowed ahead k less) ∙ h;
-}
-
--- one unit of a set more
-pub then-more : (count : ℕ) (set : Beginnings) (p q unit r : Front) → IsThen p count (units_of set) q → IsUnitOf set unit → IsThen q unit.len (allowed_of unit) r
-    → IsThen p (count + 1) (units_of set) r
-then-more count set p q unit r some one next = record {
-  len = let a = some.len in let b = one.len in let c = next.len in omega (arith, a, b, c);
-  within = λ ahead k less h. next.within ahead k less (by ahead k less h (cases_lt ahead q.len));
-}
+-- units of which bits are cleared
+pub then-cleared : (p front : Front) (count : ℕ) (has : ℕ → Bool) → length front.masks ≡ 256 → front.len ≡ min (p.len + count) 15
+    → ((k : ℕ) → k < 256 → (ahead : ℕ) → (bit_at (get_or p.masks k 0) ahead ≡ 0) ⊎ ((has k ≡ true) × (p.len ≤ ahead) × (ahead < front.len)) → bit_at (get_or front.masks k 0) ahead ≡ 0)
+    → IsThen p count (λ ahead k. has k) front
+then-cleared p front count has sized len each = record { len = len; within = λ ahead k less h. by ahead k less h (cases_lt k 256) }
   where
-    by : (ahead k : ℕ) → ahead < r.len → then_allowed p.len (allowed_of p) (units_of set) ahead k ≡ true → (ahead < q.len) ⊎ (q.len ≤ ahead)
-        → then_allowed q.len (allowed_of q) (allowed_of unit) ahead k ≡ true
-    by ahead k less h (inl early) = then-early q.len (allowed_of q) (allowed_of unit) ahead k early ∙ some.within ahead k early h
-    by ahead k less h (inr late) =
-        let a = some.len in
-        let b = one.len in
-        let c = next.len in
-        let short = p.short in
-        let first : ahead - q.len ≡ 0 = omega (arith, less, late, b, c) in
-        let behind : p.len ≤ ahead = omega (arith, late, a, short) in
-        then-late q.len (allowed_of q) (allowed_of unit) ahead k late ∙ ap (λ n. allowed_of unit n k) first
-        ∙ one.within k (sym (then-late p.len (allowed_of p) (units_of set) ahead k behind) ∙ h)
+    here : (ahead k : ℕ) → ahead < front.len → k < 256 → then_allowed p.len (allowed_of p) (λ ahead k. has k) ahead k ≡ true → (ahead < p.len) ⊎ (p.len ≤ ahead)
+        → allowed_of front ahead k ≡ true
+    here ahead k less below h (inl early) =
+        eq-eqb (bit_at (get_or front.masks k 0) ahead) 0
+        (each k below ahead (inl (eqb-true (bit_at (get_or p.masks k 0) ahead) 0 (sym (then-early p.len (allowed_of p) (λ ahead k. has k) ahead k early) ∙ h))))
+    here ahead k less below h (inr late) =
+        eq-eqb (bit_at (get_or front.masks k 0) ahead) 0
+        (each k below ahead (inr (sym (then-late p.len (allowed_of p) (λ ahead k. has k) ahead k late) ∙ h, late, less)))
 
--- more than there is room for
-pub then-many : (count some : ℕ) (allowed : Allowed) (p q : Front) → some ≡ min count 15 → IsThen p some allowed q → IsThen p count allowed q
-then-many count some allowed p q same h = record { len = let a = h.len in omega (arith, a, same); within = h.within }
+    by : (ahead k : ℕ) → ahead < front.len → then_allowed p.len (allowed_of p) (λ ahead k. has k) ahead k ≡ true → (k < 256) ⊎ (256 ≤ k) → allowed_of front ahead k ≡ true
+    by ahead k less h (inl below) = here ahead k less below h (cases_lt ahead p.len)
+    by ahead k less h (inr past) = allowed-past front ahead k (omega (arith, past, sized))
+
+-- those of a set
+pub units-cleared : (p front : Front) (count kept : ℕ) (has : ℕ → Bool) → length front.masks ≡ 256 → front.len ≡ min (p.len + count) 15
+    → ((ahead : ℕ) → p.len ≤ ahead → ahead < front.len → bit_at kept ahead ≡ 0)
+    → ((k : ℕ) → k < 256 → get_or front.masks k 0 ≡ bit_and (get_or p.masks k 0) (if has k then kept else 65535)) → IsThen p count (λ ahead k. has k) front
+units-cleared p front count kept has sized len clear each = then-cleared p front count has sized len
+    (λ k below ahead w.
+    ap (λ m. bit_at m ahead) (each k below) ∙ and-clear (get_or p.masks k 0) (if has k then kept else 65535) ahead (by k ahead w))
+  where
+    by : (k ahead : ℕ) → (bit_at (get_or p.masks k 0) ahead ≡ 0) ⊎ ((has k ≡ true) × (p.len ≤ ahead) × (ahead < front.len))
+        → (bit_at (get_or p.masks k 0) ahead ≡ 0) ⊎ (bit_at (if has k then kept else 65535) ahead ≡ 0)
+    by k ahead (inl none) = inl none
+    by k ahead (inr here) = inr (ap (λ (b : Bool). bit_at (if b then kept else 65535) ahead) here.0 ∙ clear ahead here.1 here.2)
+
+-- one alone
+pub unit-cleared : (p front : Front) (key at kept : ℕ) → at ≡ key → length p.masks ≡ 256 → at < 256 → p.len < 15 → front.len ≡ p.len + 1
+    → ((ahead : ℕ) → p.len ≤ ahead → ahead < p.len + 1 → bit_at kept ahead ≡ 0)
+    → front.masks ≡ slice_set p.masks at (bit_and (get_or p.masks at 0) kept) → IsThen p 1 (unit_of key) front
+unit-cleared p front key at kept here sized low room len clear is = then-cleared p front 1 (λ k. k == key)
+    (ap length is ∙ length-set p.masks at (bit_and (get_or p.masks at 0) kept) ∙ sized) (omega (arith, len, room))
+    (λ k below ahead w. ap (λ (l : List ℕ). bit_at (get_or l k 0) ahead) is ∙ by k ahead w (k == key) refl)
+  where
+    cleared : ℕ
+    cleared = bit_and (get_or p.masks at 0) kept
+
+    masked : (k ahead : ℕ) → k ≡ at → (bit_at (get_or p.masks k 0) ahead ≡ 0) ⊎ (((k == key) ≡ true) × (p.len ≤ ahead) × (ahead < front.len))
+        → (bit_at (get_or p.masks at 0) ahead ≡ 0) ⊎ (bit_at kept ahead ≡ 0)
+    masked k ahead same (inl none) = inl (ap (λ i. bit_at (get_or p.masks i 0) ahead) (sym same) ∙ none)
+    masked k ahead same (inr at_end) = let less = at_end.2 in inr (clear ahead at_end.1 (omega (arith, less, len)))
+
+    by : (k ahead : ℕ) → (bit_at (get_or p.masks k 0) ahead ≡ 0) ⊎ (((k == key) ≡ true) × (p.len ≤ ahead) × (ahead < front.len)) → (b : Bool) → (k == key) ≡ b
+        → bit_at (get_or (slice_set p.masks at (bit_and (get_or p.masks at 0) kept)) k 0) ahead ≡ 0
+    by k ahead w true q =
+        let same : k ≡ at = eqb-true k key q ∙ sym here in
+        ap (λ m. bit_at m ahead) (get_or-set_at p.masks at k cleared 0 same (omega (arith, low, sized))) ∙ and-clear (get_or p.masks at 0) kept ahead (masked k ahead same w)
+    by k ahead (inl none) false q =
+        ap (λ m. bit_at m ahead) (get_or-set_other p.masks at k cleared 0 (λ same. let t = eq-eqb k key (same ∙ here) in let f : true ≡ false = sym t ∙ q in cc)) ∙ none
+    by k ahead (inr at_end) false q = let f : true ≡ false = sym at_end.0 ∙ q in cc
 
 -- either
 pub either-of : (a b front : Front) → length front.masks ≡ 256 → front.len ≡ min a.len b.len
-    → ((k : ℕ) → k < 256 → get_or front.masks k 0 ≡ bit_and (get_or a.masks k 0) (get_or b.masks k 0)) → IsOfEither a b front
+    → ((k : ℕ) → k < 256 → get_or front.masks k 0 ≡ joined_of (bit_and (get_or a.masks k 0) (get_or b.masks k 0)) front.len 65535) → IsOfEither a b front
 either-of a b front sized len each = record {
   first = omega (arith, len);
   second = omega (arith, len);
-  within_first = λ ahead k h. by ahead k (inl h) (cases_lt k 256);
-  within_second = λ ahead k h. by ahead k (inr h) (cases_lt k 256);
+  within_first = λ ahead k less h. by ahead k less (inl (eqb-true (bit_at (get_or a.masks k 0) ahead) 0 h)) (cases_lt k 256);
+  within_second = λ ahead k less h. by ahead k less (inr (eqb-true (bit_at (get_or b.masks k 0) ahead) 0 h)) (cases_lt k 256);
 }
   where
-    none : (x y : ℕ) → ((x == 0) ≡ true) ⊎ ((y == 0) ≡ true) → min x y ≡ 0
-    none x y (inl h) = let e = eqb-true x 0 h in omega (arith, e)
-    none x y (inr h) = let e = eqb-true y 0 h in omega (arith, e)
-
-    by : (ahead k : ℕ) → (allowed_of a ahead k ≡ true) ⊎ (allowed_of b ahead k ≡ true) → (k < 256) ⊎ (256 ≤ k) → allowed_of front ahead k ≡ true
-    by ahead k h (inl below) =
-        ap (λ m. bit_at m ahead == 0) (each k below)
-        ∙ ap (λ n. n == 0) (bit_at_and (get_or a.masks k 0) (get_or b.masks k 0) ahead ∙ none (bit_at (get_or a.masks k 0) ahead) (bit_at (get_or b.masks k 0) ahead) h)
-    by ahead k h (inr past) = allowed-past front ahead k (omega (arith, past, sized))
+    by : (ahead k : ℕ) → ahead < front.len → (bit_at (get_or a.masks k 0) ahead ≡ 0) ⊎ (bit_at (get_or b.masks k 0) ahead ≡ 0) → (k < 256) ⊎ (256 ≤ k) → allowed_of front ahead k ≡ true
+    by ahead k less h (inl below) =
+        let short = front.short in
+        let both : ℕ = bit_and (get_or a.masks k 0) (get_or b.masks k 0) in
+        eq-eqb (bit_at (get_or front.masks k 0) ahead) 0
+        (ap (λ m. bit_at m ahead) (each k below) ∙ joined-first both front.len 65535 ahead less (omega (arith, short)) ∙ and-clear (get_or a.masks k 0) (get_or b.masks k 0) ahead h)
+    by ahead k less h (inr past) = allowed-past front ahead k (omega (arith, past, sized))
 
 -- ---- What is made of what operations say
 
@@ -186,8 +236,8 @@ pub front-of-either : (wide : Bool) (program : Program) (ip x y : ℕ) (a b fron
     → IsOfEither a b front → IsFrontAt wide program ip front
 front-of-either wide program ip x y a b front leads first second either =
     leads front.len (allowed_of front)
-    (less-front wide program x front.len a.len (allowed_of a) (allowed_of front) first either.first (λ n k less h. either.within_first n k h))
-    (less-front wide program y front.len b.len (allowed_of b) (allowed_of front) second either.second (λ n k less h. either.within_second n k h))
+    (less-front wide program x front.len a.len (allowed_of a) (allowed_of front) first either.first either.within_first)
+    (less-front wide program y front.len b.len (allowed_of b) (allowed_of front) second either.second either.within_second)
 
 -- ---- The path of operations
 
@@ -213,45 +263,45 @@ path-then wide program from ip len front next allowed path room there is =
     (let l = is.len in omega (arith, l)) (λ ahead k less h. is.within ahead k less h)
 
 -- the units of an operation
-units-there : (wide : Bool) (program : Program) (ip count : ℕ) (set : Beginnings) (to : Option ℕ) → Leads wide program ip (ahead.Units set count to)
-    → FrontAt wide program ip count (units_of set)
-units-there wide program ip count set to leads =
-    less-front wide program ip count (count + 0) (then_allowed count (units_of set) (units_of set)) (units_of set) (leads 0 (units_of set) (nothing to))
-    (omega arith) (λ ahead k less h. sym (then-early count (units_of set) (units_of set) ahead k less) ∙ h)
+units-there : (wide : Bool) (program : Program) (ip count : ℕ) (units : Allowed) (to : Option ℕ) → UnitsLead wide program ip units count to
+    → FrontAt wide program ip count units
+units-there wide program ip count units to leads =
+    less-front wide program ip count (count + 0) (then_allowed count units units) units (leads 0 units (nothing to))
+    (omega arith) (λ ahead k less h. sym (then-early count units units ahead k less) ∙ h)
   where
-    nothing : (to : Option ℕ) → FrontBehind wide program to 0 (units_of set)
+    nothing : (to : Option ℕ) → FrontBehind wide program to 0 units
     nothing None = refl
-    nothing (Some next) = none-front wide program next (units_of set)
+    nothing (Some next) = none-front wide program next units
 
-pub path-last : (wide : Bool) (program : Program) (from ip count : ℕ) (set : Beginnings) (to : Option ℕ) (front next : Front) → IsPath wide program from front ip → front.len < 15
-    → Leads wide program ip (ahead.Units set count to) → IsThen front count (units_of set) next → IsFrontAt wide program from next
-path-last wide program from ip count set to front next path room leads is =
-    path-then wide program from ip count front next (units_of set) path room (units-there wide program ip count set to leads) is
+pub path-last : (wide : Bool) (program : Program) (from ip count : ℕ) (units : Allowed) (to : Option ℕ) (front next : Front) → IsPath wide program from front ip → front.len < 15
+    → UnitsLead wide program ip units count to → IsThen front count units next → IsFrontAt wide program from next
+path-last wide program from ip count units to front next path room leads is =
+    path-then wide program from ip count front next units path room (units-there wide program ip count units to leads) is
 
 -- behind which it leads on
-pub path-units : (wide : Bool) (program : Program) (from ip count to : ℕ) (set : Beginnings) (front next : Front) → IsPath wide program from front ip → front.len < 15
-    → Leads wide program ip (ahead.Units set count (Some to)) → IsThen front count (units_of set) next → IsPath wide program from next to
-path-units wide program from ip count to set front next path room leads is = record {
-  so_far = path-last wide program from ip count set (Some to) front next path room leads is;
+pub path-units : (wide : Bool) (program : Program) (from ip count to : ℕ) (units : Allowed) (front next : Front) → IsPath wide program from front ip → front.len < 15
+    → UnitsLead wide program ip units count (Some to) → IsThen front count units next → IsPath wide program from next to
+path-units wide program from ip count to units front next path room leads is = record {
+  so_far = path-last wide program from ip count units (Some to) front next path room leads is;
   on = λ more len allowed there.
       let all : next.len ≡ front.len + count = let l = is.len in omega (arith, l, more) in
       less-front wide program from (next.len + len) (front.len + (count + len))
-      (then_allowed front.len (allowed_of front) (then_allowed count (units_of set) allowed)) (then_allowed next.len (allowed_of next) allowed)
-      (path.on room (count + len) (then_allowed count (units_of set) allowed) (leads len allowed there)) (omega (arith, all))
+      (then_allowed front.len (allowed_of front) (then_allowed count units allowed)) (then_allowed next.len (allowed_of next) allowed)
+      (path.on room (count + len) (then_allowed count units allowed) (leads len allowed there)) (omega (arith, all))
       (λ ahead k less h. by allowed all ahead k h (cases_lt ahead next.len));
 }
   where
-    behind : (allowed : Allowed) → next.len ≡ front.len + count → (ahead k : ℕ) → then_allowed front.len (allowed_of front) (then_allowed count (units_of set) allowed) ahead k ≡ true
-        → ahead < next.len → (ahead < front.len) ⊎ (front.len ≤ ahead) → then_allowed front.len (allowed_of front) (units_of set) ahead k ≡ true
+    behind : (allowed : Allowed) → next.len ≡ front.len + count → (ahead k : ℕ) → then_allowed front.len (allowed_of front) (then_allowed count units allowed) ahead k ≡ true
+        → ahead < next.len → (ahead < front.len) ⊎ (front.len ≤ ahead) → then_allowed front.len (allowed_of front) units ahead k ≡ true
     behind allowed all ahead k h less (inl early) =
-        then-early front.len (allowed_of front) (units_of set) ahead k early
-        ∙ sym (then-early front.len (allowed_of front) (then_allowed count (units_of set) allowed) ahead k early) ∙ h
+        then-early front.len (allowed_of front) units ahead k early
+        ∙ sym (then-early front.len (allowed_of front) (then_allowed count units allowed) ahead k early) ∙ h
     behind allowed all ahead k h less (inr late) =
-        then-late front.len (allowed_of front) (units_of set) ahead k late
-        ∙ sym (then-early count (units_of set) allowed (ahead - front.len) k (omega (arith, less, late, all)))
-        ∙ sym (then-late front.len (allowed_of front) (then_allowed count (units_of set) allowed) ahead k late) ∙ h
+        then-late front.len (allowed_of front) units ahead k late
+        ∙ sym (then-early count units allowed (ahead - front.len) k (omega (arith, less, late, all)))
+        ∙ sym (then-late front.len (allowed_of front) (then_allowed count units allowed) ahead k late) ∙ h
 
-    by : (allowed : Allowed) → next.len ≡ front.len + count → (ahead k : ℕ) → then_allowed front.len (allowed_of front) (then_allowed count (units_of set) allowed) ahead k ≡ true
+    by : (allowed : Allowed) → next.len ≡ front.len + count → (ahead k : ℕ) → then_allowed front.len (allowed_of front) (then_allowed count units allowed) ahead k ≡ true
         → (ahead < next.len) ⊎ (next.len ≤ ahead) → then_allowed next.len (allowed_of next) allowed ahead k ≡ true
     by allowed all ahead k h (inl early) =
         then-early next.len (allowed_of next) allowed ahead k early
@@ -261,8 +311,8 @@ path-units wide program from ip count to set front next path room leads is = rec
         let beyond : count ≤ ahead - front.len = omega (arith, late, all) in
         then-late next.len (allowed_of next) allowed ahead k late
         ∙ ap (λ n. allowed n k) (let z : ahead - next.len ≡ ahead - front.len - count = omega (arith, late, all) in z)
-        ∙ sym (then-late count (units_of set) allowed (ahead - front.len) k beyond)
-        ∙ sym (then-late front.len (allowed_of front) (then_allowed count (units_of set) allowed) ahead k past) ∙ h
+        ∙ sym (then-late count units allowed (ahead - front.len) k beyond)
+        ∙ sym (then-late front.len (allowed_of front) (then_allowed count units allowed) ahead k past) ∙ h
 
 -- one of two operations
 pub path-either : (wide : Bool) (program : Program) (from ip x y : ℕ) (front a b either next : Front) → IsPath wide program from front ip → front.len < 15
@@ -380,31 +430,30 @@ abbrev UnitsOf : (wide : Bool) (test : ℕ → Bool) (count : ℕ) → Allowed �
 UnitsOf wide test count allowed = (e : Encoding) → is_wide e ≡ wide → AreUnits e (key wide) test count allowed
 
 -- one that reads one character, behind which this one stands
-reads-front : (wide : Bool) (program : Program) (ip : ℕ) (insn : Insn) (set : Beginnings) → slice_get program.insns ip ≡ Some insn
+reads-front : (wide : Bool) (program : Program) (ip : ℕ) (insn : Insn) (units : Allowed) → slice_get program.insns ip ≡ Some insn
     → ((e : Encoding) → Reads e (key wide) program insn)
-    → ((test : ℕ → Bool) → test_of program (Some insn) ≡ Some test → (count : ℕ) (allowed : Allowed) → UnitsOf wide test count (then_allowed count (units_of set) allowed))
-    → Leads wide program ip (ahead.Units set 1 (Some (ip + 1)))
-reads-front wide program ip insn set there reads are len allowed front = λ e same.
-    front-reads e (key wide) program ip len insn (then_allowed 1 (units_of set) allowed) allowed there (reads e) (λ test t. are test t 1 allowed e same)
+    → ((test : ℕ → Bool) → test_of program (Some insn) ≡ Some test → (count : ℕ) (allowed : Allowed) → UnitsOf wide test count (then_allowed count units allowed))
+    → UnitsLead wide program ip units 1 (Some (ip + 1))
+reads-front wide program ip insn units there reads are len allowed front = λ e same.
+    front-reads e (key wide) program ip len insn (then_allowed 1 units allowed) allowed there (reads e) (λ test t. are test t 1 allowed e same)
     (λ ahead k.
-    then-late 1 (units_of set) allowed (ahead + 1) k (omega arith) ∙ ap (λ n. allowed n k) (let z : ahead + 1 - 1 ≡ ahead = omega arith in z))
+    then-late 1 units allowed (ahead + 1) k (omega arith) ∙ ap (λ n. allowed n k) (let z : ahead + 1 - 1 ≡ ahead = omega arith in z))
     (front e same)
 
 -- a character below 128 is its own key, and has one unit
--- a character below 128
-pub said-unit : (plan : Plan) (ip c : ℕ) (set : Beginnings) → c < 128 → (table_of set).keys c ≡ true → LeadsFrom plan (op.Unit c) ip (ahead.Units set 1 (Some (ip + 1)))
-said-unit plan ip c set low has wide program ops there =
+pub said-unit : (plan : Plan) (ip c : ℕ) → c < 128 → LeadsFrom plan (op.Unit c) ip (ahead.Unit c (ip + 1))
+said-unit plan ip c low wide program ops there =
     let i = insn-of plan program ops (op.Unit c) ip there in
-    reads-front wide program ip (Char c) set (i.1 ∙ ap Some i.2) (λ e text s. refl)
+    reads-front wide program ip (Char c) (unit_of c) (i.1 ∙ ap Some i.2) (λ e text s. refl)
     (λ test t count allowed e same.
-    let P : (ℕ → Bool) → Type 0 = λ test. AreUnits e (key wide) test count (then_allowed count (units_of set) allowed) in
+    let P : (ℕ → Bool) → Type 0 = λ test. AreUnits e (key wide) test count (then_allowed count (unit_of c) allowed) in
     let tested : (λ d. c == d) ≡ test = some-same (λ d. c == d) test t in
     subst P tested (record {
       keys = λ d is accepted ahead less.
           let one : c ≡ d = eqb-true c d accepted in
           let at : first_key e (key wide) d ≡ Some c =
           first-key-at e wide same d is ∙ ap Some (ap (key_of_first wide) (sym one) ∙ ascii-key wide c low) in
-          ap (may_stand (then_allowed count (units_of set) allowed) ahead) at ∙ then-early count (units_of set) allowed ahead c less ∙ has;
+          ap (may_stand (then_allowed count (unit_of c) allowed) ahead) at ∙ then-early count (unit_of c) allowed ahead c less ∙ eq-eqb c c refl;
       single = λ d is accepted. ap (λ (d : ℕ). length (spelled_in e d)) (sym (eqb-true c d accepted)) ∙ one-unit e c low;
     }))
 
@@ -453,7 +502,7 @@ said-class plan ip number class set here narrow keys wide program ops there =
     let i = insn-of plan program ops (op.One number) ip there in
     let h = i.2.0 in
     let same = some-same h.class class (sym h.is_there ∙ here) in
-    reads-front wide program ip i.0 set i.1 (reads-as wide program i.0 i.2.1)
+    reads-front wide program ip i.0 (units_of set) i.1 (reads-as wide program i.0 i.2.1)
     (class-units wide program class set i.0 (ops.classes number class here) narrow (h.is_class ∙ ap (λ (c : Class). insn_of c.insn) same) keys)
 
 pub said-run : (plan : Plan) (ip : ℕ) (r : run.Run) (class : Class) (bounds : Bounds) (set : Beginnings) (to : Option ℕ) → slice_get plan.classes.items r.class ≡ Some class

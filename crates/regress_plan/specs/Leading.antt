@@ -1,12 +1,12 @@
 -- What operations say of the units that must stand where they do.
-use Rattle.std.specs.Prelude.{◌≡◌, ◌≤◌, ◌<◌, ℕ, ◌+◌, ◌-◌, ◌*◌, ◌%◌, ◌^◌, min, bit_and, bit_or, Bool, true, false, Option, Some, None, length, if◌then◌else◌, nat_lt, slice_get, ⊤}
+use Rattle.std.specs.Prelude.{◌≡◌, ◌==◌, ◌≤◌, ◌<◌, ℕ, ◌+◌, ◌-◌, ◌*◌, ◌%◌, ◌^◌, min, bit_and, bit_or, Bool, true, false, Option, Some, None, length, if◌then◌else◌, nat_lt, slice_get, ⊤}
 use Rattle.regex_meaning.specs.Layout.{Program, Insn}
 use Rattle.regress_serves.specs.Fronts.{Allowed}
 use Rattle.regress_plan.specs.declared.beginnings.Beginnings.{Beginnings}
 use Rattle.regress_plan.specs.declared.class.Class.{Class}
 use Rattle.regress_plan.specs.declared.front.Front.{Front}
 use Rattle.regress_plan.specs.declared.fronts.Ahead.{Ahead}
-use Rattle.regress_plan.specs.declared.fronts.Ahead.TheVariants.{Unknown, At, Either, Units}
+use Rattle.regress_plan.specs.declared.fronts.Ahead.TheVariants.{Unknown, At, Either, Unit, Units}
 use Rattle.regress_plan.specs.declared.ops.Op.{Op}
 use Rattle.regress_plan.specs.declared.ops.Op.TheVariants as op
 use Rattle.regress_plan.specs.declared.ops.Run as run
@@ -25,14 +25,13 @@ joined_of first count behind = bit_or (bit_and first (2 ^ count - 1)) (behind * 
 abbrev pub then_allowed : (count : ℕ) → Allowed → Allowed → Allowed
 then_allowed count first after ahead k = if nat_lt ahead count then first ahead k else after (ahead - count) k
 
+-- the unit with this key
+abbrev pub unit_of : (key : ℕ) → Allowed
+unit_of key ahead k = k == key
+
 -- units of a set
 abbrev pub units_of : Beginnings → Allowed
 units_of set ahead k = (table_of set).keys k
-
--- one unit of the set
-pub record IsUnitOf (set : Beginnings) (front : Front) : Type 0 where
-  pub len : front.len ≡ 1
-  pub within : (k : ℕ) → (table_of set).keys k ≡ true → allowed_of front 0 k ≡ true
 
 -- what is said of units, and of so many behind them; of 15 units at most
 pub record IsThen (before : Front) (more : ℕ) (allowed : Allowed) (front : Front) : Type 0 where
@@ -43,8 +42,8 @@ pub record IsThen (before : Front) (more : ℕ) (allowed : Allowed) (front : Fro
 pub record IsOfEither (a b front : Front) : Type 0 where
   pub first : front.len ≤ a.len
   pub second : front.len ≤ b.len
-  pub within_first : (ahead k : ℕ) → allowed_of a ahead k ≡ true → allowed_of front ahead k ≡ true
-  pub within_second : (ahead k : ℕ) → allowed_of b ahead k ≡ true → allowed_of front ahead k ≡ true
+  pub within_first : (ahead k : ℕ) → ahead < front.len → allowed_of a ahead k ≡ true → allowed_of front ahead k ≡ true
+  pub within_second : (ahead k : ℕ) → ahead < front.len → allowed_of b ahead k ≡ true → allowed_of front ahead k ≡ true
 
 -- ---- What must stand where an operation stands
 
@@ -59,14 +58,19 @@ abbrev pub FrontBehind : (wide : Bool) → Program → Option ℕ → (len : ℕ
 FrontBehind wide program None len allowed = len ≡ 0
 FrontBehind wide program (Some ip) len allowed = FrontAt wide program ip len allowed
 
+-- so many of these units must stand at the instruction, and behind them what must stand at the other one
+abbrev pub UnitsLead : (wide : Bool) → Program → (ip : ℕ) → (units : Allowed) → (count : ℕ) → Option ℕ → Type 0
+UnitsLead wide program ip units count to =
+    (len : ℕ) (allowed : Allowed) → FrontBehind wide program to len allowed → FrontAt wide program ip (count + len) (then_allowed count units allowed)
+
 -- what must stand at the instruction follows so from what must stand at others
 abbrev pub Leads : (wide : Bool) → Program → (ip : ℕ) → Ahead → Type 0
 Leads wide program ip Unknown = ⊤
 Leads wide program ip (At to) = (len : ℕ) (allowed : Allowed) → FrontAt wide program to len allowed → FrontAt wide program ip len allowed
 Leads wide program ip (Either a b) =
     (len : ℕ) (allowed : Allowed) → FrontAt wide program a len allowed → FrontAt wide program b len allowed → FrontAt wide program ip len allowed
-Leads wide program ip (Units set count to) =
-    (len : ℕ) (allowed : Allowed) → FrontBehind wide program to len allowed → FrontAt wide program ip (count + len) (then_allowed count (units_of set) allowed)
+Leads wide program ip (Unit key to) = UnitsLead wide program ip (unit_of key) 1 (Some to)
+Leads wide program ip (Units set count to) = UnitsLead wide program ip (units_of set) count to
 
 -- The units stand from the one instruction on. If there is room for more, what is behind them stands at the other one.
 pub record IsPath (wide : Bool) (program : Program) (from : ℕ) (front : Front) (ip : ℕ) : Type 0 where

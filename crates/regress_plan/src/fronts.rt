@@ -3,11 +3,12 @@
 //! It is read off the operations that stand at the beginning of a program: those that read no character lead on, and
 //! those that read one whose unit is known say what stands first. Where the operations do not tell it ends.
 
-ghost use Rattle.std.specs.Prelude.{Bool, ◌≡◌, ◌<◌, ◌+◌, ◌^◌, true, length};
+ghost use Rattle.std.specs.Prelude.{Bool, ℕ, ◌≡◌, ◌<◌, ◌≤◌, ◌+◌, ◌^◌, true, length};
+ghost use Rattle.std.specs.Int.{bit_at};
 ghost use Rattle.regex_meaning.specs.Layout.{Program};
 ghost use Rattle.regress_plan.specs.declared.ops.Op.TheVariants.{Unit, One, Enter};
 ghost use Rattle.regress_plan.specs.Fronts.{allowed_of, IsFrontAt, IsInAsciiAt};
-ghost use Rattle.regress_plan.specs.Leading.{units_of, joined_of, leads_on as leads_on_op, IsUnitOf, IsThen, IsOfEither, AreOps, Leads, LeadsFrom, LeadsFromRun};
+ghost use Rattle.regress_plan.specs.Leading.{unit_of, units_of, joined_of, leads_on as leads_on_op, IsThen, IsOfEither, AreOps, Leads, LeadsFrom, LeadsFromRun};
 
 use crate::beginnings::Beginnings;
 use crate::front::{Front, MOST, is_clear};
@@ -26,6 +27,11 @@ enum Ahead {
     At(usize),
     /// What both of these say.
     Either(usize, usize),
+    /// The unit with this key stands there, and then what this operation says.
+    Unit {
+        key: u8,
+        to: usize,
+    },
     /// So many units of the set stand there, and then what this operation says, if one does.
     Units {
         set: Beginnings,
@@ -35,65 +41,56 @@ enum Ahead {
 }
 
 impl Front {
-    // Nothing is known.
+    // Nothing is known. Bits of which nothing is said yet are set, so that a unit that comes has its own alone to clear.
     fn unknown() -> Self
         ensures { result.len ≡ 0 }
     {
         Front {
-            masks: [0; 256],
+            masks: [u16::MAX; 256],
             len: 0,
         }
     }
 
-    // One unit, of this set.
-    fn of(set: &Beginnings) -> Self
-        ensures { IsUnitOf set.now result }
+    // One unit more.
+    fn add_unit(&mut self, key: u8)
+        requires { self.old.len < 15 }
+        ensures { IsThen self.old 1 (unit_of key) self.new }
     {
-        let mut masks = [0; 256];
+        self.masks[usize::from(key)] &= all_but(self.len, 1);
+        self.len += 1;
+    }
+
+    // So many units of a set more, as far as there is room.
+    fn add_units(&mut self, set: &Beginnings, count: usize)
+        ensures { IsThen self.old count (units_of set.now) self.new }
+    {
+        let more = count.min(MOST - self.len);
+        let kept = all_but(self.len, more);
         for key in 0..KEYS {
-            masks[key] = if set.keys[key] { 0 } else { 1 };
+            self.masks[key] &= if set.keys[key] { kept } else { u16::MAX };
         }
-        Front { masks, len: 1 }
+        self.len += more;
     }
 
     // These units, and those behind them, as far as there is room.
-    fn followed_by(&self, behind: &Front) -> Self
-        ensures { IsThen self.now behind.now.len (allowed_of behind.now) result }
+    fn add_front(&mut self, behind: &Front)
+        ensures { IsThen self.old behind.now.len (allowed_of behind.now) self.new }
     {
-        let mut masks = [0; 256];
         for key in 0..KEYS {
-            masks[key] = joined(self.masks[key], self.len, behind.masks[key]);
+            self.masks[key] = joined(self.masks[key], self.len, behind.masks[key]);
         }
-        Front {
-            masks,
-            len: (self.len + behind.len).min(MOST),
-        }
-    }
-
-    // The same with so many units of a set.
-    fn followed_by_units(&self, set: &Beginnings, count: usize) -> Self
-        ensures { IsThen self.now count (units_of set.now) result }
-    {
-        let unit = Front::of(set);
-        let mut front = *self;
-        'units: for _unit in 0..count.min(MOST) {
-            front = front.followed_by(&unit);
-        }
-        front
+        self.len = (self.len + behind.len).min(MOST);
     }
 
     // What either says.
-    fn or(&self, other: &Front) -> Self
-        ensures { IsOfEither self.now other.now result }
+    fn or(&mut self, other: &Front)
+        ensures { IsOfEither self.old other.now self.new }
     {
-        let mut masks = [0; 256];
+        let len = self.len.min(other.len);
         for key in 0..KEYS {
-            masks[key] = self.masks[key] & other.masks[key];
+            self.masks[key] = joined(self.masks[key] & other.masks[key], len, u16::MAX);
         }
-        Front {
-            masks,
-            len: self.len.min(other.len),
-        }
+        self.len = len;
     }
 
     /// Whether a unit with this key may stand so many units on.
@@ -128,6 +125,15 @@ fn joined(first: u16, count: usize, behind: u16) -> u16
     first & ((1 << count) - 1) | behind << count
 }
 
+// All bits but so many from this one on.
+#[inline(always)]
+fn all_but(from: usize, count: usize) -> u16
+    requires { from + count < 16 }
+    ensures { (ahead : ℕ) → from ≤ ahead → ahead < from + count → bit_at result ahead ≡ 0 }
+{
+    joined(u16::MAX, from, u16::MAX << count)
+}
+
 /// What must stand where the program of this plan begins to match.
 pub(crate) fn front_of(plan: &Plan) -> Front
     ensures { (wide : Bool) (program : Program) → AreOps wide program plan.now → IsFrontAt wide program 0 result }
@@ -148,11 +154,17 @@ fn front_at(plan: &Plan, from: usize, steps: usize) -> Front
             Ahead::Unknown => return front,
             Ahead::At(to) => ip = to,
             Ahead::Either(a, b) => {
-                let either = front_at(plan, a, left / 2).or(&front_at(plan, b, left / 2));
-                return front.followed_by(&either);
+                let mut either = front_at(plan, a, left / 2);
+                either.or(&front_at(plan, b, left / 2));
+                front.add_front(&either);
+                return front;
+            }
+            Ahead::Unit { key, to } => {
+                front.add_unit(key);
+                ip = to;
             }
             Ahead::Units { set, count, to } => {
-                front = front.followed_by_units(&set, count);
+                front.add_units(&set, count);
                 let Some(next) = to else {
                     return front;
                 };
@@ -213,10 +225,9 @@ fn said_of_unit(c: u32, ip: usize) -> Ahead
     if c >= 128 {
         return Ahead::Unknown;
     }
-    Ahead::Units {
-        set: Beginnings::nothing().with(c as usize),
-        count: 1,
-        to: Some(ip + 1),
+    Ahead::Unit {
+        key: c as u8,
+        to: ip + 1,
     }
 }
 

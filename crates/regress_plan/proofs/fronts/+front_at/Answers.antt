@@ -1,6 +1,6 @@
 use Rattle.std.proofs.Common.{ℕ, Option, subst, arith}
 use Rattle.regress_plan.specs.declared.fronts.Ahead.TheVariants as ahead
-use Rattle.regress_plan.specs.Leading.{Leads}
+use Rattle.regress_plan.specs.Leading.{unit_of, units_of, Leads}
 use Rattle.regress_plan.proofs.FrontLemmas.{path-start, path-at, path-last, path-units, path-either}
 use Rattle.regress_plan.proofs.fronts.+front_at.Goals as goal
 
@@ -17,24 +17,32 @@ path-preserved-in-At t c = (
       path-at wide program c.args.from c.path.ip c.in-At.to c.path.front (c.path.invariant.1 wide program ops) (c.in-At.ensures wide program ops),
 )
 
+pub path-preserved-in-Unit : goal.path-preserved-in-Unit
+path-preserved-in-Unit t c = (
+  omega (arith, c.path.invariant.0),
+  λ wide program ops.
+      path-units wide program c.args.from c.path.ip 1 c.in-Unit.to (unit_of c.in-Unit.key) c.path.front c.add_unit.new.self (c.path.invariant.1 wide program ops)
+      c.if-front-lt-MOST.true (c.in-Unit.ensures wide program ops) c.add_unit.ensures,
+)
+
 pub returns-in-Either : goal.returns-in-Either
 returns-in-Either t c = λ wide program ops.
-    path-either wide program c.args.from c.path.ip c.in-Either.a c.in-Either.b c.path.front c.front_at.result c.front_at-in-Either.result c.or-either.result c.followed_by.result
-    (c.path.invariant.1 wide program ops) c.if-front-lt-MOST.true (c.in-Either.ensures wide program ops) (c.front_at.ensures wide program ops)
-    (c.front_at-in-Either.ensures wide program ops) c.or-either.ensures c.followed_by.ensures
+    path-either wide program c.args.from c.path.ip c.in-Either.a c.in-Either.b c.path.front c.front_at-either.result c.front_at.result c.or.new.self c.add_front.new.self
+    (c.path.invariant.1 wide program ops) c.if-front-lt-MOST.true (c.in-Either.ensures wide program ops) (c.front_at-either.ensures wide program ops)
+    (c.front_at.ensures wide program ops) c.or.ensures c.add_front.ensures
 
 pub returns-in_default : goal.returns-in_default
 returns-in_default t c = λ wide program ops.
-    path-last wide program c.args.from c.path.ip c.in-Units.count c.in-Units.set c.in-Units.to c.path.front c.followed_by_units-front.result (c.path.invariant.1 wide program ops)
-    c.if-front-lt-MOST.true (c.in-Units.ensures wide program ops) c.followed_by_units-front.ensures
+    path-last wide program c.args.from c.path.ip c.in-Units.count (units_of c.in-Units.set) c.in-Units.to c.path.front c.add_units.new.self (c.path.invariant.1 wide program ops)
+    c.if-front-lt-MOST.true (c.in-Units.ensures wide program ops) c.add_units.ensures
 
 pub path-preserved : goal.path-preserved
 path-preserved t c = (
   omega (arith, c.path.invariant.0),
   λ wide program ops.
       let P : Option ℕ → Type 0 = λ to. Leads wide program c.path.ip (ahead.Units c.in-Units.set c.in-Units.count to) in
-      path-units wide program c.args.from c.path.ip c.in-Units.count c.in-Some.next c.in-Units.set c.path.front c.followed_by_units-front.result (c.path.invariant.1 wide program ops)
-      c.if-front-lt-MOST.true (subst P c.in-Some.is (c.in-Units.ensures wide program ops)) c.followed_by_units-front.ensures,
+      path-units wide program c.args.from c.path.ip c.in-Units.count c.in-Some.next (units_of c.in-Units.set) c.path.front c.add_units.new.self (c.path.invariant.1 wide program ops)
+      c.if-front-lt-MOST.true (subst P c.in-Some.is (c.in-Units.ensures wide program ops)) c.add_units.ensures,
 )
 
 pub returns-after-path : goal.returns-after-path

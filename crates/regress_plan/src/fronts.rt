@@ -155,6 +155,9 @@ fn front_at(plan: &Plan, from: usize, steps: usize) -> Front
             Ahead::At(to) => ip = to,
             Ahead::Either(a, b) => {
                 let mut either = front_at(plan, a, left / 2);
+                if either.len == 0 {
+                    return front;
+                }
                 either.or(&front_at(plan, b, left / 2));
                 front.add_front(&either);
                 return front;

@@ -25,6 +25,9 @@ path-preserved-in-Unit t c = (
       c.if-front-lt-MOST.true (c.in-Unit.ensures wide program ops) c.add_unit.ensures,
 )
 
+pub returns-then-either-eq0 : goal.returns-then-either-eq0
+returns-then-either-eq0 t c = λ wide program ops. (c.path.invariant.1 wide program ops).so_far
+
 pub returns-in-Either : goal.returns-in-Either
 returns-in-Either t c = λ wide program ops.
     path-either wide program c.args.from c.path.ip c.in-Either.a c.in-Either.b c.path.front c.front_at-either.result c.front_at.result c.or.new.self c.add_front.new.self

@@ -5,6 +5,7 @@ pub mod ByteSetLemmas
 pub mod BeginningLemmas
 pub mod ClassLemmas
 pub mod TextLemmas
+pub mod AsciiLemmas
 pub mod IdLemmas
 pub mod FilingLemmas
 pub mod Walks

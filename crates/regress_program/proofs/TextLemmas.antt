@@ -218,39 +218,3 @@ no_length (x ∷ xs) h = absurd (omega arith)
 pub ne_zero : {A : Type 0} → (xs : List A) → false ≡ (length xs == 0) → 0 < length xs
 ne_zero [] h = cc
 ne_zero (x ∷ xs) h = omega arith
-
--- ---- Sets of bytes below 128
-
-pub no_bytes_below : (test : ℕ → Bool) → with_bytes_below [] test 0 ≡ []
-no_bytes_below test = bytes_where-none _ (λ b h. rw (le-ltb b 0 (omega arith)))
-
--- no interval that is empty or below 128 holds a number from 128 on
-not_inside : (first last b : ℕ) → 128 ≤ b → (nat_lt last 128 || nat_lt last first) ≡ true → is_in_range first last b ≡ false
-not_inside first last b h e =
-    ⊎_elim (λ (below : nat_lt last 128 ≡ true). let lt : last < 128 = omega (arith, ltb-true last 128 below) in let past : last < b = omega arith in and_false (nat_le first b) (lt-leb b last past))
-    (λ (none : nat_lt last first ≡ true). let lt : last < first = omega (arith, ltb-true last first none) in one_fails first last b lt)
-    (or_cases (nat_lt last 128) (nat_lt last first) e)
-  where
-    and_false : (a : Bool) → {c : Bool} → c ≡ false → (a && c) ≡ false
-    and_false true e = e
-    and_false false e = refl
-
-    one_fails : (first last b : ℕ) → last < first → is_in_range first last b ≡ false
-    one_fails first last b lt =
-        ⊎_elim (λ (below : b < first). rw (lt-leb first b below))
-        (λ (above : first ≤ b). let past : last < b = omega arith in and_false (nat_le first b) (lt-leb b last past))
-        (cases_lt b first)
-
-outside_ascii : (intervals : List (ℕ × ℕ)) (b : ℕ) → 128 ≤ b → list_all (λ i. nat_lt i.1 128 || nat_lt i.1 i.0) intervals ≡ true → in_intervals intervals b ≡ false
-outside_ascii [] b h e = refl
-outside_ascii (i ∷ intervals) b h e =
-    let here : is_in_range i.0 i.1 b ≡ false = not_inside i.0 i.1 b h (and-left (nat_lt i.1 128 || nat_lt i.1 i.0) (list_all (λ j. nat_lt j.1 128 || nat_lt j.1 j.0) intervals) e) in
-    let later : in_intervals intervals b ≡ false = outside_ascii intervals b h (and-right (nat_lt i.1 128 || nat_lt i.1 i.0) (list_all (λ j. nat_lt j.1 128 || nat_lt j.1 j.0) intervals) e) in
-    rw (here, later)
-
-pub ascii_bytes : (intervals : List (ℕ × ℕ)) → list_all (λ i. nat_lt i.1 128 || nat_lt i.1 i.0) intervals ≡ true
-    → with_bytes_below [] (in_intervals intervals) 128 ≡ bytes_where (in_intervals intervals)
-ascii_bytes intervals e = bytes_where-same _ _ (λ b h. elim (cases_lt b 128) [
-  | inl below ↦ rw (lt-ltb b 128 below)
-  | inr above ↦ rw (le-ltb b 128 above) (sym (outside_ascii intervals b above e))
-])

@@ -1,13 +1,16 @@
 //! The code of brackets.
 
-ghost use Rattle.std.specs.Prelude.{◌≡◌, ◌||◌, nat_lt, is_some, OnOk, IfSome};
+ghost use Rattle.std.specs.Prelude.{◌≡◌, ◌||◌, ◌&&◌, nat_lt, is_some, map, OnOk, IfSome};
+ghost use Rattle.std.specs.Int.{is_in_range};
 ghost use Rattle.std.specs.List.{list_all};
+ghost use Rattle.regex_meaning.specs.Lists.{contains};
 ghost use Rattle.regex_meaning.specs.Tree.{bracket};
 ghost use Rattle.regex_meaning.specs.Layout.{is_ascii_set};
 ghost use Rattle.regex_meaning.specs.Outcomes.{in_intervals};
 ghost use Rattle.regex_meaning.specs.StartPredicate.{bytes_where};
 ghost use Rattle.regex_pattern_front.specs.TreeOf.{contents_of};
 ghost use Rattle.regex_pattern_front.specs.ByteSets.{ascii_bitmap_bytes};
+ghost use Rattle.regex_pattern_front.specs.Intervals.{interval_of};
 ghost use Rattle.regress_program.specs.Emitting.{state_of, with_code, with_bracket};
 
 use crate::emit::emitter::{Emitter, Mode};
@@ -57,13 +60,28 @@ fn ascii_bitmap(contents: &BracketContents) -> Option<AsciiBitmap>
     if !is_ascii(contents) {
         return None;
     }
+    Some(ascii_members(contents.cps.intervals()))
+}
+
+// The members of these intervals that are below 128.
+fn ascii_members(intervals: &[Interval]) -> AsciiBitmap
+    ensures { ascii_bitmap_bytes result ≡ bytes_where (λ b. nat_lt b 128 && in_intervals (map interval_of intervals.now) b) }
+{
     let mut bitmap = AsciiBitmap::default();
-    for byte in 0..128 {
-        if contents.cps.contains(u32::from(byte)) {
-            bitmap.set(byte);
-        }
+    for interval in intervals {
+        add_ascii_members(*interval, &mut bitmap);
     }
-    Some(bitmap)
+    bitmap
+}
+
+// Adds the members of the interval that are below 128.
+fn add_ascii_members(interval: Interval, bitmap: &mut AsciiBitmap)
+    ensures { ascii_bitmap_bytes bitmap.new ≡ bytes_where (λ b. contains (ascii_bitmap_bytes bitmap.old) b || (nat_lt b 128 && is_in_range interval.first interval.last b)) }
+{
+    let end = interval.last.min(127) + 1;
+    for member in interval.first..end {
+        bitmap.set(member as u8);
+    }
 }
 
 // Whether the set holds bytes below 128 alone.

@@ -1,16 +1,7 @@
 -- Byte sequences and strings.
-use Rattle.std.proofs.Common.{◌≡◌, ℕ, zero, suc, ◌+◌, ◌-◌, ◌*◌, ◌/◌, ◌%◌, ◌<◌, ◌≤◌, min, Bool, true, false, List, [], ◌∷◌, ◌++◌, map, length, take, drop, get_or, slice_get, Some, Vec, inl, inr, ⊎_elim, refl, sym, ap, ◌∙◌, arith, append_assoc, append-nil, length-append, length-drop, drop-cons, ◌==◌, if◌then◌else◌}
+use Rattle.std.proofs.Common.{◌≡◌, ℕ, zero, suc, ◌+◌, ◌-◌, ◌*◌, ◌/◌, ◌%◌, ◌<◌, ◌≤◌, min, Bool, true, false, List, [], ◌∷◌, ◌++◌, map, length, take, drop, get_or, slice_get, Some, Vec, refl, sym, ap, ◌∙◌, arith, append_assoc, append-nil, length-append, length-drop, drop-cons, ◌==◌, if◌then◌else◌}
 use Rattle.std.proofs.Math.Seq.{drop-nil}
-use Rattle.std.proofs.lemmas.Bool.{cases_lt, lt-ltb, le-ltb, lt-leb, or_cases}
-use borrow.Author.Tests.{ltb-true}
-use Rattle.std.specs.Prelude.{nat_lt, nat_le, ◌||◌, ◌&&◌}
-use Rattle.std.specs.List.{list_all}
-use Rattle.std.specs.Int.{is_in_range}
 use Rattle.regex_meaning.specs.Lists.{numbers_from}
-use Rattle.regex_meaning.specs.Outcomes.{in_intervals}
-use Rattle.regex_meaning.specs.StartPredicate.{bytes_where}
-use Rattle.regex_pattern_front.proofs.ByteLemmas.{bytes_where-same, bytes_where-none}
-use Rattle.regex_pattern_front.proofs.AddedBytes.{with_bytes_below}
 use Rattle.std.proofs.lemmas.List.{length-map, get_or-reverse, drop-map, drop_all}
 use Rattle.std.proofs.lemmas.Option.{get_or_from_slice_get}
 use Rattle.regex_meaning.specs.Layout.{Insn, Alt, Jump, ByteSeq, ResetCaptureGroup, ordered, chunks, chunks_of}
@@ -18,7 +9,6 @@ use Rattle.regex_meaning.specs.Tree.{byte_sequence, string_set}
 use Rattle.regress_program.specs.Code.{resets, string_code, strings_code, strings_size, code_of, loop_count, brackets_of}
 use Rattle.regress_program.specs.Emitting.{State, with_code, with_insn, with_insns, code_points_of}
 use Rattle.regress_program.proofs.EmitLemmas.{same_state, length-string_code, length-ordered}
-use Rattle.regex_meaning.proofs.Booleans.{and-left, and-right}
 
 -- ---- Chunks
 

@@ -6,37 +6,34 @@ ghost use Rattle.regex_meaning.specs.Offsets.{IsBoundary};
 ghost use Rattle.regex_meaning.specs.Outcomes.{anchor_holds, is_at_word_boundary, differ};
 ghost use Rattle.regress_input.specs.Reading.{place};
 
+use crate::planned::position;
 use regress_exec::reading::{at_line_end, at_line_start, at_word_boundary};
 use regress_input::indexing::InputIndexer;
 use regress_plan::ops::Edge;
 
 /// Whether a line starts here; not `multiline`, only the left end is one.
 #[inline(always)]
-pub fn is_line_start<Input: InputIndexer>(
-    input: &Input,
-    multiline: bool,
-    at: Input::Position,
-) -> bool
-    requires { IsBoundary (Input.text input.now) (Input.Position.offset at) }
-    ensures { result ≡ anchor_holds (Input.text input.now) start_of_line multiline (place (Input.text input.now) (Input.Position.offset at)) }
+pub fn is_line_start<Input: InputIndexer>(input: &Input, multiline: bool, at: usize) -> bool
+    requires { IsBoundary (Input.text input.now) at }
+    ensures { result ≡ anchor_holds (Input.text input.now) start_of_line multiline (place (Input.text input.now) at) }
 {
-    at_line_start(input, multiline, at)
+    at_line_start(input, multiline, position(input, at))
 }
 
 /// Whether a line ends here; not `multiline`, only the right end is one.
 #[inline(always)]
-pub fn is_line_end<Input: InputIndexer>(input: &Input, multiline: bool, at: Input::Position) -> bool
-    requires { IsBoundary (Input.text input.now) (Input.Position.offset at) }
-    ensures { result ≡ anchor_holds (Input.text input.now) end_of_line multiline (place (Input.text input.now) (Input.Position.offset at)) }
+pub fn is_line_end<Input: InputIndexer>(input: &Input, multiline: bool, at: usize) -> bool
+    requires { IsBoundary (Input.text input.now) at }
+    ensures { result ≡ anchor_holds (Input.text input.now) end_of_line multiline (place (Input.text input.now) at) }
 {
-    at_line_end(input, multiline, at)
+    at_line_end(input, multiline, position(input, at))
 }
 
 /// Whether a word begins or ends here, or with `invert` does not.
 #[inline(always)]
-pub fn is_word_edge<Input: InputIndexer>(input: &Input, edge: Edge, at: Input::Position) -> bool
-    requires { IsBoundary (Input.text input.now) (Input.Position.offset at) }
-    ensures { result ≡ differ edge.invert (is_at_word_boundary (Input.text input.now) edge.unicode_icase (place (Input.text input.now) (Input.Position.offset at))) }
+pub fn is_word_edge<Input: InputIndexer>(input: &Input, edge: Edge, at: usize) -> bool
+    requires { IsBoundary (Input.text input.now) at }
+    ensures { result ≡ differ edge.invert (is_at_word_boundary (Input.text input.now) edge.unicode_icase (place (Input.text input.now) at)) }
 {
-    at_word_boundary(input, edge.invert, edge.unicode_icase, at)
+    at_word_boundary(input, edge.invert, edge.unicode_icase, position(input, at))
 }

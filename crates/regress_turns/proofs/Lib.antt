@@ -6,6 +6,7 @@ pub mod LoopTurns
 pub mod NextTurns
 pub mod Iterating
 pub mod LoopEnds
+pub mod Gone
 pub mod Taking
 pub mod RunTurns
 pub mod RunMarks

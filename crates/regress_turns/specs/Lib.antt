@@ -4,6 +4,7 @@ pub mod Steps
 pub mod Turns
 pub mod Marks
 pub mod Taken
+pub mod Taking
 pub mod Iterations
 pub mod Again
 pub mod Scanned

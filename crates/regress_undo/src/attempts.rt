@@ -1,6 +1,6 @@
 //! One attempt at a place.
 
-ghost use Rattle.std.specs.Prelude.{◌≡◌, IfOk, false, if◌then◌else◌};
+ghost use Rattle.std.specs.Prelude.{◌≡◌, IfOk, false, if◌then◌else◌, option_map};
 ghost use Rattle.regex_meaning.specs.Offsets.{IsBoundary};
 ghost use Rattle.regress_undo.specs.Attempted.{IsEndFrom, SpendsAt};
 ghost use Rattle.regress_undo.specs.Searched.{CanBeSearched};
@@ -8,7 +8,7 @@ ghost use Rattle.regress_undo.specs.Searched.{CanBeSearched};
 use crate::run::run;
 use regress_exec::exec::SearchError;
 use regress_input::indexing::InputIndexer;
-use regress_scan::planned::{At, Planned};
+use regress_scan::planned::{At, Planned, position_in};
 use regress_turns::here::Here;
 use regress_turns::memory::Memory;
 use regress_turns::steps::{Steps, Stop};
@@ -21,6 +21,17 @@ fn cause<S: Steps>(steps: &S) -> SearchError
         SearchError::StepLimit
     } else {
         SearchError::Memory
+    }
+}
+
+// The position of an end, if there is one.
+#[inline(always)]
+fn end_in<W: Planned>(planned: &W, end: Option<usize>) -> Option<At<W>>
+    ensures { option_map (λ p. W.Input.Position.offset p) result ≡ end }
+{
+    match end {
+        Some(end) => Some(position_in(planned, end)),
+        None => None,
     }
 }
 
@@ -43,9 +54,9 @@ pub(crate) fn attempt<W: Planned, S: Steps>(
     let groups = program.groups() as usize;
     let loops = program.loops() as usize;
     memory.begin(groups, loops, at)?;
-    let start = Here { ip: 0, pos };
+    let start = Here { ip: 0, at };
     match run(planned, true, start, memory, steps) {
-        Ok(end) => Ok(end),
+        Ok(end) => Ok(end_in(planned, end)),
         Err(Stop) => Err(cause(steps)),
     }
 }

@@ -1,5 +1,6 @@
-use Rattle.std.proofs.Common.{◌≡◌, ap, sym, subst, refl, ◌∙◌}
+use Rattle.std.proofs.Common.{◌≡◌, ◌≤◌, ap, sym, subst, refl, ◌∙◌}
 use Rattle.std.specs.Prelude.{IsSome, true, option_map, Option, Err}
+use Rattle.regex_meaning.specs.Offsets.{units}
 use Rattle.regress_input.proofs.Places.{boundary_inside}
 use Rattle.regress_program.specs.Code.{compiled}
 use Rattle.regress_exec.proofs.Searchable.{can-search}
@@ -24,22 +25,24 @@ search-here g c =
 
 -- what is remembered begins as that state
 state-here : (g : Over) (c : In_ok-begin g)
-    → state_of c.begin.new.self 0 (g.W.Input.Position.PositionType.offset c.args.pos) ≡ initial (program_of (g.W.Planned.searching c.args.planned.now)) (g.W.Input.Position.PositionType.offset c.args.pos)
+    → state_of c.begin.new.self 0 c.pos_to_offset-at.result ≡ initial (program_of (g.W.Planned.searching c.args.planned.now)) (g.W.Input.Position.PositionType.offset c.args.pos)
 state-here g c =
     let w = g.W.Planned.searching c.args.planned.now in
-    let at = g.W.Input.Position.PositionType.offset c.args.pos in
+    let at = c.pos_to_offset-at.result in
     let groups = c.groups-groups.ensures ∙ ap (λ t. (compiled t).groups) c.program-program.ensures in
     let loops = c.loops-loops.ensures ∙ ap (λ t. (compiled t).loops) c.program-program.ensures in
-    ap (λ h. state_of h 0 at) c.in_ok-begin.ensures ∙ first-state (program_of w) c.groups-groups.result c.loops-loops.result _ at c.pos_to_offset-at.ensures groups loops
+    ap (λ h. state_of h 0 at) c.in_ok-begin.ensures ∙ first-state (program_of w) c.groups-groups.result c.loops-loops.result _ at refl groups loops
+    ∙ ap (initial (program_of w)) c.pos_to_offset-at.ensures
 
 pub run-requires-clause-inside : goal.run-requires-clause-inside
 run-requires-clause-inside g c =
-    boundary_inside (g.W.Planned.searching c.args.planned.now).text (g.met.W.Planned.is_text c.args.planned.now) (g.W.Input.Position.PositionType.offset c.args.pos) c.requires.at
+    let text = (g.W.Planned.searching c.args.planned.now).text in
+    subst (λ at. at ≤ units text) (sym c.pos_to_offset-at.ensures)
+    (boundary_inside text (g.met.W.Planned.is_text c.args.planned.now) (g.W.Input.Position.PositionType.offset c.args.pos) c.requires.at)
 
 pub run-requires-clause-answers : goal.run-requires-clause-answers
 run-requires-clause-answers g c =
     let w = g.W.Planned.searching c.args.planned.now in
-    let at = g.W.Input.Position.PositionType.offset c.args.pos in
     let b = search-here g (goal.at.run-requires-clause-answers g c).In_ok-begin in
     let first = state-here g (goal.at.run-requires-clause-answers g c).In_ok-begin in
     subst IsSome (sym (ap (searched_from w true) first ∙ b.searches)) refl
@@ -48,27 +51,26 @@ pub returns-in-Ok-clause-found : goal.returns-in-Ok-clause-found
 returns-in-Ok-clause-found g c =
     let w = g.W.Planned.searching c.args.planned.now in
     let offset = g.W.Input.Position.PositionType.offset in
-    let at = offset c.args.pos in
+    let groups = (state_of c.run.new.memory 0 0).groups in
     let b = search-here g (goal.at.returns-in-Ok-clause-found g c).In_ok-begin in
     let first = state-here g (goal.at.returns-in-Ok-clause-found g c).In_ok-begin in
-    found-with offset c.in-Ok.end (state_of c.run.new.memory 0 0).groups
-    ∙ attempt-ends w at c.begin.new.self c.run.new.memory _ _ _ (option_map offset c.in-Ok.end) b first c.in-Ok.ensures.ran
+    found-with offset c.end_in.result groups ∙ ap (option_map (λ e. (e, groups))) c.end_in.ensures
+    ∙ attempt-ends w (offset c.args.pos) c.pos_to_offset-at.result c.begin.new.self c.run.new.memory _ _ _ c.in-Ok.end b first c.in-Ok.ensures.ran
 
 pub returns-in-Ok-clause-steps : goal.returns-in-Ok-clause-steps
 returns-in-Ok-clause-steps g c =
     let w = g.W.Planned.searching c.args.planned.now in
-    let offset = g.W.Input.Position.PositionType.offset in
-    let at = offset c.args.pos in
+    let at = g.W.Input.Position.PositionType.offset c.args.pos in
     let b = search-here g (goal.at.returns-in-Ok-clause-steps g c).In_ok-begin in
     let first = state-here g (goal.at.returns-in-Ok-clause-steps g c).In_ok-begin in
     let budget = g.S.Steps.budget in
-    attempt-spends w at c.begin.new.self (budget c.args.steps.now) (budget c.run.new.steps) g.S.Steps.COUNTS b first c.run.new.memory (option_map offset c.in-Ok.end) c.in-Ok.end c.in-Ok.ensures.ran
+    attempt-spends w at c.pos_to_offset-at.result c.begin.new.self (budget c.args.steps.now) (budget c.run.new.steps) g.S.Steps.COUNTS b first
+    c.run.new.memory c.in-Ok.end c.end_in.result c.in-Ok.ensures.ran
 
 pub returns-in-Err-clause-steps : goal.returns-in-Err-clause-steps
 returns-in-Err-clause-steps g c =
     let w = g.W.Planned.searching c.args.planned.now in
-    let offset = g.W.Input.Position.PositionType.offset in
-    let at = offset c.args.pos in
+    let at = g.W.Input.Position.PositionType.offset c.args.pos in
     let b = search-here g (goal.at.returns-in-Err-clause-steps g c).In_ok-begin in
     let first = state-here g (goal.at.returns-in-Err-clause-steps g c).In_ok-begin in
     let budget = g.S.Steps.budget in
@@ -76,4 +78,4 @@ returns-in-Err-clause-steps g c =
     let before = budget c.args.steps.now in
     let after = budget c.run.new.steps in
     subst (λ e. Spends {X = Option g.row.W-Input-Position.Denot} (ticks_from w.tree w.text at) (limit_of counts before) (Err e) (limit_of counts after)) (sym c.cause.ensures)
-    (attempt-stops w at c.begin.new.self before after counts b first (Option g.row.W-Input-Position.Denot) c.requires.fresh c.in-Err.ensures.stopped)
+    (attempt-stops w at c.pos_to_offset-at.result c.begin.new.self before after counts b first (Option g.row.W-Input-Position.Denot) c.requires.fresh c.in-Err.ensures.stopped)

@@ -1,7 +1,7 @@
 #!/bin/sh
 # Tries the wrong edits of the crates named, or of each that has a folder here: the prover has to refuse every one.
 #
-# The gate leaves them out, since it checks a crate that has wrong edits once more from nothing. An hour or more.
+# The gate leaves them out, since it checks a crate that has wrong edits once more from nothing. Some hours.
 set -eu
 cd "$(dirname "$0")/.."
 [ "$#" -gt 0 ] || set -- $(find wrong -mindepth 1 -maxdepth 1 -type d -exec basename {} \;)

@@ -8,7 +8,7 @@ use std::cell::Cell;
 
 // Rows of five fields: a pattern, a text, which matches are replaced, what the closure answers, and how often it is called
 // and the text that is made. The closure answers for the number that is matched: `twice`, `tenfold` in brackets, or `x`
-// `below ten` while any other one is refused.
+// `below ten` while any other one is refused. `which call` it is, in order, it answers for any number.
 pub const CLOSURES: &str = r#"\d+~Price: $123~first~twice~1 Price: $246
 \d+~1, or 4~first~twice~1 2, or 4
 \d+~none~first~twice~0 none
@@ -19,6 +19,10 @@ pub const CLOSURES: &str = r#"\d+~Price: $123~first~twice~1 Price: $246
 \d+~1, 2, 3~all~below ten~3 x, x, x
 \d+~x 12~first~below ten~1 refused 12
 \d+~5, 12~first~below ten~1 x, 12
+\d+~5, 5, 7~all~which call~3 #1, #2, #3
+\d+~5, 5, 7~first~which call~1 #1, 5, 7
+\d*~5a~all~which call~3 #1#2a#3
+\d+~12, 13~all~below ten~1 refused 12
 "#;
 
 // The number that is matched in a text; 0 where none is.
@@ -31,11 +35,12 @@ fn number_of(text: &str, found: &Match) -> u32 {
     }
 }
 
-// What the closure answers for a number.
-fn answer_to(alloc: Global, number: u32, answers: &str) -> Result<String, u32> {
+// What the closure answers for a number, at this call.
+fn answer_to(alloc: Global, call: u32, number: u32, answers: &str) -> Result<String, u32> {
     let answer = match answers {
         "twice" => format!(in alloc; "{}", number.wrapping_mul(2)),
         "tenfold" => format!(in alloc; "[{}]", number.wrapping_mul(10)),
+        "which call" => format!(in alloc; "#{call}"),
         _ if number < 10 => String::from_str(alloc, "x"),
         _ => return Err(number),
     };
@@ -52,8 +57,9 @@ fn replaced(
 ) -> (u32, Result<String, ReplaceError<u32>>) {
     let calls = Cell::new(0u32);
     let answer = |found: &Match| {
-        calls.set(calls.get().wrapping_add(1));
-        answer_to(alloc, number_of(text, found), answers)
+        let call = calls.get().wrapping_add(1);
+        calls.set(call);
+        answer_to(alloc, call, number_of(text, found), answers)
     };
     let made = match which {
         "all" => re.replace_all_with(text, answer),

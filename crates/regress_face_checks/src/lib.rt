@@ -4,6 +4,8 @@
 #[cfg(test)]
 mod closures;
 #[cfg(test)]
+mod constructors;
+#[cfg(test)]
 mod deep;
 #[cfg(test)]
 mod flags;

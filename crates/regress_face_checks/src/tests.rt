@@ -1,6 +1,7 @@
 //! The tests: each goes over tables.
 
 use crate::closures::{CLOSURES, check_closure};
+use crate::constructors::CONSTRUCTORS;
 use crate::deep::{NESTS, check_nest};
 use crate::flags::{FLAGS, check_flags};
 use crate::groups::{MATCHES, check_match};
@@ -22,9 +23,10 @@ enum Table {
     Nests,
 }
 
-const TABLES: [(Table, &str); 5] = [
+const TABLES: [(Table, &str); 6] = [
     (Table::Matches, MATCHES),
     (Table::Replacements, REPLACEMENTS),
+    (Table::Replacements, CONSTRUCTORS),
     (Table::Closures, CLOSURES),
     (Table::Flags, FLAGS),
     (Table::Runs, RUNS),

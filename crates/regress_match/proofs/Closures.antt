@@ -89,5 +89,5 @@ module _ {Z E : Type 0} (says : Bor Match → Result (String Z) E → Type 0) (t
       refuses-answered (Err x) e h can = subst (CanRefuseWith says ms) (sym h) (by e can)
         where
           by : (e : ReplaceError E) → CanRefuseAnswer answer e → CanRefuseWith says ms e
-          by (Search e) can = can
+          by (Search e) can = can.1
           by (Closure e) can = refuses rest m e l (subst (Answered says m) can says_so)

@@ -1,5 +1,5 @@
 -- Closures that answer a text for a match: where they may be called, and what their answers make.
-use Rattle.std.specs.Prelude.{◌≡◌, ℕ, List, ◌∷◌, ◌++◌, map, Result, Ok, Err, String, string_bytes}
+use Rattle.std.specs.Prelude.{◌≡◌, ℕ, List, ◌∷◌, ◌++◌, map, IsOk, Result, Ok, Err, String, string_bytes}
 use Rattle.std.specs.Borrow.{Bor}
 use Rattle.std.specs.List.{Contains}
 use Rattle.regex_meaning.specs.Laws.{Each}
@@ -15,9 +15,9 @@ use Rattle.regress_match.specs.declared.api.error.ReplaceError.TheVariants.{Sear
 abbrev pub CanBeCalled : (takes : Bor Match → Type 0) → List Answer → Type 0
 CanBeCalled takes ms = (found : Bor Match) → Contains ms (answer_of found.now) → takes found
 
--- what refuses an answer's place in the text
+-- what refuses an answer's place in the text: want of memory, for the text that was answered, and else the closure's error
 abbrev pub CanRefuseAnswer : {Z E : Type 0} → Result (String Z) E → ReplaceError E → Type 0
-CanRefuseAnswer answer (Search e) = IsMemory e
+CanRefuseAnswer answer (Search e) = IsOk answer × IsMemory e
 CanRefuseAnswer answer (Closure e) = answer ≡ Err e
 
 -- By `says` it may answer this result at this match.

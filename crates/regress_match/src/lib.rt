@@ -2,6 +2,8 @@
 //!
 //! A [`Regex`] is compiled from a pattern; its searches yield exactly the pattern tree's list of matches: at the least
 //! place with a match the most preferred one, and then on from there.
+//!
+//! The modules below the public face are handed on, so that a caller who names their items needs no other crate.
 #![tactic(auto)]
 
 pub mod api;
@@ -12,3 +14,8 @@ pub use crate::api::{
     AsciiMatches, Error, Flags, Groups, LimitedMatches, Match, Matches, NamedGroups, Range, Regex,
     ReplaceError, SearchError, escape, is_unit_boundary,
 };
+pub use regress_exec::{exec, places};
+pub use regress_input::{cursor, front, indexing, matchers, position, scm};
+pub use regress_program::{emit, insn, startpredicate};
+pub use regress_search::pikevm;
+pub use regress_undo::classicalbacktrack;

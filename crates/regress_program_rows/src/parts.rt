@@ -66,6 +66,18 @@ fn write_one(text: &mut String, program: &Program) -> Result<(), AllocError> {
     write_names(text, &names)
 }
 
+// The names of groups as they are shown.
+pub(crate) fn write_shown_names(
+    alloc: Global,
+    text: &mut String,
+    tree: &Regex,
+) -> Result<(), AllocError> {
+    match emit(alloc, tree) {
+        Ok(program) => write!(text, "{:?}", program.program().shared_names()),
+        Err(_) => Ok(()),
+    }
+}
+
 fn has_letter(classes: &[BracketContents]) -> bool {
     match classes {
         [class] => class.cps.contains(0xE9),

@@ -1,7 +1,7 @@
 //! What is answered for trees, row by row.
 
 use crate::listing::{write_program, write_units};
-use crate::parts::{write_parts, write_unit_parts};
+use crate::parts::{write_parts, write_shown_names, write_unit_parts};
 use crate::plans::{write_plan, write_unit_plan};
 use crate::predicates::write_predicate;
 use crate::table::ROWS;
@@ -24,6 +24,7 @@ fn write_answer(
         "predicate" => write_predicate(alloc, text, tree),
         "parts" => write_parts(alloc, text, tree),
         "unit_parts" => write_unit_parts(alloc, text, tree),
+        "names" => write_shown_names(alloc, text, tree),
         "plan" => write_plan(alloc, text, tree),
         "unit_plan" => write_unit_plan(alloc, text, tree),
         _ => text.push_str("no question"),

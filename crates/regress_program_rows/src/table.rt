@@ -105,6 +105,8 @@ parts cat:2 bytes:61 goal → parts 2 0 0 0 0 0 0 / / / / ByteSet1 [97]parts 2 0
 parts cat:2 byteset:61,62 goal → parts 2 0 0 0 0 0 0 / / / / ByteSet2 [97, 98]parts 2 0 0 0 0 0 0 / / / / ByteSet2 [97, 98]
 parts cat:2 byteset:61,62,63 goal → parts 2 0 0 0 0 0 0 / / / / ByteSet3 [97, 98, 99]parts 2 0 0 0 0 0 0 / / / / ByteSet3 [97, 98, 99]
 parts cat:2 byteset:61,62,63,64 goal → parts 2 0 0 0 0 0 0 / / / / ByteBracket 97 98 99 100parts 2 0 0 0 0 0 0 / / / / ByteBracket 97 98 99 100
+names cat:2 cat:2 group:0 x named:1,62 y goal → [\"\", \"b\"]
+names cat:2 a goal → []
 unit_parts cat:4 a group:0 not loop:1,2,0 named:1,62 b goal → parts 11 1 1 2 2 0 0 / b/ / /parts 11 1 1 2 2 0 0 / b/ / /
 plan goal → anywhere
 plan cat:2 bytes:61,62,63 goal → few 1 [97, 0, 0]

@@ -1,0 +1,63 @@
+//! Tells why patterns are refused, what a program is made of, and which characters a text begins and ends with.
+#![tactic(auto)]
+
+use anyhow::{Result, bail};
+use regress_match::backends::{emit, try_parse};
+use regress_match::emit::EmitError;
+use regress_match::front::flags::Flags;
+use regress_match::indexing::{InputIndexer, Utf8Input};
+use regress_match::insn::Insn;
+use regress_match::{Error, Regex};
+
+// Why there is no pattern.
+fn reason(error: &Error) -> &'static str {
+    match error {
+        Error::Parse(_) => "no pattern",
+        Error::Emit(EmitError::TooManyGroups) => "too many groups",
+        Error::Emit(EmitError::TooManyLoops) => "too many loops",
+        Error::Emit(_) => "too large",
+        Error::Memory => "out of memory",
+    }
+}
+
+// How many of these instructions read a character that the pattern names.
+fn named_characters(insns: &[Insn]) -> usize {
+    insns
+        .iter()
+        .filter(|insn| matches!(insn, Insn::Char(_)))
+        .count()
+}
+
+// The first and the last character of a text.
+fn both_ends(text: &str) -> Option<(char, char)> {
+    let input = Utf8Input::new(text, true);
+    let first = input.peek_right(input.left_end())?;
+    let last = input.peek_left(input.right_end())?;
+    Some((first, last))
+}
+
+fn main(rt: HostRuntime) -> Result<()> {
+    for pattern in ["(", "caf[eé]+"] {
+        match Regex::new(rt.alloc(), pattern) {
+            Ok(_) => println!(rt; "{pattern}: a pattern")?,
+            Err(error) => println!(rt; "{pattern}: {}", reason(&error))?,
+        }
+    }
+    let points: Vec<u32> = "caf[eé]+".chars().map(u32::from).collect(rt.alloc())?;
+    let Ok(tree) = try_parse(rt.alloc(), &points, Flags::default()) else {
+        bail!("the pattern is refused");
+    };
+    let Ok(program) = emit(rt.alloc(), &tree) else {
+        bail!("it has no program");
+    };
+    let insns = program.insns();
+    println!(rt;
+        "{} instructions, {} characters",
+        insns.len(),
+        named_characters(insns)
+    )?;
+    if let Some((first, last)) = both_ends("naïveté") {
+        println!(rt; "{first} {last}")?;
+    }
+    Ok(())
+}

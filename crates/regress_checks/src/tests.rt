@@ -2,6 +2,7 @@
 
 use crate::anchored::{ANCHORED, check_anchored};
 use crate::limits::{LIMITS, check_limits};
+use crate::profile::{PROFILE, PROFILE_UNITS};
 use crate::searches::check_search;
 use crate::table::SEARCHES;
 use crate::units::{BOUNDARIES, UNITS, check_boundaries, check_units};
@@ -20,9 +21,11 @@ enum Table {
     Limits,
 }
 
-const TABLES: [(Table, &str); 5] = [
+const TABLES: [(Table, &str); 7] = [
     (Table::Searches, SEARCHES),
+    (Table::Searches, PROFILE),
     (Table::Units, UNITS),
+    (Table::Units, PROFILE_UNITS),
     (Table::Boundaries, BOUNDARIES),
     (Table::Anchored, ANCHORED),
     (Table::Limits, LIMITS),

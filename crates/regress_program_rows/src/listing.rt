@@ -1,5 +1,6 @@
 //! Programs in words.
 
+use crate::predicates::{write_bytes, write_members};
 use regex_pattern_front::ir::Regex;
 use regress_program::emit::{EmitError, emit, emit_units};
 use regress_program::insn::{Insn, LoopFields};
@@ -54,8 +55,6 @@ fn write_insns(text: &mut String, insns: &[Insn]) -> Result<(), AllocError> {
 fn write_insn(text: &mut String, insn: &Insn) -> Result<(), AllocError> {
     match insn {
         Insn::Goal => text.push_str("Goal"),
-        Insn::Char(c) => write_word(text, "Char", &[*c as usize]),
-        Insn::MatchAny => text.push_str("MatchAny"),
         Insn::Alt { secondary } => write_word(text, "Alt", &[*secondary as usize]),
         Insn::Jump { target } => write_word(text, "Jump", &[*target as usize]),
         Insn::EnterLoop(fields) => write_head(text, fields),
@@ -71,21 +70,65 @@ fn write_insn(text: &mut String, insn: &Insn) -> Result<(), AllocError> {
         Insn::BeginCaptureGroup(id) => write_word(text, "BeginCaptureGroup", &[*id as usize]),
         Insn::EndCaptureGroup(id) => write_word(text, "EndCaptureGroup", &[*id as usize]),
         Insn::ResetCaptureGroup(id) => write_word(text, "ResetCaptureGroup", &[*id as usize]),
-        Insn::Lookbehind {
+        Insn::BackRef { group, icase } => {
+            write_word(text, "BackRef", &[*group as usize])?;
+            text.push_str(truth(*icase))
+        }
+        Insn::Lookahead { .. } | Insn::Lookbehind { .. } => write_look(text, insn),
+        _ => write_test(text, insn),
+    }
+}
+
+fn write_look(text: &mut String, insn: &Insn) -> Result<(), AllocError> {
+    match insn {
+        Insn::Lookahead {
+            negate,
+            start_group,
+            end_group,
+            continuation,
+        }
+        | Insn::Lookbehind {
             negate,
             start_group,
             end_group,
             continuation,
         } => {
-            text.push_str("Lookbehind")?;
+            let ahead = matches!(insn, Insn::Lookahead { .. });
+            text.push_str(if ahead { "Lookahead" } else { "Lookbehind" })?;
             let groups = [*start_group as usize, *end_group as usize];
             write_word(text, truth(*negate), &groups)?;
             write_word(text, "", &[*continuation as usize])
         }
-        Insn::ByteSeq1(bytes) => write_bytes(text, "ByteSeq1 ", bytes),
-        Insn::ByteSeq16(bytes) => write_bytes(text, "ByteSeq16 ", bytes),
-        _ => text.push_str("other"),
+        _ => Ok(()),
     }
+}
+
+// What reads a character, bytes or nothing, and leads nowhere else.
+fn write_test(text: &mut String, insn: &Insn) -> Result<(), AllocError> {
+    match insn {
+        Insn::Char(c) => write_word(text, "Char", &[*c as usize]),
+        Insn::MatchAny => text.push_str("MatchAny"),
+        Insn::MatchAnyExceptLineTerminator => text.push_str("MatchAnyExceptLineTerminator"),
+        Insn::StartOfLine { multiline } => write_flag(text, "StartOfLine", *multiline),
+        Insn::EndOfLine { multiline } => write_flag(text, "EndOfLine", *multiline),
+        Insn::WordBoundary { invert } => write_flag(text, "WordBoundary", *invert),
+        Insn::WordBoundaryUnicodeICase { invert } => {
+            write_flag(text, "WordBoundaryUnicodeICase", *invert)
+        }
+        Insn::Bracket(index) => write_word(text, "Bracket", &[*index]),
+        Insn::AsciiBracket(set) => write_members(text, "AsciiBracket", set),
+        Insn::CharSet(members) => write!(text, "CharSet {members:?}"),
+        Insn::ByteSet2(set) => write_bytes(text, "ByteSet2", &set.0),
+        Insn::ByteSet3(set) => write_bytes(text, "ByteSet3", &set.0),
+        Insn::ByteSet4(set) => write_bytes(text, "ByteSet4", &set.0),
+        Insn::JustFail => text.push_str("JustFail"),
+        literal => write_literal(text, literal.literal().unwrap_or(&[])),
+    }
+}
+
+fn write_flag(text: &mut String, word: &str, flag: bool) -> Result<(), AllocError> {
+    text.push_str(word)?;
+    text.push_str(truth(flag))
 }
 
 fn truth(value: bool) -> &'static str {
@@ -110,9 +153,9 @@ fn write_head(text: &mut String, fields: &LoopFields) -> Result<(), AllocError> 
     write_word(text, truth(fields.greedy), &[fields.exit as usize])
 }
 
-// The word, and the bytes as characters.
-fn write_bytes(text: &mut String, word: &str, bytes: &[u8]) -> Result<(), AllocError> {
-    text.push_str(word)?;
+// How many bytes there are, and the bytes as characters.
+fn write_literal(text: &mut String, bytes: &[u8]) -> Result<(), AllocError> {
+    write!(text, "ByteSeq{} ", bytes.len())?;
     for byte in bytes {
         text.push(char::from(*byte))?;
     }

@@ -1,6 +1,6 @@
 //! Start predicates in words.
 
-use regex_pattern_front::bytesearch::{ByteBitmap, ByteSet};
+use regex_pattern_front::bytesearch::ByteSet;
 use regex_pattern_front::ir::Regex;
 use regress_program::insn::StartPredicate;
 use regress_program::startpredicate::predicate_for_re;
@@ -23,16 +23,21 @@ pub(crate) fn write_words(text: &mut String, predicate: &StartPredicate) -> Resu
         StartPredicate::ByteSet2(set) => write_bytes(text, "ByteSet2", set),
         StartPredicate::ByteSet3(set) => write_bytes(text, "ByteSet3", set),
         StartPredicate::ByteSeq(bytes) => write_bytes(text, "ByteSeq", bytes),
-        StartPredicate::ByteBracket(set) => write_members(text, set),
+        StartPredicate::ByteBracket(set) => write_members(text, "ByteBracket", set),
     }
 }
 
-fn write_bytes(text: &mut String, name: &str, bytes: &[u8]) -> Result<(), AllocError> {
+pub(crate) fn write_bytes(text: &mut String, name: &str, bytes: &[u8]) -> Result<(), AllocError> {
     write!(text, "{name} {bytes:?}")
 }
 
-fn write_members(text: &mut String, set: &ByteBitmap) -> Result<(), AllocError> {
-    text.push_str("ByteBracket")?;
+// The name, and the members of a set.
+pub(crate) fn write_members<Set: ByteSet>(
+    text: &mut String,
+    name: &str,
+    set: &Set,
+) -> Result<(), AllocError> {
+    text.push_str(name)?;
     for byte in 0..=u8::MAX {
         if set.contains(byte) {
             write!(text, " {byte}")?;

@@ -1,11 +1,15 @@
 //! What is answered for trees, row by row.
 
+use crate::classes::{write_classes, write_unit_classes};
 use crate::listing::{write_program, write_units};
 use crate::parts::{write_parts, write_shown_names, write_unit_parts};
 use crate::plans::{write_plan, write_unit_plan};
 use crate::predicates::write_predicate;
 use crate::table::ROWS;
+use regex_pattern_front::flags::Flags;
 use regex_pattern_front::ir::Regex;
+use regex_pattern_front::optimizer::optimize;
+use regex_pattern_front::parse::try_parse;
 use regress_trees::tree_of;
 use std::alloc::{AllocError, Global};
 use std::process::Abort;
@@ -27,14 +31,40 @@ fn write_answer(
         "names" => write_shown_names(alloc, text, tree),
         "plan" => write_plan(alloc, text, tree),
         "unit_plan" => write_unit_plan(alloc, text, tree),
+        "classes" => write_classes(alloc, text, tree),
+        "unit_classes" => write_unit_classes(alloc, text, tree),
         _ => text.push_str("no question"),
     }
 }
 
-// The same for a question, a blank and a tree in words.
+// The tree of a pattern with the letters of its flags, which is optimized; none where it is no pattern.
+fn parsed(alloc: Global, pattern: &str, letters: &str) -> Option<Regex> {
+    let code_points: Vec<u32> = pattern.chars().map(u32::from).collect(alloc).ok()?;
+    let flags = Flags {
+        icase: letters.contains('i'),
+        multiline: letters.contains('m'),
+        dot_all: letters.contains('s'),
+        unicode: letters.contains('u'),
+        ..Flags::default()
+    };
+    let mut tree = try_parse(alloc, &code_points, flags).ok()?;
+    optimize(&mut tree);
+    Some(tree)
+}
+
+// The tree of these words, or of a pattern between strokes and the letters of its flags.
+fn asked_tree(alloc: Global, words: &str) -> Option<Regex> {
+    let Some(pattern) = words.strip_prefix('/') else {
+        return tree_of(alloc, words);
+    };
+    let (pattern, letters) = pattern.rsplit_once('/')?;
+    parsed(alloc, pattern, letters)
+}
+
+// The same for a question, a blank and a tree in words, or a pattern.
 fn write_answer_to(alloc: Global, text: &mut String, asked: &str) -> Result<(), AllocError> {
     let (question, words) = asked.split_once(' ').unwrap_or((asked, ""));
-    match tree_of(alloc, words) {
+    match asked_tree(alloc, words) {
         Some(tree) => write_answer(alloc, text, question, &tree),
         None => text.push_str("no tree"),
     }

@@ -1,11 +1,13 @@
-//! What is asked for trees in words, and what is answered: a question, the tree, an arrow and the answer.
+//! What is asked for trees, and what is answered: a question, the tree in words, or a pattern between strokes and the
+//! letters of its flags, an arrow and the answer.
 
 // The refused trees have goals that are not last, groups with wrong ids, groups that are not inside, references to no
 // group, minima above the maximum, bodies that are not one character, bytes that are no text, sets that fit no
 // instruction, and more groups or loops than there may be. For 16-bit units a tree that is not well formed is refused as such,
 // whatever stands in it. In the parts, the groups inside a lookbehind have the later one first. Plans say where a search
 // has to try, and what may stand behind each loop over one character: the keys at which rows of keys begin and end; what is
-// looked for first, and what must stand before.
+// looked for first, and what must stand before. Classes have behind the first of each row of keys the step of them all: how
+// many units the character has, 0 where none is accepted, and 5 where the character decides; and the bytes at which a run ends.
 pub(crate) const ROWS: &str = "\
 program goal → Goal
 program cat:3 empty any goal → MatchAny, Goal
@@ -16,7 +18,32 @@ program cat:2 loop1:0 a goal → Loop1CharBody 0 18446744073709551615 true, Char
 program cat:2 behind:0,0 bytes:61,62,63,64,65,66,67,68,69,6A,6B,6C,6D,6E,6F,70,71 goal → Lookbehind false 0 0 4, ByteSeq1 q, ByteSeq16 abcdefghijklmnop, Goal, Goal
 program cat:3 behind:0,0 strings:1 set:61,62 c goal → Lookbehind false 0 0 4, Char 98, Char 97, Goal, Char 99, Goal
 program cat:3 any cat:2 group:1 empty group:0 empty goal → MatchAny, BeginCaptureGroup 1, EndCaptureGroup 1, BeginCaptureGroup 0, EndCaptureGroup 0, Goal
-program cat:3 any cat:2 group:0 empty ref:1 goal → MatchAny, BeginCaptureGroup 0, EndCaptureGroup 0, other, Goal
+program cat:3 any cat:2 group:0 empty ref:1 goal → MatchAny, BeginCaptureGroup 0, EndCaptureGroup 0, BackRef 0 false, Goal
+program cat:11 bytes:61 bytes:61,62 bytes:61,62,63 bytes:61,62,63,64 bytes:61,62,63,64,65 bytes:61,62,63,64,65,66 bytes:61,62,63,64,65,66,67 bytes:61,62,63,64,65,66,67,68 bytes:61,62,63,64,65,66,67,68,69 bytes:61,62,63,64,65,66,67,68,69,6A bytes:61,62,63,64,65,66,67,68,69,6A,6B bytes:61,62,63,64,65,66,67,68,69,6A,6B,6C bytes:61,62,63,64,65,66,67,68,69,6A,6B,6C,6D bytes:61,62,63,64,65,66,67,68,69,6A,6B,6C,6D,6E bytes:61,62,63,64,65,66,67,68,69,6A,6B,6C,6D,6E,6F bytes:61,62,63,64,65,66,67,68,69,6A,6B,6C,6D,6E,6F,70 goal → ByteSeq1 a, ByteSeq2 ab, ByteSeq3 abc, ByteSeq4 abcd, ByteSeq5 abcde, ByteSeq6 abcdef, ByteSeq7 abcdefg, ByteSeq8 abcdefgh, ByteSeq9 abcdefghi, ByteSeq10 abcdefghij, ByteSeq11 abcdefghijk, ByteSeq12 abcdefghijkl, ByteSeq13 abcdefghijklm, ByteSeq14 abcdefghijklmn, ByteSeq15 abcdefghijklmno, ByteSeq16 abcdefghijklmnop, Goal
+program cat:5 byteset:61,62 byteset:61,62,63 byteset:61,62,63,64 byteset:61 goal → ByteSet2 [97, 98], ByteSet3 [97, 98, 99], ByteSet4 [97, 98, 99, 100], ByteSeq1 a, Goal
+program cat:5 set:61 set:61,62 set:61,62,63 set:61,62,63,64 goal → CharSet [97, 97, 97, 97], CharSet [97, 98, 97, 97], CharSet [97, 98, 99, 97], CharSet [97, 98, 99, 100], Goal
+program cat:4 set byteset strings:0 goal → JustFail, JustFail, JustFail, Goal
+program cat:2 strings:2 set:61,62 set:63 goal → Alt 4, Char 97, Char 98, Jump 5, Char 99, Goal
+program cat:2 istrings:3 set:61,31 set set:5A goal → Alt 4, CharSet [65, 97, 65, 65], Char 49, Jump 7, Alt 6, Jump 7, CharSet [90, 122, 90, 90], Goal
+program cat:2 behind:0,0 istrings:1 set:31,61 goal → Lookbehind false 0 0 4, CharSet [65, 97, 65, 65], Char 49, Goal, Goal
+program /a*/ → Loop1CharBody 0 18446744073709551615 true, Char 97, Goal
+program /a{2,3}?b/ → Loop1CharBody 2 3 false, Char 97, Char 98, Goal
+program /(?:a|b)+?c/ → EnterLoop 0 1 18446744073709551615 false 6, Alt 4, Char 97, Jump 5, Char 98, LoopAgain 0, Char 99, Goal
+program /(?=a)b/ → Lookahead false 0 0 3, Char 97, Goal, Char 98, Goal
+program /(?!(a))/ → Lookahead true 0 1 5, BeginCaptureGroup 0, Char 97, EndCaptureGroup 0, Goal, Goal
+program /(?<=ab)(?<!(c))/ → Lookbehind false 0 0 4, Char 98, Char 97, Goal, Lookbehind true 0 1 9, BeginCaptureGroup 0, Char 99, EndCaptureGroup 0, Goal, Goal
+program /^$/ → StartOfLine false, EndOfLine false, Goal
+program /^$/m → StartOfLine true, EndOfLine true, Goal
+program /\\b\\B/iu → WordBoundaryUnicodeICase false, WordBoundaryUnicodeICase true, Goal
+program /\\b\\B/i → WordBoundary false, WordBoundary true, Goal
+program /./ → MatchAnyExceptLineTerminator, Goal
+program /./s → MatchAny, Goal
+program /(a)\\1/ → BeginCaptureGroup 0, Char 97, EndCaptureGroup 0, BackRef 0 false, Goal
+program /()()\\2/i → BeginCaptureGroup 0, EndCaptureGroup 0, BeginCaptureGroup 1, EndCaptureGroup 1, BackRef 1 true, Goal
+program /[a-c][]/ → AsciiBracket 97 98 99, AsciiBracket, Goal
+program /[^a-c][é]/ → Bracket 0, Bracket 1, Goal
+program /kK1/i → CharSet [75, 107, 75, 75], CharSet [75, 107, 75, 75], Char 49, Goal
+program /k/iu → CharSet [75, 107, 8490, 75], Goal
 program a → NotWellFormed
 program cat:2 goal a → NotWellFormed
 program alt goal goal → NotWellFormed
@@ -141,4 +168,21 @@ plan cat:6 set:30,31,32,33 set:30,31,32,33 set:30,31,32,33 set:30,31,32,33 set:3
 unit_plan cat:5 a b c d goal → front 97 98 / 98 99 / 99 100 / 100 101 bits 98 of 255 at 1 bits 99 of 255 at 2 bits 97 of 255 at 0 bits 100 of 255 at 3
 unit_plan cat:3 a k goal → front 97 98 / 107 108 bits 107 of 255 at 1 bits 97 of 255 at 0 bits 97 of 255 at 0 bits 97 of 255 at 0
 plan cat:5 J K L M goal → front 74 75 / 75 76 / 76 77 / 77 78 row 4 of [74, 75, 76, 77, 0, 0, 0, 0, 0, 0, 0, 0, 0, 0, 0] at 0 rare 74 at 0 bits 74 of 255 at 0 bits 75 of 255 at 1 bits 76 of 255 at 2 bits 77 of 255 at 3
+plan /a*?b/ → few 2 [97, 98, 0], lazy 98 99
+plan /[ab]+?c/ → few 2 [97, 98, 0], lazy 99 100
+plan /.*?x/ → among 0 10 11 13 14 128 194 245, lazy 120 121
+plan /\"(.*?)\"/ → few 1 [34, 0, 0], lazy 34 35
+unit_plan /a*?b/ → few 2 [97, 98, 0], lazy 98 99
+classes /a*/ → narrow 97:1 98:0
+classes /.*/ → wide 0:1 10:0 11:1 13:0 14:1 128:0 194:2 224:3 226:5 227:3 240:4 245:0 bars [10, 13, 226]
+classes /[^\"]*/ → wide 0:1 34:0 35:1 128:0 194:2 224:3 240:4 245:0 bars [34]
+classes /[^]*/ → wide 0:1 128:0 194:2 224:3 240:4 245:0 bars []
+classes /[^a-d]/ → wide 0:1 97:0 101:1 128:0 194:2 224:3 240:4 245:0
+classes /é*/ → wide 195:5 196:0
+classes /[а-я]*[^é]/ → wide 208:5 210:0; wide 0:1 128:0 194:2 195:5 196:2 224:3 240:4 245:0 bars [195]
+classes /[\\u0080-\\u07ff]/ → wide 194:2 224:0
+unit_classes /a*/ → narrow 97:1 98:0
+unit_classes /.*/ → wide 0:1 10:0 11:1 13:0 14:1 144:5 145:1 236:5 238:1
+unit_classes /[\\u0400-\\u05ff]é*/ → narrow 130:1 131:0; wide 128:5 129:0
+unit_classes /[^]*/ → wide 0:1 236:5 238:1
 ";

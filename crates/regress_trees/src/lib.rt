@@ -7,7 +7,8 @@
 //!   `class:FIRST,LAST,..` and `not:FIRST,LAST,..`;
 //! - with one child `group:ID`, `named:ID,LETTER`, `ahead:FIRST,END`, `behind:FIRST,END`, `loop:FIRST,END,MIN`,
 //!   `loop:FIRST,END,MIN,MAX`, `loop1:MIN` and `loop1:MIN,MAX`, where `FFFFFFFF` is the greatest minimum there is;
-//! - with two children `alt`, with so many `cat:COUNT`, and `strings:COUNT` with so many sets for its strings;
+//! - with two children `alt`, with so many `cat:COUNT`, and `strings:COUNT` with so many sets for its strings, or
+//!   `istrings:COUNT` where their case does not count;
 //! - `groups` for the empty groups of all ids, and `loops` for so many loops over nothing.
 #![tactic(auto)]
 
@@ -55,7 +56,7 @@ fn numbers_of(alloc: Global, text: &str) -> Option<Vec<u32>> {
 fn node_of(alloc: Global, name: &str, numbers: &[u32], nodes: &mut Vec<Node>) -> Option<Node> {
     match (name, numbers) {
         ("cat", [count]) => cat_of(alloc, *count, nodes),
-        ("strings", [count]) => strings_of(alloc, *count, nodes),
+        ("strings" | "istrings", [count]) => strings_of(alloc, *count, name == "istrings", nodes),
         ("alt", []) => {
             let left = child_of(alloc, nodes)?;
             Some(Node::Alt(left, child_of(alloc, nodes)?))
@@ -80,7 +81,7 @@ fn cat_of(alloc: Global, count: u32, nodes: &mut Vec<Node>) -> Option<Node> {
 }
 
 // The strings are those of sets that stand behind.
-fn strings_of(alloc: Global, count: u32, nodes: &mut Vec<Node>) -> Option<Node> {
+fn strings_of(alloc: Global, count: u32, icase: bool, nodes: &mut Vec<Node>) -> Option<Node> {
     let mut alternatives = Vec::new(alloc);
     for _ in 0..count {
         let node = nodes.pop()?;
@@ -93,7 +94,7 @@ fn strings_of(alloc: Global, count: u32, nodes: &mut Vec<Node>) -> Option<Node> 
     }
     Some(Node::StringSet {
         alternatives,
-        icase: false,
+        icase,
     })
 }
 

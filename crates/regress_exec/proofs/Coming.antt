@@ -1,5 +1,5 @@
 -- What is still to come, before and after one call.
-use Rattle.std.proofs.Common.{◌≡◌, ℕ, suc, ◌+◌, ◌<◌, ◌≤◌, [], ◌∷◌, length, Option, Some, None, Err, Bool, true, false, not, refl, sym, ap, ap₂, ◌∙◌, arith}
+use Rattle.std.proofs.Common.{◌≡◌, ℕ, suc, ◌+◌, ◌<◌, ◌≤◌, [], ◌∷◌, length, Option, Some, None, Result, Ok, Err, Bool, true, false, not, refl, sym, ap, ap₂, ◌∙◌, arith, eq-eqb}
 use Rattle.std.proofs.lemmas.Bool.{leb-false}
 use Rattle.std.specs.Prelude.{◌==◌, if◌then◌else◌, nat_le, is_none, IsTrue}
 use Rattle.std.specs.Option.{option_map_or}
@@ -16,7 +16,8 @@ use Rattle.regex_meaning.proofs.AnswerLemmas.{next_start-ahead}
 use Rattle.regress_exec.specs.declared.exec.SearchError.{SearchError}
 use Rattle.regress_exec.specs.declared.exec.SearchError.TheVariants.{Memory, StepLimit}
 use Rattle.regress_exec.specs.Spends.{Spends}
-use Rattle.regress_exec.specs.ToCome.{MayRefuse, ToCome, coming, items_left}
+use Rattle.regress_exec.specs.ToCome.{Gives, LastMatchEnds, MayRefuse, ToCome, coming, items_left}
+use Rattle.regress_exec.specs.declared.exec.Match.{Match}
 use Rattle.regress_exec.proofs.LastMatch.{ends-behind}
 
 module _ (tree : Tree) (text : Text) (is : IsText text) where
@@ -88,3 +89,12 @@ fewer s t a e f =
     at_most_more : (b : Bool) (n : ℕ) → (if b then 0 else n + 1) ≤ n + 1
     at_most_more true n = omega arith
     at_most_more false n = omega arith
+
+ended-none : (s t : ToCome) (next : Option (Result Match SearchError)) → s.ended ≡ true → Gives s next t → next ≡ None
+ended-none s t None e g = refl
+ended-none s t (Some (Ok m)) e g = absurd (cc (sym e ∙ g.2))
+ended-none s t (Some (Err x)) e g = absurd (cc (sym e ∙ g.1))
+
+pub last-ends : LastMatchEnds
+last-ends s t u m next g at k =
+    ended-none t u next (g.4 ∙ eq-eqb m.range.start s.text_end at) k

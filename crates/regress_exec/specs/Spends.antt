@@ -1,5 +1,5 @@
 -- What a search leaves behind it: where the list goes on, and what is left of a budget.
-use Rattle.std.specs.Prelude.{◌≡◌, ℕ, ◌+◌, ◌⊎◌, Bool, true, false, IsTrue, Option, Some, Result, Ok, Err, option_map}
+use Rattle.std.specs.Prelude.{◌≡◌, ℕ, ◌+◌, Bool, true, false, IsTrue, Option, Some, Result, Ok, Err, option_map}
 use Rattle.regex_meaning.specs.Tree.{Tree}
 use Rattle.regex_meaning.specs.Text.{Text}
 use Rattle.regex_meaning.specs.Answers.{next_start}
@@ -25,10 +25,10 @@ abbrev pub Tells : {X : Type 0} → Result X SearchError → (out_of_steps : Boo
 Tells (Ok x) out_of_steps = out_of_steps ≡ false
 Tells (Err e) out_of_steps = e ≡ cause_of out_of_steps
 
--- A refusal for want of memory keeps this, or else a step was taken before it, where steps are counted.
-abbrev pub KeepsOrTakes : {X : Type 0} → (Keeps : Type 0) → (before : Option ℕ) → Result X SearchError → (after : Option ℕ) → Type 0
-KeepsOrTakes Keeps (Some before) (Err Memory) after = Keeps ⊎ IsNoMore (option_map (λ n. n + 1) after) (Some before)
-KeepsOrTakes Keeps _ _ _ = Unit {0}
+-- Where an attempt has begun, and steps are counted, want of memory comes behind a step that was taken.
+abbrev pub TakesIfBegun : {X : Type 0} → (Begun : Type 0) → (before : Option ℕ) → Result X SearchError → (after : Option ℕ) → Type 0
+TakesIfBegun Begun (Some before) (Err Memory) after = Begun → IsNoMore (option_map (λ n. n + 1) after) (Some before)
+TakesIfBegun Begun _ _ _ = Unit {0}
 
 -- the list goes on from here behind the first match from an offset
 abbrev pub GoesOn : Tree → Text → (at : ℕ) → (next : Option ℕ) → Type 0

@@ -51,3 +51,8 @@ Gives s (Some (Err e)) t = MayRefuse e s × (s.ended ≡ false) × HasEnded t ×
 -- at most so many items are yielded, a refusal among them
 abbrev pub items_left : ToCome → ℕ
 items_left s = if s.ended then 0 else length s.answers + 1
+
+-- behind a match that begins at the end of the text the next call answers none
+abbrev pub LastMatchEnds : Type 0
+LastMatchEnds = (before behind later : ToCome) (m : Match) (next : Option (Result Match SearchError))
+    → Gives before (Some (Ok m)) behind → m.range.start ≡ before.text_end → Gives behind next later → next ≡ None

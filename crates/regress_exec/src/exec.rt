@@ -10,7 +10,7 @@ ghost use Rattle.regex_meaning.specs.Answers.{first_answer};
 ghost use Rattle.regex_meaning.specs.Steps.{answers_within, end_within, need_from};
 ghost use Rattle.regex_pattern_front.specs.TreeOf.{tree_of};
 ghost use Rattle.regress_exec.specs.Spends.{GoesOn, Spends, cause_of};
-ghost use Rattle.regress_exec.specs.ToCome.{ToCome, coming, Gives, items_left};
+ghost use Rattle.regress_exec.specs.ToCome.{ToCome, coming, Gives, LastMatchEnds, items_left};
 
 use regress_input::position::PositionType;
 use regress_program::insn::{CompiledRegex, GroupNames};
@@ -210,3 +210,9 @@ impl<P: MatchProducer + Drop> Iterator for Matches<P> {
         }
     }
 }
+
+/// Behind a match at the end of the text, which is empty, nothing is searched any more: the next call answers none, and takes
+/// no memory for it.
+pub fn last_match_ends_the_list()
+    ensures { LastMatchEnds }
+{}

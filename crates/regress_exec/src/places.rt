@@ -1,6 +1,6 @@
 //! The walk over the places of a text, once for all executors.
 
-ghost use Rattle.std.specs.Prelude.{◌≡◌, ◌+◌, ◌≤◌, ℕ, Bool, false, IfOk, IsSome, None, Option, map, option_map, length};
+ghost use Rattle.std.specs.Prelude.{◌≡◌, ◌+◌, ◌≤◌, ℕ, ⊤, Bool, false, IfOk, IsSome, None, Option, map, option_map, length};
 ghost use Rattle.regex_meaning.specs.Tree.{Tree};
 ghost use Rattle.regex_meaning.specs.Text.{Text};
 ghost use Rattle.regex_meaning.specs.Offsets.{IsText, IsBoundary};
@@ -10,7 +10,7 @@ ghost use Rattle.regex_pattern_front.specs.TreeOf.{tree_of};
 ghost use Rattle.regress_exec.specs.Answers.{answer_by, answer_of, range_of};
 ghost use Rattle.regress_exec.specs.Attempts.{IsNextTry, IsVain, ends_with, end_from, first_tried, next_tried, offset_behind, ticks_from};
 ghost use Rattle.regress_exec.specs.Positions.{span_of};
-ghost use Rattle.regress_exec.specs.Spends.{Spends, KeepsOrTakes, Tells};
+ghost use Rattle.regress_exec.specs.Spends.{Spends, TakesIfBegun, Tells};
 
 use crate::exec::{Match, MatchProducer, SearchError};
 use regress_input::indexing::InputIndexer;
@@ -19,8 +19,8 @@ use std::alloc::AllocError;
 use std::ops::Range;
 
 /// An executor that tries one place at a time. Contracts see the tree whose program it runs, the text, the steps that
-/// it may still take where they are counted, whether steps were refused in the last attempt, and the groups of the last
-/// one that found an end.
+/// it may still take where they are counted, whether steps were refused in the last attempt and whether it has begun,
+/// which also takes memory, and the groups of the last one that found an end.
 ///
 /// Where steps are counted, the places that are tried are those that the start predicate lets through.
 pub trait Attempts {
@@ -34,6 +34,8 @@ pub trait Attempts {
     ghost budget: { Self → Option ℕ } = { λ _. None };
 
     ghost out_of_steps: { Self → Bool } = { λ _. false };
+
+    ghost has_begun: { Self → Type 0 } = { λ _. ⊤ };
 
     ghost groups: { Self → Groups };
 
@@ -50,7 +52,7 @@ pub trait Attempts {
     /// # Errors
     ///
     /// `StepLimit` where more steps are needed than are left, and then none is; and `Memory`, behind which the steps
-    /// that were taken stay taken: one at least, unless the groups are still those of the attempt before.
+    /// that were taken stay taken: one at least, if it has begun.
     fn attempt(
         &mut self,
         pos: <Self::Input as InputIndexer>::Position,
@@ -58,7 +60,7 @@ pub trait Attempts {
         requires { IsBoundary (text self.old) (Self.Input.Position.offset pos) }
         ensures found { IfOk result (λ end. ends_with Self.Input.Position.offset end (groups self.new) ≡ end_from (tree self.old) (text self.old) (Self.Input.Position.offset pos)) }
         ensures steps { Spends (ticks_from (tree self.old) (text self.old) (Self.Input.Position.offset pos)) (budget self.old) result (budget self.new) }
-        ensures begun { KeepsOrTakes (groups self.new ≡ groups self.old) (budget self.old) result (budget self.new) }
+        ensures begun { TakesIfBegun (has_begun self.new) (budget self.old) result (budget self.new) }
         ensures cause { Tells result (out_of_steps self.new) }
         ensures same_tree { tree self.new ≡ tree self.old }
         ensures same_text { text self.new ≡ text self.old };

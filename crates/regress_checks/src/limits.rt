@@ -1,24 +1,41 @@
 //! Searches whose steps are limited.
 
-use crate::lines::write_limited;
+ghost use Rattle.regress_match.specs.Programs.{IsStart};
+
+use crate::lines::{write_limited, write_one};
 use crate::starts::is_start;
 use regress_match::backends::{LimitedExecutor, emit};
-use regress_match::{Flags, Regex, SearchError};
+use regress_match::{Flags, Match, Regex, SearchError};
 use regress_program::insn::CompiledRegex;
 use regress_rows::rows::{Row, compare};
-use regress_search::exec::Matches;
+use regress_search::exec::{MatchProducer, Matches};
 use regress_trees::tree_of;
 use std::alloc::Global;
 
 // Rows of seven fields: a pattern, `no_opt` or nothing, a text, a start, the least and the greatest number of steps, and
 // what the search finds with each number of steps from the one to the other. `limit` stands where the limit is reached.
-// For `tree` in the second field the first one is a tree in words.
+// For `tree` in the second field the first one is a tree in words. So it is for `left`, and then the first match alone is
+// looked for, behind which stands how many steps are left.
 pub const LIMITS: &str = r#"cat:2 a goal~tree~a~0~0~1~limit
 cat:2 a goal~tree~a~0~2~2~0..1; limit
 cat:2 a goal~tree~a~0~3~20~0..1
 cat:2 alt a b goal~tree~b~0~0~4~limit
 cat:2 alt a b goal~tree~b~0~5~8~0..1; limit
 cat:2 alt a b goal~tree~b~0~9~20~0..1
+cat:2 a goal~left~a~0~0~1~limit, 0 left
+cat:2 a goal~left~a~0~2~2~0..1, 0 left
+cat:2 a goal~left~a~0~3~3~0..1, 1 left
+cat:2 a goal~left~a~0~20~20~0..1, 18 left
+cat:2 a goal~left~a~1~0~0~limit, 0 left
+cat:2 a goal~left~a~1~1~1~, 0 left
+cat:2 a goal~left~a~1~3~3~, 2 left
+cat:2 a goal~left~a~2~2~2~, 2 left
+cat:2 alt a b goal~left~b~0~0~4~limit, 0 left
+cat:2 alt a b goal~left~b~0~7~7~0..1, 2 left
+cat:3 loop1:0 a a goal~left~aa~0~11~11~0..2, 3 left
+cat:2 bytes:61,62 goal~left~aab~0~5~5~1..3, 3 left
+cat:2 byteset:61,62 goal~left~éa€b~0~5~5~2..3, 3 left
+cat:2 byteset:61,62 goal~left~éa€b~3~5~5~6..7, 3 left
 cat:3 loop1:0 a a goal~tree~aa~0~0~7~limit
 cat:3 loop1:0 a a goal~tree~aa~0~8~10~0..2; limit
 cat:3 loop1:0 a a goal~tree~aa~0~11~20~0..2
@@ -84,6 +101,41 @@ fn write_emitted(
     write_limited(line, &mut matches, false)
 }
 
+// Looks for the first match from a start on.
+fn first_from<P: MatchProducer>(
+    executor: &mut P,
+    start: usize,
+) -> Result<Option<Match>, SearchError>
+    requires { IsStart (P.text executor.old) start }
+{
+    let Some(pos) = executor.initial_position(start) else {
+        return Ok(None);
+    };
+    let mut next = Some(pos);
+    executor.next_match(pos, &mut next)
+}
+
+// Writes the first match of a program, and how many of so many steps are left behind it.
+fn write_left(
+    line: &mut String,
+    re: &CompiledRegex,
+    text: &str,
+    start: usize,
+    steps: u64,
+) -> Result<(), SearchError> {
+    if !is_start(text, start) {
+        return Ok(line.push_str("no start")?);
+    }
+    let mut executor = LimitedExecutor::new(re, text, steps)?;
+    match first_from(&mut executor, start) {
+        Ok(found) => write_one(line, &found)?,
+        Err(SearchError::StepLimit) => line.push_str("limit")?,
+        Err(SearchError::Memory) => return Err(SearchError::Memory),
+    }
+    let left = executor.steps_left();
+    Ok(write!(line, ", {left} left")?)
+}
+
 // Writes what is found of a pattern within so many steps.
 fn write_found(line: &mut String, re: &Regex, search: Search<'_>) -> Result<(), SearchError> {
     if !is_start(search.text, search.start) {
@@ -101,11 +153,13 @@ fn write_of_tree(
     line: &mut String,
     words: &str,
     search: Search<'_>,
+    left: bool,
 ) -> Result<(), SearchError> {
     let Some(tree) = tree_of(alloc, words) else {
         return Ok(line.push_str("no tree")?);
     };
     match emit(alloc, &tree) {
+        Ok(re) if left => write_left(line, &re, search.text, search.start, search.steps),
         Ok(re) => write_emitted(line, &re, search.text, search.start, search.steps),
         Err(_) => Ok(line.push_str("no program")?),
     }
@@ -139,7 +193,7 @@ fn write_row(alloc: Global, line: &mut String, asked: &str, steps: u64) -> Resul
     };
     let search = Search { text, start, steps };
     match kind {
-        "tree" => write_of_tree(alloc, line, pattern, search),
+        "tree" | "left" => write_of_tree(alloc, line, pattern, search, kind == "left"),
         _ => write_of_pattern(alloc, line, pattern, kind == "no_opt", search),
     }
 }

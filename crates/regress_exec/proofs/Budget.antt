@@ -287,6 +287,19 @@ module _ (tree : Tree) (text : Text) (is : IsText text) where
       let le = s.within in
       lt-leb needed steps (omega (arith, less, all, some, le))
 
+  -- what is left is no less than an answer would leave
+  pub spent-most : (first now : Option ℕ) (needed at : ℕ) → IsSpent tree text first now needed (Some at) → (after : Option ℕ) → IsNoMore (left_of now (ticks_from tree text at)) after
+      → IsNoMore (left_of first needed) after
+  spent-most None now needed at s after most = subst (λ b. IsNoMore (left_of b (ticks_from tree text at)) after) s most
+  spent-most (Some steps) now needed at s after most = by after (subst (λ b. IsNoMore (left_of b (ticks_from tree text at)) after) s.left most)
+    where
+      by : (after : Option ℕ) → IsNoMore (Some (steps - s.spent - ticks_from tree text at)) after → IsNoMore (Some (steps - needed)) after
+      by None h = h
+      by (Some n) h =
+          let all = s.needs in
+          let some = takes at (s.tried at refl) in
+          omega (arith, h, all, some)
+
   pub spent-less : (first now : Option ℕ) (needed : ℕ) (next : Option ℕ) → IsSpent tree text first now needed next → (after : Option ℕ) → IsNoMore after now → IsNoMore after first
   spent-less None now needed next s after less = subst (IsNoMore after) s less
   spent-less (Some steps) now needed next s after less = by after (subst (IsNoMore after) s.left less)
@@ -310,8 +323,16 @@ left-no_more (Some steps) n = omega arith
 -- a refusal of an attempt is one of the search
 pub refused : (tree : Tree) (text : Text) (is : IsText text) (first now after : Option ℕ) (needed at : ℕ) (X Y : Type 0) (e : SearchError) → IsSpent tree text first now needed (Some at)
     → Spends {X = X} (ticks_from tree text at) now (Err e) after → Spends {X = Y} needed first (Err e) after
-refused tree text is first now after needed at X Y Memory s r = spent-less tree text is first now needed (Some at) s after r
+refused tree text is first now after needed at X Y Memory s r = (spent-less tree text is first now needed (Some at) s after r.0, spent-most tree text is first now needed at s after r.1)
 refused tree text is first now after needed at X Y StepLimit s r = (spent-beyond tree text is first now needed at s r.0, r.1)
+
+no_more-same : (budget : Option ℕ) → IsNoMore budget budget
+no_more-same None = tt
+no_more-same (Some n) = omega arith
+
+-- want of memory behind all that is needed
+pub refused-last : (X : Type 0) (need : ℕ) (first after : Option ℕ) → after ≡ left_of first need → Spends {X = X} need first (Err Memory) after
+refused-last X need first after left = subst (λ after. Spends {X = X} need first (Err Memory) after) (sym left) (left-no_more first need, no_more-same (left_of first need))
 
 -- and the same of what is handed up
 pub handed : (X Y : Type 0) (need : ℕ) (first after : Option ℕ) (e : SearchError) (r : Result Y SearchError) → IsErrAnd r (λ f. f ≡ e)

@@ -1,7 +1,7 @@
 -- What is still to come, before and after one call.
-use Rattle.std.proofs.Common.{◌≡◌, ℕ, suc, ◌+◌, ◌<◌, ◌≤◌, [], ◌∷◌, length, Option, Some, None, Err, Bool, true, false, not, refl, sym, ap, ap₂, ◌∙◌, arith}
+use Rattle.std.proofs.Common.{◌≡◌, ℕ, suc, ◌+◌, ◌<◌, ◌≤◌, [], ◌∷◌, length, Option, Some, None, Result, Ok, Err, Bool, true, false, not, refl, sym, ap, ap₂, ◌∙◌, arith, eq-eqb}
 use Rattle.std.proofs.lemmas.Bool.{leb-false}
-use Rattle.std.specs.Prelude.{if◌then◌else◌, nat_le, is_none, IsTrue}
+use Rattle.std.specs.Prelude.{◌==◌, if◌then◌else◌, nat_le, is_none, IsTrue}
 use Rattle.std.specs.Option.{option_map_or}
 use Rattle.regex_meaning.specs.Tree.{Tree}
 use Rattle.regex_meaning.specs.Text.{Text}
@@ -16,7 +16,9 @@ use Rattle.regex_meaning.proofs.AnswerLemmas.{next_start-ahead}
 use Rattle.regress_exec.specs.declared.exec.SearchError.{SearchError}
 use Rattle.regress_exec.specs.declared.exec.SearchError.TheVariants.{Memory, StepLimit}
 use Rattle.regress_exec.specs.Spends.{Spends}
-use Rattle.regress_exec.specs.ToCome.{MayRefuse, ToCome, coming, items_left}
+use Rattle.regress_exec.specs.ToCome.{Gives, LastMatchEnds, MayRefuse, ToCome, coming, items_left}
+use Rattle.regress_exec.specs.declared.exec.Match.{Match}
+use Rattle.regress_exec.proofs.LastMatch.{ends-behind}
 
 module _ (tree : Tree) (text : Text) (is : IsText text) where
   pub new-comes : (budget : Option ℕ) (start : ℕ) (position : Option ℕ) → position ≡ (if nat_le start (units text) then Some start else None)
@@ -36,7 +38,7 @@ module _ (tree : Tree) (text : Text) (is : IsText text) where
           let none = past-end (place_at-past text start is (leb-false start (units text) q)) budget in
           (ap (answers_next tree text budget) e ∙ none.0, ap (end_next tree text budget) e ∙ none.1)
 
-  module _ (s : ToCome) (budget position : Option ℕ) (at : ℕ) (was : coming tree text budget position ≡ s) (here : position ≡ Some at) where
+  module _ (s : ToCome) (budget position : Option ℕ) (out : Bool) (at : ℕ) (was : coming tree text budget position out ≡ s) (here : position ≡ Some at) where
     answers-here : s.answers ≡ answers_within tree text budget at
     answers-here = ap (λ (s : ToCome). s.answers) (sym was) ∙ ap (answers_next tree text budget) here
 
@@ -46,15 +48,21 @@ module _ (tree : Tree) (text : Text) (is : IsText text) where
     pub not-ended : s.ended ≡ false
     not-ended = ap (λ (s : ToCome). s.ended) (sym was) ∙ ap is_none here
 
+    end-is : units text ≡ s.text_end
+    end-is = ap (λ (s : ToCome). s.text_end) was
+
     -- one call that found a match, from what the iterator saw to what it sees
     pub call-some : (a : Answer) (tree' : Tree) (text' : Text) (after next : Option ℕ) → Some a ≡ first_answer tree.root text at → next ≡ next_start tree.root text at
         → tree' ≡ tree → text' ≡ text → IsTrue (is_within budget (need_from tree text at)) → after ≡ left_of budget (need_from tree text at)
         → (s.answers ≡ a ∷ answers_next tree' text' after next) × (s.limited ≡ not (end_next tree' text' after next)) × (s.ended ≡ false)
+        × (units text' ≡ s.text_end) × (is_none next ≡ (a.range.0 == s.text_end))
     call-some a tree' text' after next found on r t within left =
         let w = within-some tree text is budget at a (sym found) within in (
           answers-here ∙ w.0 ∙ ap₂ (λ b n. a ∷ answers_next tree text b n) (sym left) (sym on) ∙ ap₂ (λ r t. a ∷ answers_next r t after next) (sym r) (sym t),
           limit-here ∙ ap not (w.1 ∙ ap₂ (end_next tree text) (sym left) (sym on)) ∙ ap₂ (λ r t. not (end_next r t after next)) (sym r) (sym t),
           not-ended,
+          ap units t ∙ end-is,
+          ap is_none on ∙ ends-behind tree.root text is at a (sym found) ∙ ap (λ n. a.range.0 == n) end-is,
         )
 
     -- and one that found none
@@ -81,3 +89,12 @@ fewer s t a e f =
     at_most_more : (b : Bool) (n : ℕ) → (if b then 0 else n + 1) ≤ n + 1
     at_most_more true n = omega arith
     at_most_more false n = omega arith
+
+ended-none : (s t : ToCome) (next : Option (Result Match SearchError)) → s.ended ≡ true → Gives s next t → next ≡ None
+ended-none s t None e g = refl
+ended-none s t (Some (Ok m)) e g = absurd (cc (sym e ∙ g.2))
+ended-none s t (Some (Err x)) e g = absurd (cc (sym e ∙ g.1))
+
+pub last-ends : LastMatchEnds
+last-ends s t u m next g at k =
+    ended-none t u next (g.4 ∙ eq-eqb m.range.start s.text_end at) k

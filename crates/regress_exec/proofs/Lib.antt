@@ -9,6 +9,7 @@ pub mod Passing
 pub mod Literals
 pub mod Groups
 pub mod InTurn
+mod LastMatch
 pub mod Skips
 pub mod Budget
 pub mod Walking

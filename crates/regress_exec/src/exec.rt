@@ -1,6 +1,6 @@
 //! Finding matches in turn.
 
-ghost use Rattle.std.specs.Prelude.{◌≡◌, ◌<◌, ◌≤◌, ◌⊎◌, ℕ, Bool, Option, map, option_map, IfOk, OnErr, OnSome, IfNone, if◌then◌else◌, nat_le, not, Some, None, string_bytes};
+ghost use Rattle.std.specs.Prelude.{◌≡◌, ◌<◌, ◌≤◌, ◌⊎◌, ℕ, Bool, false, Option, map, option_map, IfOk, IfErr, OnErr, OnSome, IfNone, if◌then◌else◌, nat_le, not, Some, None, string_bytes};
 ghost use Rattle.std.specs.Iterator.{at_most};
 ghost use Rattle.std.specs.Option.{ForSome};
 ghost use Rattle.regex_meaning.specs.Tree.{Tree};
@@ -9,8 +9,8 @@ ghost use Rattle.regex_meaning.specs.Offsets.{IsText, IsBoundary, units};
 ghost use Rattle.regex_meaning.specs.Answers.{first_answer};
 ghost use Rattle.regex_meaning.specs.Steps.{answers_within, end_within, need_from};
 ghost use Rattle.regex_pattern_front.specs.TreeOf.{tree_of};
-ghost use Rattle.regress_exec.specs.Spends.{GoesOn, Spends};
-ghost use Rattle.regress_exec.specs.ToCome.{ToCome, coming, Gives, items_left};
+ghost use Rattle.regress_exec.specs.Spends.{GoesOn, Spends, cause_of};
+ghost use Rattle.regress_exec.specs.ToCome.{ToCome, coming, Gives, LastMatchEnds, items_left};
 
 use regress_input::position::PositionType;
 use regress_program::insn::{CompiledRegex, GroupNames};
@@ -82,8 +82,8 @@ impl Match {
     }
 }
 
-/// What finds the matches of a pattern in a text, one at a time. Contracts see the pattern's tree, the text, and the
-/// steps that it may still take, none where there is no limit.
+/// What finds the matches of a pattern in a text, one at a time. Contracts see the pattern's tree, the text, the steps
+/// that it may still take, none where there is no limit, and whether steps were refused in its last search.
 pub trait MatchProducer {
     ghost use Rattle.regress_exec.specs.Answers.{answer_of};
 
@@ -96,6 +96,8 @@ pub trait MatchProducer {
 
     ghost budget: { Self → Option ℕ } = { λ _. None };
 
+    ghost out_of_steps: { Self → Bool } = { λ _. false };
+
     /// The position of an offset in units, which is a boundary or past the end; none where it is past the end.
     fn initial_position(&self, offset: usize) -> Option<Self::Position>
         requires { IsBoundary (text self.now) offset ⊎ (units (text self.now) < offset) }
@@ -106,7 +108,8 @@ pub trait MatchProducer {
     ///
     /// # Errors
     ///
-    /// `StepLimit` where more steps are needed than are left, and then none is; and `Memory`.
+    /// `StepLimit` where more steps are needed than are left, and then none is; and `Memory`, behind which the steps
+    /// that were taken stay taken.
     fn next_match(
         &mut self,
         pos: Self::Position,
@@ -118,6 +121,7 @@ pub trait MatchProducer {
         ensures none { IfOk result (λ m. IfNone m (next_start.new ≡ next_start.old)) }
         ensures refused { OnErr result (next_start.new ≡ next_start.old) }
         ensures steps { Spends (need_from (tree self.old) (text self.old) (Self.Position.offset pos)) (budget self.old) result (budget self.new) }
+        ensures cause { IfErr result (λ e. e ≡ cause_of (out_of_steps self.new)) }
         ensures same_tree { tree self.new ≡ tree self.old }
         ensures same_text { text self.new ≡ text self.old };
 
@@ -164,7 +168,7 @@ pub struct Matches<P: MatchProducer> {
 impl<P: MatchProducer> Model for Matches<P> {
     ghost Value = { ToCome };
 
-    ghost view = { λ m. coming (P.tree m.mp) (P.text m.mp) (P.budget m.mp) (option_map P.Position.offset m.position) };
+    ghost view = { λ m. coming (P.tree m.mp) (P.text m.mp) (P.budget m.mp) (option_map P.Position.offset m.position) (P.out_of_steps m.mp) };
 
     ghost invariant = { λ m. ForSome m.position (λ p. IsBoundary (P.text m.mp) (P.Position.offset p)) };
 }
@@ -176,6 +180,7 @@ impl<P: MatchProducer> Matches<P> {
         ensures answers { result.answers ≡ answers_within (P.tree mp) (P.text mp) (P.budget mp) start }
         ensures limited { result.limited ≡ not (end_within (P.tree mp) (P.text mp) (P.budget mp) start) }
         ensures ended { result.ended ≡ not (nat_le start (units (P.text mp))) }
+        ensures text_end { result.text_end ≡ units (P.text mp) }
     {
         let position = mp.initial_position(start);
         Matches { mp, position }
@@ -205,3 +210,9 @@ impl<P: MatchProducer + Drop> Iterator for Matches<P> {
         }
     }
 }
+
+/// Behind a match at the end of the text, which is empty, nothing is searched any more: the next call answers none, and takes
+/// no memory for it.
+pub fn last_match_ends_the_list()
+    ensures { LastMatchEnds }
+{}

@@ -1,6 +1,6 @@
 //! The walk over the places of a text, once for all executors.
 
-ghost use Rattle.std.specs.Prelude.{◌≡◌, ◌+◌, ◌≤◌, ℕ, IfOk, IsSome, None, Option, map, option_map, length};
+ghost use Rattle.std.specs.Prelude.{◌≡◌, ◌+◌, ◌≤◌, ℕ, ⊤, Bool, false, IfOk, IsSome, None, Option, map, option_map, length};
 ghost use Rattle.regex_meaning.specs.Tree.{Tree};
 ghost use Rattle.regex_meaning.specs.Text.{Text};
 ghost use Rattle.regex_meaning.specs.Offsets.{IsText, IsBoundary};
@@ -10,7 +10,7 @@ ghost use Rattle.regex_pattern_front.specs.TreeOf.{tree_of};
 ghost use Rattle.regress_exec.specs.Answers.{answer_by, answer_of, range_of};
 ghost use Rattle.regress_exec.specs.Attempts.{IsNextTry, IsVain, ends_with, end_from, first_tried, next_tried, offset_behind, ticks_from};
 ghost use Rattle.regress_exec.specs.Positions.{span_of};
-ghost use Rattle.regress_exec.specs.Spends.{Spends};
+ghost use Rattle.regress_exec.specs.Spends.{Spends, TakesIfBegun, Tells};
 
 use crate::exec::{Match, MatchProducer, SearchError};
 use regress_input::indexing::InputIndexer;
@@ -19,7 +19,8 @@ use std::alloc::AllocError;
 use std::ops::Range;
 
 /// An executor that tries one place at a time. Contracts see the tree whose program it runs, the text, the steps that
-/// it may still take where they are counted, and the groups of the last attempt that found an end.
+/// it may still take where they are counted, whether steps were refused in the last attempt and whether it has begun,
+/// which also takes memory, and the groups of the last one that found an end.
 ///
 /// Where steps are counted, the places that are tried are those that the start predicate lets through.
 pub trait Attempts {
@@ -31,6 +32,10 @@ pub trait Attempts {
     ghost text: { Self → Text };
 
     ghost budget: { Self → Option ℕ } = { λ _. None };
+
+    ghost out_of_steps: { Self → Bool } = { λ _. false };
+
+    ghost has_begun: { Self → Type 0 } = { λ _. ⊤ };
 
     ghost groups: { Self → Groups };
 
@@ -46,7 +51,8 @@ pub trait Attempts {
     ///
     /// # Errors
     ///
-    /// `StepLimit` where more steps are needed than are left, and then none is; and `Memory`.
+    /// `StepLimit` where more steps are needed than are left, and then none is; and `Memory`, behind which the steps
+    /// that were taken stay taken: one at least, if it has begun.
     fn attempt(
         &mut self,
         pos: <Self::Input as InputIndexer>::Position,
@@ -54,6 +60,8 @@ pub trait Attempts {
         requires { IsBoundary (text self.old) (Self.Input.Position.offset pos) }
         ensures found { IfOk result (λ end. ends_with Self.Input.Position.offset end (groups self.new) ≡ end_from (tree self.old) (text self.old) (Self.Input.Position.offset pos)) }
         ensures steps { Spends (ticks_from (tree self.old) (text self.old) (Self.Input.Position.offset pos)) (budget self.old) result (budget self.new) }
+        ensures begun { TakesIfBegun (has_begun self.new) (budget self.old) result (budget self.new) }
+        ensures cause { Tells result (out_of_steps self.new) }
         ensures same_tree { tree self.new ≡ tree self.old }
         ensures same_text { text self.new ≡ text self.old };
 
@@ -161,6 +169,8 @@ impl<A: Attempts> MatchProducer for A {
     ghost text = { A.text };
 
     ghost budget = { A.budget };
+
+    ghost out_of_steps = { A.out_of_steps };
 
     ghost is_text = { A.is_text };
 

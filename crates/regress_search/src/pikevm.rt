@@ -265,7 +265,14 @@ impl<'r, 't> PikeVMExecutor<'r, Ucs2Input<'t>> {
     }
 }
 
-/// What `AsAscii` of the executor over UTF-8 names reads each byte of a text of ASCII as a character.
+/// What `AsAscii` of the executor over UTF-8 names takes each text of ASCII, and reads each of its bytes as a character.
 pub fn ascii_is_read_in_bytes()
-    ensures { ⟦<<PikeVMExecutor<'static, Utf8Input<'static>> as Executor<'static, 'static>>::AsAscii as Searcher<'static>>⟧.text_of ≡ (λ text. ascii_text text.now) }
+    ensures takes { ⟦<<PikeVMExecutor<'static, Utf8Input<'static>> as Executor<'static, 'static>>::AsAscii as Searcher<'static>>⟧.can_search ≡ (λ text. IsAscii text.now) }
+    ensures reads { ⟦<<PikeVMExecutor<'static, Utf8Input<'static>> as Executor<'static, 'static>>::AsAscii as Searcher<'static>>⟧.text_of ≡ (λ text. ascii_text text.now) }
+{}
+
+/// What `AsAscii` of the executor over ASCII names does so too.
+pub fn ascii_stays_in_bytes()
+    ensures takes { ⟦<<PikeVMExecutor<'static, AsciiInput<'static>> as Executor<'static, 'static>>::AsAscii as Searcher<'static>>⟧.can_search ≡ (λ text. IsAscii text.now) }
+    ensures reads { ⟦<<PikeVMExecutor<'static, AsciiInput<'static>> as Executor<'static, 'static>>::AsAscii as Searcher<'static>>⟧.text_of ≡ (λ text. ascii_text text.now) }
 {}

@@ -1,6 +1,6 @@
 //! What a search remembers: a row of slots, a log of the values that they had, and the ways still to try.
 
-ghost use Rattle.std.specs.Prelude.{◌≡◌, ◌<◌, ◌≤◌, ◌+◌, ◌-◌, ◌^◌, ◌++◌, ℕ, [], ◌∷◌, length, take, if◌then◌else◌, nat_lt, false, slice_get, slice_set, Some, OnOk, OnErr, IfOk};
+ghost use Rattle.std.specs.Prelude.{◌≡◌, ◌≢◌, ◌<◌, ◌≤◌, ◌+◌, ◌-◌, ◌^◌, ◌++◌, ℕ, [], ◌∷◌, length, take, if◌then◌else◌, nat_lt, false, slice_get, slice_set, Some, OnOk, OnErr, IfOk};
 ghost use Rattle.regress_turns.specs.Memory.{Held, undone, AreThere, first_slots, state_of, loop_in, with_marks, IsUndone, IsSet, Becomes, with_open, without_range, with_range, with_iteration};
 
 use std::alloc::{AllocError, Global};
@@ -107,9 +107,9 @@ fn grow<T: Copy + Drop>(row: &mut Vec<T>, value: T) -> Result<(), AllocError>
 #[cold]
 #[inline(never)]
 fn make(slots: &mut Vec<Slot>, count: usize) -> Result<(), AllocError>
-    ensures { OnOk result (length slots.new.items ≡ count) }
+    ensures made { OnOk result (length slots.new.items ≡ count) }
+    ensures refused { OnErr result (slots.new.items ≡ slots.old.items) }
 {
-    slots.clear();
     slots.resize(count, NO_SLOT)
 }
 
@@ -157,7 +157,8 @@ impl Memory {
     /// only where there were fewer slots before.
     pub fn begin(&mut self, groups: usize, loops: usize, at: usize) -> Result<(), AllocError>
         requires { groups + loops < 2 ^ 64 }
-        ensures { OnOk result (self.new ≡ record { groups = groups; slots = first_slots groups loops at; log = []; marks = [] }) }
+        ensures begun { OnOk result (self.new ≡ record { groups = groups; slots = first_slots groups loops at; log = []; marks = [] }) }
+        ensures refused { OnErr result (length self.new.slots ≢ groups + loops) }
     {
         self.groups = 0;
         self.logged = 0;

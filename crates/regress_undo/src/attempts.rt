@@ -1,8 +1,9 @@
 //! One attempt at a place.
 
-ghost use Rattle.std.specs.Prelude.{◌≡◌, IfOk, false, if◌then◌else◌, option_map};
+ghost use Rattle.std.specs.Prelude.{◌≡◌, IfOk, false, option_map};
 ghost use Rattle.regex_meaning.specs.Offsets.{IsBoundary};
-ghost use Rattle.regress_undo.specs.Attempted.{IsEndFrom, SpendsAt};
+ghost use Rattle.regress_exec.specs.Spends.{cause_of, Tells};
+ghost use Rattle.regress_undo.specs.Attempted.{IsEndFrom, SpendsAt, TakesIfLaidOut};
 ghost use Rattle.regress_undo.specs.Searched.{CanBeSearched};
 
 use crate::run::run;
@@ -15,7 +16,7 @@ use regress_turns::steps::{Steps, Stop};
 
 // Why a search stopped: steps were refused, or else memory was.
 fn cause<S: Steps>(steps: &S) -> SearchError
-    ensures { result ≡ (if (S.budget steps.now).out then SearchError.StepLimit else SearchError.Memory) }
+    ensures { result ≡ cause_of (S.budget steps.now).out }
 {
     if steps.is_out() {
         SearchError::StepLimit
@@ -48,6 +49,9 @@ pub(crate) fn attempt<W: Planned, S: Steps>(
     requires fresh { (S.budget steps.old).out ≡ false }
     ensures found { IfOk result (IsEndFrom W.Input.Position.offset (W.searching planned.now) (W.Input.Position.offset pos) memory.new) }
     ensures steps { SpendsAt (W.searching planned.now) (W.Input.Position.offset pos) S.COUNTS (S.budget steps.old) result (S.budget steps.new) }
+    ensures begun { TakesIfLaidOut (W.searching planned.now) memory.new S.COUNTS (S.budget steps.old) result
+        (S.budget steps.new) }
+    ensures cause { Tells result (S.budget steps.new).out }
 {
     let at = planned.input().pos_to_offset(pos);
     let program = planned.program();

@@ -166,7 +166,14 @@ impl<'r, 't> Executor<'r, 't> for BacktrackExecutor<'r, AsciiInput<'t>> {
     type AsAscii = Self;
 }
 
-/// What `AsAscii` of the executor over UTF-8 names reads each byte of a text of ASCII as a character.
+/// What `AsAscii` of the executor over UTF-8 names takes each text of ASCII, and reads each of its bytes as a character.
 pub fn ascii_is_read_in_bytes()
-    ensures { ⟦<<BacktrackExecutor<'static, Utf8Input<'static>> as Executor<'static, 'static>>::AsAscii as Searcher<'static>>⟧.text_of ≡ (λ text. ascii_text text.now) }
+    ensures takes { ⟦<<BacktrackExecutor<'static, Utf8Input<'static>> as Executor<'static, 'static>>::AsAscii as Searcher<'static>>⟧.can_search ≡ (λ text. IsAscii text.now) }
+    ensures reads { ⟦<<BacktrackExecutor<'static, Utf8Input<'static>> as Executor<'static, 'static>>::AsAscii as Searcher<'static>>⟧.text_of ≡ (λ text. ascii_text text.now) }
+{}
+
+/// What `AsAscii` of the executor over ASCII names does so too.
+pub fn ascii_stays_in_bytes()
+    ensures takes { ⟦<<BacktrackExecutor<'static, AsciiInput<'static>> as Executor<'static, 'static>>::AsAscii as Searcher<'static>>⟧.can_search ≡ (λ text. IsAscii text.now) }
+    ensures reads { ⟦<<BacktrackExecutor<'static, AsciiInput<'static>> as Executor<'static, 'static>>::AsAscii as Searcher<'static>>⟧.text_of ≡ (λ text. ascii_text text.now) }
 {}

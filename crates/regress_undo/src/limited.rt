@@ -7,6 +7,7 @@ ghost use Rattle.regex_meaning.proofs.TextLemmas.{utf8_text-IsText};
 ghost use Rattle.regex_pattern_front.specs.TreeOf.{tree_of};
 ghost use Rattle.regress_program.specs.Insns.{start_of};
 ghost use Rattle.regress_turns.specs.Memory.{state_of};
+ghost use Rattle.regress_undo.specs.Attempted.{IsLaidOut};
 
 use crate::attempts::attempt;
 use crate::classicalbacktrack::BacktrackExecutor;
@@ -25,7 +26,8 @@ use std::alloc::AllocError;
 pub struct LimitedExecutor<'r, 't> {
     executor: BacktrackExecutor<'r, Utf8Input<'t>>,
     start: &'r StartPredicate,
-    left: u64,
+    // those that are left, and whether the last attempt was refused some
+    steps: Limited,
     ghost predicted: { start_predicate (tree_of executor.search.program.regex) ≡ start_of start.now },
 }
 
@@ -44,7 +46,10 @@ impl<'r, 't> LimitedExecutor<'r, 't> {
         Ok(LimitedExecutor {
             executor,
             start: re.start_pred(),
-            left: steps,
+            steps: Limited {
+                left: steps,
+                out: false,
+            },
         })
     }
 
@@ -52,7 +57,7 @@ impl<'r, 't> LimitedExecutor<'r, 't> {
     pub fn steps_left(&self) -> u64
         ensures { ⟦<LimitedExecutor<'r, 't> as MatchProducer>⟧.budget self.now ≡ Some result }
     {
-        self.left
+        self.steps.left
     }
 }
 
@@ -63,7 +68,11 @@ impl<'r, 't> Attempts for LimitedExecutor<'r, 't> {
 
     ghost text = { λ e. ⟦<Utf8Input<'t> as InputIndexer>⟧.text e.executor.search.searched.input };
 
-    ghost budget = { λ e. Some e.left };
+    ghost budget = { λ e. Some e.steps.left };
+
+    ghost out_of_steps = { λ e. e.steps.out };
+
+    ghost has_begun = { λ e. IsLaidOut (tree_of e.executor.search.program.regex) e.executor.memory };
 
     ghost groups = { λ e. (state_of e.executor.memory 0 0).groups };
 
@@ -82,12 +91,12 @@ impl<'r, 't> Attempts for LimitedExecutor<'r, 't> {
         pos: <Utf8Input<'t> as InputIndexer>::Position,
     ) -> Result<Option<<Utf8Input<'t> as InputIndexer>::Position>, SearchError> {
         let mut steps = Limited {
-            left: self.left,
+            left: self.steps.left,
             out: false,
         };
         let executor = &mut self.executor;
         let end = attempt(&executor.search, pos, &mut executor.memory, &mut steps);
-        self.left = steps.left;
+        self.steps = steps;
         end
     }
 

@@ -1,17 +1,19 @@
-use Rattle.std.proofs.Common.{◌≡◌, ◌≤◌, ap, sym, subst, refl, ◌∙◌}
+use Rattle.std.proofs.Common.{◌≡◌, ◌≤◌, [], ◌∷◌, ap, sym, subst, refl, ◌∙◌}
 use Rattle.std.specs.Prelude.{IsSome, true, option_map, Option, Err}
 use Rattle.regex_meaning.specs.Offsets.{units}
 use Rattle.regress_input.proofs.Places.{boundary_inside}
 use Rattle.regress_program.specs.Code.{compiled}
 use Rattle.regress_exec.proofs.Searchable.{can-search}
 use Rattle.regress_exec.specs.Attempts.{ticks_from}
-use Rattle.regress_exec.specs.Spends.{Spends}
+use Rattle.regress_exec.specs.Spends.{Spends, TakesIfBegun}
 use Rattle.regress_turns.specs.Memory.{state_of}
 use Rattle.regress_scan.specs.Searching.{program_of}
-use Rattle.regress_undo.specs.Searches.{searched_from}
+use Rattle.regress_undo.specs.Attempted.{IsLaidOut}
+use Rattle.regress_undo.specs.Searches.{searched_from, NeedAtLeast}
 use Rattle.regress_turns.specs.Steps.{limit_of}
 use Rattle.regress_machine.specs.Finds.{initial}
-use Rattle.regress_undo.proofs.Attempting.{Begins, first-state, begins, attempt-ends, attempt-spends, attempt-stops, found-with}
+use Rattle.regress_machine.specs.Machine.{running}
+use Rattle.regress_undo.proofs.Attempting.{Begins, first-state, begins, attempt-ends, attempt-spends, attempt-stops, found-with, stopped-takes}
 use Rattle.regress_undo.proofs.attempts.attempt.Given.{Over}
 use Rattle.regress_undo.proofs.attempts.attempt.Goals.{In_ok-begin}
 use Rattle.regress_undo.proofs.attempts.attempt.Goals as goal
@@ -31,7 +33,7 @@ state-here g c =
     let at = c.pos_to_offset-at.result in
     let groups = c.groups-groups.ensures ∙ ap (λ t. (compiled t).groups) c.program-program.ensures in
     let loops = c.loops-loops.ensures ∙ ap (λ t. (compiled t).loops) c.program-program.ensures in
-    ap (λ h. state_of h 0 at) c.in_ok-begin.ensures ∙ first-state (program_of w) c.groups-groups.result c.loops-loops.result _ at refl groups loops
+    ap (λ h. state_of h 0 at) c.in_ok-begin.ensures.begun ∙ first-state (program_of w) c.groups-groups.result c.loops-loops.result _ at refl groups loops
     ∙ ap (initial (program_of w)) c.pos_to_offset-at.ensures
 
 pub run-requires-clause-inside : goal.run-requires-clause-inside
@@ -79,3 +81,14 @@ returns-in-Err-clause-steps g c =
     let after = budget c.run.new.steps in
     subst (λ e. Spends {X = Option g.row.W-Input-Position.Denot} (ticks_from w.tree w.text at) (limit_of counts before) (Err e) (limit_of counts after)) (sym c.cause.ensures)
     (attempt-stops w at c.pos_to_offset-at.result c.begin.new.self before after counts b first (Option g.row.W-Input-Position.Denot) c.requires.fresh c.in-Err.ensures.stopped)
+
+pub returns-in-Err-clause-begun : goal.returns-in-Err-clause-begun
+returns-in-Err-clause-begun g c =
+    let w = g.W.Planned.searching c.args.planned.now in
+    let budget = g.S.Steps.budget in
+    let counts = g.S.Steps.COUNTS in
+    let before = budget c.args.steps.now in
+    let after = budget c.run.new.steps in
+    let begun = IsLaidOut w.tree c.run.new.memory in
+    subst (λ e. TakesIfBegun {X = Option g.row.W-Input-Position.Denot} begun (limit_of counts before) (Err e) (limit_of counts after)) (sym c.cause.ensures)
+    (stopped-takes (Option g.row.W-Input-Position.Denot) counts begun (NeedAtLeast w true (running (state_of c.begin.new.self 0 c.pos_to_offset-at.result) ∷ [])) before after c.requires.fresh c.in-Err.ensures.stopped)

@@ -21,7 +21,7 @@ returns-in-Ok-Some-clause-steps g c =
     let mp = c.self.inside.mp in
     let new = c.next_match.new.self in
     call-some (p.tree mp) (p.text mp) (g.met.P.MatchProducer.is_text mp) c.args.self.now
-    (p.budget mp) (option_map offset c.self.inside.position) (offset c.in_ok-pos.pos) c.self.view_is (ap (option_map offset) c.in_ok-pos.was)
+    (p.budget mp) (option_map offset c.self.inside.position) (p.out_of_steps mp) (offset c.in_ok-pos.pos) c.self.view_is (ap (option_map offset) c.in_ok-pos.was)
     (answer_of c.in-Ok-Some.found) (p.tree new) (p.text new) (p.budget new) (option_map offset c.next_match.new.next_start)
     (rw c.in-Ok-Some.field-0-is at c.in-Ok-Some.ensures.found) (rw c.in-Ok-Some.field-0-is at c.in-Ok-Some.ensures.goes_on)
     c.in-Ok-Some.ensures.same_tree c.in-Ok-Some.ensures.same_text c.in-Ok-Some.ensures.steps.0 c.in-Ok-Some.ensures.steps.1
@@ -31,7 +31,7 @@ returns-in-Ok-Some-clause-goes g c =
     let steps = returns-in-Ok-Some-clause-steps g c in
     let p = g.P.MatchProducer in
     let new = c.next_match.new.self in
-    let after = coming (p.tree new) (p.text new) (p.budget new) (option_map g.P.Position.PositionType.offset c.next_match.new.next_start) in
+    let after = coming (p.tree new) (p.text new) (p.budget new) (option_map g.P.Position.PositionType.offset c.next_match.new.next_start) (p.out_of_steps new) in
     record {
       on = λ f. (tt, tt, fewer c.args.self.now after (answer_of c.in-Ok-Some.found) steps.0 steps.2);
       keeps = tt;
@@ -44,9 +44,9 @@ returns-in-Ok-None-clause-steps g c =
     let p = g.P.MatchProducer in
     let mp = c.self.inside.mp in
     let none = call-none (p.tree mp) (p.text mp) (g.met.P.MatchProducer.is_text mp) c.args.self.now (p.budget mp)
-    (option_map offset c.self.inside.position) (offset c.in_ok-pos.pos) c.self.view_is (ap (option_map offset) c.in_ok-pos.was)
+    (option_map offset c.self.inside.position) (p.out_of_steps mp) (offset c.in_ok-pos.pos) c.self.view_is (ap (option_map offset) c.in_ok-pos.was)
     (rw c.in-Ok-None.field-0-is at c.in-Ok-None.ensures.found) c.in-Ok-None.ensures.steps.0 in
-    (none.0, none.1, refl)
+    (none.0, none.1, (refl, refl, refl))
 
 pub returns-in-Err-clause-steps : goal.returns-in-Err-clause-steps
 returns-in-Err-clause-steps g c =
@@ -55,8 +55,9 @@ returns-in-Err-clause-steps g c =
     let mp = c.self.inside.mp in
     let is = g.met.P.MatchProducer.is_text mp in
     let was = ap (option_map offset) c.in_ok-pos.was in (
-      call-refused (p.tree mp) (p.text mp) is c.args.self.now (p.budget mp) (option_map offset c.self.inside.position) (offset c.in_ok-pos.pos) c.self.view_is was
+      call-refused (p.tree mp) (p.text mp) is c.args.self.now (p.budget mp) (option_map offset c.self.inside.position) (p.out_of_steps mp) (offset c.in_ok-pos.pos) c.self.view_is was
           (Option Match) c.in-Err.refused (p.budget c.next_match.new.self) c.in-Err.ensures.steps,
-      not-ended (p.tree mp) (p.text mp) is c.args.self.now (p.budget mp) (option_map offset c.self.inside.position) (offset c.in_ok-pos.pos) c.self.view_is was,
-      refl,
+      not-ended (p.tree mp) (p.text mp) is c.args.self.now (p.budget mp) (option_map offset c.self.inside.position) (p.out_of_steps mp) (offset c.in_ok-pos.pos) c.self.view_is was,
+      (refl, refl, refl),
+      c.in-Err.ensures.cause,
     )

@@ -6,7 +6,8 @@ use Rattle.regex_meaning.specs.Steps.{need_from}
 use Rattle.regress_exec.specs.Answers.{answer_by}
 use Rattle.regress_exec.specs.Attempts.{offset_behind}
 use Rattle.regress_exec.specs.declared.exec.Match.{Match}
-use Rattle.regress_exec.proofs.Budget.{handed, spent-begins}
+use Rattle.regress_exec.specs.declared.exec.SearchError.TheVariants.{Memory}
+use Rattle.regress_exec.proofs.Budget.{handed, refused-last, spent-begins}
 use Rattle.regress_exec.proofs.Skips.{untried, walk-begins}
 use Rattle.regress_exec.proofs.Walking.{walk-at, attempt-at, attempt-found, attempt-vain, attempt-goes, attempt-refused}
 use Rattle.regress_exec.proofs.places.AnyMatchProducer.next_match.Goals as goal
@@ -79,3 +80,13 @@ returns-in_err-end-clause-steps g c =
     let walk = walk-at g.A.Input.Position.PositionType.offset invariant.walk c.in-Some.is in
     handed (Option g.row.A-Input-Position.Denot) (Option Match) (need_from _ _ (g.A.Input.Position.PositionType.offset c.args.pos)) (budget c.args.self.now) (budget c.attempt.new.self) c.in_err-end.field-0.0 c.from_residual.result c.from_residual.ensures.1
     (attempt-refused (g.met.A.Attempts.is_text c.args.self.now) (Option g.row.A-Input-Position.Denot) (budget c.attempt.new.self) c.in_err-end.field-0.0 walk invariant.same_tree invariant.same_text c.in_err-end.ensures.steps)
+
+pub returns-in_err-found-clause-steps : goal.returns-in_err-found-clause-steps
+returns-in_err-found-clause-steps g c =
+    let invariant = c.places.invariant in
+    let budget = g.A.Attempts.budget in
+    let attempt = attempt-at (walk-at g.A.Input.Position.PositionType.offset invariant.walk c.in-Some.is) invariant.same_tree invariant.same_text c.in_ok-end.ensures.found c.in_ok-end.ensures.steps in
+    let found = attempt-found g.A.Input.Position.PositionType.offset (g.A.Attempts.groups c.attempt.new.self) (g.met.A.Attempts.is_text c.args.self.now) c.in-Some-2.is attempt in
+    let need = need_from _ _ (g.A.Input.Position.PositionType.offset c.args.pos) in
+    handed (Option Match) (Option Match) need (budget c.args.self.now) (budget c.attempt.new.self) Memory c.from_residual-in_err-found.result c.from_residual-in_err-found.ensures.1
+    (refused-last (Option Match) need (budget c.args.self.now) (budget c.attempt.new.self) found.spends.1)

@@ -239,6 +239,11 @@ module _ (p : Program) where
             (k ∙ same_mark _ _ _ _ _ _ (omega arith) refl refl),
       )
 
+-- it has as many instructions as the tree is large
+pub compiled-length : (t : Tree) → length (compiled t).insns ≡ size t.root
+unfolding compiled
+compiled-length t = length-code_of t.flags.unicode false t.root 0 0 0
+
 -- the program of a tree is its code
 pub compiled-is_code : (t : Tree) → IsWellFormed t.root → IsByteCodeOf (compiled t) t
 unfolding compiled

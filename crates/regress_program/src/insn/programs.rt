@@ -1,10 +1,10 @@
 //! What programs for bytes and for 16-bit units have in common.
 
-ghost use Rattle.std.specs.Prelude.{◌≡◌, IsTrue, IfOk, [], get_or, map, string_bytes};
+ghost use Rattle.std.specs.Prelude.{◌≡◌, ◌<◌, ◌^◌, IsTrue, IfOk, [], get_or, map, string_bytes};
 ghost use Rattle.regex_pattern_front.specs.TreeOf.{tree_of, flags_of, contents_of};
 ghost use Rattle.regex_meaning.specs.WellFormed.{is_well_formed};
 ghost use Rattle.regress_program.specs.Insns.{insn_of};
-ghost use Rattle.regress_program.specs.Code.{compiled};
+ghost use Rattle.regress_program.specs.Code.{size, compiled};
 ghost use Rattle.regress_program.specs.Programs.{IsPlanFor};
 ghost use Rattle.regress_plan.specs.Keys.{wide_of};
 
@@ -110,6 +110,7 @@ impl Program {
 
     // What it is made into for executors that search by plans, over texts of these units.
     pub(crate) fn planned(&self, units: Units) -> Result<Plan, AllocError>
+        requires { size (tree_of self.now).root < 2 ^ 32 }
         ensures { IfOk result (IsPlanFor (wide_of units) self.now) }
     {
         let code = Code {

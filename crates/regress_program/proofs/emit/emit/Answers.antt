@@ -13,5 +13,8 @@ invariant_of-result c = record {
   planned = c.in_ok-plan.ensures;
 }
 
+pub planned-requires : goal.planned-requires
+planned-requires c = rw c.in_ok-program.ensures.tree c.in_ok-program.ensures.fits.insns
+
 pub returns-clause-code : goal.returns-clause-code
 returns-clause-code c = compiled-is_code (tree_of c.args.re.now) c.in_ok-program.ensures.fits.well_formed

@@ -1,0 +1,43 @@
+#!/bin/sh
+# Fails where code of the engine makes an error of want of memory by hand, and prints the lines: such an error is to come
+# from a growth that was refused, by `?`, and nothing else may be told so. No contract can say that.
+#
+# Left out are `impl From<..>` blocks, by which `?` turns one such error into another, patterns, tests (`*_rows`, `*_checks`
+# and the programs that only try the engine), and the files below, each of which says the same of a refusal that it met.
+set -eu
+cd "$(dirname "$0")/.."
+
+# The program's file was refused memory as it was read.
+# A search stopped, and no steps were refused: then memory was.
+# A search has too few steps left, which its counter notes.
+allowed='crates/regress_tool/src/main.rt
+crates/regress_undo/src/attempts.rt
+crates/regress_turns/src/steps.rt'
+
+# The errors, and where one stands as a value.
+errors='(AllocError|Stop|([A-Za-z]*Error|Failure|Fault)::Memory)'
+values="(Err\\(|ok_or\\(|[|] |=> |return |^ *)$errors( *[,;)}]|\$)"
+
+made=$(find crates -path '*/src/*.rt' | sort |
+    grep -vE '^crates/(regex|regress)_[a-z_]*(rows|checks)/|^crates/regress_(trees|hostile|fuzz|sweep|vectors)/' |
+    grep -vxF "$allowed" |
+    while read -r file; do
+        awk -v file="$file" -v values="$values" '
+            /^ *\/\// { next }
+            /^#\[cfg\(test\)\]/ { exit }
+            /^impl.* From<.*> for / { inside = 1 }
+            inside { if ($0 ~ /^}/) inside = 0; next }
+            {
+                line = $0
+                gsub(/Err\([A-Za-z:]*\) *=>/, "=>", line)
+                gsub(/let Err\([A-Za-z:]*\)/, "let", line)
+                gsub(/matches!\(.*\)/, "", line)
+                if (line ~ values) print file ":" FNR ": " $0
+            }
+        ' "$file"
+    done)
+[ -z "$made" ] || {
+    echo "$made"
+    exit 1
+}
+echo "no want of memory is made by hand"

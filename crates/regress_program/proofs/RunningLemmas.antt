@@ -1,5 +1,5 @@
 -- What the tree that is run in place of one has of that one.
-use Rattle.std.proofs.Common.{◌≡◌, ℕ, Bool, true, false, refl, ap, IsTrue, length}
+use Rattle.std.proofs.Common.{◌≡◌, Bool, true, false, refl, ap, IsTrue, length}
 use Rattle.std.specs.Prelude.{if◌then◌else◌}
 use Rattle.regex_meaning.specs.Tree.{Node, Tree, group_ids}
 use Rattle.regex_meaning.specs.Layout.{reads_bytes}

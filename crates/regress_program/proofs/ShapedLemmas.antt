@@ -1,7 +1,7 @@
 -- Nodes whose loops over one character are narrow.
-use Rattle.std.proofs.Common.{◌≡◌, ℕ, ◌+◌, ◌-◌, ◌≤◌, ◌<◌, ◌^◌, Bool, true, false, ◌&&◌, List, ◌++◌, refl, sym, ap, ◌∙◌, arith, le_refl, length}
+use Rattle.std.proofs.Common.{◌≡◌, ◌+◌, ◌-◌, ◌≤◌, Bool, true, false, ◌&&◌, refl, ap, arith, le_refl}
 use Rattle.std.specs.Prelude.{if◌then◌else◌}
-use Rattle.regex_meaning.specs.Tree.{BracketContents, Node, empty, goal, char, char_set, byte_set, byte_sequence, cat, end_of_cat, alt, bracket, string_set, match_any, match_any_except_line_terminator, anchor, word_boundary, capture_group, back_ref, lookaround, loop, loop_1_char_body, Quantifier}
+use Rattle.regex_meaning.specs.Tree.{Node, cat, alt, capture_group, lookaround, loop, loop_1_char_body}
 use Rattle.regex_pattern_front.specs.Optimized.{reads_one_character, optimized}
 use Rattle.regress_program.specs.Code.{size, loop_count, brackets_of}
 use Rattle.regress_program.specs.Nodes.{is_leaf}

@@ -6,6 +6,7 @@ use crate::plans::{write_plan, write_unit_plan};
 use crate::predicates::write_predicate;
 use crate::table::ROWS;
 use regex_pattern_front::ir::Regex;
+use regex_pattern_front::optimizer::optimize;
 use regress_trees::tree_of;
 use std::alloc::{AllocError, Global};
 use std::process::Abort;
@@ -16,10 +17,14 @@ fn write_answer(
     alloc: Global,
     text: &mut String,
     question: &str,
-    tree: &Regex,
+    tree: &mut Regex,
 ) -> Result<(), AllocError> {
     match question {
         "program" => write_program(alloc, text, tree),
+        "optimized" => {
+            optimize(tree);
+            write_program(alloc, text, tree)
+        }
         "units" => write_units(alloc, text, tree),
         "predicate" => write_predicate(alloc, text, tree),
         "parts" => write_parts(alloc, text, tree),
@@ -34,7 +39,7 @@ fn write_answer(
 fn write_answer_to(alloc: Global, text: &mut String, asked: &str) -> Result<(), AllocError> {
     let (question, words) = asked.split_once(' ').unwrap_or((asked, ""));
     match tree_of(alloc, words) {
-        Some(tree) => write_answer(alloc, text, question, &tree),
+        Some(mut tree) => write_answer(alloc, text, question, &mut tree),
         None => text.push_str("no tree"),
     }
 }

@@ -5,7 +5,8 @@
 // instruction, and more groups or loops than there may be. For 16-bit units a tree that is not well formed is refused as such,
 // whatever stands in it. In the parts, the groups inside a lookbehind have the later one first. Plans say where a search
 // has to try, and what may stand behind each loop over one character: the keys at which rows of keys begin and end; what is
-// looked for first, and what must stand before.
+// looked for first, and what must stand before. Programs for 16-bit units are those of the tree as it is, and so are those
+// for bytes, of which `optimized` asks for that of the optimized tree.
 pub(crate) const ROWS: &str = "\
 program goal → Goal
 program cat:3 empty any goal → MatchAny, Goal
@@ -139,4 +140,8 @@ plan cat:6 set:30,31,32,33 set:30,31,32,33 set:30,31,32,33 set:30,31,32,33 set:3
 unit_plan cat:5 a b c d goal → front 97 98 / 98 99 / 99 100 / 100 101 bits 98 of 255 at 1 bits 99 of 255 at 2 bits 97 of 255 at 0 bits 100 of 255 at 3
 unit_plan cat:3 a k goal → front 97 98 / 107 108 bits 107 of 255 at 1 bits 97 of 255 at 0 bits 97 of 255 at 0 bits 97 of 255 at 0
 plan cat:5 J K L M goal → front 74 75 / 75 76 / 76 77 / 77 78 row 4 of [74, 75, 76, 77, 0, 0, 0, 0, 0, 0, 0, 0, 0, 0, 0] at 0 rare 74 at 0 bits 74 of 255 at 0 bits 75 of 255 at 1 bits 76 of 255 at 2 bits 77 of 255 at 3
+units cat:2 loop:0,0,0 a goal → EnterLoop 0 0 18446744073709551615 true 3, Char 97, LoopAgain 0, Goal
+optimized cat:2 loop:0,0,0 a goal → Loop1CharBody 0 18446744073709551615 true, Char 97, Goal
+units cat:2 loop1:0 a goal → Loop1CharBody 0 18446744073709551615 true, Char 97, Goal
+unit_plan cat:3 loop:0,0,0 a b goal → few 2 [97, 98, 0], apart 98 99
 ";

@@ -1,6 +1,5 @@
 use Rattle.std.proofs.Common.{◌≡◌, ◌∙◌, ap, sym, true, false, subst, map, zero-add}
 use Rattle.regex_pattern_front.specs.TreeOf.{node_of, tree_of, contents_of}
-use Rattle.regex_pattern_front.specs.Optimized.{optimized}
 use Rattle.regress_plan.specs.Plans.{HasCode}
 use Rattle.regress_program.specs.Insns.{insn_of}
 use Rattle.regress_program.specs.Code.{compiled, loop_count}

@@ -17,7 +17,8 @@ use Rattle.regex_meaning.specs.Layout.{reads_bytes}
 use Rattle.regex_meaning.proofs.WellFormedLemmas.{by_clauses}
 use Rattle.regex_pattern_front.specs.declared.ir.Node.{Node}
 use Rattle.regex_pattern_front.specs.TreeOf.{node_of, cat_of}
-use Rattle.regex_pattern_front.specs.Parts.{is_of_characters, is_sound, times, once_within, IsPart, AreParts, IsMadeOf, KeepsParts, IsLeaf}
+use Rattle.regex_pattern_front.specs.Optimized.{is_plain, has_plain_loops}
+use Rattle.regex_pattern_front.specs.Parts.{is_of_pattern, is_sound, times, once_within, IsPart, AreParts, IsMadeOf, KeepsParts, IsLeaf}
 use Rattle.regex_pattern_front.proofs.ByteLemmas.{contains-numbers_from}
 use Rattle.regex_meaning.proofs.Booleans.{and-left, and-right}
 use Rattle.regex_meaning.proofs.Lists.{list_all-members}
@@ -58,7 +59,7 @@ pub record Sound (greatest : ℕ) (n : tree.Node) : Type 0 where
   pub refers : refers_to_a_group greatest n ≡ true
   pub order : has_order_in_quantifier n ≡ true
   pub body : has_one_character_body n ≡ true
-  pub characters : is_of_characters n ≡ true
+  pub characters : is_of_pattern n ≡ true
   pub fits : fits_instructions n ≡ true
 
 six : (a b c d e f : Bool) → (a && b && c && d && e && f) ≡ true
@@ -344,22 +345,22 @@ part-loop first end greatest q n order p = record {
 
 -- ---- Characters
 
-text-from : (n : tree.Node) → is_of_characters n ≡ true → has_text_in_sequence n ≡ true
+text-from : (n : tree.Node) → is_of_pattern n ≡ true → has_text_in_sequence n ≡ true
 text-from (byte_sequence bytes) h = grind arith
 text-from _ h = refl
 
 neither : (a b : Bool) → a ≡ false → b ≡ false → (a || b) ≡ false
 neither a b h k = rw (h, k) refl
 
-reads-none : (n : tree.Node) → every is_of_characters n ≡ true → reads_bytes n ≡ false
+reads-none : (n : tree.Node) → every is_of_pattern n ≡ true → reads_bytes n ≡ false
 reads-none (byte_set members) h = grind arith
 reads-none (byte_sequence bytes) h = grind arith
-reads-none (cat first rest) h = neither _ _ (reads-none first (and-left _ (every is_of_characters rest) h)) (reads-none rest (and-right (every is_of_characters first) _ h))
-reads-none (alt first rest) h = neither _ _ (reads-none first (and-left _ (every is_of_characters rest) h)) (reads-none rest (and-right (every is_of_characters first) _ h))
+reads-none (cat first rest) h = neither _ _ (reads-none first (and-left _ (every is_of_pattern rest) h)) (reads-none rest (and-right (every is_of_pattern first) _ h))
+reads-none (alt first rest) h = neither _ _ (reads-none first (and-left _ (every is_of_pattern rest) h)) (reads-none rest (and-right (every is_of_pattern first) _ h))
 reads-none (capture_group id name contents) h = reads-none contents h
 reads-none (lookaround l contents) h = reads-none contents h
 reads-none (loop q s e loopee) h = reads-none loopee h
-reads-none (loop_1_char_body q loopee) h = reads-none loopee h
+reads-none (loop_1_char_body q loopee) h = grind arith
 reads-none _ h = refl
 
 -- ---- The whole pattern
@@ -373,7 +374,14 @@ whole-every greatest n test weaker h =
     every-weaker (is_sound greatest) test weaker (cat n (cat goal end_of_cat)) (and_from _ _ (and_from _ _ refl h) refl)
 
 pub whole-reads_none : (greatest : ℕ) (n : tree.Node) → every (is_sound greatest) n ≡ true → reads_bytes (cat n (cat goal end_of_cat)) ≡ false
-whole-reads_none greatest n h = reads-none (cat n (cat goal end_of_cat)) (whole-every greatest n is_of_characters (λ m k. (Sound-from greatest m k).characters) h)
+whole-reads_none greatest n h = reads-none (cat n (cat goal end_of_cat)) (whole-every greatest n is_of_pattern (λ m k. (Sound-from greatest m k).characters) h)
+
+plain-node : (n : tree.Node) → is_of_pattern n ≡ true → is_plain n ≡ true
+plain-node (loop_1_char_body q loopee) h = h
+plain-node _ h = refl
+
+pub whole-plain : (greatest : ℕ) (n : tree.Node) → every (is_sound greatest) n ≡ true → IsTrue (has_plain_loops (cat n (cat goal end_of_cat)))
+whole-plain greatest n h = whole-every greatest n is_plain (λ m k. plain-node m (Sound-from greatest m k).characters) h
 
 pub whole : (groups greatest : ℕ) (n : tree.Node) → greatest ≤ groups → IsPart 0 groups greatest n → IsTrue (is_well_formed (cat n (cat goal end_of_cat)))
 whole groups greatest n within p =

@@ -2,22 +2,23 @@
 use Rattle.std.specs.Prelude.{◌≡◌, ℕ, ◌+◌, Bool, true, false, ◌&&◌, List, [], length, count_by, sum_by, nat_eq, nat_le, nat_lt, if◌then◌else◌, IsTrue}
 use Rattle.std.specs.List.{All}
 use Rattle.regex_meaning.specs.Tree as tree
-use Rattle.regex_meaning.specs.Tree.{byte_set, byte_sequence, group_ids, every}
+use Rattle.regex_meaning.specs.Tree.{byte_set, byte_sequence, loop_1_char_body, group_ids, every}
 use Rattle.regex_meaning.specs.WellFormed.{goal_count, names_the_groups_inside, refers_to_a_group, has_order_in_quantifier, has_one_character_body, fits_instructions}
 use Rattle.regex_pattern_front.specs.declared.ir.Node.{Node}
 use Rattle.regex_pattern_front.specs.TreeOf.{node_of}
 
--- no set and no sequence of bytes: patterns are of characters
-abbrev pub is_of_characters : tree.Node → Bool
-is_of_characters (byte_set members) = false
-is_of_characters (byte_sequence bytes) = false
-is_of_characters _ = true
+-- what the text of a pattern can say: no set and no sequence of bytes, and no loop over one character
+abbrev pub is_of_pattern : tree.Node → Bool
+is_of_pattern (byte_set members) = false
+is_of_pattern (byte_sequence bytes) = false
+is_of_pattern (loop_1_char_body q loopee) = false
+is_of_pattern _ = true
 
 -- what a well-formed tree asks of each node, where references name groups up to the greatest
 abbrev pub is_sound : (greatest : ℕ) → tree.Node → Bool
 is_sound greatest n =
     names_the_groups_inside n && refers_to_a_group greatest n && has_order_in_quantifier n && has_one_character_body n
-    && is_of_characters n && fits_instructions n
+    && is_of_pattern n && fits_instructions n
 
 -- how often an id stands in the tree
 abbrev pub times : (id : ℕ) → tree.Node → ℕ

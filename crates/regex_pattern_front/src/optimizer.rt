@@ -87,8 +87,8 @@ fn narrow(node: &mut Node)
     *node = taken.narrowed();
 }
 
-// Whether a node reads one character and accepts it or not.
-fn reads_one_character(node: &Node) -> bool
+/// Whether a node reads one character and accepts it or not: loops over such a node are those that `optimize` changes.
+pub fn reads_one_character(node: &Node) -> bool
     ensures { result ≡ reads_one_character (node_of node.now) }
 {
     match node {

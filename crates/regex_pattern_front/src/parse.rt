@@ -4,6 +4,7 @@ ghost use Rattle.std.specs.Prelude.{◌≡◌, ℕ, ◌+◌, ◌<◌, ◌≤◌,
 ghost use Rattle.regex_meaning.specs.Layout.{reads_bytes};
 ghost use Rattle.regex_meaning.specs.WellFormed.{is_well_formed};
 ghost use Rattle.regex_pattern_front.specs.TreeOf.{node_of, tree_of};
+ghost use Rattle.regex_pattern_front.specs.Optimized.{has_plain_loops};
 ghost use Rattle.regex_pattern_front.specs.Parts.{IsPart};
 ghost use Rattle.regex_pattern_front.specs.Levels.{IsReading, captures};
 ghost use Rattle.regex_pattern_front.specs.declared.parse.ParseError.TheVariants.{Memory};
@@ -60,6 +61,7 @@ pub fn try_parse(alloc: Global, pattern: &[u32], flags: Flags) -> Result<Regex, 
     ensures flags { IfOk result (λ re. re.flags ≡ flags) }
     ensures well_formed { IfOk result (λ re. IsTrue (is_well_formed (tree_of re).root)) }
     ensures characters { IfOk result (λ re. reads_bytes (tree_of re).root ≡ false) }
+    ensures plain { IfOk result (λ re. IsTrue (has_plain_loops (tree_of re).root)) }
 {
     let mut parser = Parser {
         leaves: LeafReader {
@@ -185,6 +187,7 @@ impl Parser<'_> {
         requires { IsReading self }
         ensures well_formed { IfOk result (λ n. IsTrue (is_well_formed (node_of n))) }
         ensures characters { IfOk result (λ n. reads_bytes (node_of n) ≡ false) }
+        ensures plain { IfOk result (λ n. IsTrue (has_plain_loops (node_of n))) }
     {
         if !self.around.is_empty() || self.leaves.references > u32::from(self.groups) {
             return Err(ParseError::Syntax);

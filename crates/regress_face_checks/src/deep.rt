@@ -1,11 +1,12 @@
-//! Wide and deep patterns are searched, on texts with a match and without one.
+//! Wide and deep patterns are searched, on texts with a match and without one, or refused.
 
 use regress_match::Regex;
 use regress_rows::rows::{Row, compare};
 use std::alloc::{AllocError, Global};
 
 // Rows of four fields: a count, so many openings and as many closings round what is inside, a text, and whether there is a
-// match.
+// match, or why the pattern is refused. A loop over one character counts as a loop where it is not optimized, as in the
+// program for 16-bit units.
 pub const NESTS: &str = "\
 100000~a|…b…~xb~found
 100000~a|…b…~xc~none
@@ -26,7 +27,10 @@ pub const NESTS: &str = "\
 5000~(?<=…a…)~xa~found
 5000~(?<=…a…)~xb~none
 5000~(?<!…a…)~xa~found
-5000~(?<!…a…)~xb~none";
+5000~(?<!…a…)~xb~none
+65535~a*……~xa~found
+65536~a*……~xa~Emit(TooManyLoops)
+65536~(……~xa~Parse(Syntax)";
 
 // Adds a piece of a pattern so many times.
 fn add(pattern: &mut String, piece: &str, count: usize) -> Result<(), AllocError> {
@@ -48,14 +52,20 @@ fn pattern_of(alloc: Global, nest: &str, count: usize) -> Result<String, AllocEr
 }
 
 // What comes of a search.
-fn found(alloc: Global, pattern: &str, text: &str) -> &'static str {
-    let Ok(re) = Regex::new(alloc, pattern) else {
-        return "no pattern";
-    };
-    match re.find(text) {
+fn found(alloc: Global, re: &Regex, text: &str) -> Result<String, AllocError> {
+    let found = match re.find(text) {
         Ok(Some(_)) => "found",
         Ok(None) => "none",
         Err(_) => "refused",
+    };
+    String::from_str(alloc, found)
+}
+
+// What comes of a search, or of the pattern where it is refused.
+fn outcome(alloc: Global, pattern: &str, text: &str) -> Result<String, AllocError> {
+    match Regex::new(alloc, pattern) {
+        Ok(re) => found(alloc, &re, text),
+        Err(refused) => format!(in alloc; "{refused:?}"),
     }
 }
 
@@ -65,5 +75,6 @@ pub fn check_nest(alloc: Global, differing: &mut String, row: Row<'_>) -> Result
         return compare(differing, row, "other than four fields", "");
     };
     let pattern = pattern_of(alloc, nest, count.parse::<usize>().unwrap_or(0))?;
-    compare(differing, row, found(alloc, &pattern, text), "")
+    let outcome = outcome(alloc, &pattern, text)?;
+    compare(differing, row, outcome.as_str(), "")
 }

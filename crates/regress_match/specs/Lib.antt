@@ -6,4 +6,3 @@ pub mod Parts
 pub mod Refusals
 pub mod Replacements
 pub mod Searches
-pub mod Trees

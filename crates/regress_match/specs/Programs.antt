@@ -8,8 +8,9 @@ use Rattle.regex_meaning.specs.Names.{Answer, answers_from}
 use Rattle.regex_meaning.specs.Steps.{answers_within, end_within}
 use Rattle.regex_meaning.specs.WellFormed.{is_well_formed}
 use Rattle.regex_pattern_front.specs.TreeOf.{tree_of}
+use Rattle.regex_pattern_front.specs.Optimized.{has_plain_loops}
 use Rattle.regress_program.specs.Code.{compiled}
-use Rattle.regress_match.specs.Trees.{tree_to_run}
+use Rattle.regress_program.specs.Running.{tree_to_run}
 use Rattle.regress_match.specs.declared.api.regex.Regex.{Regex}
 
 -- the tree of the program that searches texts in bytes
@@ -20,11 +21,12 @@ byte_tree re = tree_of re.cr
 abbrev pub unit_tree : Regex → Tree
 unit_tree re = tree_of re.units
 
--- One well-formed tree has these flags. The program for 16-bit units is its code, and that for bytes the code of the tree
--- that is run in its place.
+-- One well-formed tree has these flags, and no loop in it is optimized. The program for 16-bit units is its code, and that
+-- for bytes the code of the tree that is run in its place.
 pub record IsCompiledWith (wanted : Flags) (re : Regex) : Type 0 where
   pub flags : (unit_tree re).flags ≡ wanted
   pub well_formed : IsTrue (is_well_formed (unit_tree re).root)
+  pub plain : IsTrue (has_plain_loops (unit_tree re).root)
   pub units : IsUnitCodeOf (compiled (unit_tree re)) (unit_tree re)
   pub optimized : byte_tree re ≡ tree_to_run (unit_tree re)
   pub bytes : IsByteCodeOf (compiled (byte_tree re)) (byte_tree re)

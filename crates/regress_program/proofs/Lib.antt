@@ -16,3 +16,5 @@ pub mod WalkedLemmas
 pub mod GoalLemmas
 pub mod TallyLemmas
 pub mod LeafLemmas
+pub mod ShapedLemmas
+pub mod RunningLemmas

@@ -1,8 +1,9 @@
 -- A program that is being made.
-use Rattle.std.specs.Prelude.{ℕ, ◌+◌, ◌<◌, ◌^◌, Bool, List, [], ◌∷◌, ◌++◌, map, length, slice_set, nat_lt, Vec}
+use Rattle.std.specs.Prelude.{ℕ, ◌+◌, ◌<◌, ◌^◌, Bool, ◌&&◌, if◌then◌else◌, List, [], ◌∷◌, ◌++◌, map, length, slice_set, nat_lt, Vec}
 use Rattle.std.specs.List.{list_all}
-use Rattle.regex_meaning.specs.Tree.{BracketContents, Lookaround, Node}
+use Rattle.regex_meaning.specs.Tree.{BracketContents, Lookaround, Node, cat, alt, capture_group, lookaround, loop, loop_1_char_body}
 use Rattle.regex_meaning.specs.Layout.{Insn, Alt, Jump}
+use Rattle.regex_pattern_front.specs.Optimized.{reads_one_character}
 use Rattle.regex_pattern_front.specs.TreeOf.{contents_of}
 use Rattle.regress_program.specs.Insns.{insn_of}
 use Rattle.regress_program.specs.Code.{size, loop_count, brackets_of, code_of}
@@ -71,6 +72,20 @@ code_points_of strings = map (λ s. s.items) strings
 
 abbrev pub lookaround_of : declared.Lookaround → Lookaround
 lookaround_of l = record { negate = l.negate; backwards = l.backwards; start_group = l.start_group; end_group = l.end_group }
+
+-- The node whose code is emitted: the node, or where loops are to be narrow the one in which each loop over a node that
+-- reads one character is a loop over one character.
+unfoldable pub shaped : (narrow : Bool) → Node → Node
+shaped narrow (cat first rest) = cat (shaped narrow first) (shaped narrow rest)
+shaped narrow (alt left right) = alt (shaped narrow left) (shaped narrow right)
+shaped narrow (capture_group id name contents) = capture_group id name (shaped narrow contents)
+shaped narrow (lookaround l contents) = lookaround l (shaped narrow contents)
+shaped narrow (loop q start_group end_group loopee) =
+    if narrow && reads_one_character loopee
+    then loop_1_char_body q (shaped narrow loopee)
+    else loop q start_group end_group (shaped narrow loopee)
+shaped narrow (loop_1_char_body q loopee) = loop_1_char_body q (shaped narrow loopee)
+shaped narrow node = node
 
 -- The numbers of what the node adds can be held.
 pub record HasRoom (s : State) (node : Node) : Type 0 where

@@ -2,6 +2,7 @@ pub mod Insns
 pub mod Predicates
 pub mod Beginnings
 pub mod Code
+pub mod Running
 pub mod Names
 pub mod Programs
 pub mod Nodes

@@ -10,6 +10,8 @@ use Rattle.regress_program.specs.Insns.{insn_of}
 use Rattle.regress_program.specs.declared.insn.predicates.StartPredicate.{StartPredicate}
 use Rattle.regress_program.specs.Predicates.{IsStartOf}
 use Rattle.regress_program.specs.Code.{compiled}
+use Rattle.regress_program.specs.Running.{planned_tree, tree_to_run}
+use Rattle.regress_program.specs.declared.insn.runs.Run.{Run}
 use Rattle.regress_program.specs.declared.insn.programs.Program.TheInside.{Inside}
 
 -- the fields are those of the tree's code, and the tree is well formed
@@ -22,16 +24,21 @@ pub record IsProgram (p : Inside) : Type 0 where
   pub group_names : p.group_names ≡ (compiled (tree_of p.tree.value)).group_names
   pub well_formed : IsTrue (is_well_formed (tree_of p.tree.value).root)
 
--- the plan is that of the tree's program, for units of 8 or of 16 bits
+-- the plan is that of the tree's program for bytes, or for 16-bit units that of the program of the tree that is run in its place
 abbrev pub IsPlanFor : (wide : Bool) → Regex → Plan → Type 0
-IsPlanFor wide re plan = IsPlanOf wide (compiled (tree_of re)) plan
+IsPlanFor wide re plan = IsPlanOf wide (compiled (planned_tree wide (tree_of re))) plan
 
 -- what programs for bytes hold besides
 pub record IsForBytes (re : Regex) (start : StartPredicate) (plan : Plan) : Type 0 where
   pub starts : IsStartOf start re
   pub planned : IsPlanFor false re plan
 
+-- what is run in place of the tree's program for 16-bit units
+pub record IsRunOf (re : Regex) (run : Run) : Type 0 where
+  pub planned : IsPlanFor true re run.plan
+  pub loops : run.loops ≡ (compiled (tree_to_run (tree_of re))).loops
+
 -- what programs for 16-bit units hold besides
-pub record IsForUnits (re : Regex) (plan : Plan) : Type 0 where
+pub record IsForUnits (re : Regex) (run : Run) : Type 0 where
   pub no_bytes : reads_bytes (tree_of re).root ≡ false
-  pub planned : IsPlanFor true re plan
+  pub runs : IsRunOf re run

@@ -3,9 +3,11 @@
 ghost use Rattle.std.specs.Prelude.{◌≡◌, false, length, IfOk, OnOk, IfErr, IsErrOf};
 ghost use Rattle.regex_meaning.specs.Tree.{group_ids};
 ghost use Rattle.regex_meaning.specs.Layout.{IsByteCodeOf, IsUnitCodeOf};
-ghost use Rattle.regex_pattern_front.specs.TreeOf.{tree_of};
+ghost use Rattle.regex_pattern_front.specs.TreeOf.{node_of, tree_of};
 ghost use Rattle.regress_program.specs.Code.{compiled};
 ghost use Rattle.regress_program.specs.declared.emit.EmitError.TheVariants.{NotWellFormed, BytesInUnits, TooManyGroups, TooManyLoops, TooManyInstructions, Memory};
+ghost use Rattle.regress_program.specs.Emitting.{nothing, shaped, state_of, with_code};
+ghost use Rattle.regress_program.specs.Programs.{IsRunOf};
 ghost use Rattle.regress_program.specs.Refusals.{IsRefused, IsRefusedInUnits, IsRefusedWith, FitsLimits};
 
 mod brackets;
@@ -25,11 +27,12 @@ use crate::emit::emitter::{Emitter, Mode};
 use crate::emit::names::names_by_id;
 use crate::emit::tally::Tally;
 pub use crate::emit::wellformed::is_well_formed;
-use crate::insn::{CompiledRegex, CompiledUnits, GroupNames, Program};
+use crate::insn::{CompiledRegex, CompiledUnits, GroupNames, Program, Run};
 use crate::startpredicate::predicate_for_re;
 use regex_pattern_front::ir;
 use regex_pattern_front::types::{LoopID, MAX_CAPTURE_GROUPS};
 use regress_plan::keys::Units;
+use regress_plan::plan::{Code, Plan};
 use std::alloc::{AllocError, Global};
 
 /// Why a tree is not compiled.
@@ -105,8 +108,46 @@ pub fn emit_units(alloc: Global, re: &ir::Regex) -> Result<CompiledUnits, EmitEr
     ensures memory { IsErrOf result EmitError.Memory → IsRefusedInUnits Memory (tree_of re.now) }
 {
     let program = compile(alloc, re, reads_bytes(&re.node))?;
-    let plan = program.planned(Units::Wide)?;
-    Ok(CompiledUnits { program, plan })
+    let run = run_of(alloc, re, &program)?;
+    Ok(CompiledUnits { program, run })
+}
+
+// What is run in place of a tree's program: a plan of the tree with narrow loops over one character, whose code is dropped,
+// or of the program itself where nothing is to be optimized.
+fn run_of(alloc: Global, re: &ir::Regex, program: &Program) -> Result<Run, AllocError>
+    requires fits { FitsLimits (tree_of re.now) }
+    requires same { program.now ≡ re.now }
+    ensures { IfOk result (IsRunOf re.now) }
+{
+    if re.flags.no_opt {
+        let plan = program.planned(Units::Wide)?;
+        let loops = program.loops();
+        return Ok(Run { plan, loops });
+    }
+    let narrow = emitted(alloc, re, true)?;
+    let code = Code {
+        insns: &narrow.insns,
+        brackets: &narrow.brackets,
+        groups: program.groups(),
+    };
+    let plan = Plan::new(alloc, code, Units::Wide)?;
+    let loops = u32::from(narrow.loops);
+    Ok(Run { plan, loops })
+}
+
+// The code of a tree; loops over one character are narrow in it or not.
+fn emitted(alloc: Global, re: &ir::Regex, narrow: bool) -> Result<Emitter, AllocError>
+    requires { FitsLimits (tree_of re.now) }
+    ensures { IfOk result (λ e. state_of e ≡ with_code re.now.flags.unicode false (shaped narrow (node_of re.now.node)) nothing) }
+{
+    let mut emitter = Emitter::new(alloc);
+    let mode = Mode {
+        unicode: re.flags.unicode,
+        narrow,
+        behind: false,
+    };
+    emitter.emit(mode, &re.node)?;
+    Ok(emitter)
 }
 
 // What programs of both kinds hold, or why there is none; `bytes_in_units` says whether the tree is for 16-bit units
@@ -118,17 +159,11 @@ fn compile(alloc: Global, re: &ir::Regex, bytes_in_units: bool) -> Result<Progra
     ensures refused { IfErr result (λ e. IsRefusedWith bytes_in_units e (tree_of re.now)) }
 {
     let groups = check_limits(re, bytes_in_units)?;
-    let mut emitter = Emitter::new(alloc);
-    let mode = Mode {
-        unicode: re.flags.unicode,
-        behind: false,
-    };
-    emitter.emit(mode, &re.node)?;
     let Emitter {
         insns,
         brackets,
         loops,
-    } = emitter;
+    } = emitted(alloc, re, false)?;
     let group_names = GroupNames::shared(names_by_id(alloc, &re.node, groups)?)?;
     Ok(Program {
         insns,

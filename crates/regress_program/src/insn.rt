@@ -4,10 +4,12 @@ mod compiled;
 mod names;
 mod predicates;
 mod programs;
+mod runs;
 
 pub use crate::insn::compiled::{CompiledRegex, CompiledUnits};
 pub use crate::insn::names::GroupNames;
 pub use crate::insn::predicates::StartPredicate;
 pub use crate::insn::programs::Program;
+pub(crate) use crate::insn::runs::Run;
 pub use regex_pattern_front::types::MAX_CHAR_SET_LENGTH;
 pub use regress_insn::insn::{Insn, LoopFields, MAX_BYTE_SEQ_LENGTH};

@@ -20,10 +20,14 @@ fn write_answer(
     alloc: Global,
     text: &mut String,
     question: &str,
-    tree: &Regex,
+    tree: &mut Regex,
 ) -> Result<(), AllocError> {
     match question {
         "program" => write_program(alloc, text, tree),
+        "optimized" => {
+            optimize(tree);
+            write_program(alloc, text, tree)
+        }
         "units" => write_units(alloc, text, tree),
         "predicate" => write_predicate(alloc, text, tree),
         "parts" => write_parts(alloc, text, tree),
@@ -65,7 +69,7 @@ fn asked_tree(alloc: Global, words: &str) -> Option<Regex> {
 fn write_answer_to(alloc: Global, text: &mut String, asked: &str) -> Result<(), AllocError> {
     let (question, words) = asked.split_once(' ').unwrap_or((asked, ""));
     match asked_tree(alloc, words) {
-        Some(tree) => write_answer(alloc, text, question, &tree),
+        Some(mut tree) => write_answer(alloc, text, question, &mut tree),
         None => text.push_str("no tree"),
     }
 }

@@ -8,6 +8,8 @@
 // has to try, and what may stand behind each loop over one character: the keys at which rows of keys begin and end; what is
 // looked for first, and what must stand before. Classes have behind the first of each row of keys the step of them all: how
 // many units the character has, 0 where none is accepted, and 5 where the character decides; and the bytes at which a run ends.
+// Programs for 16-bit units are those of the tree as it is, and so are those for bytes, of which `optimized` asks for that of
+// the optimized tree.
 pub(crate) const ROWS: &str = "\
 program goal → Goal
 program cat:3 empty any goal → MatchAny, Goal
@@ -185,4 +187,8 @@ unit_classes /a*/ → narrow 97:1 98:0
 unit_classes /.*/ → wide 0:1 10:0 11:1 13:0 14:1 144:5 145:1 236:5 238:1
 unit_classes /[\\u0400-\\u05ff]é*/ → narrow 130:1 131:0; wide 128:5 129:0
 unit_classes /[^]*/ → wide 0:1 236:5 238:1
+units cat:2 loop:0,0,0 a goal → EnterLoop 0 0 18446744073709551615 true 3, Char 97, LoopAgain 0, Goal
+optimized cat:2 loop:0,0,0 a goal → Loop1CharBody 0 18446744073709551615 true, Char 97, Goal
+units cat:2 loop1:0 a goal → Loop1CharBody 0 18446744073709551615 true, Char 97, Goal
+unit_plan cat:3 loop:0,0,0 a b goal → few 2 [97, 98, 0], apart 98 99
 ";

@@ -17,3 +17,4 @@ pub mod FirstUnits
 pub mod LowUnits
 pub mod ProbeLemmas
 pub mod Apart
+pub mod InPlace

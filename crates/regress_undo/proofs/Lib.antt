@@ -8,3 +8,4 @@ pub mod Stages
 pub mod Looking
 pub mod Attempting
 pub mod TriedPlaces
+pub mod InPlace

@@ -54,9 +54,8 @@ pub(crate) fn attempt<W: Planned, S: Steps>(
     ensures cause { Tells result (S.budget steps.new).out }
 {
     let at = planned.input().pos_to_offset(pos);
-    let program = planned.program();
-    let groups = program.groups() as usize;
-    let loops = program.loops() as usize;
+    let groups = planned.program().groups() as usize;
+    let loops = planned.loops() as usize;
     memory.begin(groups, loops, at)?;
     let start = Here { ip: 0, at };
     match run(planned, true, start, memory, steps) {

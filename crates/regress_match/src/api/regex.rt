@@ -7,7 +7,7 @@ ghost use Rattle.regress_exec.specs.Answers.{answer_of};
 ghost use Rattle.regress_match.specs.Refusals.{CanRefuse, IsMemory};
 ghost use Rattle.regress_match.specs.Replacements.{FitsText, StandFrom};
 ghost use Rattle.regress_match.specs.Searches.{YieldsMatches};
-ghost use Rattle.regress_match.specs.Trees.{tree_to_run};
+ghost use Rattle.regress_program.specs.Running.{tree_to_run};
 
 use crate::api::{Error, Flags};
 use crate::backends::{DefaultAsciiExecutor, DefaultExecutor, LimitedExecutor, search_from};
@@ -78,8 +78,8 @@ impl Regex {
         Regex::new(alloc, pattern)
     }
 
-    /// Compiles a pattern with these flags: parses it, optimizes the tree unless `no_opt` is set, and emits the programs
-    /// for 16-bit units and for bytes.
+    /// Compiles a pattern with these flags: parses it, emits the program for 16-bit units, optimizes the tree unless
+    /// `no_opt` is set, and emits the program for bytes.
     ///
     /// # Errors
     ///
@@ -103,8 +103,8 @@ impl Regex {
         ensures refused { IfErr result CanRefuse }
     {
         let parsed = try_parse(alloc, pattern, flags.for_front())?;
+        let units = emit_units(alloc, &parsed)?;
         let tree = to_run(parsed);
-        let units = emit_units(alloc, &tree)?;
         let cr = emit(alloc, &tree)?;
         Ok(Regex { cr, units })
     }

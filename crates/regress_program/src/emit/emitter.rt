@@ -1,27 +1,31 @@
 //! The code of a node, put behind the code so far.
-#![tactic(auto, using(std::proofs::lemmas::Grind::common_steps), unfolding(regex_pattern_front::specs::TreeOf::node_of, crate::specs::Code::code_of, crate::specs::Code::loop_count, crate::specs::Code::brackets_of, crate::specs::Code::size))]
+#![tactic(auto, using(std::proofs::lemmas::Grind::common_steps), unfolding(regex_pattern_front::specs::TreeOf::node_of, crate::specs::Code::code_of, crate::specs::Emitting::shaped, crate::specs::Code::loop_count, crate::specs::Code::brackets_of, crate::specs::Code::size))]
 
-ghost use Rattle.std.specs.Prelude.{◌≡◌, ◌+◌, ◌-◌, ◌<◌, ◌^◌, [], true, length, IfOk, OnOk, IsTrue, if◌then◌else◌};
+ghost use Rattle.std.specs.Prelude.{◌≡◌, ◌&&◌, ◌+◌, ◌-◌, ◌<◌, ◌^◌, [], true, length, IfOk, OnOk, IsTrue, if◌then◌else◌};
 ghost use Rattle.regex_meaning.specs.Tree.{empty, alt, capture_group, lookaround, loop as loop_of, loop_1_char_body, every};
 ghost use Rattle.regex_meaning.specs.WellFormed.{fits_instructions};
 ghost use Rattle.regex_meaning.specs.Layout.{lookaround_insn};
+ghost use Rattle.regex_pattern_front.specs.Optimized.{reads_one_character as is_one_character};
 ghost use Rattle.regex_pattern_front.specs.TreeOf.{node_of, quantifier_of};
 ghost use Rattle.regress_program.specs.Insns.{insn_of};
 ghost use Rattle.regress_program.specs.Code.{resets};
 ghost use Rattle.regress_program.specs.Nodes.{cat_of, is_leaf};
-ghost use Rattle.regress_program.specs.Emitting.{HasRoom, state_of, with_code, with_insn, with_insns, with_insn_at, with_loop, nothing, lookaround_of, with_arm, jump_behind, with_jumps, are_below};
+ghost use Rattle.regress_program.specs.Emitting.{HasRoom, shaped, state_of, with_code, with_insn, with_insns, with_insn_at, with_loop, nothing, lookaround_of, with_arm, jump_behind, with_jumps, are_below};
 
 use crate::emit::leaves::{anchor_insn, byte_set_insn, char_set_insn, word_boundary_insn};
 use regex_pattern_front::ir::{Node, Quantifier};
+use regex_pattern_front::optimizer::reads_one_character;
 use regex_pattern_front::types::{BracketContents, CaptureGroupID, LoopID};
 use regress_insn::insn::{Insn, LoopFields};
 use std::alloc::{AllocError, Global};
 use std::ops::Range;
 
-/// How nodes are compiled: with Unicode's folds or not, inside a lookbehind or not.
+/// How nodes are compiled: with Unicode's folds or not, with each loop over a node that reads one character as a loop over
+/// one character or not, inside a lookbehind or not.
 #[derive(Clone, Copy)]
 pub(crate) struct Mode {
     pub(crate) unicode: bool,
+    pub(crate) narrow: bool,
     pub(crate) behind: bool,
 }
 
@@ -33,6 +37,13 @@ impl Mode {
         ensures within { result < count }
     {
         if self.behind { count - 1 - at } else { at }
+    }
+
+    // Whether a loop over this node is to be one over one character.
+    fn narrows(self, loopee: &Node) -> bool
+        ensures { result ≡ (self.narrow && is_one_character (node_of loopee.now)) }
+    {
+        self.narrow && reads_one_character(loopee)
     }
 }
 
@@ -108,8 +119,8 @@ impl Emitter {
     #[cycle(emit)]
     pub(crate) fn emit(&mut self, mode: Mode, node: &Node) -> Result<(), AllocError>
         requires sets { IsTrue (every fits_instructions (node_of node.now)) }
-        requires room { HasRoom (state_of self.old) (node_of node.now) }
-        ensures { OnOk result (state_of self.new ≡ with_code mode.unicode mode.behind (node_of node.now) (state_of self.old)) }
+        requires room { HasRoom (state_of self.old) (shaped mode.narrow (node_of node.now)) }
+        ensures { OnOk result (state_of self.new ≡ with_code mode.unicode mode.behind (shaped mode.narrow (node_of node.now)) (state_of self.old)) }
     {
         match node {
             Node::Cat(nodes) => self.emit_all(mode, nodes),
@@ -129,7 +140,13 @@ impl Emitter {
                 loopee,
                 quant,
                 enclosed_groups,
-            } => self.emit_loop(mode, quant, enclosed_groups, loopee),
+            } => {
+                if mode.narrows(loopee) {
+                    self.emit_loop_1_char(mode, quant, loopee)
+                } else {
+                    self.emit_loop(mode, quant, enclosed_groups, loopee)
+                }
+            }
             Node::Loop1CharBody { loopee, quant } => self.emit_loop_1_char(mode, quant, loopee),
             _ => self.emit_leaf(mode, node),
         }
@@ -181,8 +198,8 @@ impl Emitter {
     #[cycle(emit)]
     fn emit_all(&mut self, mode: Mode, nodes: &[Node]) -> Result<(), AllocError>
         requires sets { IsTrue (every fits_instructions (cat_of nodes.now)) }
-        requires room { HasRoom (state_of self.old) (cat_of nodes.now) }
-        ensures { OnOk result (state_of self.new ≡ with_code mode.unicode mode.behind (cat_of nodes.now) (state_of self.old)) }
+        requires room { HasRoom (state_of self.old) (shaped mode.narrow (cat_of nodes.now)) }
+        ensures { OnOk result (state_of self.new ≡ with_code mode.unicode mode.behind (shaped mode.narrow (cat_of nodes.now)) (state_of self.old)) }
     {
         for node in nodes {
             self.emit(mode, node)?;
@@ -202,8 +219,8 @@ impl Emitter {
     ) -> Result<(), AllocError>
         requires first { IsTrue (every fits_instructions (node_of first.now)) }
         requires others { IsTrue (every fits_instructions (node_of others.now)) }
-        requires room { HasRoom (state_of self.old) (alt (node_of first.now) (node_of others.now)) }
-        ensures { OnOk result (state_of self.new ≡ with_code mode.unicode mode.behind (alt (node_of first.now) (node_of others.now)) (state_of self.old)) }
+        requires room { HasRoom (state_of self.old) (alt (shaped mode.narrow (node_of first.now)) (shaped mode.narrow (node_of others.now))) }
+        ensures { OnOk result (state_of self.new ≡ with_code mode.unicode mode.behind (alt (shaped mode.narrow (node_of first.now)) (shaped mode.narrow (node_of others.now))) (state_of self.old)) }
     {
         let mut jumps = Vec::new(*self.insns.allocator());
         jumps.push(self.emit_arm(mode, first)?)?;
@@ -222,9 +239,9 @@ impl Emitter {
     #[cycle(emit)]
     fn emit_arm(&mut self, mode: Mode, arm: &Node) -> Result<u32, AllocError>
         requires sets { IsTrue (every fits_instructions (node_of arm.now)) }
-        requires room { HasRoom (state_of self.old) (alt (node_of arm.now) empty) }
-        ensures code { OnOk result (state_of self.new ≡ with_arm mode.unicode mode.behind (node_of arm.now) (state_of self.old)) }
-        ensures jump { IfOk result (λ jump. jump ≡ jump_behind (node_of arm.now) (state_of self.old)) }
+        requires room { HasRoom (state_of self.old) (alt (shaped mode.narrow (node_of arm.now)) empty) }
+        ensures code { OnOk result (state_of self.new ≡ with_arm mode.unicode mode.behind (shaped mode.narrow (node_of arm.now)) (state_of self.old)) }
+        ensures jump { IfOk result (λ jump. jump ≡ jump_behind (shaped mode.narrow (node_of arm.now)) (state_of self.old)) }
     {
         let branch = self.insns.len();
         self.put(Insn::Alt { secondary: 0 })?;
@@ -258,8 +275,8 @@ impl Emitter {
         contents: &Node,
     ) -> Result<(), AllocError>
         requires sets { IsTrue (every fits_instructions (node_of contents.now)) }
-        requires room { HasRoom (state_of self.old) (capture_group id [] (node_of contents.now)) }
-        ensures { OnOk result (state_of self.new ≡ with_code mode.unicode mode.behind (capture_group id [] (node_of contents.now)) (state_of self.old)) }
+        requires room { HasRoom (state_of self.old) (capture_group id [] (shaped mode.narrow (node_of contents.now))) }
+        ensures { OnOk result (state_of self.new ≡ with_code mode.unicode mode.behind (capture_group id [] (shaped mode.narrow (node_of contents.now))) (state_of self.old)) }
     {
         self.put(Insn::BeginCaptureGroup(id))?;
         self.emit(mode, contents)?;
@@ -277,13 +294,14 @@ impl Emitter {
         contents: &Node,
     ) -> Result<(), AllocError>
         requires sets { IsTrue (every fits_instructions (node_of contents.now)) }
-        requires room { HasRoom (state_of self.old) (lookaround (lookaround_of look) (node_of contents.now)) }
-        ensures { OnOk result (state_of self.new ≡ with_code mode.unicode mode.behind (lookaround (lookaround_of look) (node_of contents.now)) (state_of self.old)) }
+        requires room { HasRoom (state_of self.old) (lookaround (lookaround_of look) (shaped mode.narrow (node_of contents.now))) }
+        ensures { OnOk result (state_of self.new ≡ with_code mode.unicode mode.behind (lookaround (lookaround_of look) (shaped mode.narrow (node_of contents.now))) (state_of self.old)) }
     {
         let head = self.insns.len();
         self.put(look.insn(0))?;
         let inside = Mode {
             unicode: mode.unicode,
+            narrow: mode.narrow,
             behind: look.backwards,
         };
         self.emit(inside, contents)?;
@@ -304,8 +322,8 @@ impl Emitter {
         loopee: &Node,
     ) -> Result<(), AllocError>
         requires sets { IsTrue (every fits_instructions (node_of loopee.now)) }
-        requires room { HasRoom (state_of self.old) (loop_of (quantifier_of quant.now) groups.now.start groups.now.end (node_of loopee.now)) }
-        ensures { OnOk result (state_of self.new ≡ with_code mode.unicode mode.behind (loop_of (quantifier_of quant.now) groups.now.start groups.now.end (node_of loopee.now)) (state_of self.old)) }
+        requires room { HasRoom (state_of self.old) (loop_of (quantifier_of quant.now) groups.now.start groups.now.end (shaped mode.narrow (node_of loopee.now))) }
+        ensures { OnOk result (state_of self.new ≡ with_code mode.unicode mode.behind (loop_of (quantifier_of quant.now) groups.now.start groups.now.end (shaped mode.narrow (node_of loopee.now))) (state_of self.old)) }
     {
         let begin = self.next();
         let mut fields = LoopFields {
@@ -334,8 +352,8 @@ impl Emitter {
         loopee: &Node,
     ) -> Result<(), AllocError>
         requires sets { IsTrue (every fits_instructions (node_of loopee.now)) }
-        requires room { HasRoom (state_of self.old) (loop_1_char_body (quantifier_of quant.now) (node_of loopee.now)) }
-        ensures { OnOk result (state_of self.new ≡ with_code mode.unicode mode.behind (loop_1_char_body (quantifier_of quant.now) (node_of loopee.now)) (state_of self.old)) }
+        requires room { HasRoom (state_of self.old) (loop_1_char_body (quantifier_of quant.now) (shaped mode.narrow (node_of loopee.now))) }
+        ensures { OnOk result (state_of self.new ≡ with_code mode.unicode mode.behind (loop_1_char_body (quantifier_of quant.now) (shaped mode.narrow (node_of loopee.now))) (state_of self.old)) }
     {
         self.put(Insn::Loop1CharBody {
             min_iters: quant.min,

@@ -6,10 +6,12 @@ ghost use Rattle.regex_meaning.specs.Layout.{reads_bytes};
 ghost use Rattle.regress_program.specs.Insns.{start_of};
 ghost use Rattle.regress_program.specs.Predicates.{IsShort};
 ghost use Rattle.regress_program.specs.Code.{compiled};
+ghost use Rattle.regress_program.specs.Running.{tree_to_run};
 ghost use Rattle.regress_program.specs.Programs.{IsPlanFor};
 
 use crate::insn::predicates::StartPredicate;
 use crate::insn::programs::Program;
+use crate::insn::runs::Run;
 use regress_plan::plan::Plan;
 use std::alloc::AllocError;
 use std::marker::Model;
@@ -96,11 +98,12 @@ impl Deref for CompiledRegex {
 }
 
 /// The program of a well-formed pattern tree without byte sets and byte sequences, for texts of 16-bit units: a
-/// `Program`, which it derefs to, and a plan. Only the compiler makes one. Contracts see the tree.
+/// `Program`, which it derefs to, and a plan of the tree that is run in its place, in which loops over one character are
+/// narrow. Only the compiler makes one. Contracts see the tree.
 #[derive(Drop)]
 pub struct CompiledUnits {
     pub(crate) program: Program,
-    pub(crate) plan: Plan,
+    pub(crate) run: Run,
 }
 
 impl Model for CompiledUnits {
@@ -116,7 +119,7 @@ impl Model for CompiledUnits {
 
     ghost view = { λ p. p.program };
 
-    ghost invariant = { λ p. IsForUnits p.program p.plan };
+    ghost invariant = { λ p. IsForUnits p.program p.run };
 }
 
 impl CompiledUnits {
@@ -129,12 +132,20 @@ impl CompiledUnits {
         &self.program
     }
 
-    /// What it is made into for executors that search by plans.
+    /// What it is made into for executors that search by plans: the plan of the tree that is run in its place.
     #[inline(always)]
     pub fn plan(&self) -> &Plan
         ensures { IsPlanFor true self.now result.now }
     {
-        &self.plan
+        &self.run.plan
+    }
+
+    /// How many loops the tree has that is run in its place.
+    #[inline(always)]
+    pub fn planned_loops(&self) -> u32
+        ensures { result ≡ (compiled (tree_to_run (tree_of self.now))).loops }
+    {
+        self.run.loops
     }
 
     /// The same program once more.
@@ -147,7 +158,7 @@ impl CompiledUnits {
     {
         Ok(CompiledUnits {
             program: self.program.clone()?,
-            plan: self.plan.clone()?,
+            run: self.run.clone()?,
         })
     }
 }

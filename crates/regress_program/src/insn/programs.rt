@@ -5,8 +5,8 @@ ghost use Rattle.regex_pattern_front.specs.TreeOf.{tree_of, flags_of, contents_o
 ghost use Rattle.regex_meaning.specs.WellFormed.{is_well_formed};
 ghost use Rattle.regress_program.specs.Insns.{insn_of};
 ghost use Rattle.regress_program.specs.Code.{size, compiled};
-ghost use Rattle.regress_program.specs.Programs.{IsPlanFor};
 ghost use Rattle.regress_plan.specs.Keys.{wide_of};
+ghost use Rattle.regress_plan.specs.Plans.{IsPlanOf};
 
 use crate::carried::Carried;
 use crate::insn::names::GroupNames;
@@ -108,10 +108,10 @@ impl Program {
         }
     }
 
-    // What it is made into for executors that search by plans, over texts of these units.
+    // The plan of its own code, for executors that search texts of these units by plans.
     pub(crate) fn planned(&self, units: Units) -> Result<Plan, AllocError>
         requires { size (tree_of self.now).root < 2 ^ 32 }
-        ensures { IfOk result (IsPlanFor (wide_of units) self.now) }
+        ensures { IfOk result (IsPlanOf (wide_of units) (compiled (tree_of self.now))) }
     {
         let code = Code {
             insns: self.insns(),

@@ -1,23 +1,13 @@
-use Rattle.std.proofs.Common.{◌≡◌, ◌∙◌, ap, false, arith, length, refl}
+use Rattle.std.proofs.Common.{◌≡◌, ◌∙◌, ap, false, arith, refl, subst}
 use Rattle.regex_meaning.proofs.WellFormedLemmas.{clauses}
 use Rattle.regex_pattern_front.specs.TreeOf.{node_of}
 use Rattle.regress_program.specs.Code.{compiled}
 use Rattle.regress_program.specs.Emitting.{state_of, nothing, with_code}
+use Rattle.regress_program.proofs.ShapedLemmas.{shaped-plain}
 use Rattle.regress_program.proofs.emit.compile.Goals as goal
 
 pub names_by_id-requires-clause-once : goal.names_by_id-requires-clause-once
 names_by_id-requires-clause-once c = (clauses (node_of c.args.re.now.node) c.in_ok-groups.ensures.fits.well_formed).ids
-
-pub emit-requires-clause-sets : goal.emit-requires-clause-sets
-emit-requires-clause-sets c = (clauses (node_of c.args.re.now.node) c.in_ok-groups.ensures.fits.well_formed).sets
-
-pub emit-requires-clause-room : goal.emit-requires-clause-room
-emit-requires-clause-room c =
-    let fits = c.in_ok-groups.ensures.fits in
-    record {
-      insns = omega (arith, fits.insns, ap (λ s. length s.insns) c.new-emitter.ensures);
-      loops = omega (arith, fits.loops, ap (λ s. s.loops) c.new-emitter.ensures);
-    }
 
 pub invariant_of-result : goal.invariant_of-result
 unfolding compiled
@@ -26,7 +16,8 @@ invariant_of-result c =
     let root = node_of re.node in
     let fits = c.in_ok-groups.ensures.fits in
     let of = c.of.ensures in
-    let made : state_of c.emit.new.self ≡ with_code re.flags.unicode false root nothing = c.in_ok-emit.ensures ∙ ap (with_code re.flags.unicode false root) c.new-emitter.ensures in
+    let made : state_of c.in_ok-insns.field-0 ≡ with_code re.flags.unicode false root nothing =
+    subst (λ n. state_of c.in_ok-insns.field-0 ≡ with_code re.flags.unicode false n nothing) (shaped-plain root) c.in_ok-insns.ensures in
     record {
       insns = rw of (ap (λ s. s.insns) made);
       brackets = rw of (ap (λ s. s.brackets) made);

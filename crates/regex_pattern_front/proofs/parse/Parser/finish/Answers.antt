@@ -6,7 +6,7 @@ use Rattle.regex_pattern_front.specs.Parts.{AreParts}
 use Rattle.regex_pattern_front.specs.Levels.{nodes_at}
 use Rattle.regex_pattern_front.specs.declared.ir.Node.TheVariants.{Goal}
 use Rattle.regex_pattern_front.proofs.NodeLemmas.{node_of-Cat}
-use Rattle.regex_pattern_front.proofs.PartLemmas.{empty-list, whole, whole-reads_none}
+use Rattle.regex_pattern_front.proofs.PartLemmas.{empty-list, whole, whole-plain, whole-reads_none}
 use Rattle.regex_pattern_front.proofs.LevelLemmas.{open-none}
 use Rattle.regex_pattern_front.proofs.parse.Parser.finish.Goals as goal
 
@@ -38,3 +38,15 @@ returns-clause-characters c =
     let parts : AreParts 0 groups references (nodes_at c.args.self.level) = rw from_none r.level in
     rw (node_of-Cat c.in_ok-vec.field-0, c.in_ok-vec.ensures.items, node_of-Goal)
     (whole-reads_none references (node_of c.in_ok-node.node) (c.in_ok-node.ensures 0 groups references parts).sound)
+
+pub returns-clause-plain : goal.returns-clause-plain
+returns-clause-plain c =
+    let r = c.requires in
+    let groups = c.args.self.groups in
+    let references = c.args.self.leaves.references in
+    let none : vec_len c.args.self.around ≡ 0 = eqb-true _ _ (sym c.is_empty.ensures ∙ c.if-not-is_empty.false) in
+    let closed : c.args.self.around.items ≡ [] = empty-list c.args.self.around.items (omega (arith, none, c.args.self.around.ok.0)) in
+    let from_none : 0 ≡ r.inner = open-none references 0 r.inner c.args.self.around.items closed r.around in
+    let parts : AreParts 0 groups references (nodes_at c.args.self.level) = rw from_none r.level in
+    rw (node_of-Cat c.in_ok-vec.field-0, c.in_ok-vec.ensures.items, node_of-Goal)
+    (whole-plain references (node_of c.in_ok-node.node) (c.in_ok-node.ensures 0 groups references parts).sound)

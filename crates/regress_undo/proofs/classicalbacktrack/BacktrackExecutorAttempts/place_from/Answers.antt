@@ -1,5 +1,9 @@
-use Rattle.std.proofs.Common.{le_refl, arith}
-use Rattle.regress_scan.proofs.Allowing.{searchable}
+use Rattle.std.proofs.Common.{le_refl, arith, sym, subst, IsTrue}
+use Rattle.std.specs.Prelude.{option_map}
+use Rattle.regex_meaning.specs.WellFormed.{is_well_formed}
+use Rattle.regex_pattern_front.specs.TreeOf.{tree_of}
+use Rattle.regress_undo.specs.Searched.{CanBeSearched}
+use Rattle.regress_undo.proofs.InPlace.{search-planned, next-tree}
 use Rattle.regress_undo.proofs.classicalbacktrack.BacktrackExecutorAttempts.place_from.Goals as goal
 
 pub returns-then-is_anchored-clause-next : goal.returns-then-is_anchored-clause-next
@@ -10,5 +14,16 @@ pub next_start-requires-clause-can : goal.next_start-requires-clause-can
 next_start-requires-clause-can g c =
     let search = c.args.self.now.search in
     let searched = search.searched in
-    searchable search.program.regex searched.program.now (g.Input.InputIndexer.text searched.input) search.same searched.well_formed
-    (g.met.Input.InputIndexer.is_text searched.input) searched.unicode (λ reads. (searched.bytes reads).reads)
+    let text = g.Input.InputIndexer.text searched.input in
+    search-planned search.program.wide (tree_of search.program.regex) text
+    (subst (λ re. CanBeSearched (tree_of re) text) (sym search.same)
+    (record { well_formed = searched.well_formed; unicode = searched.unicode; bytes = λ reads. (searched.bytes reads).reads }))
+    (g.met.Input.InputIndexer.is_text searched.input)
+
+pub returns-clause-next : goal.returns-clause-next
+returns-clause-next g c =
+    let search = c.args.self.now.search in
+    let offset = g.Input.Position.PositionType.offset in
+    let well = subst (λ re. IsTrue (is_well_formed (tree_of re).root)) (sym search.same) search.searched.well_formed in
+    next-tree search.program.wide (tree_of search.program.regex) (g.Input.InputIndexer.text search.searched.input) well
+    (offset c.args.pos) (option_map offset c.next_start.result) c.next_start.ensures.next

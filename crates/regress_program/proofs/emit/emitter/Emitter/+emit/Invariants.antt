@@ -3,7 +3,7 @@ use Rattle.regex_pattern_front.specs.TreeOf.{node_of}
 use Rattle.regress_program.specs.Nodes.{cat_of}
 use Rattle.regex_meaning.specs.Tree.{every, alt}
 use Rattle.regex_meaning.specs.WellFormed.{fits_instructions}
-use Rattle.regress_program.specs.Emitting.{HasRoom, state_of, with_code, with_jumps, are_below}
+use Rattle.regress_program.specs.Emitting.{HasRoom, shaped, state_of, with_code, with_jumps, are_below}
 use Rattle.regress_program.proofs.Weights.{weight}
 use Rattle.regress_program.proofs.emit.emitter.Emitter.+emit.Given as goal
 
@@ -34,18 +34,19 @@ decreases-emit_loop_1_char l = 3 * (weight (node_of l.loopee.now) + 1)
 abbrev pub invariant-emit_all-loop-node : goal.invariant-emit_all-loop-node
 invariant-emit_all-loop-node l = record {
   sets : IsTrue (every fits_instructions (cat_of (drop l.node-index l.nodes)));
-  room : HasRoom (state_of l.self) (cat_of (drop l.node-index l.nodes));
-  code : with_code l.mode.unicode l.mode.behind (cat_of (drop l.node-index l.nodes)) (state_of l.self) ≡ with_code l.mode.unicode l.mode.behind (cat_of l.nodes) (state_of l.initial.self);
+  room : HasRoom (state_of l.self) (shaped l.mode.narrow (cat_of (drop l.node-index l.nodes)));
+  code : with_code l.mode.unicode l.mode.behind (shaped l.mode.narrow (cat_of (drop l.node-index l.nodes))) (state_of l.self)
+      ≡ with_code l.mode.unicode l.mode.behind (shaped l.mode.narrow (cat_of l.nodes)) (state_of l.initial.self);
 }
 
 abbrev pub invariant-emit_alternatives-loop-rest : goal.invariant-emit_alternatives-loop-rest
 invariant-emit_alternatives-loop-rest l = record {
   within : weight (node_of l.rest) ≤ weight (node_of l.others);
   sets : IsTrue (every fits_instructions (node_of l.rest));
-  room : HasRoom (state_of l.self) (node_of l.rest);
+  room : HasRoom (state_of l.self) (shaped l.mode.narrow (node_of l.rest));
   places : are_below (length (state_of l.self).insns) l.jumps.items ≡ true;
-  code : with_jumps l.jumps.items (with_code l.mode.unicode l.mode.behind (node_of l.rest) (state_of l.self))
-      ≡ with_code l.mode.unicode l.mode.behind (alt (node_of l.first) (node_of l.others)) (state_of l.fn.self);
+  code : with_jumps l.jumps.items (with_code l.mode.unicode l.mode.behind (shaped l.mode.narrow (node_of l.rest)) (state_of l.self))
+      ≡ with_code l.mode.unicode l.mode.behind (alt (shaped l.mode.narrow (node_of l.first)) (shaped l.mode.narrow (node_of l.others))) (state_of l.fn.self);
 }
 
 abbrev pub decreases-emit_alternatives-loop-rest : goal.decreases-emit_alternatives-loop-rest

@@ -1,0 +1,103 @@
+-- Nodes whose loops over one character are narrow.
+use Rattle.std.proofs.Common.{◌≡◌, ◌+◌, ◌-◌, ◌≤◌, Bool, true, false, ◌&&◌, refl, ap, arith, le_refl}
+use Rattle.std.specs.Prelude.{if◌then◌else◌}
+use Rattle.regex_meaning.specs.Tree.{Node, cat, alt, capture_group, lookaround, loop, loop_1_char_body}
+use Rattle.regex_pattern_front.specs.Optimized.{reads_one_character, optimized}
+use Rattle.regress_program.specs.Code.{size, loop_count, brackets_of}
+use Rattle.regress_program.specs.Nodes.{is_leaf}
+use Rattle.regress_program.specs.Emitting.{shaped}
+
+pub shaped-leaf : (narrow : Bool) (n : Node) → is_leaf n ≡ true → shaped narrow n ≡ n
+unfolding shaped
+shaped-leaf narrow (cat first rest) h = grind arith
+shaped-leaf narrow (alt left right) h = grind arith
+shaped-leaf narrow (capture_group id name contents) h = grind arith
+shaped-leaf narrow (lookaround l contents) h = grind arith
+shaped-leaf narrow (loop q s e loopee) h = grind arith
+shaped-leaf narrow (loop_1_char_body q loopee) h = grind arith
+shaped-leaf narrow _ h = refl
+
+-- where loops are left as they are, the node is
+pub shaped-plain : (n : Node) → shaped false n ≡ n
+unfolding shaped
+shaped-plain (cat first rest) = rw (shaped-plain first, shaped-plain rest) refl
+shaped-plain (alt left right) = rw (shaped-plain left, shaped-plain right) refl
+shaped-plain (capture_group id name contents) = rw (shaped-plain contents) refl
+shaped-plain (lookaround l contents) = rw (shaped-plain contents) refl
+shaped-plain (loop q s e loopee) = rw (shaped-plain loopee) refl
+shaped-plain (loop_1_char_body q loopee) = rw (shaped-plain loopee) refl
+shaped-plain _ = refl
+
+shaped-one : (n : Node) → reads_one_character n ≡ true → shaped true n ≡ n
+unfolding shaped
+shaped-one (cat first rest) h = grind arith
+shaped-one (alt left right) h = grind arith
+shaped-one (capture_group id name contents) h = grind arith
+shaped-one (lookaround l contents) h = grind arith
+shaped-one (loop q s e loopee) h = grind arith
+shaped-one (loop_1_char_body q loopee) h = grind arith
+shaped-one _ h = refl
+
+-- where they are narrow, it is the optimized one
+pub shaped-narrow : (n : Node) → shaped true n ≡ optimized n
+unfolding shaped optimized
+shaped-narrow (cat first rest) = rw (shaped-narrow first, shaped-narrow rest) refl
+shaped-narrow (alt left right) = rw (shaped-narrow left, shaped-narrow right) refl
+shaped-narrow (capture_group id name contents) = rw (shaped-narrow contents) refl
+shaped-narrow (lookaround l contents) = rw (shaped-narrow contents) refl
+shaped-narrow (loop q s e loopee) = go (reads_one_character loopee) (shaped-one loopee) (shaped-narrow loopee)
+  where
+    go : (r : Bool) → (r ≡ true → shaped true loopee ≡ loopee) → shaped true loopee ≡ optimized loopee
+        → (if r then loop_1_char_body q (shaped true loopee) else loop q s e (shaped true loopee)) ≡ (if r then loop_1_char_body q loopee else loop q s e (optimized loopee))
+    go true one below = ap (loop_1_char_body q) (one refl)
+    go false one below = ap (loop q s e) below
+shaped-narrow (loop_1_char_body q loopee) = rw (shaped-narrow loopee) refl
+shaped-narrow _ = refl
+
+-- ---- Narrow loops take no more room
+
+pub size-shaped : (narrow : Bool) (n : Node) → size (shaped narrow n) ≤ size n
+unfolding shaped size
+size-shaped narrow (cat first rest) = omega (arith, size-shaped narrow first, size-shaped narrow rest)
+size-shaped narrow (alt left right) = omega (arith, size-shaped narrow left, size-shaped narrow right)
+size-shaped narrow (capture_group id name contents) = omega (arith, size-shaped narrow contents)
+size-shaped narrow (lookaround l contents) = omega (arith, size-shaped narrow contents)
+size-shaped narrow (loop q s e loopee) = go (narrow && reads_one_character loopee) (size-shaped narrow loopee)
+  where
+    go : (r : Bool) → size (shaped narrow loopee) ≤ size loopee
+        → size (if r then loop_1_char_body q (shaped narrow loopee) else loop q s e (shaped narrow loopee)) ≤ (e - s) + size loopee + 2
+    go true below = omega arith
+    go false below = omega arith
+size-shaped narrow (loop_1_char_body q loopee) = omega (arith, size-shaped narrow loopee)
+size-shaped narrow _ = le_refl _
+
+pub loops-shaped : (narrow : Bool) (n : Node) → loop_count (shaped narrow n) ≤ loop_count n
+unfolding shaped loop_count
+loops-shaped narrow (cat first rest) = omega (arith, loops-shaped narrow first, loops-shaped narrow rest)
+loops-shaped narrow (alt left right) = omega (arith, loops-shaped narrow left, loops-shaped narrow right)
+loops-shaped narrow (capture_group id name contents) = loops-shaped narrow contents
+loops-shaped narrow (lookaround l contents) = loops-shaped narrow contents
+loops-shaped narrow (loop q s e loopee) = go (narrow && reads_one_character loopee) (loops-shaped narrow loopee)
+  where
+    go : (r : Bool) → loop_count (shaped narrow loopee) ≤ loop_count loopee
+        → loop_count (if r then loop_1_char_body q (shaped narrow loopee) else loop q s e (shaped narrow loopee)) ≤ loop_count loopee + 1
+    go true below = omega arith
+    go false below = omega arith
+loops-shaped narrow (loop_1_char_body q loopee) = loops-shaped narrow loopee
+loops-shaped narrow _ = le_refl _
+
+-- ---- What stands beside the code stays
+
+pub brackets-optimized : (n : Node) → brackets_of (optimized n) ≡ brackets_of n
+unfolding optimized brackets_of
+brackets-optimized (cat first rest) = rw (brackets-optimized first, brackets-optimized rest) refl
+brackets-optimized (alt left right) = rw (brackets-optimized left, brackets-optimized right) refl
+brackets-optimized (capture_group id name contents) = brackets-optimized contents
+brackets-optimized (lookaround l contents) = brackets-optimized contents
+brackets-optimized (loop q s e loopee) = go (reads_one_character loopee) (brackets-optimized loopee)
+  where
+    go : (r : Bool) → brackets_of (optimized loopee) ≡ brackets_of loopee → brackets_of (if r then loop_1_char_body q loopee else loop q s e (optimized loopee)) ≡ brackets_of loopee
+    go true below = refl
+    go false below = below
+brackets-optimized (loop_1_char_body q loopee) = brackets-optimized loopee
+brackets-optimized _ = refl

@@ -1,0 +1,22 @@
+use Rattle.std.proofs.Common.{◌∙◌, ap, arith, false, length}
+use Rattle.regex_meaning.proofs.WellFormedLemmas.{clauses}
+use Rattle.regex_pattern_front.specs.TreeOf.{node_of}
+use Rattle.regress_program.specs.Emitting.{shaped, with_code}
+use Rattle.regress_program.proofs.ShapedLemmas.{size-shaped, loops-shaped}
+use Rattle.regress_program.proofs.emit.emitted.Goals as goal
+
+pub emit-requires-clause-sets : goal.emit-requires-clause-sets
+emit-requires-clause-sets c = (clauses (node_of c.args.re.now.node) c.requires.well_formed).sets
+
+pub emit-requires-clause-room : goal.emit-requires-clause-room
+emit-requires-clause-room c =
+    let root = node_of c.args.re.now.node in
+    record {
+      insns = omega (arith, c.requires.insns, size-shaped c.args.narrow root, ap (λ s. length s.insns) c.new-emitter.ensures);
+      loops = omega (arith, c.requires.loops, loops-shaped c.args.narrow root, ap (λ s. s.loops) c.new-emitter.ensures);
+    }
+
+pub returns : goal.returns
+returns c =
+    let re = c.args.re.now in
+    c.in_ok-emit.ensures ∙ ap (with_code re.flags.unicode false (shaped c.args.narrow (node_of re.node))) c.new-emitter.ensures

@@ -1,0 +1,28 @@
+use Rattle.std.proofs.Common.{◌≡◌, ◌∙◌, ap, sym, true, false, subst, map, zero-add}
+use Rattle.regex_pattern_front.specs.TreeOf.{node_of, tree_of, contents_of}
+use Rattle.regress_plan.specs.Plans.{HasCode}
+use Rattle.regress_program.specs.Insns.{insn_of}
+use Rattle.regress_program.specs.Code.{compiled, loop_count}
+use Rattle.regress_program.specs.Running.{tree_to_run}
+use Rattle.regress_program.specs.Emitting.{state_of, nothing, with_code}
+use Rattle.regress_program.proofs.ShapedLemmas.{shaped-narrow}
+use Rattle.regress_program.proofs.RunningLemmas.{groups-planned, to_run-optimized}
+use Rattle.regress_program.proofs.emit.run_of.Goals as goal
+
+pub returns : goal.returns
+unfolding compiled
+returns c =
+    let re = c.args.re.now in
+    let tree = tree_of re in
+    let run = to_run-optimized tree c.if-re.false in
+    let made : state_of c.in_ok-narrow.narrow ≡ with_code re.flags.unicode false (tree_to_run tree).root nothing =
+    subst (λ n. state_of c.in_ok-narrow.narrow ≡ with_code re.flags.unicode false n nothing) (shaped-narrow (node_of re.node) ∙ sym run) c.in_ok-narrow.ensures in
+    let has : HasCode (compiled (tree_to_run tree)) (record { insns = c.deref.result; brackets = c.deref-2.result; groups = c.groups.result }) = record {
+      insns = ap (map insn_of) c.deref.ensures.value ∙ ap (λ s. s.insns) made;
+      brackets = ap (map contents_of) c.deref-2.ensures.value ∙ ap (λ s. s.brackets) made;
+      groups = c.groups.ensures ∙ ap (λ r. (compiled (tree_of r)).groups) c.requires.same ∙ sym (groups-planned true tree);
+    } in
+    record {
+      planned = c.in_ok-plan-2.ensures (compiled (tree_to_run tree)) has;
+      loops = c.from-loops.ensures ∙ ap (λ s. s.loops) made ∙ zero-add (loop_count (tree_to_run tree).root);
+    }

@@ -1,13 +1,29 @@
-use Rattle.std.proofs.Common.{◌≡◌, ◌∙◌, ap, sym, true, false, subst, map, zero-add}
+use Rattle.std.proofs.Common.{◌≡◌, ◌∙◌, ap, sym, true, false, subst, map, length, zero-add, arith}
+use Rattle.std.proofs.lemmas.List.{length-map}
 use Rattle.regex_pattern_front.specs.TreeOf.{node_of, tree_of, contents_of}
 use Rattle.regress_plan.specs.Plans.{HasCode}
 use Rattle.regress_program.specs.Insns.{insn_of}
-use Rattle.regress_program.specs.Code.{compiled, loop_count}
+use Rattle.regress_program.specs.Code.{compiled, loop_count, size}
 use Rattle.regress_program.specs.Running.{tree_to_run}
 use Rattle.regress_program.specs.Emitting.{state_of, nothing, with_code}
-use Rattle.regress_program.proofs.ShapedLemmas.{shaped-narrow}
+use Rattle.regress_program.proofs.CodeLemmas.{compiled-length}
+use Rattle.regress_program.proofs.ShapedLemmas.{shaped-narrow, size-shaped}
 use Rattle.regress_program.proofs.RunningLemmas.{groups-planned, to_run-optimized}
 use Rattle.regress_program.proofs.emit.run_of.Goals as goal
+
+pub planned-requires : goal.planned-requires
+planned-requires c = rw c.requires.same c.requires.fits.insns
+
+pub new-requires : goal.new-requires
+unfolding compiled
+new-requires c =
+    let re = c.args.re.now in
+    let tree = tree_of re in
+    let narrow = shaped-narrow (node_of re.node) ∙ sym (to_run-optimized tree c.if-re.false) in
+    let made : state_of c.in_ok-narrow.narrow ≡ with_code re.flags.unicode false (tree_to_run tree).root nothing =
+    subst (λ n. state_of c.in_ok-narrow.narrow ≡ with_code re.flags.unicode false n nothing) narrow c.in_ok-narrow.ensures in
+    let code : map insn_of c.deref.result ≡ (compiled (tree_to_run tree)).insns = ap (map insn_of) c.deref.ensures.value ∙ ap (λ s. s.insns) made in
+    omega (arith, c.requires.fits.insns, ap length code, length-map c.deref.result insn_of, compiled-length (tree_to_run tree), ap size narrow, size-shaped true (node_of re.node))
 
 pub returns : goal.returns
 unfolding compiled

@@ -1,6 +1,6 @@
 //! Sets of bytes, and where they stand in a text.
 
-ghost use Rattle.std.specs.Prelude.{◌≡◌, ◌<◌, ◌||◌, ◌==◌, ℕ, Bool, List, [], length, slice_index};
+ghost use Rattle.std.specs.Prelude.{◌≡◌, ◌<◌, ◌≤◌, ◌||◌, ◌==◌, ℕ, Bool, List, [], length, slice_index};
 ghost use Rattle.regex_meaning.specs.Lists.{contains};
 ghost use Rattle.regex_meaning.specs.StartPredicate.{bytes_where};
 ghost use Rattle.regex_pattern_front.specs.Searching.{FindsFirst, holds_at};
@@ -50,12 +50,14 @@ impl Default for AsciiBitmap {
 impl AsciiBitmap {
     ghost use Rattle.regex_pattern_front.specs.ByteSets.{ascii_bitmap_bytes};
 
-    /// Adds a byte.
+    /// Adds a byte. One from 128 on is none of ASCII, and leaves the set as it is.
     pub fn set(&mut self, byte: u8)
-        requires { byte < 128 }
-        ensures { ascii_bitmap_bytes self.new ≡ bytes_where (λ b. b == byte || contains (ascii_bitmap_bytes self.old) b) }
+        ensures added { byte < 128 → ascii_bitmap_bytes self.new ≡ bytes_where (λ b. b == byte || contains (ascii_bitmap_bytes self.old) b) }
+        ensures kept { 128 ≤ byte → ascii_bitmap_bytes self.new ≡ ascii_bitmap_bytes self.old }
     {
-        self.bits[usize::from(byte / 64)] |= 1 << (byte % 64);
+        if byte < 128 {
+            self.bits[usize::from(byte / 64)] |= 1 << (byte % 64);
+        }
     }
 }
 

@@ -1,6 +1,6 @@
 //! The case of code points, and how they begin in UTF-8.
 
-ghost use Rattle.std.specs.Prelude.{◌≡◌, ◌≤◌, ◌||◌, ℕ, Bool, Some, IfOk, [], ◌∷◌, ◌++◌, slice_get, encode_utf8, if◌then◌else◌, ◌==◌};
+ghost use Rattle.std.specs.Prelude.{◌≡◌, ◌<◌, ◌≤◌, ◌||◌, ℕ, Bool, Some, IfOk, [], ◌∷◌, ◌++◌, slice_get, encode_utf8, if◌then◌else◌, ◌==◌};
 ghost use Rattle.regex_meaning.specs.Lists.{contains};
 ghost use Rattle.regex_meaning.specs.Text.{fold_code_point, expand_code_point, all_with_fold, nonascii_with_fold, nonascii_folds_to_ascii_word_char, to_lowercase, to_uppercase};
 ghost use Rattle.regex_meaning.specs.StartPredicate.{bytes_where, begun_by, meet};
@@ -8,7 +8,7 @@ ghost use Rattle.regex_pattern_front.specs.ByteSets.{byte_bitmap_bytes};
 ghost use Rattle.regex_pattern_front.specs.Intervals.{interval_of, as_list};
 
 use crate::bytesearch::ByteBitmap;
-use crate::codepointset::Interval;
+use crate::codepointset::{CODE_POINT_MAX, Interval};
 use std::alloc::{AllocError, Global};
 
 /// What stands for a code point where case does not count. With `unicode` it is the lowercase letter of
@@ -91,10 +91,11 @@ pub fn nonascii_folds_to_ascii_word_char(c: u32) -> bool
     c == 0x017F || c == 0x212A
 }
 
-/// The first byte of a code point in UTF-8.
+/// The first byte of a code point in UTF-8; that of a surrogate is 0xED, as for the code points round it. A number past
+/// U+10FFFF has no UTF-8: it gives 0xFF, which begins no character.
 pub fn utf8_first_byte(c: u32) -> u8
-    requires { c ≤ 0x10_FFFF }
-    ensures { slice_get (encode_utf8 c) 0 ≡ Some result }
+    ensures begins { c ≤ 0x10_FFFF → slice_get (encode_utf8 c) 0 ≡ Some result }
+    ensures beyond { 0x10_FFFF < c → result ≡ 0xFF }
 {
     if c < 0x80 {
         c as u8
@@ -102,8 +103,10 @@ pub fn utf8_first_byte(c: u32) -> u8
         (0xC0 + (c >> 6)) as u8
     } else if c < 0x1_0000 {
         (0xE0 + (c >> 12)) as u8
-    } else {
+    } else if c <= CODE_POINT_MAX {
         (0xF0 + (c >> 18)) as u8
+    } else {
+        0xFF
     }
 }
 
@@ -112,8 +115,8 @@ pub fn add_utf8_first_bytes_to_bitmap(interval: Interval, bitmap: &mut ByteBitma
     ensures { byte_bitmap_bytes bitmap.new ≡ bytes_where (λ b. contains (byte_bitmap_bytes bitmap.old) b || meet (begun_by b) (interval_of interval ∷ [])) }
 {
     // No other byte begins one of them, since first bytes rise with the code points.
-    let least = utf8_first_byte(interval.first.min(0x10_FFFF));
-    let greatest = utf8_first_byte(interval.last.min(0x10_FFFF));
+    let least = utf8_first_byte(interval.first.min(CODE_POINT_MAX));
+    let greatest = utf8_first_byte(interval.last.min(CODE_POINT_MAX));
     for byte in least..=greatest {
         if may_begin(byte, interval) {
             bitmap.set(byte);

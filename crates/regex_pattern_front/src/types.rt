@@ -1,8 +1,10 @@
 //! Names that several modules share.
 
-ghost use Rattle.std.specs.Prelude.{◌≡◌, IfOk};
+ghost use Rattle.std.specs.Prelude.{◌≡◌, ℕ, ◌&&◌, not, map, nat_le, IfOk};
+ghost use Rattle.regex_meaning.specs.Outcomes.{in_intervals};
+ghost use Rattle.regex_pattern_front.specs.Intervals.{interval_of};
 
-use crate::codepointset::CodePointSet;
+use crate::codepointset::{CodePointSet, Interval};
 use std::alloc::AllocError;
 
 /// The number of a capturing group, from 0 on in order of opening.
@@ -25,6 +27,31 @@ pub struct BracketContents {
 }
 
 impl BracketContents {
+    /// Whether a number is in the set, whatever `invert` is.
+    pub fn contains(&self, c: u32) -> bool
+        ensures { result ≡ in_intervals self.now.cps c }
+    {
+        self.cps.contains(c)
+    }
+
+    /// The intervals of the set, rising, whatever `invert` is.
+    pub fn intervals(&self) -> &[Interval]
+        ensures { map interval_of result.now ≡ self.now.cps }
+    {
+        self.cps.intervals()
+    }
+
+    /// The code points that are not in the set, whatever `invert` is.
+    ///
+    /// # Errors
+    ///
+    /// Where there is no memory for them.
+    pub fn inverted(&self) -> Result<CodePointSet, AllocError>
+        ensures { IfOk result (λ s. (c : ℕ) → in_intervals s c ≡ (nat_le c 0x10_FFFF && not (in_intervals self.now.cps c))) }
+    {
+        self.cps.inverted()
+    }
+
     /// The same class once more.
     ///
     /// # Errors

@@ -13,6 +13,10 @@ use std::test::Fail;
 fn sets_are_searched(rt: HostRuntime) {
     let mut ascii = AsciiBitmap::default();
     ascii.set(b'a');
+    ascii.set(128);
+    ascii.set(255);
+    assert!(rt; ascii.contains(b'a') && !ascii.contains(0) && !ascii.contains(127));
+    assert!(rt; !ascii.contains(128) && !ascii.contains(255));
     ascii.set(127);
     assert!(rt; ascii.contains(b'a') && ascii.contains(127) && !ascii.contains(b'b'));
     let mut bytes = ByteBitmap::default();
@@ -26,7 +30,8 @@ fn sets_are_searched(rt: HostRuntime) {
     assert!(rt; bytes.contains(0x7F) && bytes.contains(0xC2) && !bytes.contains(0xC3));
     assert!(rt; ascii.has_char(0x61) && !ascii.has_char(0xE1) && !ascii.has_char(0x161));
     assert!(rt; bytes.has_char(0x7F) && bytes.has_char(0xC2) && !bytes.has_char(0x1C2));
-    assert!(rt; utf8_first_byte(0x20AC) == 0xE2);
+    let first_bytes = [0x20AC, 0xD800, 0x10_FFFF, 0x11_0000, u32::MAX].map(utf8_first_byte);
+    assert_eq!(rt; first_bytes, [0xE2, 0xED, 0xF4, 0xFF, 0xFF]);
     let found = [
         bytes.find_in(&[0x41, 0xC2, 0xA0]),
         [b'c'].find_in(b"abc"),
@@ -51,6 +56,9 @@ fn sets_of_code_points(rt: HostRuntime) -> Result<(), Fail> {
         invert: true,
         cps: set,
     };
+    assert!(rt; class.contains(9) && !class.contains(10) && class.intervals().len() == 1);
+    let others = class.inverted()?;
+    assert!(rt; others.contains(0) && others.contains(10) && !others.contains(9));
     let copy = class.clone()?;
     assert!(rt; copy.invert && copy.cps.contains(9) && !copy.cps.contains(10));
     assert!(rt; copy.cps.intervals().len() == 1);

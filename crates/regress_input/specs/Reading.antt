@@ -101,10 +101,10 @@ byte_beside bytes rightwards at = slice_get bytes at
 byte_beside bytes leftwards zero = None
 byte_beside bytes leftwards (suc at) = slice_get bytes at
 
--- so many units on, if they are there
+-- so many units on from any offset, if that is past neither end
 abbrev pub units_on : (all : ℕ) → Direction → (n at : ℕ) → Option ℕ
 units_on all rightwards n at = if nat_le (at + n) all then Some (at + n) else None
-units_on all leftwards n at = if nat_le n at then Some (at - n) else None
+units_on all leftwards n at = if nat_le n at && nat_le (at - n) all then Some (at - n) else None
 
 -- the offset behind these units on the direction's side, if the same stand there
 abbrev pub past_units : {Unit : Type 0} → (same : Unit → Unit → Bool) → (all : List Unit) → (these : List Unit) → Direction → (at : ℕ) → Option ℕ

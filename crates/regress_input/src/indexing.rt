@@ -284,23 +284,24 @@ pub trait InputIndexer: Copy + Debug + UnitsAre {
         }
     }
 
-    /// The position `amt` units to the right, where that is not past the right end.
+    /// The position `amt` units to the right, where that is not past the right end. The position given may be any,
+    /// also one that is past it already.
     #[inline(always)]
     final fn try_move_right(&self, pos: Self::Position, amt: usize) -> Option<Self::Position>
-        requires { Self.Position.offset pos ≤ units (text self.now) }
         ensures { option_map (λ p. Self.Position.offset p) result ≡ units_on (units (text self.now)) rightwards amt (Self.Position.offset pos) }
     {
         let to = units::moved_right(self.unit_count(), pos.to_offset(), amt);
         units::position_at(to)
     }
 
-    /// The position `amt` units to the left, where that is not past the left end.
+    /// The position `amt` units to the left, where that is not past the left end. The position given may be any: from
+    /// one past the right end there is none either where the move ends past it still.
     #[inline(always)]
     final fn try_move_left(&self, pos: Self::Position, amt: usize) -> Option<Self::Position>
-        requires { Self.Position.offset pos ≤ units (text self.now) }
         ensures { option_map (λ p. Self.Position.offset p) result ≡ units_on (units (text self.now)) leftwards amt (Self.Position.offset pos) }
     {
-        units::position_at(units::moved_left(pos.to_offset(), amt))
+        let to = units::moved_left(self.unit_count(), pos.to_offset(), amt);
+        units::position_at(to)
     }
 
     /// The first position, from any offset on, at which the bytes stand that are looked for; none where units are no

@@ -126,19 +126,26 @@ pub(crate) fn position_at<Position: PositionType>(offset: Option<usize>) -> Opti
     }
 }
 
-/// The offset so many units to the right in a text of this length, if it is not past the end.
+/// The offset so many units to the right of any, if it is in a text of this length.
 #[inline(always)]
 pub(crate) fn moved_right(len: usize, at: usize, amt: usize) -> Option<usize>
-    requires { at ≤ len }
     ensures { result ≡ units_on len rightwards amt at }
 {
-    if len - at < amt { None } else { Some(at + amt) }
+    if len < at || len - at < amt {
+        None
+    } else {
+        Some(at + amt)
+    }
 }
 
-/// The offset so many units to the left, if there are so many.
+/// The offset so many units to the left of any, if it is in a text of this length.
 #[inline(always)]
-pub(crate) fn moved_left(at: usize, amt: usize) -> Option<usize>
-    ensures { (len : ℕ) → result ≡ units_on len leftwards amt at }
+pub(crate) fn moved_left(len: usize, at: usize, amt: usize) -> Option<usize>
+    ensures { result ≡ units_on len leftwards amt at }
 {
-    if at < amt { None } else { Some(at - amt) }
+    if at < amt || len < at - amt {
+        None
+    } else {
+        Some(at - amt)
+    }
 }

@@ -7,6 +7,7 @@ use regress_input::cursor::{self, Direction, Forward};
 use regress_input::front::ByteSearcher;
 use regress_input::indexing::{CharProperties, ElementType, InputIndexer};
 use regress_input::matchers::{backref, backref_icase};
+use regress_input::position::PositionType;
 use regress_input::scm::SingleCharMatcher;
 
 // So many characters to the right, or at the right end.
@@ -104,6 +105,22 @@ pub(crate) fn byte_count<Input: InputIndexer>(input: &Input) -> Option<usize> {
 pub(crate) fn before_the_end<Input: InputIndexer>(input: &Input, amt: usize) -> Option<usize> {
     let pos = input.try_move_left(input.right_end(), amt)?;
     Some(input.pos_to_offset(pos))
+}
+
+// The offset so many units on from any offset, also from one that the text has not.
+pub(crate) fn moved<Input: InputIndexer, Dir: Direction>(
+    input: &Input,
+    _dir: Dir,
+    offset: usize,
+    amt: usize,
+) -> Option<usize> {
+    let pos = Input::Position::from_offset(offset);
+    let to = if Dir::FORWARD {
+        input.try_move_right(pos, amt)?
+    } else {
+        input.try_move_left(pos, amt)?
+    };
+    Some(input.pos_to_offset(to))
 }
 
 // The byte beside an offset, and the offset past it.

@@ -1,7 +1,7 @@
 //! What is asked of an input, and its answers.
 
 use crate::answers::{
-    before_the_end, byte, byte_count, character, classes, folded, folded_alone, found, here,
+    before_the_end, byte, byte_count, character, classes, folded, folded_alone, found, here, moved,
     number, part, past_bytes, past_range, seen_left, seen_right, unit,
 };
 use crate::matches::{matching, past_char};
@@ -45,6 +45,8 @@ fn beside<Input: InputIndexer, Dir: Direction>(input: &Input, dir: Dir, ask: &As
         "character" => character(input, dir, place),
         "here" => here(input, dir, place),
         "byte" => byte(input, dir, place),
+        "moved" => at(moved(input, dir, place, b as usize)),
+        "moved_far" => at(moved(input, dir, usize::MAX - place, usize::MAX - b as usize)),
         "literal" => at(past_bytes(input, dir, place, &[low_byte(b)])),
         "literal2" => at(past_bytes(input, dir, place, &[low_byte(b), low_byte(c)])),
         "char" => at(past_char(input, dir, place, b)),

@@ -13,9 +13,8 @@ use regress_input::scm::{
 };
 use std::alloc::{AllocError, Global};
 
-// The set of one byte.
+// The set of one byte of ASCII.
 fn ascii_set(byte: u8) -> AsciiBitmap
-    requires { byte < 128 }
     ensures { All (λ b. b < 128) (ascii_bitmap_bytes result) }
 {
     let mut set = AsciiBitmap::default();

@@ -6,7 +6,8 @@
 //
 // An answer is the number of a character, or 0, and behind it an offset, or 0. That of `fold` is the fold of the first
 // number, and whether both numbers have one fold; that of `classes` is the sum of 4 for a word character, 2 for one where
-// case does not count, and 1 for what ends a line; that of `matchers` is the offset for each of the nine.
+// case does not count, and 1 for what ends a line; that of `matchers` is the offset for each of the nine. Both numbers of
+// `moved_far` count back from the greatest.
 //
 // What the rows show: literals are read from left to right in both directions, and a range is not reversed. A low
 // surrogate before a high one is no pair, and half a pair is no character of UTF-16, at either end of a comparison. A unit
@@ -27,6 +28,23 @@ utf8~aé€😀~right~here~4 → -;
 utf8~aé€😀~left~here~4 → 0 6;
 utf8~aé€😀~left~here~3 → 0 3;
 utf8~aé€😀~left~here~0 → -;
+utf8~aé€😀~right~moved~1,2 → 0 3;
+utf8~aé€😀~right~moved~2,8 → 0 A;
+utf8~aé€😀~right~moved~2,9 → -;
+utf8~aé€😀~right~moved~A,0 → 0 A;
+utf8~aé€😀~right~moved~B,0 → -;
+utf8~aé€😀~right~moved_far~0,0 → -;
+utf8~aé€😀~right~moved_far~9,FFFFFFFF → -;
+utf8~aé€😀~left~moved~A,3 → 0 7;
+utf8~aé€😀~left~moved~A,B → -;
+utf8~aé€😀~left~moved~C,2 → 0 A;
+utf8~aé€😀~left~moved~C,1 → -;
+utf8~aé€😀~left~moved~C,D → -;
+utf8~aé€😀~left~moved_far~0,0 → 0 0;
+utf8~aé€😀~left~moved_far~0,A → 0 A;
+utf8~aé€😀~left~moved_far~0,B → -;
+utf16~61,D83D,DE00~left~moved~4,2 → 0 2;
+utf16~61,D83D,DE00~right~moved~4,0 → -;
 ascii~ab~right~here~1 → 62 2;
 ascii~ab~left~here~1 → 0 0;
 utf16~61,D83D,DE00~right~here~1 → 1F600 3;

@@ -10,7 +10,7 @@ use Rattle.regex_pattern_front.proofs.folding.add_utf8_first_bytes_to_bitmap.Goa
 pub loop-byte-init : goal.loop-byte-init
 loop-byte-init c =
     with_bytes-from (λ b. get_or c.args.bitmap.now.table b false) _ _
-    (λ b below. none-outside c.args.interval.first c.args.interval.last _ _ _ _ c.min.ensures c.min-2.ensures c.utf8_first_byte-least.ensures c.utf8_first_byte-greatest.ensures b (inl below))
+    (λ b below. none-outside c.args.interval.first c.args.interval.last _ _ _ _ c.min.ensures c.min-2.ensures (c.utf8_first_byte-least.ensures.begins (omega arith)) (c.utf8_first_byte-greatest.ensures.begins (omega arith)) b (inl below))
 
 pub loop-byte-preserved : goal.loop-byte-preserved
 loop-byte-preserved c =
@@ -25,7 +25,7 @@ loop-byte-preserved c =
 pub returns : goal.returns
 returns c =
     c.loop-byte.invariant ∙ with_bytes-to (byte_bitmap_bytes c.args.bitmap.now) (λ b. meet (begun_by b) (interval_of c.args.interval ∷ [])) c.loop-byte.byte
-    (λ b above h. none-outside c.args.interval.first c.args.interval.last _ _ _ _ c.min.ensures c.min-2.ensures c.utf8_first_byte-least.ensures c.utf8_first_byte-greatest.ensures b (inr (omega arith)))
+    (λ b above h. none-outside c.args.interval.first c.args.interval.last _ _ _ _ c.min.ensures c.min-2.ensures (c.utf8_first_byte-least.ensures.begins (omega arith)) (c.utf8_first_byte-greatest.ensures.begins (omega arith)) b (inr (omega arith)))
 
 pub returns-after-may_begin : goal.returns-after-may_begin
 returns-after-may_begin c =
@@ -38,4 +38,4 @@ returns-after-may_begin c =
       | else-may_begin w ↦ rw w.bitmap-is (with_bytes-same old now test c.loop-byte.byte (sym c.may_begin.ensures ∙ w.if-may_begin.false) c.loop-byte.invariant)
     ] in
     added ∙ with_bytes-to old test (c.loop-byte.byte + 1)
-    (λ b above h. none-outside c.args.interval.first c.args.interval.last _ _ _ _ c.min.ensures c.min-2.ensures c.utf8_first_byte-least.ensures c.utf8_first_byte-greatest.ensures b (inr (omega arith)))
+    (λ b above h. none-outside c.args.interval.first c.args.interval.last _ _ _ _ c.min.ensures c.min-2.ensures (c.utf8_first_byte-least.ensures.begins (omega arith)) (c.utf8_first_byte-greatest.ensures.begins (omega arith)) b (inr (omega arith)))

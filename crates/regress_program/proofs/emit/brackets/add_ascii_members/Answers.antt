@@ -13,7 +13,7 @@ pub loop-member-preserved : goal.loop-member-preserved
 loop-member-preserved c =
     let i = c.args.interval in
     with_bytes-more (ascii_bitmap_bytes c.args.bitmap.now) (ascii_bitmap_bytes c.loop-member.bitmap) _ (λ b. nat_lt b 128 && is_in_range i.first i.last b) c.loop-member.member
-    (passes_between i.first i.last c.loop-member.member (omega arith) (omega arith)) c.loop-member.invariant c.set.ensures
+    (passes_between i.first i.last c.loop-member.member (omega arith) (omega arith)) c.loop-member.invariant (c.set.ensures.added (omega arith))
 
 pub returns : goal.returns
 returns c =

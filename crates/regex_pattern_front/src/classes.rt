@@ -1,12 +1,13 @@
 //! Character classes: `[a-z]`, `\d` and the like.
 
-ghost use Rattle.std.specs.Prelude.{◌≡◌, ◌<◌, ◌≤◌, length, OnOk, IsSome};
+ghost use Rattle.std.specs.Prelude.{◌≤◌, length};
 
 use crate::codepointset::{CodePointSet, Interval};
+use crate::diagnosis::Cause;
 use crate::escapes::character_escape;
+use crate::fault::Fault;
 use crate::flags::Flags;
 use crate::folding::expand_code_point;
-use crate::parse::ParseError;
 use crate::reader::Reader;
 use crate::types::BracketContents;
 use std::alloc::{AllocError, Global};
@@ -145,39 +146,47 @@ pub(crate) fn class(
     alloc: Global,
     reader: &mut Reader,
     flags: Flags,
-) -> Result<BracketContents, ParseError>
+) -> Result<BracketContents, Fault>
     ensures moves { length reader.new.rest.now ≤ length reader.old.rest.now }
 {
-    if flags.unicode_sets && has_set_operation(*reader) {
-        return Err(ParseError::Syntax);
+    let start = *reader;
+    if flags.unicode_sets {
+        no_set_operation(*reader)?;
     }
     let invert = reader.eat('^');
     let mut intervals = Vec::new(alloc);
-    while !reader.eat(']') {
-        read_member(&mut intervals, reader, flags)?;
+    while let Some(c) = reader.next() {
+        if c == ']' as u32 {
+            return Ok(BracketContents {
+                invert,
+                cps: closed(intervals, flags)?,
+            });
+        }
+        read_member(&mut intervals, reader, c, flags)?;
     }
-    Ok(BracketContents {
-        invert,
-        cps: closed(intervals, flags)?,
-    })
+    Err(start.refuse_last(Cause::UnclosedClass))
 }
 
-// Whether the class that begins here has a nested class, or `&&` or `--`.
-fn has_set_operation(reader: Reader) -> bool {
+// Refuses a nested class, `&&` or `--` in the class that begins here.
+fn no_set_operation(reader: Reader) -> Result<(), Fault> {
     let mut ahead = reader;
     while let Some(c) = ahead.next() {
-        match char::from_u32(c) {
+        let is_operation = match char::from_u32(c) {
             Some('\\') => {
                 let _ = ahead.next();
+                false
             }
-            Some('[') => return true,
-            Some('&') if ahead.peek() == Some('&') => return true,
-            Some('-') if ahead.peek() == Some('-') => return true,
-            Some(']') => return false,
-            _ => {}
+            Some(']') => return Ok(()),
+            Some('[') => true,
+            Some('&') => ahead.peek() == Some('&'),
+            Some('-') => ahead.peek() == Some('-'),
+            _ => false,
+        };
+        if is_operation {
+            return Err(ahead.refuse_last(Cause::SetOperation));
         }
     }
-    false
+    Ok(())
 }
 
 // One end of a range, or what stands for itself.
@@ -187,26 +196,26 @@ enum Atom {
     Escape(ClassEscape),
 }
 
-// Reads a character, a range or a class escape. A `-` that is no range's is itself.
+// Reads the character, range or class escape that begins with this code point. A `-` that is no range's is itself.
 fn read_member(
     intervals: &mut Vec<Interval>,
     reader: &mut Reader,
+    c: u32,
     flags: Flags,
-) -> Result<(), ParseError>
+) -> Result<(), Fault>
     ensures moves { length reader.new.rest.now ≤ length reader.old.rest.now }
-    ensures read { OnOk result (length reader.new.rest.now < length reader.old.rest.now) }
 {
-    let first = read_atom(reader, flags)?;
+    let start = *reader;
+    let first = read_atom(reader, c, flags)?;
     let mut ahead = *reader;
-    if !ahead.eat('-') || ahead.peek() == Some(']') {
+    let Some(second) = range_end(&mut ahead, flags)? else {
         add(intervals, first, flags)?;
         return Ok(());
-    }
-    let second = read_atom(&mut ahead, flags)?;
+    };
     *reader = ahead;
     if let (Atom::Character(first), Atom::Character(last)) = (first, second) {
         if last < first {
-            return Err(ParseError::Syntax);
+            return Err(start.refuse_last(Cause::RangeOutOfOrder));
         }
         intervals.push(Interval { first, last })?;
         return Ok(());
@@ -217,12 +226,24 @@ fn read_member(
     Ok(())
 }
 
-fn read_atom(reader: &mut Reader, flags: Flags) -> Result<Atom, ParseError>
+// Reads a `-` and what the range ends with; none where no `-` stands here, or one before the class's end.
+fn range_end(reader: &mut Reader, flags: Flags) -> Result<Option<Atom>, Fault>
     ensures moves { length reader.new.rest.now ≤ length reader.old.rest.now }
-    ensures read { OnOk result (length reader.new.rest.now < length reader.old.rest.now) }
 {
-    if !reader.eat('\\') {
-        let c = reader.next().ok_or(ParseError::Syntax)?;
+    if !reader.eat('-') {
+        return Ok(None);
+    }
+    match reader.next() {
+        Some(c) if c != ']' as u32 => Ok(Some(read_atom(reader, c, flags)?)),
+        _ => Ok(None),
+    }
+}
+
+// Reads the character or class escape that begins with this code point.
+fn read_atom(reader: &mut Reader, c: u32, flags: Flags) -> Result<Atom, Fault>
+    ensures moves { length reader.new.rest.now ≤ length reader.old.rest.now }
+{
+    if c != '\\' as u32 {
         return Ok(Atom::Character(c));
     }
     if let Some(escape) = ClassEscape::of(reader.peek()) {

@@ -1,62 +1,86 @@
 //! What stands behind a backslash, and names.
 
-ghost use Rattle.std.specs.Prelude.{◌≡◌, ◌<◌, ◌≤◌, length, OnOk, IfSome};
+ghost use Rattle.std.specs.Prelude.{◌≤◌, length, IfSome};
 
-use crate::parse::ParseError;
+use crate::codepointset::CODE_POINT_MAX;
+use crate::diagnosis::Cause;
+use crate::fault::Fault;
 use crate::reader::Reader;
 use std::alloc::Global;
 
 /// Reads what follows a backslash and stands for one character (ECMA-262, 21.2.1 `CharacterEscape`):
 /// `t n v f r`, `0` with no digit after it, `xHH`, `uHHHH`, with `unicode` `u{H..}`, or what is no letter or digit
 /// of ASCII.
-pub(crate) fn character_escape(reader: &mut Reader, unicode: bool) -> Result<u32, ParseError>
+pub(crate) fn character_escape(reader: &mut Reader, unicode: bool) -> Result<u32, Fault>
     ensures moves { length reader.new.rest.now ≤ length reader.old.rest.now }
-    ensures read { OnOk result (length reader.new.rest.now < length reader.old.rest.now) }
 {
-    let c = reader.next().ok_or(ParseError::Syntax)?;
-    match char::from_u32(c) {
+    let start = *reader;
+    let Some(c) = reader.next() else {
+        return Err(start.refuse_last(Cause::NothingToEscape));
+    };
+    let escaped = match char::from_u32(c) {
         Some('t') => Ok(0x09),
         Some('n') => Ok(0x0A),
         Some('v') => Ok(0x0B),
         Some('f') => Ok(0x0C),
         Some('r') => Ok(0x0D),
         Some('0') => null(reader),
-        Some('x') => reader.hex(2).ok_or(ParseError::Syntax),
-        Some('u') => unicode_escape(reader, unicode).ok_or(ParseError::Syntax),
-        Some(letter) if letter.is_ascii_alphanumeric() => Err(ParseError::Syntax),
+        Some('x') => reader.hex(2).ok_or(Cause::HexEscape),
+        Some('u') => unicode_escape(reader, unicode),
+        Some(letter) if letter.is_ascii_alphanumeric() => Err(unknown(letter)),
         _ => Ok(c),
+    };
+    escaped.map_err(|cause| start.refuse_last(cause))
+}
+
+// What is wrong with an escape that begins with this letter or digit.
+fn unknown(letter: char) -> Cause {
+    match letter {
+        'p' | 'P' => Cause::PropertyEscape,
+        'c' => Cause::ControlEscape,
+        '1'..='7' => Cause::OctalEscape,
+        _ => Cause::UnknownEscape,
     }
 }
 
 // `\0`, which no digit may follow.
-fn null(reader: &Reader) -> Result<u32, ParseError> {
+fn null(reader: &Reader) -> Result<u32, Cause> {
     match reader.peek() {
-        Some('0'..='9') => Err(ParseError::Syntax),
+        Some('0'..='9') => Err(Cause::OctalEscape),
         _ => Ok(0),
     }
 }
 
 // What follows `\u`. With `unicode` two surrogates that make a pair are one character.
-fn unicode_escape(reader: &mut Reader, unicode: bool) -> Option<u32>
+fn unicode_escape(reader: &mut Reader, unicode: bool) -> Result<u32, Cause>
     ensures moves { length reader.new.rest.now ≤ length reader.old.rest.now }
 {
     if unicode && reader.eat('{') {
-        let c = reader.hex_number()?;
-        return if reader.eat('}') && c <= 0x10_FFFF {
-            Some(c)
-        } else {
-            None
-        };
+        return code_point(reader);
     }
-    let c = reader.hex(4)?;
+    let c = reader.hex(4).ok_or(Cause::UnicodeEscape)?;
     if unicode && 0xD800 <= c && c <= 0xDBFF {
         let mut ahead = *reader;
         if let Some(low) = low_surrogate(&mut ahead) {
             *reader = ahead;
-            return Some(0x1_0000 + (c - 0xD800) * 0x400 + (low - 0xDC00));
+            return Ok(0x1_0000 + (c - 0xD800) * 0x400 + (low - 0xDC00));
         }
     }
-    Some(c)
+    Ok(c)
+}
+
+// What follows `\u{`.
+fn code_point(reader: &mut Reader) -> Result<u32, Cause>
+    ensures moves { length reader.new.rest.now ≤ length reader.old.rest.now }
+{
+    let c = reader.hex_number().ok_or(Cause::UnicodeEscape)?;
+    if !reader.eat('}') {
+        Err(Cause::UnicodeEscape)
+    } else if c > CODE_POINT_MAX {
+        Err(Cause::CodePointTooGreat)
+    } else {
+        Ok(c)
+    }
 }
 
 // Reads an escape of a low surrogate.
@@ -76,23 +100,21 @@ fn low_surrogate(reader: &mut Reader) -> Option<u32>
 }
 
 /// Reads the rest of `<name>`: letters and digits of ASCII, `_` and `$`, no digit first.
-pub(crate) fn name(alloc: Global, reader: &mut Reader) -> Result<String, ParseError>
+pub(crate) fn name(alloc: Global, reader: &mut Reader) -> Result<String, Fault>
     ensures moves { length reader.new.rest.now ≤ length reader.old.rest.now }
 {
+    let start = *reader;
     let mut name = String::new(alloc);
-    while let Some(c) = reader.peek() {
-        let _ = reader.next();
-        if c == '>' && !name.is_empty() {
-            return Ok(name);
+    while let Some(c) = reader.next() {
+        match char::from_u32(c) {
+            Some('>') if !name.is_empty() => return Ok(name),
+            Some(c) if may_stand_in_name(c, name.is_empty()) => name.push(c)?,
+            _ => return Err(reader.refuse_last(Cause::InvalidName)),
         }
-        if !(c.is_ascii_alphabetic()
-            || c == '_'
-            || c == '$'
-            || c.is_ascii_digit() && !name.is_empty())
-        {
-            return Err(ParseError::Syntax);
-        }
-        name.push(c)?;
     }
-    Err(ParseError::Syntax)
+    Err(start.refuse_last(Cause::UnclosedName))
+}
+
+fn may_stand_in_name(c: char, is_first: bool) -> bool {
+    c.is_ascii_alphabetic() || c == '_' || c == '$' || c.is_ascii_digit() && !is_first
 }

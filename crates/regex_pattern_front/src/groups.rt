@@ -1,12 +1,13 @@
 //! Groups: how one opens, and the names of all of them.
 
-ghost use Rattle.std.specs.Prelude.{◌≡◌, ◌<◌, ◌≤◌, length, IfOk, OnSome, IsSome};
+ghost use Rattle.std.specs.Prelude.{◌≡◌, ◌<◌, ◌≤◌, length, IsSome};
 
+use crate::diagnosis::Cause;
 use crate::escapes::name;
-use crate::parse::ParseError;
+use crate::fault::Fault;
 use crate::reader::Reader;
 use crate::types::CaptureGroupID;
-use std::alloc::Global;
+use std::alloc::{AllocError, Global};
 use std::collections::BTreeMap;
 
 /// How a parenthesis opens.
@@ -49,22 +50,11 @@ impl Opening {
     }
 }
 
-/// Reads an opening parenthesis with what belongs to it, if one stands here.
-pub(crate) fn read_opening(reader: &mut Reader) -> Result<Option<Opening>, ParseError>
-    ensures moves { length reader.new.rest.now ≤ length reader.old.rest.now }
-    ensures read { IfOk result (λ found. OnSome found (length reader.new.rest.now < length reader.old.rest.now)) }
-{
-    if reader.eat('(') {
-        Ok(Some(opened(reader)?))
-    } else {
-        Ok(None)
-    }
-}
-
-// What stands behind an opening parenthesis.
-fn opened(reader: &mut Reader) -> Result<Opening, ParseError>
+/// Reads what stands behind an opening parenthesis and belongs to it.
+pub(crate) fn opened(reader: &mut Reader) -> Result<Opening, Fault>
     ensures moves { length reader.new.rest.now ≤ length reader.old.rest.now }
 {
+    let start = *reader;
     if !reader.eat('?') {
         return Ok(Opening::Capture);
     }
@@ -78,16 +68,16 @@ fn opened(reader: &mut Reader) -> Result<Opening, ParseError>
     } else if backwards {
         Ok(Opening::Named)
     } else {
-        Err(ParseError::Syntax)
+        Err(start.refuse_last(Cause::InvalidGroup))
     }
 }
 
 /// The numbers of the groups that have a name, by it. Groups count from 1.
 pub(crate) type GroupNumbers = BTreeMap<String, u32>;
 
-/// Finds the names of a whole pattern, since a reference may stand before its group. A name that stands twice is
-/// refused.
-pub(crate) fn group_numbers(alloc: Global, pattern: &[u32]) -> Result<GroupNumbers, ParseError> {
+/// Finds the names of a whole pattern, since a reference may stand before its group. A name that stands twice is that of
+/// the first group. What is no pattern here is passed over: it is refused where it is read in its turn.
+pub(crate) fn group_numbers(alloc: Global, pattern: &[u32]) -> Result<GroupNumbers, AllocError> {
     let mut numbers = BTreeMap::new(alloc);
     let mut reader = Reader { rest: pattern };
     let mut groups = 0u32;
@@ -126,20 +116,37 @@ fn note_group(
     numbers: &mut GroupNumbers,
     reader: &mut Reader,
     groups: u32,
-) -> Result<u32, ParseError>
+) -> Result<u32, AllocError>
     ensures moves { length reader.new.rest.now ≤ length reader.old.rest.now }
 {
-    match opened(reader)? {
-        Opening::Capture => Ok(groups.saturating_add(1)),
-        Opening::Named => {
+    match opened(reader) {
+        Ok(Opening::Capture) => Ok(groups.saturating_add(1)),
+        Ok(Opening::Named) => {
             let group = groups.saturating_add(1);
-            let name = name(alloc, reader)?;
-            if numbers.contains_key(name.as_str()) {
-                return Err(ParseError::Syntax);
-            }
-            numbers.insert(name, group)?;
+            note_name(alloc, numbers, reader, group)?;
             Ok(group)
         }
         _ => Ok(groups),
+    }
+}
+
+// Notes the name that stands here for a group, unless another has it.
+fn note_name(
+    alloc: Global,
+    numbers: &mut GroupNumbers,
+    reader: &mut Reader,
+    group: u32,
+) -> Result<(), AllocError>
+    ensures moves { length reader.new.rest.now ≤ length reader.old.rest.now }
+{
+    match name(alloc, reader) {
+        Ok(name) => {
+            if !numbers.contains_key(name.as_str()) {
+                numbers.insert(name, group)?;
+            }
+            Ok(())
+        }
+        Err(Fault::Refused { .. }) => Ok(()),
+        Err(Fault::Memory) => Err(AllocError),
     }
 }

@@ -1,16 +1,17 @@
 //! Terms that have no group inside.
 
-ghost use Rattle.std.specs.Prelude.{◌≡◌, ℕ, ◌<◌, ◌≤◌, length, IfOk, OnOk};
+ghost use Rattle.std.specs.Prelude.{◌≡◌, ℕ, ◌<◌, ◌≤◌, length, IfOk};
 ghost use Rattle.regex_pattern_front.specs.TreeOf.{node_of};
 ghost use Rattle.regex_pattern_front.specs.Parts.{IsLeaf};
 
 use crate::classes::{ClassEscape, class};
+use crate::diagnosis::Cause;
 use crate::escapes::{character_escape, name};
+use crate::fault::Fault;
 use crate::flags::Flags;
 use crate::folding::expand_code_point;
 use crate::groups::GroupNumbers;
 use crate::ir::{AnchorType, Node};
-use crate::parse::ParseError;
 use crate::reader::Reader;
 use crate::types::BracketContents;
 use std::alloc::Global;
@@ -24,6 +25,8 @@ pub(crate) struct LeafReader<'p> {
     pub(crate) reader: Reader<'p>,
     /// The greatest group that a reference names.
     pub(crate) references: u32,
+    /// How much of the pattern is left from that reference on.
+    pub(crate) reference_left: usize,
 }
 
 /// A term that has no group inside, and whether it takes a quantifier.
@@ -34,18 +37,12 @@ pub(crate) struct Leaf {
 }
 
 impl LeafReader<'_> {
-    /// Reads the next term, which is no parenthesis.
-    pub(crate) fn leaf(&mut self) -> Result<Leaf, ParseError>
-        ensures read { OnOk result (length self.new.reader.rest.now < length self.old.reader.rest.now) }
+    /// Reads the term that begins with this code point, and is no parenthesis.
+    pub(crate) fn leaf(&mut self, c: u32) -> Result<Leaf, Fault>
         ensures moves { length self.new.reader.rest.now ≤ length self.old.reader.rest.now }
         ensures leaf { IfOk result (λ l. IsLeaf self.new.references (node_of l.node)) }
         ensures references { self.old.references ≤ self.new.references }
     {
-        let unicode = self.flags.unicode;
-        if !unicode && self.reader.braces().is_some() {
-            return Err(ParseError::Syntax);
-        }
-        let c = self.reader.next().ok_or(ParseError::Syntax)?;
         match char::from_u32(c) {
             Some('^') => Ok(self.anchor(AnchorType::StartOfLine)),
             Some('$') => Ok(self.anchor(AnchorType::EndOfLine)),
@@ -55,8 +52,13 @@ impl LeafReader<'_> {
                 let contents = class(self.alloc, &mut self.reader, self.flags)?;
                 Ok(bracket(contents))
             }
-            Some('*' | '+' | '?' | '(' | ')' | '|') => Err(ParseError::Syntax),
-            Some(']' | '{' | '}') if unicode => Err(ParseError::Syntax),
+            Some('*' | '+' | '?') => Err(self.reader.refuse_last(Cause::NothingToRepeat)),
+            Some('{') if self.reader.is_in_braces() => {
+                Err(self.reader.refuse_last(Cause::NothingToRepeat))
+            }
+            Some(']' | '{' | '}') if self.flags.unicode => {
+                Err(self.reader.refuse_last(Cause::LoneBracket))
+            }
             _ => self.character(c),
         }
     }
@@ -84,7 +86,7 @@ impl LeafReader<'_> {
     }
 
     // With `icase` a character of several spellings is the set of them.
-    fn character(&self, c: u32) -> Result<Leaf, ParseError>
+    fn character(&self, c: u32) -> Result<Leaf, Fault>
         ensures { IfOk result (λ l. (greatest : ℕ) → IsLeaf greatest (node_of l.node)) }
     {
         let members = expand_code_point(self.alloc, c, self.flags.icase, self.flags.unicode)?;
@@ -96,7 +98,7 @@ impl LeafReader<'_> {
     }
 
     // What follows a backslash.
-    fn escape(&mut self) -> Result<Leaf, ParseError>
+    fn escape(&mut self) -> Result<Leaf, Fault>
         ensures moves { length self.new.reader.rest.now ≤ length self.old.reader.rest.now }
         ensures leaf { IfOk result (λ l. IsLeaf self.new.references (node_of l.node)) }
         ensures references { self.old.references ≤ self.new.references }
@@ -113,8 +115,9 @@ impl LeafReader<'_> {
                 Ok(self.boundary(letter == Some('B')))
             }
             Some('k' | '1'..='9') => {
+                let left = self.reader.left_from_last();
                 let group = group_number(self.alloc, &mut self.reader, &self.numbers)?;
-                Ok(self.reference(group))
+                Ok(self.reference(group, left))
             }
             _ => {
                 let c = character_escape(&mut self.reader, self.flags.unicode)?;
@@ -135,12 +138,19 @@ impl LeafReader<'_> {
         }
     }
 
-    fn reference(&mut self, group: u32) -> Leaf
+    // A reference to a group, from which on so much of the pattern is left.
+    fn reference(&mut self, group: u32, left: usize) -> Leaf
         requires { 0 < group }
         ensures leaf { IsLeaf self.new.references (node_of result.node) }
         ensures moves { self.new.reader ≡ self.old.reader }
         ensures references { self.old.references ≤ self.new.references }
     {
+        let is_greatest = self.references < group;
+        self.reference_left = if is_greatest {
+            left
+        } else {
+            self.reference_left
+        };
         self.references = self.references.max(group);
         atom(Node::BackRef {
             group,
@@ -165,35 +175,21 @@ fn bracket(contents: BracketContents) -> Leaf
 }
 
 // The group of `\1` or `\k<name>`, behind the backslash.
-fn group_number(
-    alloc: Global,
-    reader: &mut Reader,
-    numbers: &GroupNumbers,
-) -> Result<u32, ParseError>
+fn group_number(alloc: Global, reader: &mut Reader, numbers: &GroupNumbers) -> Result<u32, Fault>
     ensures moves { length reader.new.rest.now ≤ length reader.old.rest.now }
     ensures counts_from_one { IfOk result (λ group. 0 < group) }
 {
-    let number = if reader.eat('k') {
-        named_group(alloc, reader, numbers)?
-    } else {
+    let start = *reader;
+    let number = if !reader.eat('k') {
         reader.number().and_then(|n| u32::try_from(n).ok())
+    } else if reader.eat('<') {
+        let name = name(alloc, reader)?;
+        numbers.get(name.as_str()).copied()
+    } else {
+        return Err(start.refuse_last(Cause::MissingName));
     };
     match number {
         Some(number) if number > 0 => Ok(number),
-        _ => Err(ParseError::Syntax),
+        _ => Err(start.refuse_last(Cause::NoSuchGroup)),
     }
-}
-
-fn named_group(
-    alloc: Global,
-    reader: &mut Reader,
-    numbers: &GroupNumbers,
-) -> Result<Option<u32>, ParseError>
-    ensures moves { length reader.new.rest.now ≤ length reader.old.rest.now }
-{
-    if !reader.eat('<') {
-        return Err(ParseError::Syntax);
-    }
-    let name = name(alloc, reader)?;
-    Ok(numbers.get(name.as_str()).copied())
 }

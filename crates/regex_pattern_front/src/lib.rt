@@ -4,7 +4,9 @@
 pub mod bytesearch;
 mod classes;
 pub mod codepointset;
+pub mod diagnosis;
 mod escapes;
+mod fault;
 pub mod flags;
 pub mod folding;
 mod groups;

@@ -30,6 +30,8 @@ pub(crate) struct Open {
     pub(crate) name: Option<String>,
     /// How many capturing groups had opened before it.
     pub(crate) start: CaptureGroupID,
+    /// How much of the pattern is left from it on.
+    pub(crate) left: usize,
 }
 
 impl Level {

@@ -1,6 +1,6 @@
 //! From the text of a pattern to its tree.
 
-ghost use Rattle.std.specs.Prelude.{◌≡◌, ℕ, ◌+◌, ◌<◌, ◌≤◌, false, length, IfOk, OnOk, IsTrue};
+ghost use Rattle.std.specs.Prelude.{◌≡◌, ℕ, ◌+◌, ◌≤◌, false, length, IfOk, IfErr, IfSome, OnOk, IsTrue};
 ghost use Rattle.regex_meaning.specs.Layout.{reads_bytes};
 ghost use Rattle.regex_meaning.specs.WellFormed.{is_well_formed};
 ghost use Rattle.regex_pattern_front.specs.TreeOf.{node_of, tree_of};
@@ -9,9 +9,11 @@ ghost use Rattle.regex_pattern_front.specs.Parts.{IsPart};
 ghost use Rattle.regex_pattern_front.specs.Levels.{IsReading, captures};
 ghost use Rattle.regex_pattern_front.specs.declared.parse.ParseError.TheVariants.{Memory};
 
+use crate::diagnosis::{Cause, Diagnosis};
 use crate::escapes::name;
+use crate::fault::Fault;
 use crate::flags::Flags;
-use crate::groups::{Opening, group_numbers, read_opening};
+use crate::groups::{Opening, group_numbers, opened};
 use crate::ir::{Node, Regex};
 use crate::leaves::{Leaf, LeafReader};
 use crate::nesting::{Level, Open};
@@ -20,13 +22,16 @@ use crate::types::CaptureGroupID;
 use std::alloc::{AllocError, AllocFailed, Global};
 use std::mem;
 use std::ops::Range;
+use thiserror::Error;
 
 /// Why there is no tree of a pattern.
-#[derive(Clone, Copy, Debug, PartialEq, Eq)]
+#[derive(Clone, Copy, Debug, PartialEq, Eq, Error)]
 pub enum ParseError {
     /// The text is no pattern.
+    #[error("the text is no pattern")]
     Syntax,
     /// A growth was refused.
+    #[error("out of memory")]
     Memory,
 }
 
@@ -56,12 +61,65 @@ impl<T: Drop> From<AllocFailed<T>> for ParseError {
 /// # Errors
 ///
 /// `Syntax` where the text is no pattern, and `Memory` where there is no memory for the tree. No clause says which texts
-/// are patterns.
+/// are patterns. `diagnose` says what is wrong with a text, and where.
 pub fn try_parse(alloc: Global, pattern: &[u32], flags: Flags) -> Result<Regex, ParseError>
     ensures flags { IfOk result (λ re. re.flags ≡ flags) }
     ensures well_formed { IfOk result (λ re. IsTrue (is_well_formed (tree_of re).root)) }
     ensures characters { IfOk result (λ re. reads_bytes (tree_of re).root ≡ false) }
     ensures plain { IfOk result (λ re. IsTrue (has_plain_loops (tree_of re).root)) }
+{
+    match read_pattern(alloc, pattern, flags)? {
+        Ok(re) => Ok(re),
+        Err(_) => Err(ParseError::Syntax),
+    }
+}
+
+/// What is wrong with a text that is no pattern, and where; none where it is one. This is what `read_pattern` tells.
+///
+/// # Errors
+///
+/// Where there is no memory for the tree.
+pub fn diagnose(
+    alloc: Global,
+    pattern: &[u32],
+    flags: Flags,
+) -> Result<Option<Diagnosis>, AllocError>
+    ensures { IfOk result (λ found. IfSome found (λ d. d.at ≤ length pattern.now)) }
+{
+    Ok(read_pattern(alloc, pattern, flags)?.err())
+}
+
+/// The tree of a pattern as `try_parse` gives it, or what is wrong with the text, and where. Nothing is read twice for
+/// that. What is wrong first is told, but that a group does not close, or that there is no group of a number, is seen at
+/// the end alone: the innermost group is told, or the reference with the greatest number.
+///
+/// # Errors
+///
+/// Where there is no memory for the tree.
+pub fn read_pattern(
+    alloc: Global,
+    pattern: &[u32],
+    flags: Flags,
+) -> Result<Result<Regex, Diagnosis>, AllocError>
+    ensures flags { IfOk result (λ read. IfOk read (λ re. re.flags ≡ flags)) }
+    ensures well_formed { IfOk result (λ read. IfOk read (λ re. IsTrue (is_well_formed (tree_of re).root))) }
+    ensures characters { IfOk result (λ read. IfOk read (λ re. reads_bytes (tree_of re).root ≡ false)) }
+    ensures place { IfOk result (λ read. IfErr read (λ d. d.at ≤ length pattern.now)) }
+{
+    match read(alloc, pattern, flags) {
+        Ok(re) => Ok(Ok(re)),
+        Err(Fault::Refused { cause, left }) => Ok(Err(Diagnosis {
+            cause,
+            at: pattern.len().saturating_sub(left),
+        })),
+        Err(Fault::Memory) => Err(AllocError),
+    }
+}
+
+fn read(alloc: Global, pattern: &[u32], flags: Flags) -> Result<Regex, Fault>
+    ensures flags { IfOk result (λ re. re.flags ≡ flags) }
+    ensures well_formed { IfOk result (λ re. IsTrue (is_well_formed (tree_of re).root)) }
+    ensures characters { IfOk result (λ re. reads_bytes (tree_of re).root ≡ false) }
 {
     let mut parser = Parser {
         leaves: LeafReader {
@@ -70,6 +128,7 @@ pub fn try_parse(alloc: Global, pattern: &[u32], flags: Flags) -> Result<Regex, 
             numbers: group_numbers(alloc, pattern)?,
             reader: Reader { rest: pattern },
             references: 0,
+            reference_left: 0,
         },
         groups: 0,
         level: Level::new(alloc, false),
@@ -92,59 +151,57 @@ struct Parser<'p> {
 }
 
 impl Parser<'_> {
-    fn read_all(&mut self) -> Result<(), ParseError>
+    fn read_all(&mut self) -> Result<(), Fault>
         requires { IsReading self.old }
         ensures { OnOk result (IsReading self.new) }
     {
-        while !self.leaves.reader.rest.is_empty() {
-            self.step()?;
+        while let Some(c) = self.leaves.reader.next() {
+            self.step(c)?;
         }
         Ok(())
     }
 
-    // Reads a bar, a parenthesis or a term.
-    fn step(&mut self) -> Result<(), ParseError>
+    // Reads what begins with this code point: a bar, a parenthesis or a term.
+    fn step(&mut self, c: u32) -> Result<(), Fault>
         requires { IsReading self.old }
         ensures reading { OnOk result (IsReading self.new) }
-        ensures read { OnOk result (length self.new.leaves.reader.rest.now < length self.old.leaves.reader.rest.now) }
+        ensures moves { length self.new.leaves.reader.rest.now ≤ length self.old.leaves.reader.rest.now }
     {
-        if self.leaves.reader.eat('|') {
-            return Ok(self.level.end_arm()?);
-        }
-        if self.leaves.reader.eat(')') {
-            return self.leave();
-        }
-        match read_opening(&mut self.leaves.reader)? {
-            Some(opening) => self.enter(opening),
-            None => self.term(),
+        match char::from_u32(c) {
+            Some('|') => Ok(self.level.end_arm()?),
+            Some(')') => self.leave(),
+            Some('(') => self.enter(),
+            _ => self.term(c),
         }
     }
 
     // Reads a term that is no parenthesis.
-    fn term(&mut self) -> Result<(), ParseError>
+    fn term(&mut self, c: u32) -> Result<(), Fault>
         requires { IsReading self.old }
         ensures reading { OnOk result (IsReading self.new) }
-        ensures read { OnOk result (length self.new.leaves.reader.rest.now < length self.old.leaves.reader.rest.now) }
+        ensures moves { length self.new.leaves.reader.rest.now ≤ length self.old.leaves.reader.rest.now }
     {
-        let Leaf { node, is_atom } = self.leaves.leaf()?;
+        let Leaf { node, is_atom } = self.leaves.leaf(c)?;
         let groups = self.groups..self.groups;
         let node = quantified(&mut self.leaves, node, groups, is_atom)?;
         self.level.push(node)?;
         Ok(())
     }
 
-    // Goes into a parenthesis, behind what opens it.
-    fn enter(&mut self, opening: Opening) -> Result<(), ParseError>
+    // Goes into a parenthesis, behind its `(`.
+    fn enter(&mut self) -> Result<(), Fault>
         requires { IsReading self.old }
         ensures reading { OnOk result (IsReading self.new) }
         ensures moves { length self.new.leaves.reader.rest.now ≤ length self.old.leaves.reader.rest.now }
     {
         let alloc = self.leaves.alloc;
-        let name = group_name(alloc, &mut self.leaves.reader, opening)?;
         let start = self.groups;
+        let parenthesis = self.leaves.reader;
+        let opening = opened(&mut self.leaves.reader)?;
+        let name = group_name(&mut self.leaves, opening, start)?;
         let more = opening.captures();
         if more > CaptureGroupID::MAX - start {
-            return Err(ParseError::Syntax);
+            return Err(parenthesis.refuse_last(Cause::TooManyGroups));
         }
         self.groups = start + more;
         let inner = Level::new(alloc, opening.is_behind(self.level.behind()));
@@ -153,12 +210,13 @@ impl Parser<'_> {
             opening,
             name,
             start,
+            left: parenthesis.left_from_last(),
         })?;
         Ok(())
     }
 
     // Goes out of a parenthesis, behind what closes it.
-    fn leave(&mut self) -> Result<(), ParseError>
+    fn leave(&mut self) -> Result<(), Fault>
         requires { IsReading self.old }
         ensures reading { OnOk result (IsReading self.new) }
         ensures moves { length self.new.leaves.reader.rest.now ≤ length self.old.leaves.reader.rest.now }
@@ -169,10 +227,11 @@ impl Parser<'_> {
                 opening,
                 name,
                 start,
+                ..
             },
         ) = self.around.pop()
         else {
-            return Err(ParseError::Syntax);
+            return Err(self.leaves.reader.refuse_last(Cause::UnopenedGroup));
         };
         let contents = mem::replace(&mut self.level, outer).joined()?;
         let end = self.groups;
@@ -182,15 +241,29 @@ impl Parser<'_> {
         Ok(())
     }
 
+    // The refusal of the innermost parenthesis that is open.
+    fn unclosed(&self) -> Fault {
+        Fault::Refused {
+            cause: Cause::UnclosedGroup,
+            left: self.around.last().map_or(0, |open| open.left),
+        }
+    }
+
     // The root of what was read, if nothing is open and each reference has its group.
-    fn finish(self) -> Result<Node, ParseError>
+    fn finish(self) -> Result<Node, Fault>
         requires { IsReading self }
         ensures well_formed { IfOk result (λ n. IsTrue (is_well_formed (node_of n))) }
         ensures characters { IfOk result (λ n. reads_bytes (node_of n) ≡ false) }
         ensures plain { IfOk result (λ n. IsTrue (has_plain_loops (node_of n))) }
     {
-        if !self.around.is_empty() || self.leaves.references > u32::from(self.groups) {
-            return Err(ParseError::Syntax);
+        if !self.around.is_empty() {
+            return Err(self.unclosed());
+        }
+        if self.leaves.references > u32::from(self.groups) {
+            return Err(Fault::Refused {
+                cause: Cause::NoSuchGroup,
+                left: self.leaves.reference_left,
+            });
         }
         let alloc = self.leaves.alloc;
         let node = self.level.joined()?;
@@ -231,13 +304,17 @@ fn quantified(
     term: Node,
     groups: Range<CaptureGroupID>,
     is_atom: bool,
-) -> Result<Node, ParseError>
+) -> Result<Node, Fault>
     ensures moves { length leaves.new.reader.rest.now ≤ length leaves.old.reader.rest.now }
     ensures references { leaves.new.references ≡ leaves.old.references }
     ensures part { IfOk result (λ n. (greatest : ℕ) → IsPart groups.start groups.end greatest (node_of term) → IsPart groups.start groups.end greatest (node_of n)) }
 {
     if !is_atom {
-        return Ok(term);
+        return if leaves.reader.has_quantifier() {
+            Err(leaves.reader.refuse(Cause::RepeatedAssertion))
+        } else {
+            Ok(term)
+        };
     }
     match leaves.reader.quantifier()? {
         None => Ok(term),
@@ -249,16 +326,24 @@ fn quantified(
     }
 }
 
-// The name of a group that has one, behind what opens it.
+// The name of a group that has one, behind what opens it; so many groups have opened before. A name that another group has
+// is refused.
 fn group_name(
-    alloc: Global,
-    reader: &mut Reader,
+    leaves: &mut LeafReader,
     opening: Opening,
-) -> Result<Option<String>, ParseError>
-    ensures moves { length reader.new.rest.now ≤ length reader.old.rest.now }
+    groups: CaptureGroupID,
+) -> Result<Option<String>, Fault>
+    ensures moves { length leaves.new.reader.rest.now ≤ length leaves.old.reader.rest.now }
+    ensures references { leaves.new.references ≡ leaves.old.references }
 {
-    match opening {
-        Opening::Named => Ok(Some(name(alloc, reader)?)),
-        _ => Ok(None),
+    let Opening::Named = opening else {
+        return Ok(None);
+    };
+    let start = leaves.reader;
+    let name = name(leaves.alloc, &mut leaves.reader)?;
+    if leaves.numbers.get(name.as_str()).copied() == Some(u32::from(groups) + 1) {
+        Ok(Some(name))
+    } else {
+        Err(start.refuse(Cause::DuplicateName))
     }
 }

@@ -3,8 +3,9 @@
 ghost use Rattle.std.specs.Prelude.{◌≡◌, ◌<◌, ◌≤◌, length, IsTrue, IsSome, OnOk, IfOk};
 ghost use Rattle.std.specs.Option.{ForSome};
 
+use crate::diagnosis::Cause;
+use crate::fault::Fault;
 use crate::ir::Quantifier;
-use crate::parse::ParseError;
 
 /// A place in a pattern: what stands from there on.
 #[derive(Clone, Copy)]
@@ -13,6 +14,27 @@ pub(crate) struct Reader<'p> {
 }
 
 impl Reader<'_> {
+    /// How much is left from the code point that was read last.
+    pub(crate) fn left_from_last(&self) -> usize {
+        self.rest.len().saturating_add(1)
+    }
+
+    /// The refusal of what begins here.
+    pub(crate) fn refuse(&self, cause: Cause) -> Fault {
+        Fault::Refused {
+            cause,
+            left: self.rest.len(),
+        }
+    }
+
+    /// The refusal of what begins with the code point that was read last.
+    pub(crate) fn refuse_last(&self, cause: Cause) -> Fault {
+        Fault::Refused {
+            cause,
+            left: self.left_from_last(),
+        }
+    }
+
     /// The next code point, which stays unread, if it is a `char`.
     pub(crate) fn peek(&self) -> Option<char>
         ensures more { IsSome result → 0 < length self.now.rest.now }
@@ -95,23 +117,28 @@ impl Reader<'_> {
     }
 
     /// Reads `{n}`, `{n,}` or `{n,m}` and gives the two counts; none where no such braces stand.
-    pub(crate) fn braces(&mut self) -> Option<(usize, Option<usize>)>
+    fn braces(&mut self) -> Option<(usize, Option<usize>)>
         ensures moves { length self.new.rest.now ≤ length self.old.rest.now }
-        ensures read { IsSome result → length self.new.rest.now < length self.old.rest.now }
     {
         let mut ahead = *self;
-        let counts = ahead.counts_in_braces()?;
+        if !ahead.eat('{') {
+            return None;
+        }
+        let counts = ahead.counts()?;
         *self = ahead;
         Some(counts)
     }
 
-    fn counts_in_braces(&mut self) -> Option<(usize, Option<usize>)>
+    /// Whether what was read last is the brace of a quantifier.
+    pub(crate) fn is_in_braces(&self) -> bool {
+        let mut ahead = *self;
+        ahead.counts().is_some()
+    }
+
+    // Reads what stands behind the brace of a quantifier.
+    fn counts(&mut self) -> Option<(usize, Option<usize>)>
         ensures moves { length self.new.rest.now ≤ length self.old.rest.now }
-        ensures read { IsSome result → length self.new.rest.now < length self.old.rest.now }
     {
-        if !self.eat('{') {
-            return None;
-        }
         let min = self.number()?;
         let max = if self.eat(',') {
             self.number()
@@ -125,11 +152,18 @@ impl Reader<'_> {
         }
     }
 
+    /// Whether a quantifier stands here.
+    pub(crate) fn has_quantifier(&self) -> bool {
+        let mut ahead = *self;
+        !matches!(ahead.quantifier(), Ok(None))
+    }
+
     /// Reads a quantifier, if one stands here. Its counts are in order.
-    pub(crate) fn quantifier(&mut self) -> Result<Option<Quantifier>, ParseError>
+    pub(crate) fn quantifier(&mut self) -> Result<Option<Quantifier>, Fault>
         ensures moves { length self.new.rest.now ≤ length self.old.rest.now }
         ensures ordered { IfOk result (λ found. ForSome found (λ q. ForSome q.max (λ max. q.min ≤ max))) }
     {
+        let start = *self;
         let counts = if self.eat('*') {
             Some((0, None))
         } else if self.eat('+') {
@@ -144,7 +178,7 @@ impl Reader<'_> {
         };
         if let Some(max) = max {
             if max < min {
-                return Err(ParseError::Syntax);
+                return Err(start.refuse(Cause::QuantifierOutOfOrder));
             }
         }
         let greedy = !self.eat('?');

@@ -1,6 +1,10 @@
-//! Rows of the front: patterns with their trees, patterns that are refused, and sets.
+//! Rows of the front: patterns with their trees, texts that are refused with what is wrong in them, and sets.
 #![tactic(auto)]
 
+#[cfg(test)]
+mod causes;
+#[cfg(test)]
+mod diagnoses;
 #[cfg(test)]
 mod patterns;
 #[cfg(test)]

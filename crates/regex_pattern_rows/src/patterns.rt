@@ -10,7 +10,7 @@ use std::alloc::{AllocError, Global};
 use std::process::Abort;
 use std::test::Fail;
 
-fn flags_of(letters: &str) -> Flags {
+pub(crate) fn flags_of(letters: &str) -> Flags {
     Flags {
         icase: letters.contains('i'),
         multiline: letters.contains('m'),
@@ -30,7 +30,7 @@ fn tree(alloc: Global, pattern: &[u32], letters: &str) -> Result<Option<Regex>, 
     }
 }
 
-fn code_points(alloc: Global, pattern: &str) -> Result<Vec<u32>, AllocError> {
+pub(crate) fn code_points(alloc: Global, pattern: &str) -> Result<Vec<u32>, AllocError> {
     let mut code_points = Vec::new(alloc);
     for c in pattern.chars() {
         code_points.push(c as u32)?;
@@ -70,7 +70,7 @@ fn patterns_have_these_trees(rt: HostRuntime) -> Result<(), Fail> {
 }
 
 // Adds a piece of a pattern so many times.
-fn add(pattern: &mut Vec<u32>, piece: &str, count: usize) -> Result<(), AllocError> {
+pub(crate) fn add(pattern: &mut Vec<u32>, piece: &str, count: usize) -> Result<(), AllocError> {
     let piece = code_points(*pattern.allocator(), piece)?;
     for _ in 0..count {
         pattern.extend_from_slice(&piece)?;

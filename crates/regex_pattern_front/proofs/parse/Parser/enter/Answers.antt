@@ -9,11 +9,13 @@ returns-clause-reading c =
     let r = c.requires in
     let groups = c.args.self.now.groups in
     let references = c.args.self.now.leaves.references in
-    record {
-      inner = groups + captures c.args.opening;
+    let opening = c.in_ok-opening.opening in
+    rw c.in_ok-name.ensures.references
+    (record {
+      inner = groups + captures opening;
       around = rw c.in_ok-push.ensures.items
           (open-push references 0 r.inner c.args.self.now.around.items
-          (record { outer = c.replace.result; opening = c.args.opening; name = c.in_ok-name.name; start = groups })
+          (record { outer = c.replace.result; opening = opening; name = c.in_ok-name.name; start = groups; left = c.left_from_last.result })
           r.around (rw c.replace.ensures.value r.level));
-      level = rw (c.replace.ensures.after, c.new-inner.ensures, c.captures-more.ensures) (parts-none (groups + captures c.args.opening) references);
-    }
+      level = rw (c.replace.ensures.after, c.new-inner.ensures, c.captures-more.ensures) (parts-none (groups + captures opening) references);
+    })

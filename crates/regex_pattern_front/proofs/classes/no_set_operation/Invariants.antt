@@ -1,5 +1,5 @@
 use Rattle.std.proofs.Common.{length}
-use Rattle.regex_pattern_front.proofs.classes.has_set_operation.Given as goal
+use Rattle.regex_pattern_front.proofs.classes.no_set_operation.Given as goal
 
 abbrev pub decreases-loop-c : goal.decreases-loop-c
 decreases-loop-c l = length l.ahead.rest.now

@@ -1,0 +1,25 @@
+//! Why reading stops.
+
+use crate::diagnosis::Cause;
+use std::alloc::{AllocError, AllocFailed};
+
+/// Why reading stops.
+#[derive(Clone, Copy)]
+pub(crate) enum Fault {
+    /// The text is no pattern, and so much of it is left from where it is wrong.
+    Refused { cause: Cause, left: usize },
+    /// A growth was refused.
+    Memory,
+}
+
+impl From<AllocError> for Fault {
+    fn from(_: AllocError) -> Self {
+        Fault::Memory
+    }
+}
+
+impl<T: Drop> From<AllocFailed<T>> for Fault {
+    fn from(_: AllocFailed<T>) -> Self {
+        Fault::Memory
+    }
+}

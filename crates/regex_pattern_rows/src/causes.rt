@@ -1,0 +1,84 @@
+//! The table of what is wrong with texts that are no patterns.
+
+// Each line is the letters of the flags, a colon, a text, an arrow, and what is wrong with the text and where, or that it is a
+// pattern. Places count code points. Two things that are wrong are told by the first, but for what is seen at the end
+// alone.
+pub(crate) const CAUSES: &str = r":é😀(a|b → unclosed group at 2
+:(a(b → unclosed group at 2
+:é(a)(b → unclosed group at 4
+:a)) → unopened group at 1
+:é|b) → unopened group at 3
+:é(?a) → unknown kind of group at 1
+:(? → unknown kind of group at 0
+:😀(?>a) → unknown kind of group at 1
+:* → nothing to repeat at 0
+:é|+a → nothing to repeat at 2
+:(?:?) → nothing to repeat at 3
+:é** → nothing to repeat at 2
+:a{1}{2} → nothing to repeat at 4
+:{1,2} → nothing to repeat at 0
+u:{1} → nothing to repeat at 0
+:é^* → an assertion is not repeated at 2
+:$? → an assertion is not repeated at 1
+:\b+ → an assertion is not repeated at 2
+:\B{2} → an assertion is not repeated at 2
+:é(?=a)* → an assertion is not repeated at 6
+u:(?<!a)? → an assertion is not repeated at 6
+:^{2,1} → an assertion is not repeated at 1
+:a{2,1} → quantifier out of order at 1
+:é😀{99999999999999999999,1} → quantifier out of order at 2
+:é[a → unclosed class at 1
+:[ → unclosed class at 0
+:[^ → unclosed class at 0
+:[a- → unclosed class at 0
+:é[b-a] → range out of order at 2
+:[xyz-\x41] → range out of order at 3
+u:[\u{1F601}-\ud83d\ude00] → range out of order at 1
+v:é[a[b]] → set operations are not supported at 3
+v:[a&&b] → set operations are not supported at 2
+v:[\[a--b] → set operations are not supported at 4
+:é\a → unknown escape at 1
+:[\B] → unknown escape at 1
+:[\k] → unknown escape at 1
+:[\8] → unknown escape at 1
+u:é\p{L} → property escapes are not supported at 1
+:[\P] → property escapes are not supported at 1
+:é\cA → control escapes are not supported at 1
+:\08 → octal escapes are not supported at 0
+:(a)\01 → octal escapes are not supported at 3
+:[\1] → octal escapes are not supported at 1
+:é\xg0 → incomplete hexadecimal escape at 1
+:\u004 → incomplete Unicode escape at 0
+:\u{41} → incomplete Unicode escape at 0
+u:é\u{} → incomplete Unicode escape at 1
+u:\u{41 → incomplete Unicode escape at 0
+u:\ud83d\u00 → incomplete Unicode escape at 6
+u:é\u{110000} → no code point is so great at 1
+:é\ → nothing to escape at 1
+:[\ → nothing to escape at 1
+:é\1 → no such group at 1
+:(a)\2 → no such group at 3
+:\2(a)\3 → no such group at 5
+:\3(a)\3\2 → no such group at 0
+:\4294967297 → no such group at 0
+:(?<n>a)\k<m> → no such group at 7
+:(?<n>\k<m>)(?<1>) → no such group at 5
+:é\k → reference without a name at 1
+:(?<n>a)\kn → reference without a name at 7
+:é(?<1>a) → invalid name at 4
+:(?<>a) → invalid name at 3
+:(?<é>a) → invalid name at 3
+:(?<a-b>a) → invalid name at 4
+:\k<> → invalid name at 3
+:é(?<a → unclosed name at 3
+:(?<n>a)\k<n → unclosed name at 9
+:(?<n>a)|(?<n>b) → duplicate name at 11
+:(?<n>a)(?<m>b)(?<n>c)\1{ → duplicate name at 17
+:*(?<n>a)(?<n>b) → nothing to repeat at 0
+u:é] → lone bracket at 1
+u:} → lone bracket at 0
+u:a{ → lone bracket at 1
+u:a{,1} → lone bracket at 1
+:é]}{ → a pattern
+:\k<n>(?<n>a) → a pattern
+v:[&\-\--] → a pattern";

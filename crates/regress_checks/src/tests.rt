@@ -2,6 +2,7 @@
 
 use crate::anchored::{ANCHORED, check_anchored};
 use crate::limits::{LIMITS, check_limits};
+use crate::placed::{PLACED, check_placed};
 use crate::searches::check_search;
 use crate::table::SEARCHES;
 use crate::units::{BOUNDARIES, UNITS, check_boundaries, check_units};
@@ -14,14 +15,16 @@ use std::test::Fail;
 #[derive(Clone, Copy)]
 enum Table {
     Searches,
+    Placed,
     Units,
     Boundaries,
     Anchored,
     Limits,
 }
 
-const TABLES: [(Table, &str); 5] = [
+const TABLES: [(Table, &str); 6] = [
     (Table::Searches, SEARCHES),
+    (Table::Placed, PLACED),
     (Table::Units, UNITS),
     (Table::Boundaries, BOUNDARIES),
     (Table::Anchored, ANCHORED),
@@ -37,6 +40,7 @@ fn check_row(
 ) -> Result<(), Fail> {
     match table {
         Table::Searches => check_search(alloc, differing, row)?,
+        Table::Placed => check_placed(alloc, differing, row)?,
         Table::Units => check_units(alloc, differing, row)?,
         Table::Boundaries => check_boundaries(alloc, differing, row)?,
         Table::Anchored => check_anchored(alloc, differing, row)?,

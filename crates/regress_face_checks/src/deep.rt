@@ -5,7 +5,7 @@ use regress_rows::rows::{Row, compare};
 use std::alloc::{AllocError, Global};
 
 // Rows of four fields: a count, so many openings and as many closings round what is inside, a text, and whether there is a
-// match.
+// match. The last ones have more ways through than anybody could walk, each of them.
 pub const NESTS: &str = "\
 100000~a|…b…~xb~found
 100000~a|…b…~xc~none
@@ -26,7 +26,9 @@ pub const NESTS: &str = "\
 5000~(?<=…a…)~xa~found
 5000~(?<=…a…)~xb~none
 5000~(?<!…a…)~xa~found
-5000~(?<!…a…)~xb~none";
+5000~(?<!…a…)~xb~none
+40~(?:\\b|^|\\B)…a…~a~found
+40~(?:a|b|\\b)…c…~abc~found";
 
 // Adds a piece of a pattern so many times.
 fn add(pattern: &mut String, piece: &str, count: usize) -> Result<(), AllocError> {

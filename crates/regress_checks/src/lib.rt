@@ -12,6 +12,8 @@ mod limits;
 #[cfg(test)]
 mod lines;
 #[cfg(test)]
+mod placed;
+#[cfg(test)]
 mod profile;
 #[cfg(test)]
 mod searches;

@@ -60,6 +60,20 @@ cat:2 alt a b goal~tree~b~2~0~2~
 cat:2 bytes:61,62 goal~tree~aab~4~0~2~
 cat:3 loop1:0 a a goal~tree~aa~3~0~2~
 cat:2 loop:0,1,0,1 group:0 a goal~tree~a~2~0~2~
+é*~~ééa~0~0~4~limit
+é*~~ééa~0~5~7~0..4; limit
+é*~~ééa~0~8~10~0..4; 4..4; limit
+é*~~ééa~0~11~20~0..4; 4..4; 5..5
+é*~no_opt~ééa~0~0~7~limit
+é*~no_opt~ééa~0~8~11~0..4; limit
+[а-я]+~~xабвy~0~0~5~limit
+[а-я]+~~xабвy~0~6~20~1..7
+[а-я]+~~абяxю~0~6~9~0..6; limit
+[а-я]+~~абяxю~0~10~20~0..6; 7..9
+.*?x~~éбx€x~0~0~12~limit
+.*?x~~éбx€x~0~13~20~0..5; limit
+.*?x~~éбx€x~0~21~23~0..5; 5..9; limit
+.*?x~~éбx€x~0~24~40~0..5; 5..9
 (?:a|a)*b~no_opt~aaaaaaaaaaaaaaaaaaaaaaaaaaaaaaaaaaaaaaaa~41~0~0~
 ^a~~aa~18446744073709551615~0~2~
 (?:a|a)*~~aaaaaaaaaaaaaaaaaaaaaaaaaaaaaaaaaaaaaaaa~0~0~166~limit

@@ -9,20 +9,19 @@ use std::alloc::{AllocError, Global};
 
 // What is searched for, and how.
 #[derive(Clone, Copy)]
-struct Search<'a> {
-    pattern: &'a str,
-    flags: &'a str,
-    text: &'a str,
-    asked: Asked,
+pub struct Search<'a> {
+    pub pattern: &'a str,
+    pub flags: &'a str,
+    pub text: &'a str,
+    pub asked: Asked,
 }
 
-// The text of a row, with its line feeds.
-fn text_of(alloc: Global, written: &str) -> Result<String, AllocError> {
-    let mut text = String::new(alloc);
+// Adds what is written to a text, with its line feeds.
+pub fn push_text(text: &mut String, written: &str) -> Result<(), AllocError> {
     for c in written.chars() {
         text.push(if c == '␤' { '\n' } else { c })?;
     }
-    Ok(text)
+    Ok(())
 }
 
 // Whether a row is searched in this way. Only what is ASCII is read as such; and it is read in 16-bit units too, since its
@@ -37,17 +36,18 @@ fn is_for(search: &Search<'_>, way: Way) -> bool {
     }
 }
 
-fn check_ways(
+pub fn check_ways(
     alloc: Global,
     differing: &mut String,
     row: Row<'_>,
     re: &Regex,
     search: &Search<'_>,
+    ways: &[(Way, &str)],
 ) -> Result<(), SearchError> {
-    for (way, name) in WAYS {
-        if is_for(search, way) {
+    for (way, name) in ways {
+        if is_for(search, *way) {
             let mut found = String::new(alloc);
-            write_found(alloc, &mut found, re, search.text, search.asked, way)?;
+            write_found(alloc, &mut found, re, search.text, search.asked, *way)?;
             compare(differing, row, &found, name)?;
         }
     }
@@ -62,7 +62,7 @@ fn check_pattern(
     no_opt: bool,
 ) -> Result<(), SearchError> {
     match regex_of(alloc, search.pattern, search.flags, no_opt) {
-        Ok(re) => check_ways(alloc, differing, row, &re, search),
+        Ok(re) => check_ways(alloc, differing, row, &re, search, &WAYS),
         Err(error) => Ok(compare(differing, row, refusal(&error), "")?),
     }
 }
@@ -76,7 +76,8 @@ pub fn check_search(
     let [pattern, flags, written, call] = *fields.as_slice() else {
         return Ok(compare(differing, row, "other than five fields", "")?);
     };
-    let text = text_of(alloc, written)?;
+    let mut text = String::new(alloc);
+    push_text(&mut text, written)?;
     let search = Search {
         pattern,
         flags,

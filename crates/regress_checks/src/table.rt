@@ -121,6 +121,10 @@ cat:2 behind:0,0 bytes:61,62,63,64,65,66,67,68,69,6A,6B,6C,6D,6E,6F,70,71 goal~t
 cat:3 behind:0,0 bytes:E2,82,AC,E2,82,AC,E2,82,AC,E2,82,AC,E2,82,AC,E2,82,AC any goal~tree~€€€€€€x~0~18..19
 cat:2 behind:0,0 strings:1 set:61,62 goal~tree~ab~0~2..2
 cat:3 strings:2 set:61 set:61,62 c goal~tree~abc~0~0..3
+cat:2 istrings:2 set:61,62 set:61 goal~tree~ABaBxA~0~0..2; 2..4; 5..6
+cat:2 istrings:2 set:E9,73 set:31 goal~tree~ésÉséS1~0~0..3; 6..9; 9..10
+cat:3 behind:0,0 istrings:2 set:62 set:61,62 c goal~tree~ABcbcB~0~2..3; 4..5
+cat:3 loop:0,0,1 istrings:1 set:61,62 c goal~tree~xaBABcab~0~1..6
 cat:2 loop:0,0,3E8,3E8 empty goal~tree~~0~0..0
 cat:2 loop:0,0,FFFFFFFF a goal~tree~a~0~
 cat:2 ahead:5,5 a goal~tree~a~0~0..0

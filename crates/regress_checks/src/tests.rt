@@ -2,6 +2,7 @@
 
 use crate::anchored::{ANCHORED, check_anchored};
 use crate::limits::{LIMITS, check_limits};
+use crate::placed::{PLACED, check_placed};
 use crate::profile::{PROFILE, PROFILE_UNITS};
 use crate::searches::check_search;
 use crate::table::SEARCHES;
@@ -15,15 +16,17 @@ use std::test::Fail;
 #[derive(Clone, Copy)]
 enum Table {
     Searches,
+    Placed,
     Units,
     Boundaries,
     Anchored,
     Limits,
 }
 
-const TABLES: [(Table, &str); 7] = [
+const TABLES: [(Table, &str); 8] = [
     (Table::Searches, SEARCHES),
     (Table::Searches, PROFILE),
+    (Table::Placed, PLACED),
     (Table::Units, UNITS),
     (Table::Units, PROFILE_UNITS),
     (Table::Boundaries, BOUNDARIES),
@@ -40,6 +43,7 @@ fn check_row(
 ) -> Result<(), Fail> {
     match table {
         Table::Searches => check_search(alloc, differing, row)?,
+        Table::Placed => check_placed(alloc, differing, row)?,
         Table::Units => check_units(alloc, differing, row)?,
         Table::Boundaries => check_boundaries(alloc, differing, row)?,
         Table::Anchored => check_anchored(alloc, differing, row)?,

@@ -37,6 +37,15 @@ pub const WAYS: [(Way, &str); 9] = [
     (Way::AsciiCopying, "by the copying executor in ASCII"),
 ];
 
+// Those that go by a plan: one for each encoding, and that within steps.
+pub const SCANNING: [(Way, &str); 5] = [
+    (Way::Utf8, "in UTF-8"),
+    (Way::Ascii, "in ASCII"),
+    (Way::Utf16, "in UTF-16"),
+    (Way::Ucs2, "in UCS-2"),
+    (Way::Limited, "within steps"),
+];
+
 fn write_of_utf8(
     line: &mut String,
     re: &Regex,

@@ -1,7 +1,7 @@
 //! Texts with what closures answer in place of matches.
 
 use regress_match::{Match, Regex, ReplaceError};
-use regress_rows::patterns::refusal;
+use regress_rows::patterns::{refusal, regex_of};
 use regress_rows::rows::{Row, compare};
 use std::alloc::{AllocError, Global};
 use std::cell::Cell;
@@ -80,6 +80,23 @@ fn write_made(
     }
 }
 
+// Writes what replacing makes by a pattern that is optimized, or by one that is not.
+fn write_replaced(
+    alloc: Global,
+    line: &mut String,
+    fields: [&str; 4],
+    no_opt: bool,
+) -> Result<(), AllocError> {
+    let [pattern, text, which, answers] = fields;
+    match regex_of(alloc, pattern, "", no_opt) {
+        Ok(re) => {
+            let (calls, made) = replaced(alloc, &re, text, which, answers);
+            write_made(line, calls, made)
+        }
+        Err(error) => line.push_str(refusal(&error)),
+    }
+}
+
 pub fn check_closure(
     alloc: Global,
     differing: &mut String,
@@ -89,13 +106,10 @@ pub fn check_closure(
     let [pattern, text, which, answers] = *fields.as_slice() else {
         return compare(differing, row, "other than five fields", "");
     };
-    let mut found = String::new(alloc);
-    match Regex::new(alloc, pattern) {
-        Ok(re) => {
-            let (calls, made) = replaced(alloc, &re, text, which, answers);
-            write_made(&mut found, calls, made)?;
-        }
-        Err(error) => found.push_str(refusal(&error))?,
+    for no_opt in [false, true] {
+        let mut found = String::new(alloc);
+        write_replaced(alloc, &mut found, [pattern, text, which, answers], no_opt)?;
+        compare(differing, row, &found, "")?;
     }
-    compare(differing, row, &found, "")
+    Ok(())
 }

@@ -6,7 +6,7 @@ use std::alloc::{AllocError, Global};
 
 // Rows of four fields: a count, so many openings and as many closings round what is inside, a text, and whether there is a
 // match, or why the pattern is refused. A loop over one character counts as a loop where it is not optimized, as in the
-// program for 16-bit units.
+// program for 16-bit units. Two rows have more ways through than anybody could walk, each of them.
 pub const NESTS: &str = "\
 100000~a|…b…~xb~found
 100000~a|…b…~xc~none
@@ -30,7 +30,9 @@ pub const NESTS: &str = "\
 5000~(?<!…a…)~xb~none
 65535~a*……~xa~found
 65536~a*……~xa~Emit(TooManyLoops)
-65536~(……~xa~Parse(Syntax)";
+65536~(……~xa~Parse(Syntax)
+40~(?:\\b|^|\\B)…a…~a~found
+40~(?:a|b|\\b)…c…~abc~found";
 
 // Adds a piece of a pattern so many times.
 fn add(pattern: &mut String, piece: &str, count: usize) -> Result<(), AllocError> {

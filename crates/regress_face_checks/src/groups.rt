@@ -1,13 +1,15 @@
 //! What a match answers: by number, in turn and by name, also once it was changed or cloned.
 
-use regress_match::{Match, Regex, SearchError};
+ghost use Rattle.std.specs.Prelude.{IsAscii};
+
+use regress_match::{Match, Regex, SearchError, is_unit_boundary};
 use regress_rows::patterns::{refusal, regex_of};
 use regress_rows::rows::{Row, compare};
 use std::alloc::{AllocError, Global};
 use std::ops::Range;
 
 // Rows of five fields: a pattern, the letters of its flags, or `tree` where it is a tree in words, a text, what is done to
-// the first match in it, and what that answers then. These are the groups of the first four numbers, what five calls of
+// the first match in it, by each call that can read it, and what that answers then. These are the groups of the first four numbers, what five calls of
 // `groups` yield, and what four of `named_groups` do, with the number of those that are left before each, its range, and
 // the text there.
 pub const MATCHES: &str = "\
@@ -126,6 +128,47 @@ fn write_answers(line: &mut String, found: &Match, text: &str) -> Result<(), All
     write_text(line, found, text)
 }
 
+// How the first match is looked for.
+#[derive(Clone, Copy)]
+enum Call {
+    Utf8,
+    Ascii,
+    Utf16,
+    Ucs2,
+}
+
+const CALLS: [Call; 4] = [Call::Utf8, Call::Ascii, Call::Utf16, Call::Ucs2];
+
+fn first_in_utf16(re: &Regex, units: &[u16]) -> Result<Option<Match>, SearchError> {
+    if is_unit_boundary(units, 0) {
+        re.find_from_utf16(units, 0)?.next().transpose()
+    } else {
+        Ok(None)
+    }
+}
+
+fn first_in_ucs2(re: &Regex, units: &[u16]) -> Result<Option<Match>, SearchError> {
+    re.find_from_ucs2(units, 0)?.next().transpose()
+}
+
+// The first match in a text of ASCII, whose offsets are the same in units.
+fn first_in_ascii(
+    alloc: Global,
+    re: &Regex,
+    text: &str,
+    call: Call,
+) -> Result<Option<Match>, SearchError>
+    requires { IsAscii text.now }
+{
+    let units: Vec<u16> = text.bytes().map(u16::from).collect(alloc)?;
+    match call {
+        Call::Utf8 => re.find(text),
+        Call::Ascii => re.find_ascii(text),
+        Call::Utf16 => first_in_utf16(re, &units),
+        Call::Ucs2 => first_in_ucs2(re, &units),
+    }
+}
+
 // Writes what the first match in a text answers once it was changed.
 fn write_found(
     alloc: Global,
@@ -133,11 +176,33 @@ fn write_found(
     re: &Regex,
     text: &str,
     change: &str,
+    call: Call,
 ) -> Result<(), SearchError> {
-    match re.find(text)? {
+    let first = if text.is_ascii() {
+        first_in_ascii(alloc, re, text, call)?
+    } else {
+        re.find(text)?
+    };
+    match first {
         Some(found) => Ok(write_answers(line, &changed(alloc, found, change)?, text)?),
         None => Ok(line.push_str("no match")?),
     }
+}
+
+fn check_calls(
+    alloc: Global,
+    differing: &mut String,
+    row: Row<'_>,
+    re: &Regex,
+    text: &str,
+    change: &str,
+) -> Result<(), SearchError> {
+    for call in CALLS {
+        let mut found = String::new(alloc);
+        write_found(alloc, &mut found, re, text, change, call)?;
+        compare(differing, row, &found, "")?;
+    }
+    Ok(())
 }
 
 pub fn check_match(alloc: Global, differing: &mut String, row: Row<'_>) -> Result<(), SearchError> {
@@ -145,10 +210,11 @@ pub fn check_match(alloc: Global, differing: &mut String, row: Row<'_>) -> Resul
     let [pattern, flags, text, change] = *fields.as_slice() else {
         return Ok(compare(differing, row, "other than five fields", "")?);
     };
-    let mut found = String::new(alloc);
-    match regex_of(alloc, pattern, flags, false) {
-        Ok(re) => write_found(alloc, &mut found, &re, text, change)?,
-        Err(error) => found.push_str(refusal(&error))?,
+    for no_opt in [false, true] {
+        match regex_of(alloc, pattern, flags, no_opt) {
+            Ok(re) => check_calls(alloc, differing, row, &re, text, change)?,
+            Err(error) => compare(differing, row, refusal(&error), "")?,
+        }
     }
-    Ok(compare(differing, row, &found, "")?)
+    Ok(())
 }

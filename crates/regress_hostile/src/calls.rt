@@ -11,25 +11,30 @@ use std::alloc::Global;
 enum Constructor {
     New,
     FromStr,
-    WithFlags,
-    FromUnicode,
+    WithFlags { no_opt: bool },
+    FromUnicode { no_opt: bool },
 }
 
 /// Each of them.
-const CONSTRUCTORS: [Constructor; 4] = [
+const CONSTRUCTORS: [Constructor; 6] = [
     Constructor::New,
     Constructor::FromStr,
-    Constructor::WithFlags,
-    Constructor::FromUnicode,
+    Constructor::WithFlags { no_opt: false },
+    Constructor::WithFlags { no_opt: true },
+    Constructor::FromUnicode { no_opt: false },
+    Constructor::FromUnicode { no_opt: true },
 ];
 
 fn construct(alloc: Global, pattern: &str, flags: Flags, by: Constructor) -> Result<Regex, Error> {
     match by {
         Constructor::New if flags == Flags::default() => Regex::new(alloc, pattern),
         Constructor::FromStr if flags == Flags::default() => Regex::from_str(alloc, pattern),
-        Constructor::FromUnicode => {
+        Constructor::FromUnicode { no_opt } => {
             let code_points: Vec<u32> = pattern.chars().map(u32::from).collect(alloc)?;
-            Regex::from_unicode(alloc, &code_points, flags)
+            Regex::from_unicode(alloc, &code_points, Flags { no_opt, ..flags })
+        }
+        Constructor::WithFlags { no_opt } => {
+            Regex::with_flags(alloc, pattern, Flags { no_opt, ..flags })
         }
         _ => Regex::with_flags(alloc, pattern, flags),
     }

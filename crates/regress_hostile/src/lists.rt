@@ -1,7 +1,7 @@
 //! First matches, and lists of matches that may be refused.
 
 use crate::fault::Fault;
-use crate::wanted::{is_match, is_none, split_first};
+use crate::wanted::{LIMIT, NONE, is_match, is_none, split_first};
 use regress_match::{Match, SearchError};
 use regress_search::exec::{MatchProducer, Matches};
 
@@ -13,26 +13,32 @@ pub fn is_first(found: Option<Match>, words: &str) -> Result<bool, Fault> {
     }
 }
 
-/// Whether these are the matches that are wanted. A refused item comes behind a beginning of them; behind it, as behind the
-/// end, there is none for good.
+/// Whether these are the matches that are wanted. A refused item comes behind a beginning of them, and steps end where they
+/// have to; behind either, as behind the end, there is none for good.
 pub fn are_found<P: MatchProducer + Drop>(
     mut matches: Matches<P>,
     words: &str,
 ) -> Result<bool, Fault> {
     let mut words = words;
     let mut agrees = true;
+    let mut over = false;
     let mut refused = false;
     for item in &mut matches {
-        agrees &= !refused;
+        agrees &= !over;
         match item {
             Ok(found) => {
                 let (first, rest) = split_first(words);
                 words = rest;
                 agrees &= is_match(&found, first);
             }
-            Err(error) => {
+            Err(SearchError::Memory) => {
+                over = true;
                 refused = true;
-                agrees &= error == SearchError::Memory;
+            }
+            Err(SearchError::StepLimit) => {
+                over = true;
+                agrees &= words == LIMIT;
+                words = NONE;
             }
         }
     }

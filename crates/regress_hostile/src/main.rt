@@ -9,6 +9,7 @@ mod calls;
 mod executors;
 mod fault;
 mod fields;
+mod limits;
 mod lists;
 mod patterns;
 mod replacements;

@@ -1,11 +1,12 @@
 //! What rows search with: a pattern, or a tree in words.
 
 use crate::fault::Fault;
+use regex_pattern_front::bytesearch::{ByteBitmap, ByteSet};
 use regex_pattern_front::ir;
 use regress_match::backends::{emit, emit_units, optimize, try_parse};
 use regress_match::{Error, Flags, Regex};
 use regress_program::emit::EmitError;
-use regress_program::insn::{CompiledRegex, CompiledUnits};
+use regress_program::insn::{CompiledRegex, CompiledUnits, StartPredicate};
 use regress_program::startpredicate::predicate_for_re;
 use regress_trees::tree_of;
 use std::alloc::Global;
@@ -18,12 +19,10 @@ pub struct Compiled {
     pub units: CompiledUnits,
 }
 
-// The tree that a pattern is run by.
+// The tree of a pattern.
 fn parsed(alloc: Global, pattern: &str, flags: Flags) -> Result<ir::Regex, Error> {
     let code_points: Vec<u32> = pattern.chars().map(u32::from).collect(alloc)?;
-    let mut tree = try_parse(alloc, &code_points, flags.for_front())?;
-    optimize(&mut tree);
-    Ok(tree)
+    Ok(try_parse(alloc, &code_points, flags.for_front())?)
 }
 
 // The tree of a row.
@@ -55,9 +54,49 @@ fn of_programs(bytes: CompiledRegex, units: CompiledUnits) -> Result<Compiled, F
     })
 }
 
-/// What a pattern with flags is searched with, or a tree in words, for `tree` in place of flags.
-pub fn compile(alloc: Global, pattern: &str, flags: &str) -> Result<Compiled, Fault> {
-    let tree = tree_of_row(alloc, pattern, flags)?;
-    predicate_for_re(alloc, &tree)?.clone()?;
-    of_programs(emit(alloc, &tree)?, units_of(alloc, &tree)?)
+fn are_same_sets(one: &ByteBitmap, other: &ByteBitmap) -> bool {
+    let mut same = true;
+    for byte in 0..=u8::MAX {
+        same &= one.contains(byte) == other.contains(byte);
+    }
+    same
+}
+
+fn is_same(one: &StartPredicate, other: &StartPredicate) -> bool {
+    match (one, other) {
+        (StartPredicate::Arbitrary, StartPredicate::Arbitrary) => true,
+        (StartPredicate::StartAnchored, StartPredicate::StartAnchored) => true,
+        (StartPredicate::ByteSet1(one), StartPredicate::ByteSet1(other)) => one == other,
+        (StartPredicate::ByteSet2(one), StartPredicate::ByteSet2(other)) => one == other,
+        (StartPredicate::ByteSet3(one), StartPredicate::ByteSet3(other)) => one == other,
+        (StartPredicate::ByteSeq(one), StartPredicate::ByteSeq(other)) => {
+            one.as_slice() == other.as_slice()
+        }
+        (StartPredicate::ByteBracket(one), StartPredicate::ByteBracket(other)) => {
+            are_same_sets(one, other)
+        }
+        _ => false,
+    }
+}
+
+// The program for bytes, whose predicate is the tree's, as is a copy of that.
+fn bytes_of(alloc: Global, tree: &ir::Regex) -> Result<CompiledRegex, Fault> {
+    let bytes = emit(alloc, tree)?;
+    let predicate = predicate_for_re(alloc, tree)?;
+    let copy = predicate.clone()?;
+    if is_same(&copy, &predicate) && is_same(bytes.start_pred(), &predicate) {
+        Ok(bytes)
+    } else {
+        Err(Fault::Wrong)
+    }
+}
+
+/// What a pattern with flags is searched with, or a tree in words, for `tree` in place of flags. It is optimized unless
+/// `no_opt` is set.
+pub fn compile(alloc: Global, pattern: &str, flags: &str, no_opt: bool) -> Result<Compiled, Fault> {
+    let mut tree = tree_of_row(alloc, pattern, flags)?;
+    if !no_opt {
+        optimize(&mut tree);
+    }
+    of_programs(bytes_of(alloc, &tree)?, units_of(alloc, &tree)?)
 }

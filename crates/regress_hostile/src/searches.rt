@@ -116,10 +116,23 @@ fn agrees(re: &Compiled, row: Row<'_>, search: Search) -> Result<bool, Fault> {
     }
 }
 
-/// Whether the searches of a row agree. One to which memory is refused is made once more, with the same pattern.
+// Whether all searches agree. One to which memory is refused is made once more, with the same pattern.
+fn all_agree(re: &Compiled, row: Row<'_>) -> bool {
+    let mut agree = true;
+    for search in SEARCHES {
+        let mut tried = agrees(re, row, search);
+        if matches!(tried, Err(Fault::Refused)) {
+            tried = agrees(re, row, search);
+        }
+        agree &= matches!(tried, Ok(true));
+    }
+    agree
+}
+
+/// Whether the searches of a row agree, of the pattern as it is written and of the optimized one.
 pub fn agree(alloc: Global, line: &str) -> Result<bool, Fault> {
     let mut fields = Fields::of(line);
-    let re = compile(alloc, fields.next(), fields.next())?;
+    let (pattern, flags) = (fields.next(), fields.next());
     let row = Row {
         text: fields.next(),
         start: fields.next().parse::<usize>().unwrap_or(0),
@@ -128,12 +141,8 @@ pub fn agree(alloc: Global, line: &str) -> Result<bool, Fault> {
         ucs2: fields.next(),
     };
     let mut agree = true;
-    for search in SEARCHES {
-        let mut tried = agrees(&re, row, search);
-        if matches!(tried, Err(Fault::Refused)) {
-            tried = agrees(&re, row, search);
-        }
-        agree &= matches!(tried, Ok(true));
+    for no_opt in [false, true] {
+        agree &= all_agree(&compile(alloc, pattern, flags, no_opt)?, row);
     }
     Ok(agree)
 }

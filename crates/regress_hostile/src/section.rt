@@ -4,7 +4,7 @@ use crate::calls::{are_constructed, is_escaped};
 use crate::fault::Fault;
 use crate::replacements::is_replaced;
 use crate::tool::is_run;
-use crate::{searches, table};
+use crate::{limits, searches, table};
 use std::alloc::Global;
 
 /// Rows, and what is tried with each.
@@ -12,6 +12,7 @@ use std::alloc::Global;
 pub enum Section {
     Searches,
     Odd,
+    Limits,
     Constructors,
     Replacements,
     Escapes,
@@ -19,9 +20,10 @@ pub enum Section {
 }
 
 /// Each of them.
-pub const SECTIONS: [Section; 6] = [
+pub const SECTIONS: [Section; 7] = [
     Section::Searches,
     Section::Odd,
+    Section::Limits,
     Section::Constructors,
     Section::Replacements,
     Section::Escapes,
@@ -33,6 +35,7 @@ impl Section {
         match self {
             Section::Searches => "searches",
             Section::Odd => "odd",
+            Section::Limits => "limits",
             Section::Constructors => "constructors",
             Section::Replacements => "replacements",
             Section::Escapes => "escapes",
@@ -44,6 +47,7 @@ impl Section {
         match self {
             Section::Searches => table::SEARCHES,
             Section::Odd => table::ODD,
+            Section::Limits => table::LIMITS,
             Section::Constructors => table::CONSTRUCTORS,
             Section::Replacements => table::REPLACEMENTS,
             Section::Escapes => table::ESCAPES,
@@ -54,6 +58,7 @@ impl Section {
     fn try_row(self, alloc: Global, line: &str) -> Result<bool, Fault> {
         match self {
             Section::Searches | Section::Odd => searches::agree(alloc, line),
+            Section::Limits => limits::agree(alloc, line),
             Section::Constructors => are_constructed(alloc, line),
             Section::Replacements => is_replaced(alloc, line),
             Section::Escapes => is_escaped(alloc, line),

@@ -12,6 +12,7 @@ a*~~aab~0~0..2;2..2;3..3
 a*~~aab~3~3..3
 a*~~aab~4~none
 (a|\\1b)c~~abc~0~1..3 1..2
+^(?:(?:a|ab){2})+$~~aab~0~0..3
 (z)((a+)?(b+)?(c))*~~zaacbbbcac~0~0..10 0..1 8..10 8..9 - 9..10
 (?=(a+))a*b\\1~~baaabac~0~3..6 3..4
 (.*?)a(?!(a+)b\\2c)\\2(.*)~~baaabaac~0~0..8 0..2 - 3..8
@@ -76,6 +77,32 @@ a~~units:D83D DE00~1~apart~no start~none
 $~~units:DE00~1~apart~1..1
 ";
 
+/// Rows of seven fields: a pattern, or a tree in words where the flags are `tree`, the letters of its flags, a text, where
+/// the search starts, how many steps it may take, how many its first match needs, or the end where there is none, and the
+/// matches, with `limit` where the steps are not enough.
+pub const LIMITS: &str = "\
+cat:2 a goal~tree~a~0~1~2~limit
+cat:2 a goal~tree~a~0~2~2~0..1;limit
+cat:2 a goal~tree~a~0~3~2~0..1
+cat:2 a goal~tree~b~0~1~2~limit
+cat:2 a goal~tree~b~0~2~2~none
+cat:2 alt a b goal~tree~b~0~4~5~limit
+cat:2 alt a b goal~tree~b~0~5~5~0..1;limit
+cat:2 loop:0,1,0,1 group:0 a goal~tree~a~0~6~7~limit
+cat:2 loop:0,1,0,1 group:0 a goal~tree~a~0~12~7~0..1 0..1;limit
+cat:2 loop:0,1,0,1 group:0 a goal~tree~a~0~13~7~0..1 0..1;1..1 -
+(?:a|a)*~~aaaaaaaaaaaaaaaaaaaaaaaaaaaaaaaaaaaaaaaa~0~166~167~limit
+(?:a|a)*~~aaaaaaaaaaaaaaaaaaaaaaaaaaaaaaaaaaaaaaaa~0~173~167~0..40;limit
+(?:a|a)*~~aaaaaaaaaaaaaaaaaaaaaaaaaaaaaaaaaaaaaaaa~0~174~167~0..40;40..40
+(?:a|a)*b~~aaaaaaaaaaaaaaaaaaaaaaaaaaaaaaaaaaaaaaaa~0~5000~18446744073709551615~limit
+(?=(a))a~~a~0~6~7~limit
+(?=(a))a~~a~0~9~7~0..1 0..1;limit
+(?=(a))a~~a~0~10~7~0..1 0..1
+é*~~ééa~0~10~5~0..4;4..4;limit
+é*~~ééa~0~11~5~0..4;4..4;5..5
+a~~aa~3~0~0~none
+";
+
 /// Rows of four fields: a pattern, the letters of its flags, a text, and the first match in it, or `Syntax` for what is no
 /// pattern.
 pub const CONSTRUCTORS: &str = "\
@@ -93,8 +120,9 @@ a**~~a~Syntax
 ";
 
 /// Rows of five fields: a pattern, a text, how it is replaced, by what, and the text that comes of it. `first` and `all` are
-/// for the first match and for each. By a closure that answers the match twice, the first one is `doubled`, and `each` is;
-/// for `each-short` it refuses a match of more than one byte, and where it does, it is told how often it was called.
+/// for the first match and for each. A closure is handed the number that is matched: it answers the first one `doubled`,
+/// each of them `tenfold` in brackets, or an `x` for each that is `small`, and refuses any other one; then it is told which
+/// one, and how often the closure was called.
 pub const REPLACEMENTS: &str = "\
 (\\d{4})-(\\d{2})-(\\d{2})~2023-12-25~first~$2/$3/$1~12/25/2023
 (\\w+)~hello~first~$1 $2 $3~hello  
@@ -113,13 +141,13 @@ a~a~first~${}~
 (?<n>a)|(?<m>b)~ab~all~[${n}${m}]~[a][b]
 z~abc~all~X~abc
 .~aé~all~$0~aé
-\\d+~Price: $123~doubled~~Price: $<123123>
-\\d+~Items: 5, 10, 15~each~~Items: <55>, <1010>, <1515>
-z~abc~each~~abc
+\\d+~Price: $123~doubled~~Price: $246
+\\d+~Items: 5, 10, 15~tenfold~~Items: [50], [100], [150]
+z~abc~tenfold~~abc
 z~abc~doubled~~abc
-\\d+~Items: 5, 10, 15~each-short~~called 2
-\\d+~Items: 5, 6~each-short~~Items: <55>, <66>
-z~abc~each-short~~abc
+\\d+~Items: 5, 10, 15~small~~refused 10 called 2
+\\d+~Items: 5, 6~small~~Items: x, x
+z~abc~small~~abc
 ";
 
 /// Rows of two fields: a text, and the text with its syntax characters escaped.

@@ -4,7 +4,10 @@
 use regress_match::{Match, Range};
 
 /// What stands for no match.
-const NONE: &str = "none";
+pub const NONE: &str = "none";
+
+/// What stands for the end of steps.
+pub const LIMIT: &str = "limit";
 
 /// Whether these are the words of a range, or of none.
 pub fn is_range(range: Option<&Range<usize>>, word: &str) -> bool {

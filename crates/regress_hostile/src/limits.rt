@@ -1,0 +1,127 @@
+//! Searches that end where their steps do.
+
+ghost use Rattle.std.specs.Prelude.{◌<◌, ◌⊎◌, IsCharBoundary, length};
+ghost use Rattle.regress_match.specs.Programs.{IsStart};
+
+use crate::bytes::is_start;
+use crate::fault::Fault;
+use crate::fields::Fields;
+use crate::lists::{are_found, is_first};
+use crate::patterns::{Compiled, compile};
+use crate::wanted::LIMIT;
+use regress_match::backends::LimitedExecutor;
+use regress_match::{Match, Regex, SearchError};
+use regress_program::insn::CompiledRegex;
+use regress_search::exec::MatchProducer;
+use std::alloc::Global;
+
+// A text, where its search starts, the steps that it may take and those that its first match needs, and what is wanted.
+#[derive(Clone, Copy)]
+struct Row<'a> {
+    text: &'a str,
+    start: usize,
+    steps: u64,
+    need: u64,
+    wanted: &'a str,
+}
+
+// Whether an executor with so many steps answers the first match that is wanted, and takes what it needs; or the limit, and
+// has none left.
+fn is_answered(
+    row: Row<'_>,
+    before: u64,
+    after: u64,
+    answer: Result<Option<Match>, SearchError>,
+) -> Result<bool, Fault> {
+    match answer {
+        Ok(found) => {
+            let spent = before.checked_sub(row.need) == Some(after);
+            Ok(spent && row.wanted != LIMIT && is_first(found, row.wanted)?)
+        }
+        Err(SearchError::StepLimit) => Ok(before < row.need && after == 0),
+        Err(SearchError::Memory) => Err(Fault::Refused),
+    }
+}
+
+/// An executor that counts its steps.
+trait Counting: MatchProducer {
+    /// How many it may still take.
+    fn left(&self) -> u64;
+}
+
+impl<'r, 't> Counting for LimitedExecutor<'r, 't> {
+    fn left(&self) -> u64 {
+        self.steps_left()
+    }
+}
+
+// Whether an executor answers by its steps. One to which memory is refused leaves where the list goes on, has no more steps
+// than before, and answers by those when it is asked again.
+fn answers<P: Counting>(executor: &mut P, row: Row<'_>) -> Result<bool, Fault>
+    requires { IsStart (P.text executor.old) row.start }
+{
+    let Some(pos) = executor.initial_position(row.start) else {
+        return Ok(executor.left() == row.steps);
+    };
+    let mut next = Some(pos);
+    let first = executor.next_match(pos, &mut next);
+    let left = executor.left();
+    if !matches!(first, Err(SearchError::Memory)) {
+        return is_answered(row, row.steps, left, first);
+    }
+    let unchanged = left <= row.steps && next == Some(pos);
+    let second = executor.next_match(pos, &mut next);
+    if unchanged && is_answered(row, left, executor.left(), second)? {
+        Err(Fault::Refused)
+    } else {
+        Err(Fault::Wrong)
+    }
+}
+
+fn is_asked(re: &CompiledRegex, row: Row<'_>) -> Result<bool, Fault>
+    requires { IsCharBoundary row.text.now row.start ⊎ (length row.text.now < row.start) }
+{
+    let mut executor = LimitedExecutor::new(re, row.text, row.steps)?;
+    answers(&mut executor, row)
+}
+
+fn are_all(re: &Regex, row: Row<'_>) -> Result<bool, Fault>
+    requires { IsCharBoundary row.text.now row.start ⊎ (length row.text.now < row.start) }
+{
+    are_found(
+        re.find_from_limited(row.text, row.start, row.steps)?,
+        row.wanted,
+    )
+}
+
+fn agrees(re: &Compiled, row: Row<'_>, asked: bool) -> Result<bool, Fault> {
+    if !is_start(row.text, row.start) {
+        Ok(false)
+    } else if asked {
+        is_asked(&re.bytes, row)
+    } else {
+        are_all(&re.regex, row)
+    }
+}
+
+/// Whether the searches of a row agree. One to which memory is refused is made once more, with the same pattern.
+pub fn agree(alloc: Global, line: &str) -> Result<bool, Fault> {
+    let mut fields = Fields::of(line);
+    let re = compile(alloc, fields.next(), fields.next(), false)?;
+    let row = Row {
+        text: fields.next(),
+        start: fields.next().parse::<usize>().unwrap_or(0),
+        steps: fields.next().parse::<u64>().unwrap_or(0),
+        need: fields.next().parse::<u64>().unwrap_or(0),
+        wanted: fields.next(),
+    };
+    let mut agree = true;
+    for asked in [false, true] {
+        let mut tried = agrees(&re, row, asked);
+        if matches!(tried, Err(Fault::Refused)) {
+            tried = agrees(&re, row, asked);
+        }
+        agree &= matches!(tried, Ok(true));
+    }
+    Ok(agree)
+}

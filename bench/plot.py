@@ -9,7 +9,7 @@ FONT = 'font-family="Helvetica, Arial, sans-serif"'
 def text(x, y, words, size=12, anchor="start", colour="#222", weight="normal"):
     return (
         f'<text x="{x:.1f}" y="{y:.1f}" font-size="{size}" {FONT} text-anchor="{anchor}" '
-        f'fill="{colour}" font-weight="{weight}">{html.escape(words)}</text>'
+        f'fill="{colour}" font-weight="{weight}">{html.escape(words, quote=False)}</text>'
     )
 
 

@@ -3,7 +3,7 @@
 /// Flags of a pattern, as `/pattern/flags` of ECMAScript has them, and whether to leave out optimizing.
 #[derive(Clone, Copy, Debug, Default, PartialEq, Eq)]
 pub struct Flags {
-    /// Letters match whatever their case (`i`).
+    /// Letters of ASCII match whatever their case (`i`).
     pub icase: bool,
     /// `^` and `$` hold beside line terminators too (`m`).
     pub multiline: bool,
@@ -11,8 +11,8 @@ pub struct Flags {
     pub dot_all: bool,
     /// The tree is left as it was parsed.
     pub no_opt: bool,
-    /// Patterns are read by code points, and case by Unicode's simple folding (`u`).
+    /// Patterns are read by code points, and with `i` U+017F matches as `s` does and U+212A as `k` (`u`).
     pub unicode: bool,
-    /// Classes are read as with `v`.
+    /// Classes with set operations, or with classes inside, are refused (`v`).
     pub unicode_sets: bool,
 }

@@ -7,7 +7,7 @@ ghost use Rattle.regex_meaning.specs.Lists.{contains};
 use std::alloc::{AllocError, Global};
 
 /// The text with a backslash before each of its syntax characters, `\ ^ $ . | ? * + ( ) [ ] { }`, so that it can
-/// stand in a pattern for itself. All other characters stay.
+/// stand in a pattern for itself. All other characters stay. `a.b*c` becomes `a\.b\*c` (a row of `regress_face_checks`).
 ///
 /// # Errors
 ///

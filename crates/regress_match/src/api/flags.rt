@@ -11,7 +11,7 @@ use std::fmt;
 /// How a pattern is read and matched. The default is case-sensitive, without lines, and optimizing.
 #[derive(Clone, Copy, Debug, Default, PartialEq, Eq)]
 pub struct Flags {
-    /// Letters match whatever their case (`i`).
+    /// Letters of ASCII match whatever their case (`i`).
     pub icase: bool,
     /// `^` and `$` hold beside line terminators too (`m`).
     pub multiline: bool,
@@ -19,9 +19,9 @@ pub struct Flags {
     pub dot_all: bool,
     /// The tree is run as it was parsed.
     pub no_opt: bool,
-    /// Patterns are read by code points, and case by Unicode's simple folding (`u`).
+    /// Patterns are read by code points, and with `i` U+017F matches as `s` does and U+212A as `k` (`u`).
     pub unicode: bool,
-    /// Classes are read as with `v`.
+    /// Classes with set operations, or with classes inside, are refused (`v`).
     pub unicode_sets: bool,
 }
 

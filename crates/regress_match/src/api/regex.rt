@@ -54,7 +54,7 @@ impl Regex {
     ghost use Rattle.regress_match.specs.Flags.{flags_of};
     ghost use Rattle.regress_match.specs.Programs.{IsCompiledWith, as_ascii, as_utf8, ascii_answers, byte_tree, is_utf8_end_within, unit_tree, utf8_answers, utf8_answers_within};
 
-    /// Compiles a pattern with the default flags.
+    /// Compiles a pattern with the default flags (`crates/use_dates`: `\d{4}-\d\d-\d\d`).
     ///
     /// # Errors
     ///
@@ -79,7 +79,7 @@ impl Regex {
     }
 
     /// Compiles a pattern with these flags: parses it, emits the program for 16-bit units, optimizes the tree unless
-    /// `no_opt` is set, and emits the program for bytes.
+    /// `no_opt` is set, and emits the program for bytes. `docs/PROFILE.md` lists the patterns that are taken.
     ///
     /// # Errors
     ///
@@ -151,7 +151,8 @@ impl Regex {
         &self.units
     }
 
-    /// The first match in `text`, none exactly where there is none.
+    /// The first match in `text`, none exactly where there is none. That of `(aa|aabaac|ba|b|c)*` in `aabaac` is `0..4`, with
+    /// the group `2..4` (a row of `regress_checks`).
     ///
     /// # Errors
     ///
@@ -164,7 +165,8 @@ impl Regex {
         first(self.find_iter(text)?)
     }
 
-    /// The matches in `text`, from its left end on.
+    /// The matches in `text`, from its left end on. Those of `a*` in `aab` are `0..2`, `2..2` and `3..3` (a row of
+    /// `regress_checks`).
     ///
     /// # Errors
     ///
@@ -181,7 +183,8 @@ impl Regex {
     /// The matches in `text` from an offset in bytes on, which is a boundary of its characters
     /// (`is_char_boundary`) or past the end. From past the end there are none.
     ///
-    /// What stands before the start is part of the text: `^` does not hold there, and a lookbehind reads it.
+    /// What stands before the start is part of the text: `^` does not hold there, and a lookbehind reads it. So `(?<=x)y` in
+    /// `xyxy` from 1 on has the matches `1..2` and `3..4` (a row of `regress_checks`).
     ///
     /// # Errors
     ///
@@ -205,6 +208,7 @@ impl Regex {
     /// A match comes exactly where the steps are enough for it and for those before it, and `None` where they are enough
     /// for the end of the list, too. Else an item is `StepLimit`, and none follows. How many steps are needed is said by
     /// the pattern's tree alone, and not by the time that a search takes; it may be more than any number of steps.
+    /// `[b]c` in `aabbc` needs five: with four the first item is `StepLimit` (a row of `regress_checks`).
     ///
     /// # Errors
     ///

@@ -17,7 +17,8 @@ use regress_exec::exec::{MatchProducer, Matches};
 use std::alloc::{AllocError, Global};
 
 impl Regex {
-    /// The text with the replacement in place of the first match; without a match it is the text.
+    /// The text with the replacement in place of the first match; without a match it is the text. `$2/$3/$1` for
+    /// `(\d{4})-(\d{2})-(\d{2})` makes `12/25/2023` of `2023-12-25` (a row of `regress_face_checks`).
     ///
     /// In a replacement `$$` stands for `$`, `$` and digits for a group by number, `${name}` for one by name, and `$0`
     /// for the whole match. A group that is not there, or did not match, gives nothing. Digits are read until the
@@ -33,7 +34,8 @@ impl Regex {
         expand_first(self.allocator(), self.find_iter(text)?, text, replacement)
     }
 
-    /// The text with the replacement in place of each match, as `replace` reads it.
+    /// The text with the replacement in place of each match, as `replace` reads it. `$1.$2` for `\b(\w)(\w+)` makes
+    /// `h.ello w.orld` of `hello world` (a row of `regress_face_checks`).
     ///
     /// # Errors
     ///

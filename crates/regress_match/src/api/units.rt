@@ -14,7 +14,8 @@ impl Regex {
     /// The matches in a text in UTF-16 from an offset in units on, which cuts no pair of surrogates (`is_unit_boundary`) or
     /// is past the end. From past the end there are none.
     ///
-    /// A high surrogate before a low one is one character with it, and any other unit is itself.
+    /// A high surrogate before a low one is one character with it, and any other unit is itself: `.` matches both (a row of
+    /// `regress_checks`).
     ///
     /// # Errors
     ///
@@ -34,7 +35,7 @@ impl Regex {
     }
 
     /// The matches in a text in UCS-2, where each unit is a character, from an offset in units on. From past the end there
-    /// are none.
+    /// are none. So a string of JavaScript is read without `u` (`docs/PROFILE.md`).
     ///
     /// # Errors
     ///

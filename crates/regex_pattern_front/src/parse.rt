@@ -104,6 +104,7 @@ pub fn read_pattern(
     ensures flags { IfOk result (λ read. IfOk read (λ re. re.flags ≡ flags)) }
     ensures well_formed { IfOk result (λ read. IfOk read (λ re. IsTrue (is_well_formed (tree_of re).root))) }
     ensures characters { IfOk result (λ read. IfOk read (λ re. reads_bytes (tree_of re).root ≡ false)) }
+    ensures plain { IfOk result (λ read. IfOk read (λ re. IsTrue (has_plain_loops (tree_of re).root))) }
     ensures place { IfOk result (λ read. IfErr read (λ d. d.at ≤ length pattern.now)) }
 {
     match read(alloc, pattern, flags) {
@@ -120,6 +121,7 @@ fn read(alloc: Global, pattern: &[u32], flags: Flags) -> Result<Regex, Fault>
     ensures flags { IfOk result (λ re. re.flags ≡ flags) }
     ensures well_formed { IfOk result (λ re. IsTrue (is_well_formed (tree_of re).root)) }
     ensures characters { IfOk result (λ re. reads_bytes (tree_of re).root ≡ false) }
+    ensures plain { IfOk result (λ re. IsTrue (has_plain_loops (tree_of re).root)) }
 {
     let mut parser = Parser {
         leaves: LeafReader {

@@ -8,15 +8,15 @@ use Rattle.regress_match.specs.Searches.{Answered, Calls, AllNone, AnswerInTurn,
 -- what has ended answers nothing
 ended-AllNone : (s t : ToCome) (rs : List Answered) → s.ended ≡ true → Calls s rs t → AllNone rs
 ended-AllNone s t [] e h = tt
-ended-AllNone s t (None ∷ rs) e (u, h, k) = (refl, ended-AllNone u t rs (ap (λ (s : ToCome). s.ended) h.2) k)
+ended-AllNone s t (None ∷ rs) e (u, h, k) = (refl, ended-AllNone u t rs h.2.2 k)
 ended-AllNone s t (Some (Ok m) ∷ rs) e (u, h, k) = absurd (cc (sym e ∙ h.2))
 ended-AllNone s t (Some (Err x) ∷ rs) e (u, h, k) = absurd (cc (sym e ∙ h.1))
 
 calls-AnswerInTurn : (s t : ToCome) (rs : List Answered) → s.limited ≡ false → Calls s rs t → AnswerInTurn s.answers rs
 calls-AnswerInTurn s t [] e h = tt
-calls-AnswerInTurn s t (None ∷ rs) e (u, h, k) = (h.0, ended-AllNone u t rs (ap (λ (s : ToCome). s.ended) h.2) k)
+calls-AnswerInTurn s t (None ∷ rs) e (u, h, k) = (h.0, ended-AllNone u t rs h.2.2 k)
 calls-AnswerInTurn s t (Some (Ok m) ∷ rs) e (u, h, k) = (u.answers, h.0, calls-AnswerInTurn u t rs (sym h.1 ∙ e) k)
-calls-AnswerInTurn s t (Some (Err Memory) ∷ rs) e (u, h, k) = (refl, ended-AllNone u t rs (ap (λ (s : ToCome). s.ended) h.2) k)
+calls-AnswerInTurn s t (Some (Err Memory) ∷ rs) e (u, h, k) = (refl, ended-AllNone u t rs h.2.2 k)
 calls-AnswerInTurn s t (Some (Err StepLimit) ∷ rs) e (u, h, k) = absurd (cc (sym e ∙ h.0.1))
 
 pub searches-AnswerInTurn : SearchesAnswerInTurn

@@ -2,6 +2,7 @@
 use Rattle.std.specs.Prelude.{◌≡◌, ℕ, List, [], ◌∷◌, false, Option, Some, None, Result, Ok, Err}
 use Rattle.regex_meaning.specs.Tree.{Tree}
 use Rattle.regex_meaning.specs.Text.{Text}
+use Rattle.regex_meaning.specs.Offsets.{units}
 use Rattle.regex_meaning.specs.Names.{Answer, answers_from}
 use Rattle.regress_exec.specs.Answers.{answer_of}
 use Rattle.regress_exec.specs.ToCome.{ToCome, Gives}
@@ -15,6 +16,7 @@ use Rattle.regress_match.specs.Refusals.{IsMemory}
 pub record YieldsMatches (tree : Tree) (text : Text) (start : ℕ) (it : ToCome) : Type 0 where
   pub answers : it.answers ≡ answers_from tree.root text start
   pub unlimited : it.limited ≡ false
+  pub text_end : it.text_end ≡ units text
 
 -- ---- What its calls answer
 

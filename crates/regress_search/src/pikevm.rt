@@ -1,6 +1,7 @@
 //! The executor that copies its states: as plain as can be, each way still to try a state of its own.
 
-ghost use Rattle.std.specs.Prelude.{◌≡◌, ◌<◌, ◌≤◌, ◌++◌, map, IsTrue, IsAscii, IsSome, IfOk, None, option_map, ⊤};
+ghost use Rattle.std.specs.Prelude.{◌≡◌, ◌<◌, ◌≤◌, ◌++◌, map, IsTrue, IsAscii, IsSome, IfOk, None, option_map, ⊤, ℕ, List};
+ghost use Rattle.std.specs.Borrow.{Bor};
 ghost use Rattle.regex_meaning.specs.Text.{ascii_text, ucs2_text, utf16_text, utf8_text};
 ghost use Rattle.regex_meaning.specs.Offsets.{IsBoundary, units};
 ghost use Rattle.regex_pattern_front.specs.TreeOf.{tree_of};
@@ -267,12 +268,12 @@ impl<'r, 't> PikeVMExecutor<'r, Ucs2Input<'t>> {
 
 /// What `AsAscii` of the executor over UTF-8 names takes each text of ASCII, and reads each of its bytes as a character.
 pub fn ascii_is_read_in_bytes()
-    ensures takes { ⟦<<PikeVMExecutor<'static, Utf8Input<'static>> as Executor<'static, 'static>>::AsAscii as Searcher<'static>>⟧.can_search ≡ (λ text. IsAscii text.now) }
+    ensures takes { (text : Bor (List ℕ)) → IsAscii text.now → ⟦<<PikeVMExecutor<'static, Utf8Input<'static>> as Executor<'static, 'static>>::AsAscii as Searcher<'static>>⟧.can_search text }
     ensures reads { ⟦<<PikeVMExecutor<'static, Utf8Input<'static>> as Executor<'static, 'static>>::AsAscii as Searcher<'static>>⟧.text_of ≡ (λ text. ascii_text text.now) }
 {}
 
 /// What `AsAscii` of the executor over ASCII names does so too.
 pub fn ascii_stays_in_bytes()
-    ensures takes { ⟦<<PikeVMExecutor<'static, AsciiInput<'static>> as Executor<'static, 'static>>::AsAscii as Searcher<'static>>⟧.can_search ≡ (λ text. IsAscii text.now) }
+    ensures takes { (text : Bor (List ℕ)) → IsAscii text.now → ⟦<<PikeVMExecutor<'static, AsciiInput<'static>> as Executor<'static, 'static>>::AsAscii as Searcher<'static>>⟧.can_search text }
     ensures reads { ⟦<<PikeVMExecutor<'static, AsciiInput<'static>> as Executor<'static, 'static>>::AsAscii as Searcher<'static>>⟧.text_of ≡ (λ text. ascii_text text.now) }
 {}

@@ -1,6 +1,7 @@
 //! The executor that keeps one state and undoes its changes.
 
-ghost use Rattle.std.specs.Prelude.{◌≡◌, ◌<◌, IsAscii, IfOk, None, ⊤};
+ghost use Rattle.std.specs.Prelude.{◌≡◌, ◌<◌, IsAscii, IfOk, None, ⊤, ℕ, List};
+ghost use Rattle.std.specs.Borrow.{Bor};
 ghost use Rattle.regex_meaning.specs.Text.{ascii_text, utf8_text, utf16_text, ucs2_text};
 ghost use Rattle.regex_pattern_front.specs.TreeOf.{tree_of};
 ghost use Rattle.regress_turns.specs.Memory.{state_of};
@@ -168,12 +169,12 @@ impl<'r, 't> Executor<'r, 't> for BacktrackExecutor<'r, AsciiInput<'t>> {
 
 /// What `AsAscii` of the executor over UTF-8 names takes each text of ASCII, and reads each of its bytes as a character.
 pub fn ascii_is_read_in_bytes()
-    ensures takes { ⟦<<BacktrackExecutor<'static, Utf8Input<'static>> as Executor<'static, 'static>>::AsAscii as Searcher<'static>>⟧.can_search ≡ (λ text. IsAscii text.now) }
+    ensures takes { (text : Bor (List ℕ)) → IsAscii text.now → ⟦<<BacktrackExecutor<'static, Utf8Input<'static>> as Executor<'static, 'static>>::AsAscii as Searcher<'static>>⟧.can_search text }
     ensures reads { ⟦<<BacktrackExecutor<'static, Utf8Input<'static>> as Executor<'static, 'static>>::AsAscii as Searcher<'static>>⟧.text_of ≡ (λ text. ascii_text text.now) }
 {}
 
 /// What `AsAscii` of the executor over ASCII names does so too.
 pub fn ascii_stays_in_bytes()
-    ensures takes { ⟦<<BacktrackExecutor<'static, AsciiInput<'static>> as Executor<'static, 'static>>::AsAscii as Searcher<'static>>⟧.can_search ≡ (λ text. IsAscii text.now) }
+    ensures takes { (text : Bor (List ℕ)) → IsAscii text.now → ⟦<<BacktrackExecutor<'static, AsciiInput<'static>> as Executor<'static, 'static>>::AsAscii as Searcher<'static>>⟧.can_search text }
     ensures reads { ⟦<<BacktrackExecutor<'static, AsciiInput<'static>> as Executor<'static, 'static>>::AsAscii as Searcher<'static>>⟧.text_of ≡ (λ text. ascii_text text.now) }
 {}

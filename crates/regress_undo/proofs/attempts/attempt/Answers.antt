@@ -1,4 +1,4 @@
-use Rattle.std.proofs.Common.{◌≡◌, ◌≤◌, [], ◌∷◌, ap, sym, subst, refl, ◌∙◌}
+use Rattle.std.proofs.Common.{◌≡◌, ◌≤◌, ◌+◌, [], ◌∷◌, ap, ap₂, sym, subst, refl, ◌∙◌}
 use Rattle.std.specs.Prelude.{IsSome, true, option_map, Option, Err}
 use Rattle.regex_meaning.specs.Offsets.{units}
 use Rattle.regress_input.proofs.Places.{boundary_inside}
@@ -6,6 +6,8 @@ use Rattle.regress_program.specs.Code.{compiled}
 use Rattle.regress_exec.proofs.Searchable.{can-search}
 use Rattle.regress_exec.specs.Attempts.{ticks_from}
 use Rattle.regress_exec.specs.Spends.{Spends, TakesIfBegun}
+use Rattle.regress_exec.specs.declared.exec.SearchError.TheVariants.{Memory}
+use Rattle.regress_exec.proofs.Budget.{handed}
 use Rattle.regress_turns.specs.Memory.{state_of}
 use Rattle.regress_scan.specs.Searching.{program_of}
 use Rattle.regress_undo.specs.Attempted.{IsLaidOut}
@@ -13,7 +15,7 @@ use Rattle.regress_undo.specs.Searches.{searched_from, NeedAtLeast}
 use Rattle.regress_turns.specs.Steps.{limit_of}
 use Rattle.regress_machine.specs.Finds.{initial}
 use Rattle.regress_machine.specs.Machine.{running}
-use Rattle.regress_undo.proofs.Attempting.{Begins, first-state, begins, attempt-ends, attempt-spends, attempt-stops, found-with, stopped-takes}
+use Rattle.regress_undo.proofs.Attempting.{Begins, first-state, begins, attempt-ends, attempt-spends, attempt-stops, found-with, spends-none, stopped-takes, takes-none, tells-memory}
 use Rattle.regress_undo.proofs.attempts.attempt.Given.{Over}
 use Rattle.regress_undo.proofs.attempts.attempt.Goals.{In_ok-begin}
 use Rattle.regress_undo.proofs.attempts.attempt.Goals as goal
@@ -92,3 +94,23 @@ returns-in-Err-clause-begun g c =
     let begun = IsLaidOut w.tree c.run.new.memory in
     subst (λ e. TakesIfBegun {X = Option g.row.W-Input-Position.Denot} begun (limit_of counts before) (Err e) (limit_of counts after)) (sym c.cause.ensures)
     (stopped-takes (Option g.row.W-Input-Position.Denot) counts begun (NeedAtLeast w true (running (state_of c.begin.new.self 0 c.pos_to_offset-at.result) ∷ [])) before after c.requires.fresh c.in-Err.ensures.stopped)
+
+pub returns-in_err-begin-clause-steps : goal.returns-in_err-begin-clause-steps
+returns-in_err-begin-clause-steps g c =
+    let w = g.W.Planned.searching c.args.planned.now in
+    let need = ticks_from w.tree w.text (g.W.Input.Position.PositionType.offset c.args.pos) in
+    let budget = g.S.Steps.budget c.args.steps.now in
+    let counts = g.S.Steps.COUNTS in
+    let X = Option g.row.W-Input-Position.Denot in
+    handed X X need (limit_of counts budget) (limit_of counts budget) Memory c.from_residual.result c.from_residual.ensures.1 (spends-none X counts need budget budget refl)
+
+pub returns-in_err-begin-clause-begun : goal.returns-in_err-begin-clause-begun
+returns-in_err-begin-clause-begun g c =
+    let groups = c.groups-groups.ensures ∙ ap (λ t. (compiled t).groups) c.program-program.ensures in
+    let loops = c.loops-loops.ensures ∙ ap (λ t. (compiled t).loops) c.program-program.ensures in
+    let w = g.W.Planned.searching c.args.planned.now in
+    let left = limit_of g.S.Steps.COUNTS (g.S.Steps.budget c.args.steps.now) in
+    takes-none {X = Option g.row.W-Input-Position.Denot} {Begun = IsLaidOut w.tree c.begin.new.self} {before = left} c.from_residual.result {after = left} (λ e. c.in_err-begin.ensures.refused (e ∙ ap₂ (λ n m. n + m) (sym groups) (sym loops)))
+
+pub returns-in_err-begin-clause-cause : goal.returns-in_err-begin-clause-cause
+returns-in_err-begin-clause-cause g c = tells-memory c.from_residual.result c.from_residual.ensures.1 c.requires.fresh

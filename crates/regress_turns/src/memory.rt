@@ -103,13 +103,17 @@ fn grow<T: Copy + Drop>(row: &mut Vec<T>, value: T) -> Result<(), AllocError>
     }
 }
 
-// So many slots.
+// So many slots, fewer or more than there were.
 #[cold]
 #[inline(never)]
 fn make(slots: &mut Vec<Slot>, count: usize) -> Result<(), AllocError>
-    ensures { OnOk result (length slots.new.items ≡ count) }
+    ensures made { OnOk result (length slots.new.items ≡ count) }
+    ensures refused { OnErr result (length slots.old.items < count) }
 {
-    slots.clear();
+    if slots.len() >= count {
+        slots.truncate(count);
+        return Ok(());
+    }
     slots.resize(count, NO_SLOT)
 }
 
@@ -157,7 +161,8 @@ impl Memory {
     /// only where there were fewer slots before.
     pub fn begin(&mut self, groups: usize, loops: usize, at: usize) -> Result<(), AllocError>
         requires { groups + loops < 2 ^ 64 }
-        ensures { OnOk result (self.new ≡ record { groups = groups; slots = first_slots groups loops at; log = []; marks = [] }) }
+        ensures begun { OnOk result (self.new ≡ record { groups = groups; slots = first_slots groups loops at; log = []; marks = [] }) }
+        ensures refused { OnErr result (length self.old.slots < groups + loops) }
     {
         self.groups = 0;
         self.logged = 0;

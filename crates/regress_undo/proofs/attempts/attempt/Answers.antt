@@ -31,7 +31,7 @@ state-here g c =
     let at = c.pos_to_offset-at.result in
     let groups = c.groups-groups.ensures ∙ ap (λ t. (compiled t).groups) c.program-program.ensures in
     let loops = c.loops-loops.ensures ∙ ap (λ t. (compiled t).loops) c.program-program.ensures in
-    ap (λ h. state_of h 0 at) c.in_ok-begin.ensures ∙ first-state (program_of w) c.groups-groups.result c.loops-loops.result _ at refl groups loops
+    ap (λ h. state_of h 0 at) c.in_ok-begin.ensures.begun ∙ first-state (program_of w) c.groups-groups.result c.loops-loops.result _ at refl groups loops
     ∙ ap (initial (program_of w)) c.pos_to_offset-at.ensures
 
 pub run-requires-clause-inside : goal.run-requires-clause-inside

@@ -103,13 +103,18 @@ fn grow<T: Copy + Drop>(row: &mut Vec<T>, value: T) -> Result<(), AllocError>
     }
 }
 
-// So many slots.
+// So many slots, fewer or more than there were.
 #[cold]
 #[inline(never)]
 fn make(slots: &mut Vec<Slot>, count: usize) -> Result<(), AllocError>
     ensures made { OnOk result (length slots.new.items ≡ count) }
     ensures refused { OnErr result (slots.new.items ≡ slots.old.items) }
+    ensures short { OnErr result (length slots.old.items < count) }
 {
+    if slots.len() >= count {
+        slots.truncate(count);
+        return Ok(());
+    }
     slots.resize(count, NO_SLOT)
 }
 
@@ -159,6 +164,7 @@ impl Memory {
         requires { groups + loops < 2 ^ 64 }
         ensures begun { OnOk result (self.new ≡ record { groups = groups; slots = first_slots groups loops at; log = []; marks = [] }) }
         ensures refused { OnErr result (length self.new.slots ≢ groups + loops) }
+        ensures short { OnErr result (length self.old.slots < groups + loops) }
     {
         self.groups = 0;
         self.logged = 0;

@@ -110,7 +110,7 @@ returns-in_err-begin-clause-begun g c =
     let loops = c.loops-loops.ensures ∙ ap (λ t. (compiled t).loops) c.program-program.ensures in
     let w = g.W.Planned.searching c.args.planned.now in
     let left = limit_of g.S.Steps.COUNTS (g.S.Steps.budget c.args.steps.now) in
-    takes-none {X = Option g.row.W-Input-Position.Denot} {Begun = IsLaidOut w.tree c.begin.new.self} {before = left} c.from_residual.result {after = left} (λ e. c.in_err-begin.ensures.refused (e ∙ ap₂ (λ n m. n + m) (sym groups) (sym loops)))
+    takes-none (Option g.row.W-Input-Position.Denot) (IsLaidOut w.tree c.begin.new.self) left left c.from_residual.result (λ e. c.in_err-begin.ensures.refused (e ∙ ap₂ (λ n m. n + m) (sym groups) (sym loops)))
 
 pub returns-in_err-begin-clause-cause : goal.returns-in_err-begin-clause-cause
 returns-in_err-begin-clause-cause g c = tells-memory c.from_residual.result c.from_residual.ensures.1 c.requires.fresh

@@ -9,17 +9,17 @@ pub(crate) enum Fault {
     /// The text is no pattern, and so much of it is left from where it is wrong.
     Refused { cause: Cause, left: usize },
     /// A growth was refused.
-    Memory,
+    Memory(AllocError),
 }
 
 impl From<AllocError> for Fault {
-    fn from(_: AllocError) -> Self {
-        Fault::Memory
+    fn from(refused: AllocError) -> Self {
+        Fault::Memory(refused)
     }
 }
 
 impl<T: Drop> From<AllocFailed<T>> for Fault {
-    fn from(_: AllocFailed<T>) -> Self {
-        Fault::Memory
+    fn from(refused: AllocFailed<T>) -> Self {
+        Fault::Memory(AllocError::from(refused))
     }
 }

@@ -147,6 +147,6 @@ fn note_name(
             Ok(())
         }
         Err(Fault::Refused { .. }) => Ok(()),
-        Err(Fault::Memory) => Err(AllocError),
+        Err(Fault::Memory(refused)) => Err(refused),
     }
 }

@@ -113,7 +113,7 @@ pub fn read_pattern(
             cause,
             at: pattern.len().saturating_sub(left),
         })),
-        Err(Fault::Memory) => Err(AllocError),
+        Err(Fault::Memory(refused)) => Err(refused),
     }
 }
 

@@ -86,8 +86,8 @@ pub enum Cause {
 pub struct Diagnosis {
     /// What is wrong.
     pub cause: Cause,
-    /// The index of the code point with which it begins: the parenthesis, bracket, brace, backslash or quantifier, the
-    /// first end of a range, the `<` of a name that does not end, or what may not stand in a name.
+    /// The index of the code point with which it begins. Of a name that does not end this is the `<`, of an invalid one
+    /// what may not stand there, and of a duplicate one its first letter.
     pub at: usize,
 }
 

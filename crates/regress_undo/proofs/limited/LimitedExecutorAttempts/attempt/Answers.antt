@@ -1,7 +1,9 @@
-use Rattle.std.proofs.Common.{subst, sym}
+use Rattle.std.proofs.Common.{Some, ap, ◌∙◌, subst, sym}
 use Rattle.std.proofs.lemmas.Result.{IfOk-weaker}
 use Rattle.regex_meaning.specs.Text.{utf8_text}
 use Rattle.regex_pattern_front.specs.TreeOf.{tree_of}
+use Rattle.regress_exec.specs.Attempts.{end_from, ticks_from}
+use Rattle.regress_exec.specs.Spends.{Spends}
 use Rattle.regress_undo.specs.Searched.{CanBeSearched}
 use Rattle.regress_undo.proofs.InPlace.{can-planned, planned-narrow}
 use Rattle.regress_undo.proofs.limited.LimitedExecutorAttempts.attempt.Goals as goal
@@ -16,7 +18,15 @@ attempt-end-requires-clause-can c =
     (record { well_formed = searched.well_formed; unicode = searched.unicode; bytes = λ reads. (searched.bytes reads).reads }))
 
 pub returns-clause-found : goal.returns-clause-found
-returns-clause-found c = ?
+returns-clause-found c =
+    let search = c.args.self.now.executor.search in
+    let text = utf8_text search.searched.input.input.now search.searched.input.unicode in
+    let is = planned-narrow search.program.wide (tree_of search.program.regex) search.wide in
+    IfOk-weaker c.attempt-end.result _ _ (λ end found. found ∙ ap (λ t. end_from t text c.args.pos.offset) is) c.attempt-end.ensures.found
 
 pub returns-clause-steps : goal.returns-clause-steps
-returns-clause-steps c = ?
+returns-clause-steps c =
+    let search = c.args.self.now.executor.search in
+    let text = utf8_text search.searched.input.input.now search.searched.input.unicode in
+    let is = planned-narrow search.program.wide (tree_of search.program.regex) search.wide in
+    subst (λ t. Spends (ticks_from t text c.args.pos.offset) (Some c.args.self.now.left) c.attempt-end.result (Some c.attempt-end.new.steps.left)) is c.attempt-end.ensures.steps

@@ -3,9 +3,6 @@ use Rattle.regex_pattern_front.specs.TreeOf.{tree_of}
 use Rattle.regress_program.proofs.CodeLemmas.{compiled-is_code}
 use Rattle.regress_program.proofs.emit.emit_units.Goals as goal
 
-pub planned-requires : goal.planned-requires
-planned-requires c = rw c.in_ok-program.ensures.tree c.in_ok-program.ensures.fits.insns
-
 pub returns-clause-code : goal.returns-clause-code
 returns-clause-code c = record {
   code = (compiled-is_code (tree_of c.args.re.now) c.in_ok-program.ensures.fits.well_formed).code;

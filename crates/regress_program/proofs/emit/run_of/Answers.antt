@@ -22,8 +22,8 @@ new-requires c =
     let narrow = shaped-narrow (node_of re.node) ∙ sym (to_run-optimized tree c.if-re.false) in
     let made : state_of c.in_ok-narrow.narrow ≡ with_code re.flags.unicode false (tree_to_run tree).root nothing =
     subst (λ n. state_of c.in_ok-narrow.narrow ≡ with_code re.flags.unicode false n nothing) narrow c.in_ok-narrow.ensures in
-    let code : map insn_of c.deref.result ≡ (compiled (tree_to_run tree)).insns = ap (map insn_of) c.deref.ensures.value ∙ ap (λ s. s.insns) made in
-    omega (arith, c.requires.fits.insns, ap length code, length-map c.deref.result insn_of, compiled-length (tree_to_run tree), ap size narrow, size-shaped true (node_of re.node))
+    let code : map insn_of c.deref.result.now ≡ (compiled (tree_to_run tree)).insns = ap (map insn_of) c.deref.ensures.value ∙ ap (λ s. s.insns) made in
+    omega (arith, c.requires.fits.insns, ap length code, length-map c.deref.result.now insn_of, compiled-length (tree_to_run tree), ap size narrow, size-shaped true (node_of re.node))
 
 pub returns : goal.returns
 unfolding compiled

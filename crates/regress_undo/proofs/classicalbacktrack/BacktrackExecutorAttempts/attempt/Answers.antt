@@ -2,6 +2,8 @@ use Rattle.std.proofs.Common.{◌∙◌, subst, sym, IsTrue}
 use Rattle.std.proofs.lemmas.Result.{IfOk-weaker}
 use Rattle.regex_meaning.specs.WellFormed.{is_well_formed}
 use Rattle.regex_pattern_front.specs.TreeOf.{tree_of}
+use Rattle.regress_exec.specs.Attempts.{ticks_from}
+use Rattle.regress_scan.specs.Planning.{run_in}
 use Rattle.regress_undo.specs.Searched.{CanBeSearched}
 use Rattle.regress_undo.proofs.InPlace.{can-planned, end-planned, spends-unlimited}
 use Rattle.regress_undo.proofs.classicalbacktrack.BacktrackExecutorAttempts.attempt.Goals as goal
@@ -25,4 +27,8 @@ returns-clause-found g c =
     c.attempt.ensures.found
 
 pub returns-clause-steps : goal.returns-clause-steps
-returns-clause-steps g c = spends-unlimited _ _ c.attempt.result c.attempt.ensures.steps
+returns-clause-steps g c =
+    let search = c.args.self.now.search in
+    let text = g.Input.InputIndexer.text search.searched.input in
+    let at = g.Input.Position.PositionType.offset c.args.pos in
+    spends-unlimited (ticks_from (run_in search.program) text at) (ticks_from (tree_of search.program.regex) text at) c.attempt.result c.attempt.ensures.steps

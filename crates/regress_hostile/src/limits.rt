@@ -15,11 +15,9 @@ use regress_program::insn::CompiledRegex;
 use regress_search::exec::MatchProducer;
 use std::alloc::Global;
 
-// A text, where its search starts, the steps that it may take and those that its first match needs, and what is wanted.
+// The steps that a search may take and those that its first match needs, and what is wanted.
 #[derive(Clone, Copy)]
 struct Row<'a> {
-    text: &'a str,
-    start: usize,
     steps: u64,
     need: u64,
     wanted: &'a str,
@@ -57,10 +55,10 @@ impl<'r, 't> Counting for LimitedExecutor<'r, 't> {
 
 // Whether an executor answers by its steps. One to which memory is refused leaves where the list goes on, has no more steps
 // than before, and answers by those when it is asked again.
-fn answers<P: Counting>(executor: &mut P, row: Row<'_>) -> Result<bool, Fault>
-    requires { IsStart (P.text executor.old) row.start }
+fn answers<P: Counting>(executor: &mut P, start: usize, row: Row<'_>) -> Result<bool, Fault>
+    requires { IsStart (P.text executor.old) start }
 {
-    let Some(pos) = executor.initial_position(row.start) else {
+    let Some(pos) = executor.initial_position(start) else {
         return Ok(executor.left() == row.steps);
     };
     let mut next = Some(pos);
@@ -78,29 +76,32 @@ fn answers<P: Counting>(executor: &mut P, row: Row<'_>) -> Result<bool, Fault>
     }
 }
 
-fn is_asked(re: &CompiledRegex, row: Row<'_>) -> Result<bool, Fault>
-    requires { IsCharBoundary row.text.now row.start ⊎ (length row.text.now < row.start) }
+fn is_asked(re: &CompiledRegex, text: &str, start: usize, row: Row<'_>) -> Result<bool, Fault>
+    requires { IsCharBoundary text.now start ⊎ (length text.now < start) }
 {
-    let mut executor = LimitedExecutor::new(re, row.text, row.steps)?;
-    answers(&mut executor, row)
+    let mut executor = LimitedExecutor::new(re, text, row.steps)?;
+    answers(&mut executor, start, row)
 }
 
-fn are_all(re: &Regex, row: Row<'_>) -> Result<bool, Fault>
-    requires { IsCharBoundary row.text.now row.start ⊎ (length row.text.now < row.start) }
+fn are_all(re: &Regex, text: &str, start: usize, row: Row<'_>) -> Result<bool, Fault>
+    requires { IsCharBoundary text.now start ⊎ (length text.now < start) }
 {
-    are_found(
-        re.find_from_limited(row.text, row.start, row.steps)?,
-        row.wanted,
-    )
+    are_found(re.find_from_limited(text, start, row.steps)?, row.wanted)
 }
 
-fn agrees(re: &Compiled, row: Row<'_>, asked: bool) -> Result<bool, Fault> {
-    if !is_start(row.text, row.start) {
+fn agrees(
+    re: &Compiled,
+    text: &str,
+    start: usize,
+    row: Row<'_>,
+    asked: bool,
+) -> Result<bool, Fault> {
+    if !is_start(text, start) {
         Ok(false)
     } else if asked {
-        is_asked(&re.bytes, row)
+        is_asked(&re.bytes, text, start, row)
     } else {
-        are_all(&re.regex, row)
+        are_all(&re.regex, text, start, row)
     }
 }
 
@@ -108,18 +109,18 @@ fn agrees(re: &Compiled, row: Row<'_>, asked: bool) -> Result<bool, Fault> {
 pub fn agree(alloc: Global, line: &str) -> Result<bool, Fault> {
     let mut fields = Fields::of(line);
     let re = compile(alloc, fields.next(), fields.next(), false)?;
+    let text = fields.next();
+    let start = fields.next().parse::<usize>().unwrap_or(0);
     let row = Row {
-        text: fields.next(),
-        start: fields.next().parse::<usize>().unwrap_or(0),
         steps: fields.next().parse::<u64>().unwrap_or(0),
         need: fields.next().parse::<u64>().unwrap_or(0),
         wanted: fields.next(),
     };
     let mut agree = true;
     for asked in [false, true] {
-        let mut tried = agrees(&re, row, asked);
+        let mut tried = agrees(&re, text, start, row, asked);
         if matches!(tried, Err(Fault::Refused)) {
-            tried = agrees(&re, row, asked);
+            tried = agrees(&re, text, start, row, asked);
         }
         agree &= matches!(tried, Ok(true));
     }

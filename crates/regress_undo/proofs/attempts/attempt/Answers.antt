@@ -106,8 +106,8 @@ returns-in_err-begin-clause-steps g c =
 
 pub returns-in_err-begin-clause-begun : goal.returns-in_err-begin-clause-begun
 returns-in_err-begin-clause-begun g c =
-    let groups = c.groups-groups.ensures ∙ ap (λ t. (compiled t).groups) c.program-program.ensures in
-    let loops = c.loops-loops.ensures ∙ ap (λ t. (compiled t).loops) c.program-program.ensures in
+    let groups = c.groups-groups.ensures ∙ c.program.ensures.groups in
+    let loops = c.loops-loops.ensures in
     let w = g.W.Planned.searching c.args.planned.now in
     let left = limit_of g.S.Steps.COUNTS (g.S.Steps.budget c.args.steps.now) in
     takes-none (Option g.row.W-Input-Position.Denot) (IsLaidOut w.tree c.begin.new.self) left left c.from_residual.result (λ e. c.in_err-begin.ensures.refused (e ∙ ap₂ (λ n m. n + m) (sym groups) (sym loops)))

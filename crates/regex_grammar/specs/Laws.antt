@@ -1,0 +1,30 @@
+-- Laws of the grammar.
+use Rattle.std.specs.Prelude.{◌≡◌, List, [], false, codes}
+use Rattle.regex_meaning.specs.Tree.{Node, Tree, Flags, goal, char, cat, end_of_cat, alt}
+use Rattle.regex_grammar.specs.Reading.{Text, Whole}
+use Rattle.regex_grammar.specs.Grammar.{Disjunction, Parses}
+use Rattle.regex_grammar.specs.Ahead.{names_ahead}
+
+abbrev pub no_flags : Flags
+no_flags =
+    record { icase = false; multiline = false; dot_all = false; no_opt = false; unicode = false; unicode_sets = false }
+
+-- `a|ab` has its tree
+abbrev pub RowIsParsed : Type 0
+RowIsParsed =
+    Parses no_flags (codes "a|ab") (record {
+      root = cat (alt (cat (char 97) end_of_cat) (cat (char 97) (cat (char 98) end_of_cat))) (cat goal end_of_cat);
+      flags = no_flags;
+    })
+
+-- a pattern has at most one tree
+abbrev pub OneTree : Type 0
+OneTree =
+    (flags : Flags) (pattern : Text) (t u : Tree) → Parses flags pattern t → Parses flags pattern u → t ≡ u
+
+-- the groups that have opened at the end of a pattern are those that are found ahead
+abbrev pub GroupsAreFound : Type 0
+GroupsAreFound =
+    (w : Whole) (pattern : Text) (groups : List Text) (n : Node)
+    → Disjunction w false (record { text = pattern; opened = [] }) (record { text = []; opened = groups }) n
+    → groups ≡ names_ahead false pattern

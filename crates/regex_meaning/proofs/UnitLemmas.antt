@@ -48,7 +48,7 @@ pair-width : (u v : ℕ) → utf16_width (character_of_pair u v) ≡ 2
 pair-width u v = rw (le-leb 0x1_0000 (character_of_pair u v) (omega arith)) refl
 
 -- no unit is both a low surrogate and a high one
-low-not_high : (v : ℕ) → is_low_surrogate v ≡ true → is_high_surrogate v ≡ false
+pub low-not_high : (v : ℕ) → is_low_surrogate v ≡ true → is_high_surrogate v ≡ false
 low-not_high v h =
     let above = leb-true 0xDC00 v (and_parts (nat_le 0xDC00 v) (nat_le v 0xDFFF) h).0 in
     rw (lt-leb v 0xDBFF (omega arith)) (and-false (nat_le 0xD800 v))

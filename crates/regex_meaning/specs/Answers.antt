@@ -4,7 +4,7 @@ use Rattle.std.specs.Option.{option_map_or}
 use Rattle.regex_meaning.specs.Tree.{Node}
 use Rattle.regex_meaning.specs.Text.{Text}
 use Rattle.regex_meaning.specs.Offsets.{offset, place_at}
-use Rattle.regex_meaning.specs.Find.{Found, first_match, place_behind}
+use Rattle.regex_meaning.specs.Find.{Found, first_match, match_at, place_behind}
 use Rattle.regex_meaning.specs.Names.{Answer, answer, answers_from}
 
 module _ (root : Node) (text : Text) where
@@ -16,7 +16,11 @@ module _ (root : Node) (text : Text) where
   abbrev pub first_answer : (start : ℕ) → Option Answer
   first_answer start = option_map (answer root text) (first_found start)
 
-  -- the offset from which the list goes on behind that match
+  -- the most preferred match that begins at an offset, in offsets; none where that is no boundary or stands past the end
+  abbrev pub answer_at : (at : ℕ) → Option Answer
+  answer_at at = option_map (answer root text) (option_and_then (match_at root text) (place_at text at))
+
+  -- the offset from which the list goes on behind the first match
   abbrev pub next_start : (start : ℕ) → Option ℕ
   next_start start = option_map (offset text) (option_and_then (place_behind root text) (first_found start))
 

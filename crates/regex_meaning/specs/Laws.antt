@@ -1,5 +1,5 @@
 -- Laws of these definitions.
-use Rattle.std.specs.Prelude.{◌≡◌, ℕ, zero, suc, ◌+◌, ◌-◌, ◌<◌, ◌≤◌, Bool, false, not, ◌&&◌, is_some, slice_index, List, [], ◌∷◌, ◌++◌, length, map, codes, chars, IsAscii, IfSome, if◌then◌else◌, nat_lt, nat_le, max, Option, Some, None, filter, flat_map}
+use Rattle.std.specs.Prelude.{◌≡◌, ℕ, zero, suc, ◌+◌, ◌-◌, ◌<◌, ◌≤◌, Bool, false, not, ◌&&◌, is_some, slice_index, List, [], ◌∷◌, ◌++◌, length, map, codes, chars, IsAscii, IfSome, if◌then◌else◌, nat_lt, nat_le, max, ◌==◌, Option, Some, None, option_and_then, filter, flat_map}
 use Rattle.std.specs.Option.{option_or, option_map_or}
 use Rattle.regex_meaning.specs.Tree.{Quantifier, Node, Tree, Flags, group_ids}
 use Rattle.regex_meaning.specs.Text.{Text, Direction, rightwards, leftwards, last_place, is_high_surrogate, is_low_surrogate, is_unit_boundary, utf8_text, ascii_text, utf16_text, ucs2_text, utf16_characters}
@@ -7,7 +7,7 @@ use Rattle.regex_meaning.specs.Offsets.{IsText, offset, place_at, IsBoundary}
 use Rattle.regex_meaning.specs.Outcomes.{Groups, repetition, repeat, counts, preferred, most_of, outcomes}
 use Rattle.regex_meaning.specs.Find.{Found, match_at, first_match, place_behind, match_list}
 use Rattle.regex_meaning.specs.Names.{Answer, answers_from, named_group, named_groups}
-use Rattle.regex_meaning.specs.Answers.{first_answer, next_start, answer_then_list}
+use Rattle.regex_meaning.specs.Answers.{first_answer, answer_at, next_start, answer_then_list}
 use Rattle.regex_meaning.specs.Replace.{expansion, replaced}
 use Rattle.regex_meaning.specs.Flags.{flags_text, flags_of_text, escape}
 use Rattle.regex_meaning.specs.StartPredicate.{start_predicate, IsSound}
@@ -136,6 +136,11 @@ pub record IsAnswerOf (root : Node) (text : Text) (m : Answer) : Type 0 where
   pub whole : IsRange text m.range
   pub groups : Each (λ g. IfSome g (IsRange text)) m.captures
   pub count : length m.captures ≡ length (group_ids root)
+
+-- the match at an offset is the first answer from there, if that begins there
+abbrev pub MatchesAtAreFirst : Type 0
+MatchesAtAreFirst = (root : Node) (text : Text) → IsText text → (at : ℕ)
+    → answer_at root text at ≡ option_and_then (λ m. if m.range.0 == at then Some m else None) (first_answer root text at)
 
 -- all answers are such
 abbrev pub AnswersAreRanges : Type 0

@@ -4,7 +4,7 @@
 ghost use Rattle.regex_meaning.specs.Laws.{PairsAreOutcomes, RepeatUnfolds, OutcomesGoOn, OutcomesKeepGroups, OutcomesStayInText};
 ghost use Rattle.regex_meaning.specs.Laws.{FirstMatchUnfolds, MatchListUnfolds, NeedsUnfold};
 ghost use Rattle.regex_meaning.specs.Laws.{PlacesHaveOffsets, EncodingsAreTexts, UnitBoundariesAreBoundaries, SameInUtf16, SameInAscii};
-ghost use Rattle.regex_meaning.specs.Laws.{AnswersGoOn, ListGoesOnAhead, AnswersStandInText, AnswersAreRanges, AnswersStandInOrder, AnswersAreFew, AnswersResume, NamesAgree};
+ghost use Rattle.regex_meaning.specs.Laws.{AnswersGoOn, ListGoesOnAhead, AnswersStandInText, MatchesAtAreFirst, AnswersAreRanges, AnswersStandInOrder, AnswersAreFew, AnswersResume, NamesAgree};
 ghost use Rattle.regex_meaning.specs.Laws.{WholeMatchesChangeNothing, FlagsReadBack, EscapeIsInjective, PredicateIsSound};
 
 /// The ticks of a search are put among its outcomes, and change none of them.
@@ -70,6 +70,11 @@ pub fn list_goes_on_ahead()
 /// The first answer is a range of whole characters, not before the start.
 pub fn answers_stand_in_text()
     ensures { AnswersStandInText }
+{}
+
+/// The match at an offset is the first answer from there, if that begins there.
+pub fn matches_at_are_first()
+    ensures { MatchesAtAreFirst }
 {}
 
 /// Every range of an answer is one of whole characters, and there is an entry for each group.

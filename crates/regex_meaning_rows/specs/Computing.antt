@@ -1,5 +1,5 @@
 -- Matches in offsets, as a test computes them.
-use Rattle.std.specs.Prelude.{ℕ, List, [], ◌∷◌, map, take, length, ◌+◌, Option, true, false, Bool, not, ◌||◌}
+use Rattle.std.specs.Prelude.{ℕ, List, [], ◌∷◌, map, take, length, ◌+◌, Option, option_map, true, false, Bool, not, ◌||◌}
 use Rattle.std.specs.List.{list_all}
 use Rattle.regex_meaning.specs.Lists.{numbers_from}
 use Rattle.std.specs.Str.{chars}
@@ -8,7 +8,7 @@ use Rattle.regex_meaning.specs.Text.{Text, utf8_text, rightwards, fold_code_poin
 use Rattle.regex_meaning.specs.Outcomes.{Outcome, outcomes, rounds, Groups}
 use Rattle.regex_meaning.specs.Find.{Found, no_groups, match_list, first_match_among, matches_from}
 use Rattle.regex_meaning.specs.Names.{Answer, answers_from, named_group}
-use Rattle.regex_meaning.specs.Answers.{next_start}
+use Rattle.regex_meaning.specs.Answers.{answer_at, next_start}
 use Rattle.regex_meaning.specs.Replace.{expansion, replaced}
 use Rattle.regex_meaning.specs.StartPredicate.{StartPredicate, start_predicate, beginning, bytes_where, may_start}
 use Rattle.regex_meaning.specs.Ticks.{ticked, ticked_rounds, need, needs}
@@ -37,6 +37,11 @@ matches root text start = map as_found (answers_from root text start)
 unfoldable pub first : Node → Text → ℕ → List Found
 unfolding answers_from match_list first_match_among matches_from outcomes rounds fold_code_point expand_code_point chars
 first root text start = map as_found (take 1 (answers_from root text start))
+
+-- the match at an offset
+unfoldable pub at_offset : Node → Text → ℕ → Option Found
+unfolding outcomes rounds fold_code_point expand_code_point chars
+at_offset root text at = option_map as_found (answer_at root text at)
 
 -- where the list goes on behind the first match from an offset
 unfoldable pub goes_on_at : Node → Text → ℕ → Option ℕ

@@ -1,10 +1,10 @@
 -- Rows on offsets: starts at, within and past the text, and where the list goes on.
 use Rattle.std.specs.Prelude.{◌≡◌, ◌-◌, ◌^◌, [], ◌∷◌, Some, None, refl, true, false, codes, map}
-use Rattle.regex_meaning.specs.Tree.{goal, char, cat, end_of_cat, match_any, loop_1_char_body}
+use Rattle.regex_meaning.specs.Tree.{goal, bracket, char, cat, end_of_cat, match_any, loop_1_char_body}
 use Rattle.regex_meaning.specs.Text.{utf8_text, ascii_text, utf16_text, ucs2_text}
 use Rattle.regex_meaning.specs.Offsets.{offset, units, place_at}
 use Rattle.std.specs.Str.{chars}
-use Rattle.regex_meaning_rows.specs.Computing.{found, matches, goes_on_at, times}
+use Rattle.regex_meaning_rows.specs.Computing.{at_offset, found, matches, goes_on_at, in_brackets, times}
 
 -- `é€` and U+1F600: 2, 3 and 4 bytes
 offsets : map (offset (utf8_text (195 ∷ 169 ∷ 226 ∷ 130 ∷ 172 ∷ 240 ∷ 159 ∷ 152 ∷ 128 ∷ []) false)) (0 ∷ 1 ∷ 2 ∷ 3 ∷ []) ≡ (0 ∷ 2 ∷ 5 ∷ 9 ∷ [])
@@ -33,6 +33,17 @@ lengths = (refl, refl, refl, refl, refl)
 two_characters : matches (cat match_any (cat goal end_of_cat)) (utf8_text (195 ∷ 169 ∷ 226 ∷ 130 ∷ 172 ∷ []) false) 0 ≡ (found 0 2 [] ∷ found 2 5 [] ∷ [])
 unfolding matches
 two_characters = refl
+
+-- `[^é]` in `éa` at each offset from 0 to 4: where none begins nothing is looked for further on
+at_each : map (at_offset (cat (bracket (in_brackets true ((233, 233) ∷ []))) (cat goal end_of_cat)) (utf8_text (195 ∷ 169 ∷ 97 ∷ []) false)) (0 ∷ 1 ∷ 2 ∷ 3 ∷ 4 ∷ [])
+    ≡ (None ∷ None ∷ Some (found 2 3 []) ∷ None ∷ None ∷ [])
+unfolding at_offset
+at_each = refl
+
+-- `a*?` at the end is empty there
+at_the_end : at_offset (cat (cat (loop_1_char_body (times 0 None false) (char 97)) end_of_cat) (cat goal end_of_cat)) (utf8_text (codes "aa") false) 2 ≡ Some (found 2 2 [])
+unfolding at_offset
+at_the_end = refl
 
 -- the same from the second character
 second_character : matches (cat match_any (cat goal end_of_cat)) (utf8_text (195 ∷ 169 ∷ 226 ∷ 130 ∷ 172 ∷ []) false) 2 ≡ (found 2 5 [] ∷ [])

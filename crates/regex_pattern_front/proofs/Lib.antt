@@ -9,3 +9,4 @@ pub mod PartLemmas
 pub mod LevelLemmas
 pub mod LeafLemmas
 pub mod FirstByteLemmas
+pub mod PlaceLemmas

@@ -5,3 +5,4 @@ pub mod Searching
 pub mod Optimized
 pub mod Parts
 pub mod Levels
+pub mod Depth

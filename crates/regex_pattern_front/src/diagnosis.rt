@@ -1,5 +1,7 @@
 //! What is wrong with a text that is no pattern, and where.
 
+ghost use Rattle.std.specs.Prelude.{◌≡◌, IsCharBoundary, chars, drop};
+
 use std::fmt;
 use thiserror::Error;
 
@@ -92,14 +94,37 @@ pub struct Diagnosis {
 }
 
 impl Diagnosis {
+    /// The offset in bytes of the place, where the pattern is a text; where the text has fewer code points, its length.
+    pub fn offset_in(self, pattern: &str) -> usize
+        ensures boundary { IsCharBoundary pattern.now result }
+        ensures place { chars (drop result pattern.now) ≡ drop self.at (chars pattern.now) }
+    {
+        let mut rest = pattern.chars();
+        let mut left = self.at;
+        while left > 0 && rest.next().is_some() {
+            left -= 1;
+        }
+        pattern.len() - rest.as_str().len()
+    }
+
     /// The diagnosis to show below a pattern on a terminal: the line of the pattern in which the place is, a line with `^`
     /// below the place, and what is wrong. Each code point takes one column there. A control character is shown as a
     /// blank, and what is no character as U+FFFD.
     pub fn below(self, pattern: &[u32]) -> Caret<'_> {
         let (before, behind) = pattern.split_at(self.at.min(pattern.len()));
         Caret {
-            before: last_line(before),
-            behind: first_line(behind),
+            before: Piece::CodePoints(last_line(before)),
+            behind: Piece::CodePoints(first_line(behind)),
+            cause: self.cause,
+        }
+    }
+
+    /// The same below a pattern that is a text.
+    pub fn below_text(self, pattern: &str) -> Caret<'_> {
+        let (before, behind) = pattern.split_at(self.offset_in(pattern));
+        Caret {
+            before: Piece::Text(before.rsplit_once('\n').map_or(before, |(_, line)| line)),
+            behind: Piece::Text(behind.split_once('\n').map_or(behind, |(line, _)| line)),
             cause: self.cause,
         }
     }
@@ -109,24 +134,52 @@ impl Diagnosis {
 #[derive(Clone, Copy, Debug)]
 pub struct Caret<'p> {
     // What stands before the place, and from it on.
-    before: &'p [u32],
-    behind: &'p [u32],
+    before: Piece<'p>,
+    behind: Piece<'p>,
     cause: Cause,
 }
 
 impl fmt::Display for Caret<'_> {
     fn fmt<W: fmt::Write>(&self, f: &mut fmt::Formatter<W>) -> fmt::Result {
-        for c in self.before {
-            write!(f, "{}", shown(*c))?;
-        }
-        for c in self.behind {
-            write!(f, "{}", shown(*c))?;
-        }
+        self.before.write(f)?;
+        self.behind.write(f)?;
         f.write_str("\n")?;
-        for _ in self.before {
+        for _ in 0..self.before.columns() {
             f.write_str(" ")?;
         }
         write!(f, "^ {}", self.cause)
+    }
+}
+
+// A piece of a line of a pattern.
+#[derive(Clone, Copy, Debug)]
+enum Piece<'p> {
+    CodePoints(&'p [u32]),
+    Text(&'p str),
+}
+
+impl Piece<'_> {
+    fn columns(self) -> usize {
+        match self {
+            Piece::CodePoints(points) => points.len(),
+            Piece::Text(text) => text.chars().count(),
+        }
+    }
+
+    fn write<W: fmt::Write>(self, f: &mut fmt::Formatter<W>) -> fmt::Result {
+        match self {
+            Piece::CodePoints(points) => {
+                for c in points {
+                    write!(f, "{}", shown(*c))?;
+                }
+            }
+            Piece::Text(text) => {
+                for c in text.chars() {
+                    write!(f, "{}", shown(u32::from(c)))?;
+                }
+            }
+        }
+        Ok(())
     }
 }
 

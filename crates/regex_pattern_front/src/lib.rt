@@ -4,6 +4,7 @@
 pub mod bytesearch;
 mod classes;
 pub mod codepointset;
+pub mod depth;
 pub mod diagnosis;
 mod escapes;
 mod fault;

@@ -67,12 +67,57 @@ fn one_group_is_too_many(rt: HostRuntime) -> Result<(), Fail> {
     Ok(())
 }
 
-// What is shown below a pattern that is refused.
+// What is wrong with a pattern that is refused.
+fn told_of(alloc: Global, pattern: &str) -> Result<Option<Diagnosis>, AllocError> {
+    let pattern = code_points(alloc, pattern)?;
+    diagnose(alloc, &pattern, Flags::default())
+}
+
+// A pattern, and the offset in bytes of the place where something is wrong.
+const OFFSETS: [(&str, usize); 6] = [
+    ("(a", 0),
+    ("é*+", 3),
+    ("é😀(a|b", 6),
+    ("日本語[b-a]", 10),
+    ("😀)", 4),
+    ("aé\\", 3),
+];
+
+#[test]
+fn places_have_these_offsets(rt: HostRuntime) -> Result<(), Fail> {
+    for (pattern, wanted) in OFFSETS {
+        let told = told_of(rt.alloc(), pattern)?;
+        assert!(rt;
+            told.map(|it| it.offset_in(pattern)) == Some(wanted),
+            "{pattern}"
+        );
+    }
+    Ok(())
+}
+
+#[test]
+fn a_place_past_the_end_is_the_end(rt: HostRuntime) {
+    let beyond = Diagnosis {
+        cause: Cause::UnclosedGroup,
+        at: usize::MAX,
+    };
+    assert!(rt; beyond.offset_in("é") == 2);
+}
+
+// What is shown below a pattern that is refused, given by its code points.
 fn write_shown(text: &mut String, pattern: &str) -> Result<(), AllocError> {
     let alloc = *text.allocator();
     let pattern = code_points(alloc, pattern)?;
     match diagnose(alloc, &pattern, Flags::default())? {
         Some(diagnosis) => write!(text, "{}", diagnosis.below(&pattern)),
+        None => Ok(()),
+    }
+}
+
+// The same of a pattern given as a text.
+fn write_shown_below_text(text: &mut String, pattern: &str) -> Result<(), AllocError> {
+    match told_of(*text.allocator(), pattern)? {
+        Some(diagnosis) => write!(text, "{}", diagnosis.below_text(pattern)),
         None => Ok(()),
     }
 }
@@ -91,6 +136,9 @@ fn places_are_shown(rt: HostRuntime) -> Result<(), Fail> {
         let mut found = String::new(rt.alloc());
         write_shown(&mut found, pattern)?;
         assert!(rt; found.as_str() == wanted, "{found}");
+        let mut of_text = String::new(rt.alloc());
+        write_shown_below_text(&mut of_text, pattern)?;
+        assert!(rt; of_text.as_str() == wanted, "{of_text}");
     }
     Ok(())
 }

@@ -4,6 +4,8 @@
 #[cfg(test)]
 mod causes;
 #[cfg(test)]
+mod depths;
+#[cfg(test)]
 mod diagnoses;
 #[cfg(test)]
 mod patterns;

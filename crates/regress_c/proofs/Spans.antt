@@ -1,9 +1,9 @@
 -- Ranges are written over a buffer, one after another.
-use Rattle.std.proofs.Common.{◌≡◌, ℕ, zero, suc, ◌+◌, ◌<◌, ◌≤◌, List, [], ◌∷◌, ◌++◌, length, take, drop, set, get_or, option_map, None, Some, Ok, if◌then◌else◌, refl, sym, ap, ◌∙◌, arith}
-use Rattle.std.proofs.Math.ListN.{get_or-map}
+use Rattle.std.proofs.Common.{◌≡◌, ℕ, zero, suc, ◌+◌, ◌-◌, ◌<◌, ◌≤◌, List, [], ◌∷◌, ◌++◌, append_assoc, length, take, drop, set, get_or, option_map, None, Some, Ok, if◌then◌else◌, refl, sym, ap, ap₂, ◌∙◌, arith}
+use Rattle.std.proofs.Math.ListN.{drop_of_length-le, get_or-map}
 use Rattle.std.proofs.lemmas.Bool.{le-leb, lt-leb}
-use Rattle.std.proofs.lemmas.List.{length-map}
-use Rattle.std.proofs.Math.Seq.{take-length}
+use Rattle.std.proofs.lemmas.List.{append-nil, length-drop, length-map, take_all}
+use Rattle.std.proofs.Math.Seq.{drop-drop, take-length}
 use Rattle.std.proofs.lemmas.Option.{unwrap_or-slice_get}
 use Rattle.regex_meaning.specs.Names.{Answer, group}
 use Rattle.regress_exec.specs.InTurn.{all_groups}
@@ -20,6 +20,16 @@ one-more [] old i d p q = absurd (omega arith)
 one-more (x ∷ new) [] i d p q = absurd (omega arith)
 one-more (x ∷ new) (y ∷ old) zero d p q = refl
 one-more (x ∷ new) (y ∷ old) (suc i) d p q = ap (λ zs. x ∷ zs) (one-more new old i d (omega arith) (omega arith))
+
+-- what is written in a part from an index to the end, is written in the whole
+pub written_part : {X : Type 0} (new old part : List X) (at n count : ℕ) → n ≡ length old - at → part ≡ new ++ drop count (take n (drop at old))
+    → take at old ++ (part ++ drop n (drop at old)) ≡ take at old ++ new ++ drop (at + count) old
+written_part new old part at n count rest written =
+    let all : length (drop at old) ≤ n = omega (arith, rest, length-drop at old) in
+    let e : part ++ drop n (drop at old) ≡ new ++ drop (at + count) old =
+    ap₂ (λ xs ys. xs ++ ys) written (drop_of_length-le (drop at old) all) ∙ append-nil _
+    ∙ ap (λ xs. new ++ drop count xs) (take_all n (drop at old) all) ∙ ap (λ xs. new ++ xs) (drop-drop count at old) in
+    ap (λ xs. take at old ++ xs) e ∙ sym (append_assoc (take at old) new (drop (at + count) old))
 
 module _ (m : Answer) where
   group-at : (id : ℕ) → get_or (all_groups m) id None ≡ group m id

@@ -7,9 +7,9 @@ use Rattle.regress_exec.specs.declared.exec.SearchError.TheVariants as search
 use Rattle.regress_match.specs.declared.api.error.Error.{Error}
 use Rattle.regress_match.specs.declared.api.error.Error.TheVariants as error
 use Rattle.regress_c.specs.declared.refusal.Refusal.{Refusal}
-use Rattle.regress_c.specs.declared.refusal.Refusal.TheVariants.{Empty, Full, NotUtf8, NotBoundary, ShortBuffer, Memory, StepLimit, Syntax, TooManyGroups, TooManyLoops, TooManyInstructions}
+use Rattle.regress_c.specs.declared.refusal.Refusal.TheVariants.{Empty, Full, NotUtf8, NotBoundary, ShortBuffer, Memory, StepLimit, Syntax, TooManyGroups, TooManyLoops, TooManyInstructions, UnknownFlag, TooLong, TooDeep, NoGroup, NotOpen, NotCounted}
 
--- a pattern is compiled, or a match is found
+-- a call did what it was called for
 abbrev pub done : ℕ
 done = 0
 
@@ -28,6 +28,12 @@ code_of Syntax = 9
 code_of TooManyGroups = 10
 code_of TooManyLoops = 11
 code_of TooManyInstructions = 12
+code_of UnknownFlag = 13
+code_of TooLong = 14
+code_of TooDeep = 15
+code_of NoGroup = 16
+code_of NotOpen = 17
+code_of NotCounted = 18
 
 -- of the errors that a pattern can be refused with; what is left is want of memory
 abbrev pub refused_as : Error → Refusal

@@ -1,34 +1,59 @@
 -- What compiling a pattern answers.
-use Rattle.std.specs.Prelude.{◌≡◌, ℕ, List, Option, Some, None, Result, Ok, Err, IsUtf8}
+use Rattle.std.specs.Prelude.{◌≡◌, ◌<◌, ◌≤◌, ◌-◌, ◌^◌, ℕ, List, Option, Some, None, Result, Ok, Err, length}
 use Rattle.regex_meaning.specs.Flags.{flags_of_text}
+use Rattle.regex_pattern_front.specs.Depth.{nesting_of}
 use Rattle.regress_match.specs.Programs.{IsCompiledWith}
 use Rattle.regress_match.specs.declared.api.regex.Regex.{Regex}
 use Rattle.regress_c.specs.Codes.{code_of, done}
+use Rattle.regress_c.specs.Reading.{AreFlags}
+use Rattle.regress_c.specs.declared.compiling.Bounds.{Bounds}
 use Rattle.regress_c.specs.declared.refusal.Refusal.{Refusal}
-use Rattle.regress_c.specs.declared.refusal.Refusal.TheVariants.{Full, NotUtf8, Memory, Syntax, TooManyGroups, TooManyLoops, TooManyInstructions}
+use Rattle.regress_c.specs.declared.refusal.Refusal.TheVariants.{Empty, Full, NotUtf8, Memory, Syntax, TooManyGroups, TooManyLoops, TooManyInstructions, UnknownFlag, TooLong, TooDeep}
 
--- what refuses a text in UTF-8
+-- a pattern as it is given: whether it is a text, its characters, and the letters of its flags
+pub record Given : Type 1 where
+  pub is_text : Type 0
+  pub characters : List ℕ
+  pub flags : List ℕ
+
+abbrev pub given : (is_text : Type 0) → (characters flags : List ℕ) → Given
+given is_text characters flags = record { is_text = is_text; characters = characters; flags = flags }
+
+-- flags that there are, and a text
+pub record IsReadable (g : Given) : Type 0 where
+  pub letters : AreFlags g.flags
+  pub text : g.is_text
+
+-- no bounds: the greatest numbers
+abbrev pub unbounded : Bounds
+unbounded = record { length = 2 ^ 64 - 1; nesting = 2 ^ 64 - 1 }
+
+pub record IsWithin (bounds : Bounds) (characters : List ℕ) : Type 0 where
+  pub length_is : length characters ≤ bounds.length
+  pub nesting_is : nesting_of characters ≤ bounds.nesting
+
+-- what refuses the pattern itself
 abbrev pub RefusesPattern : Refusal → Type 0
-RefusesPattern Memory = Unit {0}
 RefusesPattern Syntax = Unit {0}
 RefusesPattern TooManyGroups = Unit {0}
 RefusesPattern TooManyLoops = Unit {0}
 RefusesPattern TooManyInstructions = Unit {0}
 RefusesPattern _ = ⊥
 
-abbrev pub AreTexts : (text flags : List ℕ) → Type 0
-AreTexts text flags = IsUtf8 text × IsUtf8 flags
-
 -- a pattern with the flags whose letters stand there, or a refusal
-abbrev pub Compiles : (text flags : List ℕ) → Result Regex Refusal → Type 0
-Compiles text flags (Ok re) = AreTexts text flags × IsCompiledWith (flags_of_text flags) re
-Compiles text flags (Err NotUtf8) = ¬ AreTexts text flags
-Compiles text flags (Err refusal) = AreTexts text flags × RefusesPattern refusal
+abbrev pub Compiles : Given → Bounds → Result Regex Refusal → Type 0
+Compiles g bounds (Ok re) = IsReadable g × IsWithin bounds g.characters × IsCompiledWith (flags_of_text g.flags) re
+Compiles g bounds (Err UnknownFlag) = ¬ AreFlags g.flags
+Compiles g bounds (Err NotUtf8) = ¬ g.is_text
+Compiles g bounds (Err Memory) = IsReadable g
+Compiles g bounds (Err TooLong) = IsReadable g × (bounds.length < length g.characters)
+Compiles g bounds (Err TooDeep) = IsReadable g × (bounds.nesting < nesting_of g.characters)
+Compiles g bounds (Err refusal) = IsReadable g × IsWithin bounds g.characters × RefusesPattern refusal
 
 -- the same for a handle, which has to be empty
-abbrev pub CompilesInto : (held : Option Regex) → (text flags : List ℕ) → Result Regex Refusal → Type 0
-CompilesInto None text flags made = Compiles text flags made
-CompilesInto (Some re) text flags made = made ≡ Err Full
+abbrev pub CompilesInto : (held : Option Regex) → Given → Bounds → Result Regex Refusal → Type 0
+CompilesInto None g bounds made = Compiles g bounds made
+CompilesInto (Some re) g bounds made = made ≡ Err Full
 
 abbrev pub code_of_made : Result Regex Refusal → ℕ
 code_of_made (Ok re) = done
@@ -39,6 +64,17 @@ held_after held (Ok re) = Some re
 held_after held (Err refusal) = held
 
 -- what is made, as a code, and in the handle
-abbrev pub RepliesMade : (before : Option Regex) → (text flags : List ℕ) → (after : Option Regex) → (code : ℕ) → Type 0
-RepliesMade before text flags after code = (made : Result Regex Refusal)
-    × CompilesInto before text flags made × (code ≡ code_of_made made) × (after ≡ held_after before made)
+abbrev pub RepliesMade : (before : Option Regex) → Given → Bounds → (after : Option Regex) → (code : ℕ) → Type 0
+RepliesMade before g bounds after code = (made : Result Regex Refusal)
+    × CompilesInto before g bounds made × (code ≡ code_of_made made) × (after ≡ held_after before made)
+
+-- an equal pattern, where one is held and the other handle is empty, or want of memory
+abbrev pub ClonesInto : (held into : Option Regex) → Result Regex Refusal → Type 0
+ClonesInto None into made = made ≡ Err Empty
+ClonesInto (Some re) (Some other) made = made ≡ Err Full
+ClonesInto (Some re) None (Ok copy) = copy ≡ re
+ClonesInto (Some re) None (Err refusal) = refusal ≡ Memory
+
+abbrev pub RepliesCloned : (held before after : Option Regex) → (code : ℕ) → Type 0
+RepliesCloned held before after code = (made : Result Regex Refusal)
+    × ClonesInto held before made × (code ≡ code_of_made made) × (after ≡ held_after before made)

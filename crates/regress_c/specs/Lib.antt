@@ -1,5 +1,9 @@
 pub mod Codes
+pub mod Reading
 pub mod Compiling
 pub mod Held
 pub mod Replies
 pub mod Searching
+pub mod Opening
+pub mod Going
+pub mod Texts

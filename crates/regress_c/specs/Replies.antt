@@ -23,7 +23,7 @@ abbrev pub spans_of : Answer → List Span
 spans_of m = map span_of (all_groups m)
 
 -- these in place of as many at the front
-abbrev pub written_over : (new old : List Span) → List Span
+abbrev pub written_over : {A : Type 0} → (new old : List A) → List A
 written_over new old = new ++ drop (length new) old
 
 -- a match is a reply of its own only where there is room for its ranges

@@ -1,12 +1,12 @@
 -- What a search finds, by the encoding of its text.
-use Rattle.std.specs.Prelude.{◌≡◌, ◌<◌, ◌⊎◌, ℕ, Bool, true, false, not, List, [], Option, Some, None, Result, Ok, Err, IsCharBoundary, IsTrue, IsUtf8, length, option_map, slice_get}
+use Rattle.std.specs.Prelude.{◌≡◌, ◌<◌, ◌⊎◌, ℕ, Bool, true, false, List, [], Option, Some, None, Result, Ok, Err, IsCharBoundary, IsTrue, IsUtf8, length, option_map, slice_get}
 use Rattle.std.specs.Option.{IfNone}
 use Rattle.std.specs.Borrow.{Bor}
 use Rattle.regex_meaning.specs.Names.{Answer}
 use Rattle.regex_meaning.specs.Text.{is_unit_boundary}
 use Rattle.regress_exec.specs.Answers.{answer_of}
 use Rattle.regress_exec.specs.declared.exec.Match.{Match}
-use Rattle.regress_match.specs.Programs.{utf8_answers, utf8_answers_within, is_utf8_end_within, utf16_answers}
+use Rattle.regress_match.specs.Programs.{utf8_answers, utf16_answers, ucs2_answers}
 use Rattle.regress_match.specs.declared.api.regex.Regex.{Regex}
 use Rattle.regress_c.specs.Replies.{left_by, reply_to}
 use Rattle.regress_c.specs.declared.refusal.Refusal.{Refusal}
@@ -22,14 +22,11 @@ pub record Coming : Type 0 where
 abbrev pub utf8_coming : (text : List ℕ) → Regex → (start : ℕ) → Coming
 utf8_coming text re start = record { answers = utf8_answers re text start; limited = false }
 
-abbrev pub utf8_coming_within : (steps : ℕ) → (text : List ℕ) → Regex → (start : ℕ) → Coming
-utf8_coming_within steps text re start = record {
-  answers = utf8_answers_within steps re text start;
-  limited = not (is_utf8_end_within steps re text start);
-}
-
 abbrev pub utf16_coming : (text : List ℕ) → Regex → (start : ℕ) → Coming
 utf16_coming text re start = record { answers = utf16_answers re text start; limited = false }
+
+abbrev pub ucs2_coming : (text : List ℕ) → Regex → (start : ℕ) → Coming
+ucs2_coming text re start = record { answers = ucs2_answers re text start; limited = false }
 
 -- a start cuts no character, or is past the end
 abbrev pub can_start_utf8 : (text : List ℕ) → (start : ℕ) → Type 0

@@ -2,31 +2,66 @@
 
 ghost use Rattle.std.specs.Prelude.{◌≡◌, None};
 ghost use Rattle.std.specs.Result.{result_map_both};
-ghost use Rattle.regress_c.specs.Compiling.{Compiles, RepliesMade};
+ghost use Rattle.regress_c.specs.Compiling.{Compiles, RefusesPattern, RepliesMade, given};
+ghost use Rattle.regress_c.specs.declared.refusal.Refusal.TheVariants.{Memory};
 
+use crate::flags::flags_from;
 use crate::pattern::Pattern;
 use crate::refusal::{DONE, Refusal};
-use regress_match::{Flags, Regex};
+use crate::source::Source;
+use regex_pattern_front::diagnosis::{Cause, Diagnosis};
+use regex_pattern_front::parse::diagnose;
+use regress_match::{Flags, Regex, nesting};
 use std::alloc::Global;
 
+/// How long a pattern may be, and how deep it may nest.
+#[repr(C)]
+#[derive(Clone, Copy)]
+pub struct Bounds {
+    /// In code points.
+    pub length: usize,
+    /// In parentheses that are open at once, outside of classes.
+    pub nesting: usize,
+}
+
+impl Bounds {
+    /// Any pattern.
+    pub(crate) const NONE: Bounds = Bounds {
+        length: usize::MAX,
+        nesting: usize::MAX,
+    };
+}
+
 /// Compiles a pattern into an empty handle, and answers the code.
-pub(crate) fn compile(alloc: Global, pattern: &mut Pattern, text: &[u8], flags: &[u8]) -> u32
-    ensures { RepliesMade pattern.old.held text.now flags.now pattern.new.held result }
+pub(crate) fn compile<S: Source>(
+    alloc: Global,
+    pattern: &mut Pattern,
+    source: &S,
+    flags: &[u8],
+    bounds: Bounds,
+) -> u32
+    ensures { RepliesMade pattern.old.held (given (S.is_text source.now) (S.characters source.now) flags.now) bounds pattern.new.held result }
 {
     match pattern.take(alloc) {
         Some(held) => {
             pattern.put(held);
             Refusal::Full.code()
         }
-        None => fill(alloc, pattern, text, flags),
+        None => fill(alloc, pattern, source, flags, bounds),
     }
 }
 
-fn fill(alloc: Global, pattern: &mut Pattern, text: &[u8], flags: &[u8]) -> u32
+fn fill<S: Source>(
+    alloc: Global,
+    pattern: &mut Pattern,
+    source: &S,
+    flags: &[u8],
+    bounds: Bounds,
+) -> u32
     requires { pattern.old.held ≡ None }
-    ensures { RepliesMade None text.now flags.now pattern.new.held result }
+    ensures { RepliesMade None (given (S.is_text source.now) (S.characters source.now) flags.now) bounds pattern.new.held result }
 {
-    match compiled(alloc, text, flags) {
+    match compiled(alloc, source, flags, bounds) {
         Ok(re) => {
             pattern.put(re);
             DONE
@@ -36,13 +71,45 @@ fn fill(alloc: Global, pattern: &mut Pattern, text: &[u8], flags: &[u8]) -> u32
 }
 
 // The pattern with these flags.
-fn compiled(alloc: Global, text: &[u8], flags: &[u8]) -> Result<Box<Regex>, Refusal>
-    ensures { Compiles text.now flags.now (result_map_both (λ b. b.value) (λ e. e) result) }
+fn compiled<S: Source>(
+    alloc: Global,
+    source: &S,
+    flags: &[u8],
+    bounds: Bounds,
+) -> Result<Box<Regex>, Refusal>
+    ensures { Compiles (given (S.is_text source.now) (S.characters source.now) flags.now) bounds (result_map_both (λ b. b.value) (λ e. e) result) }
 {
-    let text = str::from_utf8(text)?;
-    let flags = str::from_utf8(flags)?;
-    match Regex::with_flags(alloc, text, Flags::from(flags)) {
+    let flags = flags_from(flags)?;
+    let code_points = source.code_points(alloc)?;
+    if code_points.len() > bounds.length {
+        return Err(Refusal::TooLong);
+    }
+    if nesting(&code_points) > bounds.nesting {
+        return Err(Refusal::TooDeep);
+    }
+    match Regex::from_unicode(alloc, &code_points, flags) {
         Ok(re) => Ok(Box::new(alloc, re)?),
-        Err(error) => Err(Refusal::of_error(error)),
+        Err(error) => Err(told(alloc, &code_points, flags, Refusal::of_error(error))),
+    }
+}
+
+// Too many groups are refused by the parser, as no pattern: what is wrong with it tells.
+fn told(alloc: Global, pattern: &[u32], flags: Flags, refusal: Refusal) -> Refusal
+    ensures kept { refusal ≡ Memory → result ≡ Memory }
+    ensures refuses { RefusesPattern refusal → RefusesPattern result }
+{
+    if refusal != Refusal::Syntax {
+        return refusal;
+    }
+    match diagnose(alloc, pattern, flags.for_front()) {
+        Ok(
+            Some(
+                Diagnosis {
+                    cause: Cause::TooManyGroups,
+                    ..
+                },
+            ),
+        ) => Refusal::TooManyGroups,
+        _ => Refusal::Syntax,
     }
 }

@@ -5,37 +5,192 @@
 //! for it, and a slice is a pointer and then a length.
 #![tactic(auto)]
 
-ghost use Rattle.std.specs.Prelude.{◌≡◌, IsUtf8, None};
-ghost use Rattle.regress_c.specs.Compiling.{RepliesMade};
-ghost use Rattle.regress_c.specs.Searching.{Replies, can_start_utf16, can_start_utf8, utf16_coming, utf8_coming, utf8_coming_within};
+ghost use Rattle.std.specs.Prelude.{◌≡◌, IsUtf8, None, Some, chars};
+ghost use Rattle.std.specs.Char.{len_utf8};
+ghost use Rattle.regex_meaning.specs.Text.{utf16_characters, utf16_width};
+ghost use Rattle.regress_c.specs.Compiling.{RepliesCloned, RepliesMade, given, unbounded};
+ghost use Rattle.regress_c.specs.Going.{RepliesNext};
+ghost use Rattle.regress_c.specs.Opening.{OpensUcs2, OpensUtf8, OpensUtf16, RepliesOpened};
+ghost use Rattle.regress_c.specs.Searching.{Replies, can_start_utf8, can_start_utf16, ucs2_coming, utf8_coming, utf16_coming};
+ghost use Rattle.regress_c.specs.Texts.{Escapes, NamesBy, ReplacesBy, RepliesText, RepliesTold, count_reply};
+ghost use Rattle.regress_c.specs.declared.answer.Which.TheVariants.{First, All};
 
+mod answer;
+mod cloning;
 mod compiling;
+mod flags;
+mod going;
 mod loose;
+mod opening;
 mod pattern;
 mod refusal;
 mod reply;
+mod search;
 mod searching;
+mod source;
 mod subject;
 
+use crate::answer::Which;
+use crate::compiling::{Bounds, compile};
+use crate::going::go_on;
+use crate::opening::open;
 use crate::pattern::Pattern;
 use crate::reply::{Reply, Span};
+use crate::search::Search;
 use crate::searching::search;
-use crate::subject::{LimitedUtf8, Utf8, Utf16};
+use crate::source::{Utf8Source, Utf16Source};
+use crate::subject::{Ucs2, Utf8, Utf16};
 use std::alloc::Global;
 
-/// Compiles a pattern in UTF-8 into an empty handle, with the flags whose letters stand in the other text, and answers a
-/// code. On a refusal the handle stays as it was.
+/// The version, as the header has it: of `1.2.3` 10203.
+const VERSION: u32 = 200;
+
+/// The version of the library.
 #[unsafe(no_mangle)]
-pub extern "C" fn regress_c_compile(
+pub extern "C" fn regress_c_version() -> u32
+    ensures { result ≡ VERSION }
+{
+    VERSION
+}
+
+// ---- Patterns
+
+/// Compiles a pattern in UTF-8 into an empty handle, with the flags of these letters, and answers a code. On a refusal the
+/// handle stays as it was.
+#[unsafe(no_mangle)]
+pub extern "C" fn regress_c_compile_utf8(
     alloc: Global,
     pattern: &mut Pattern,
     text: &[u8],
     flags: &[u8],
 ) -> u32
-    ensures { RepliesMade pattern.old.held text.now flags.now pattern.new.held result }
+    ensures { RepliesMade pattern.old.held (given (IsUtf8 text.now) (chars text.now) flags.now) unbounded pattern.new.held result }
 {
-    compiling::compile(alloc, pattern, text, flags)
+    compile(
+        alloc,
+        pattern,
+        &Utf8Source { bytes: text },
+        flags,
+        Bounds::NONE,
+    )
 }
+
+/// The same of a pattern that is within bounds.
+#[unsafe(no_mangle)]
+pub extern "C" fn regress_c_compile_utf8_within(
+    alloc: Global,
+    pattern: &mut Pattern,
+    text: &[u8],
+    flags: &[u8],
+    bounds: &Bounds,
+) -> u32
+    ensures { RepliesMade pattern.old.held (given (IsUtf8 text.now) (chars text.now) flags.now) bounds.now pattern.new.held result }
+{
+    compile(alloc, pattern, &Utf8Source { bytes: text }, flags, *bounds)
+}
+
+/// Compiles a pattern in UTF-16.
+#[unsafe(no_mangle)]
+pub extern "C" fn regress_c_compile_utf16(
+    alloc: Global,
+    pattern: &mut Pattern,
+    text: &[u16],
+    flags: &[u8],
+) -> u32
+    ensures { RepliesMade pattern.old.held (given (Unit {0}) (utf16_characters text.now) flags.now) unbounded pattern.new.held result }
+{
+    compile(
+        alloc,
+        pattern,
+        &Utf16Source { units: text },
+        flags,
+        Bounds::NONE,
+    )
+}
+
+/// The same of a pattern that is within bounds.
+#[unsafe(no_mangle)]
+pub extern "C" fn regress_c_compile_utf16_within(
+    alloc: Global,
+    pattern: &mut Pattern,
+    text: &[u16],
+    flags: &[u8],
+    bounds: &Bounds,
+) -> u32
+    ensures { RepliesMade pattern.old.held (given (Unit {0}) (utf16_characters text.now) flags.now) bounds.now pattern.new.held result }
+{
+    compile(alloc, pattern, &Utf16Source { units: text }, flags, *bounds)
+}
+
+/// What is wrong with a pattern in UTF-8, and the offset in bytes at which it begins.
+#[unsafe(no_mangle)]
+pub extern "C" fn regress_c_diagnose_utf8(
+    alloc: Global,
+    text: &[u8],
+    flags: &[u8],
+    at: &mut usize,
+    cause: &mut [u8],
+) -> Reply
+    ensures { RepliesTold (given (IsUtf8 text.now) (chars text.now) flags.now) len_utf8 at.old cause.old at.new cause.new result }
+{
+    answer::diagnosis(alloc, &Utf8Source { bytes: text }, flags, at, cause)
+}
+
+/// What is wrong with a pattern in UTF-16, and the offset in units at which it begins.
+#[unsafe(no_mangle)]
+pub extern "C" fn regress_c_diagnose_utf16(
+    alloc: Global,
+    text: &[u16],
+    flags: &[u8],
+    at: &mut usize,
+    cause: &mut [u8],
+) -> Reply
+    ensures { RepliesTold (given (Unit {0}) (utf16_characters text.now) flags.now) utf16_width at.old cause.old at.new cause.new result }
+{
+    answer::diagnosis(alloc, &Utf16Source { units: text }, flags, at, cause)
+}
+
+/// Compiles nothing anew: an equal pattern, in an empty handle.
+#[unsafe(no_mangle)]
+pub extern "C" fn regress_c_clone(alloc: Global, pattern: &mut Pattern, into: &mut Pattern) -> u32
+    ensures replies { RepliesCloned pattern.old.held into.old.held into.new.held result }
+    ensures kept { pattern.new.held ≡ pattern.old.held }
+{
+    cloning::clone(alloc, pattern, into)
+}
+
+/// Frees what the handle holds, if anything. It is empty then.
+#[unsafe(no_mangle)]
+pub extern "C" fn regress_c_free(alloc: Global, pattern: &mut Pattern)
+    ensures { pattern.new.held ≡ None }
+{
+    drop(pattern.take(alloc));
+}
+
+/// How many ranges a match has: one for the whole, and one for each group.
+#[unsafe(no_mangle)]
+pub extern "C" fn regress_c_range_count(alloc: Global, pattern: &mut Pattern) -> Reply
+    ensures reply { result ≡ count_reply pattern.old.held }
+    ensures kept { pattern.new.held ≡ pattern.old.held }
+{
+    answer::range_count(alloc, pattern)
+}
+
+/// The name of a group, in UTF-8.
+#[unsafe(no_mangle)]
+pub extern "C" fn regress_c_group_name(
+    alloc: Global,
+    pattern: &mut Pattern,
+    number: usize,
+    name: &mut [u8],
+) -> Reply
+    ensures replies { RepliesText (NamesBy pattern.old.held number) name.old name.new result }
+    ensures kept { pattern.new.held ≡ pattern.old.held }
+{
+    answer::group_name(alloc, pattern, number, name)
+}
+
+// ---- The first match
 
 /// The first match in a text in UTF-8 from an offset in bytes on.
 #[unsafe(no_mangle)]
@@ -50,28 +205,6 @@ pub extern "C" fn regress_c_find_utf8(
     ensures kept { pattern.new.held ≡ pattern.old.held }
 {
     search(alloc, pattern, &Utf8 { bytes: text }, start, spans)
-}
-
-/// What `regress_c_find_utf8` answers, in at most so many steps.
-#[unsafe(no_mangle)]
-pub extern "C" fn regress_c_find_utf8_within(
-    alloc: Global,
-    pattern: &mut Pattern,
-    text: &[u8],
-    start: usize,
-    steps: u64,
-    spans: &mut [Span],
-) -> Reply
-    ensures replies { Replies pattern.old.held (IsUtf8 text.now) (can_start_utf8 text.now start) (λ re. utf8_coming_within steps text.now re start) spans.old spans.new result }
-    ensures kept { pattern.new.held ≡ pattern.old.held }
-{
-    search(
-        alloc,
-        pattern,
-        &LimitedUtf8 { bytes: text, steps },
-        start,
-        spans,
-    )
 }
 
 /// The first match in a text in UTF-16 from an offset in units on.
@@ -89,10 +222,136 @@ pub extern "C" fn regress_c_find_utf16(
     search(alloc, pattern, &Utf16 { units: text }, start, spans)
 }
 
-/// Frees what the handle holds, if anything. It is empty then.
+/// The first match in a text in UCS-2 from an offset in units on.
 #[unsafe(no_mangle)]
-pub extern "C" fn regress_c_free(alloc: Global, pattern: &mut Pattern)
-    ensures { pattern.new.held ≡ None }
+pub extern "C" fn regress_c_find_ucs2(
+    alloc: Global,
+    pattern: &mut Pattern,
+    text: &[u16],
+    start: usize,
+    spans: &mut [Span],
+) -> Reply
+    ensures replies { Replies pattern.old.held (Unit {0}) (Unit {0}) (λ re. ucs2_coming text.now re start) spans.old spans.new result }
+    ensures kept { pattern.new.held ≡ pattern.old.held }
 {
-    drop(pattern.take(alloc));
+    search(alloc, pattern, &Ucs2 { units: text }, start, spans)
+}
+
+// ---- All matches
+
+/// Opens a search over a text in UTF-8 from an offset in bytes on. On a refusal it stays as it was.
+#[unsafe(no_mangle)]
+pub extern "C" fn regress_c_search_utf8<'t>(
+    search: &mut Search<'t>,
+    text: &'t [u8],
+    start: usize,
+) -> u32
+    ensures { RepliesOpened (OpensUtf8 text.now start) search.old search.new result }
+{
+    open(search, Search::in_utf8(text, start))
+}
+
+/// Opens a search over a text in UTF-16 from an offset in units on.
+#[unsafe(no_mangle)]
+pub extern "C" fn regress_c_search_utf16<'t>(
+    search: &mut Search<'t>,
+    text: &'t [u16],
+    start: usize,
+) -> u32
+    ensures { RepliesOpened (OpensUtf16 text.now start) search.old search.new result }
+{
+    open(search, Search::in_utf16(text, start))
+}
+
+/// Opens a search over a text in UCS-2 from an offset in units on.
+#[unsafe(no_mangle)]
+pub extern "C" fn regress_c_search_ucs2<'t>(
+    search: &mut Search<'t>,
+    text: &'t [u16],
+    start: usize,
+) -> u32
+    ensures { RepliesOpened (OpensUcs2 text.now start) search.old search.new result }
+{
+    open(search, Ok(Search::in_ucs2(text, start)))
+}
+
+/// The next matches of a search, as many as there is room for.
+#[unsafe(no_mangle)]
+pub extern "C" fn regress_c_next(
+    alloc: Global,
+    pattern: &mut Pattern,
+    search: &mut Search<'_>,
+    spans: &mut [Span],
+) -> Reply
+    ensures replies { RepliesNext pattern.old.held search.old search.new None None spans.old spans.new result }
+    ensures kept { pattern.new.held ≡ pattern.old.held }
+{
+    go_on(alloc, pattern, search, None, spans).reply
+}
+
+/// The same in at most so many steps, which become those that are left.
+#[unsafe(no_mangle)]
+pub extern "C" fn regress_c_next_within(
+    alloc: Global,
+    pattern: &mut Pattern,
+    search: &mut Search<'_>,
+    steps: &mut u64,
+    spans: &mut [Span],
+) -> Reply
+    ensures replies { RepliesNext pattern.old.held search.old search.new (Some steps.old) (Some steps.new) spans.old spans.new result }
+    ensures kept { pattern.new.held ≡ pattern.old.held }
+{
+    let went = go_on(alloc, pattern, search, Some(*steps), spans);
+    if let Some(left) = went.left {
+        *steps = left;
+    }
+    went.reply
+}
+
+/// Closes a search, which then borrows no text.
+#[unsafe(no_mangle)]
+pub extern "C" fn regress_c_close(search: &mut Search<'_>)
+    ensures { search.new.encoding ≡ 0 }
+{
+    *search = Search::closed();
+}
+
+// ---- Texts that are made
+
+/// Writes a text in UTF-8 with the replacement in place of the first match.
+#[unsafe(no_mangle)]
+pub extern "C" fn regress_c_replace_utf8(
+    alloc: Global,
+    pattern: &mut Pattern,
+    text: &[u8],
+    replacement: &[u8],
+    made: &mut [u8],
+) -> Reply
+    ensures replies { RepliesText (ReplacesBy pattern.old.held text.now replacement.now First) made.old made.new result }
+    ensures kept { pattern.new.held ≡ pattern.old.held }
+{
+    answer::replace(alloc, pattern, text, replacement, Which::First, made)
+}
+
+/// Writes a text in UTF-8 with the replacement in place of each match.
+#[unsafe(no_mangle)]
+pub extern "C" fn regress_c_replace_all_utf8(
+    alloc: Global,
+    pattern: &mut Pattern,
+    text: &[u8],
+    replacement: &[u8],
+    made: &mut [u8],
+) -> Reply
+    ensures replies { RepliesText (ReplacesBy pattern.old.held text.now replacement.now All) made.old made.new result }
+    ensures kept { pattern.new.held ≡ pattern.old.held }
+{
+    answer::replace(alloc, pattern, text, replacement, Which::All, made)
+}
+
+/// Writes a text in UTF-8 as it stands in a pattern for itself.
+#[unsafe(no_mangle)]
+pub extern "C" fn regress_c_escape_utf8(alloc: Global, text: &[u8], escaped: &mut [u8]) -> Reply
+    ensures { RepliesText (Escapes text.now) escaped.old escaped.new result }
+{
+    answer::escaped(alloc, text, escaped)
 }

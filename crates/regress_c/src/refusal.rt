@@ -4,10 +4,11 @@ ghost use Rattle.std.specs.Prelude.{◌≡◌};
 ghost use Rattle.regress_c.specs.Codes.{code_of, refused_as};
 ghost use Rattle.regress_match.specs.Refusals.{CanRefuse};
 
+use crate::reply::Reply;
 use regex_pattern_front::parse::ParseError;
 use regress_match::{Error, SearchError};
 use regress_program::emit::EmitError;
-use std::alloc::AllocFailed;
+use std::alloc::{AllocError, AllocFailed};
 use std::str::Utf8Error;
 
 /// The code of a call that did what it was called for: a pattern is compiled, or a match is found.
@@ -27,7 +28,7 @@ pub(crate) enum Refusal {
     NotUtf8,
     /// The start cuts a character.
     NotBoundary,
-    /// The buffer has less room than the match has ranges.
+    /// The buffer has less room than is needed.
     ShortBuffer,
     /// There was no memory.
     Memory,
@@ -41,6 +42,18 @@ pub(crate) enum Refusal {
     TooManyLoops,
     /// The program of the pattern has too many instructions.
     TooManyInstructions,
+    /// A flag is none of those that there are.
+    UnknownFlag,
+    /// The pattern is longer than was allowed.
+    TooLong,
+    /// The pattern nests deeper than was allowed.
+    TooDeep,
+    /// The pattern has no group of this number.
+    NoGroup,
+    /// No text is open.
+    NotOpen,
+    /// Steps are not counted in this encoding.
+    NotCounted,
 }
 
 impl Refusal {
@@ -60,6 +73,22 @@ impl Refusal {
             Refusal::TooManyGroups => 10,
             Refusal::TooManyLoops => 11,
             Refusal::TooManyInstructions => 12,
+            Refusal::UnknownFlag => 13,
+            Refusal::TooLong => 14,
+            Refusal::TooDeep => 15,
+            Refusal::NoGroup => 16,
+            Refusal::NotOpen => 17,
+            Refusal::NotCounted => 18,
+        }
+    }
+
+    /// The reply of a call that is refused, which has nothing to count.
+    pub(crate) fn reply(self) -> Reply
+        ensures { result ≡ record { code = code_of self; count = 0 } }
+    {
+        Reply {
+            code: self.code(),
+            count: 0,
         }
     }
 
@@ -99,6 +128,16 @@ impl From<Utf8Error> for Refusal {
 
     fn from(_: Utf8Error) -> Refusal {
         Refusal::NotUtf8
+    }
+}
+
+impl From<AllocError> for Refusal {
+    ghost use Rattle.regress_c.specs.declared.refusal.Refusal.TheVariants.{Memory};
+
+    ghost from_gives = { λ _ refusal. refusal ≡ Memory };
+
+    fn from(_: AllocError) -> Refusal {
+        Refusal::Memory
     }
 }
 

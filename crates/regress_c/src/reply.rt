@@ -1,6 +1,6 @@
 //! What a search answers, and what it writes into the caller's buffer.
 
-ghost use Rattle.std.specs.Prelude.{◌≡◌, ◌≤◌, Ok, Some, length, option_map};
+ghost use Rattle.std.specs.Prelude.{◌≡◌, ◌≤◌, ◌+◌, ◌++◌, Ok, Some, drop, length, option_map, take};
 ghost use Rattle.regress_c.specs.Replies.{left_by, reply_to, span_of, spans_of, written_over};
 ghost use Rattle.regress_exec.specs.Answers.{answer_of, range_of};
 
@@ -49,6 +49,15 @@ fn write(found: &Match, count: usize, spans: &mut [Span])
     }
 }
 
+/// Writes the ranges of a match over so many of the buffer from an index on.
+pub(crate) fn write_at(found: &Match, count: usize, at: usize, spans: &mut [Span])
+    requires all { count ≡ length (spans_of (answer_of found.now)) }
+    requires room { at + count ≤ length spans.old }
+    ensures { spans.new ≡ take at spans.old ++ spans_of (answer_of found.now) ++ drop (at + count) spans.old }
+{
+    write(found, count, &mut spans[at..]);
+}
+
 /// The reply to what was found, whose ranges are written into the buffer if there is room for all.
 pub(crate) fn reply_with(found: Result<Option<Match>, Refusal>, spans: &mut [Span]) -> Reply
     ensures reply { result ≡ reply_to found (length spans.old) }
@@ -60,10 +69,7 @@ pub(crate) fn reply_with(found: Result<Option<Match>, Refusal>, spans: &mut [Spa
             code: NO_MATCH,
             count: 0,
         },
-        Err(refusal) => Reply {
-            code: refusal.code(),
-            count: 0,
-        },
+        Err(refusal) => refusal.reply(),
     }
 }
 

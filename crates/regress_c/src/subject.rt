@@ -2,7 +2,7 @@
 
 ghost use Rattle.std.specs.Prelude.{◌≡◌, ◌<◌, ◌↔◌, ◌⊎◌, ℕ, IsTrue, IsUtf8, length};
 ghost use Rattle.regex_meaning.specs.Text.{is_unit_boundary as is_boundary_of};
-ghost use Rattle.regress_c.specs.Searching.{Coming, Finds, IsFirst, Starts, can_start_utf16, can_start_utf8, utf16_coming, utf8_coming, utf8_coming_within};
+ghost use Rattle.regress_c.specs.Searching.{Coming, Finds, IsFirst, Starts, can_start_utf16, can_start_utf8, ucs2_coming, utf16_coming, utf8_coming};
 ghost use Rattle.regress_match.specs.declared.api.regex.Regex.{Regex as Compiled};
 
 use crate::refusal::Refusal;
@@ -60,26 +60,6 @@ impl Subject for Utf8<'_> {
     }
 }
 
-/// A text in UTF-8 that is searched in a limited number of steps.
-#[derive(Drop)]
-pub(crate) struct LimitedUtf8<'t> {
-    pub(crate) bytes: &'t [u8],
-    pub(crate) steps: u64,
-}
-
-impl Subject for LimitedUtf8<'_> {
-    ghost is_text = { λ s. IsUtf8 s.bytes.now };
-
-    ghost can_start = { λ s start. can_start_utf8 s.bytes.now start };
-
-    ghost coming = { λ s re start. utf8_coming_within s.steps s.bytes.now re start };
-
-    fn first(&self, re: &Regex, start: usize) -> Result<Option<Match>, Refusal> {
-        let text = text_from(self.bytes, start)?;
-        first_of(re.find_from_limited(text, start, self.steps)?)
-    }
-}
-
 /// A text in UTF-16. Any units are one: a surrogate without its other half is a character.
 #[derive(Drop)]
 pub(crate) struct Utf16<'t> {
@@ -98,5 +78,23 @@ impl Subject for Utf16<'_> {
             return Err(Refusal::NotBoundary);
         }
         first_of(re.find_from_utf16(self.units, start)?)
+    }
+}
+
+/// A text in UCS-2, in which each unit is a character.
+#[derive(Drop)]
+pub(crate) struct Ucs2<'t> {
+    pub(crate) units: &'t [u16],
+}
+
+impl Subject for Ucs2<'_> {
+    ghost is_text = { λ _. Unit {0} };
+
+    ghost can_start = { λ _ _. Unit {0} };
+
+    ghost coming = { λ s re start. ucs2_coming s.units.now re start };
+
+    fn first(&self, re: &Regex, start: usize) -> Result<Option<Match>, Refusal> {
+        first_of(re.find_from_ucs2(self.units, start)?)
     }
 }

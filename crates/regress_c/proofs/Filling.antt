@@ -1,0 +1,190 @@
+-- A buffer that is filled with matches, one behind another.
+use Rattle.std.proofs.Common.{◌≡◌, ℕ, ◌+◌, ◌-◌, ◌*◌, ◌<◌, le_refl, inr, List, [], ◌∷◌, ◌++◌, append_assoc, length, take, drop, Option, Some, None, refl, sym, ap, ap₂, ◌∙◌, subst, arith}
+use native.Mathlib.Nat.{zero-mul}
+use Rattle.std.proofs.Math.Seq.{drop-drop, drop_at, take_at}
+use Rattle.std.proofs.lemmas.Bool.{lt-leb}
+use Rattle.std.proofs.lemmas.Grind.{flat_map-append}
+use Rattle.std.proofs.lemmas.List.{append-nil, length-append}
+use Rattle.std.specs.Prelude.{flat_map, if◌then◌else◌, Result, Err}
+use Rattle.regex_meaning.specs.Laws.{Each}
+use Rattle.regex_meaning.specs.Names.{Answer}
+use Rattle.regex_meaning.specs.Offsets.{IsText, units}
+use Rattle.regex_meaning.specs.Steps.{IsNoMore, answers_within, end_within}
+use Rattle.regex_meaning.specs.Text.{Text}
+use Rattle.regex_meaning.specs.Tree.{Tree}
+use Rattle.regex_meaning.proofs.Each.{Each-append}
+use Rattle.regress_exec.specs.Answers.{answer_of}
+use Rattle.regress_exec.specs.declared.exec.SearchError.{SearchError}
+use Rattle.regress_exec.specs.declared.exec.SearchError.TheVariants.{Memory, StepLimit}
+use Rattle.regress_exec.proofs.Coming.{new-comes}
+use Rattle.regress_match.specs.Programs.{IsStart}
+use Rattle.regress_match.specs.Resuming.{GoesFrom, IsOver, StepsTo}
+use Rattle.regress_match.specs.declared.api.resuming.Step.{Step}
+use Rattle.regress_c.specs.Going.{Fills, Run, Stops, ranges_of}
+use Rattle.regress_c.specs.Replies.{spans_of, written_over}
+use Rattle.regress_c.specs.declared.going.Filled.{Filled}
+use Rattle.regress_c.specs.declared.going.Stop.TheVariants.{Full, Over, Refused}
+use Rattle.regress_c.specs.declared.reply.Span.{Span}
+use Rattle.regress_c.proofs.Spans.{spans-count}
+
+no_more-trans : (a b c : Option ℕ) → IsNoMore a b → IsNoMore b c → IsNoMore a c
+no_more-trans None None None h k = tt
+no_more-trans (Some a) (Some b) (Some c) h k = omega arith
+no_more-trans None (Some b) c h k = absurd h
+no_more-trans (Some a) None c h k = absurd h
+no_more-trans None None (Some c) h k = absurd k
+no_more-trans (Some a) (Some b) None h k = absurd k
+
+no_more-same : (a : Option ℕ) → IsNoMore a a
+no_more-same None = tt
+no_more-same (Some n) = le_refl n
+
+-- the matches that were written so far, behind which the list goes on from here
+pub record Filling (tree : Tree) (text : Text) (steps : Option ℕ) (start : ℕ) (before now : List Span) (matches next at : ℕ) (left : Option ℕ) : Type 0 where
+  pub found : List Answer
+  pub answers : answers_within tree text steps start ≡ found ++ answers_within tree text left next
+  pub limit : end_within tree text steps start ≡ end_within tree text left next
+  pub starts : IsStart text next
+  pub fewer : IsNoMore left steps
+  pub ranges : Each (λ m. length (spans_of m) ≡ ranges_of tree) found
+  pub count : matches ≡ length found
+  pub at_is : at ≡ length found * ranges_of tree
+  pub flat : length (flat_map spans_of found) ≡ at
+  pub written : now ≡ written_over (flat_map spans_of found) before
+
+refusal-less : (tree : Tree) (text : Text) (e : SearchError) (next : ℕ) (left left' : Option ℕ) → GoesFrom tree text left next (Err e) left' → IsNoMore left' left
+refusal-less tree text Memory next left left' g = g
+refusal-less tree text StepLimit next None left' g = absurd (cc g.1)
+refusal-less tree text StepLimit next (Some n) left' g = subst (λ l. IsNoMore l (Some n)) (sym g.2) (omega arith)
+
+refusal-stops : (tree : Tree) (text : Text) (room : ℕ) (run : Run) (e : SearchError) → GoesFrom tree text run.steps run.next (Err e) run.left → Stops tree text room run (Refused e)
+refusal-stops tree text room run Memory g = g
+refusal-stops tree text room run StepLimit g = g
+
+-- what is said of a tree and a text that are the same
+pub goes-same : (tree tree' : Tree) (text text' : Text) (budget : Option ℕ) (start : ℕ) (r : Result (Option Step) SearchError) (left : Option ℕ)
+    → tree' ≡ tree → text' ≡ text → GoesFrom tree' text' budget start r left → GoesFrom tree text budget start r left
+goes-same tree tree' text text' budget start r left e f h =
+    subst (λ t. GoesFrom tree t budget start r left) f (subst (λ t. GoesFrom t text' budget start r left) e h)
+
+module _ {tree : Tree} {text : Text} {steps : Option ℕ} {start : ℕ} {before : List Span} where
+  pub begun : IsStart text start → Filling tree text steps start before before 0 start 0 steps
+  begun at = record {
+    found = [];
+    answers = refl;
+    limit = refl;
+    starts = at;
+    fewer = no_more-same steps;
+    ranges = tt;
+    count = refl;
+    at_is = sym (zero-mul (ranges_of tree));
+    flat = refl;
+    written = refl;
+  }
+
+  step_more : (now after : List Span) (matches next at ranges : ℕ) (left left' : Option ℕ) (step : Step)
+      → Filling tree text steps start before now matches next at left → StepsTo tree text left next step left' → ranges ≡ ranges_of tree
+      → after ≡ take at now ++ spans_of (answer_of step.found) ++ drop (at + ranges) now
+      → Filling tree text steps start before after (matches + 1) step.next (at + ranges) left'
+  step_more now after matches next at ranges left left' step f s r w =
+      let m = answer_of step.found in
+      let flat = flat_map spans_of f.found in
+      let more : flat_map spans_of (f.found ++ m ∷ []) ≡ flat ++ spans_of m =
+      flat_map-append spans_of f.found (m ∷ []) ∙ ap (λ xs. flat ++ xs) (append-nil (spans_of m)) in
+      let long : length (spans_of m) ≡ ranges = let c = spans-count m in let g = s.groups in omega (arith, c, g, r) in
+      let length_is : length (flat ++ spans_of m) ≡ at + ranges = length-append flat (spans_of m) ∙ ap₂ (λ a b. a + b) f.flat long in
+      let front : take at now ≡ flat = ap (take at) f.written ∙ take_at flat (drop (length flat) before) at f.flat in
+      let back : drop (at + ranges) now ≡ drop (length (flat ++ spans_of m)) before =
+      sym (drop-drop ranges at now) ∙ ap (λ xs. drop ranges (drop at xs)) f.written ∙ ap (drop ranges) (drop_at flat (drop (length flat) before) at f.flat)
+      ∙ drop-drop ranges (length flat) before ∙ ap (λ n. drop (n + ranges) before) f.flat ∙ ap (λ n. drop n before) (sym length_is) in
+      record {
+        found = f.found ++ m ∷ [];
+        answers = f.answers ∙ ap (λ xs. f.found ++ xs) s.answers ∙ sym (append_assoc f.found (m ∷ []) (answers_within tree text left' step.next));
+        limit = f.limit ∙ s.limit;
+        starts = s.starts;
+        fewer = no_more-trans left' left steps s.fewer f.fewer;
+        ranges = Each-append (λ m. length (spans_of m) ≡ ranges_of tree) f.found (m ∷ []) f.ranges (long ∙ r, tt);
+        count = let c = f.count in let l = length-append f.found (m ∷ []) in omega (arith, c, l);
+        at_is = let a = f.at_is in let l = length-append f.found (m ∷ []) in at-more (length f.found) (length (f.found ++ m ∷ [])) at ranges (ranges_of tree) a l r;
+        flat = ap length more ∙ length_is;
+        written = w ∙ ap₂ (λ xs ys. xs ++ spans_of m ++ ys) front back ∙ ap (λ xs. written_over xs before) (sym more);
+      }
+    where
+      at-more : (k n at ranges each : ℕ) → at ≡ k * each → n ≡ k + 1 → ranges ≡ each → at + ranges ≡ n * each
+      at-more k n at ranges each a l r = rw (a, r, l) (omega arith)
+
+  -- one match more, and then on from there
+  pub one_more : (now after : List Span) (matches next at ranges next' : ℕ) (left left' : Option ℕ) (step : Step)
+      → Filling tree text steps start before now matches next at left → StepsTo tree text left next step left' → ranges ≡ ranges_of tree
+      → next' ≡ step.next → after ≡ take at now ++ spans_of (answer_of step.found) ++ drop (at + ranges) now
+      → Filling tree text steps start before after (matches + 1) next' (at + ranges) left'
+  one_more now after matches next at ranges next' left left' step f s r on w =
+      subst (λ n. Filling tree text steps start before after (matches + 1) n (at + ranges) left') (sym on)
+      (step_more now after matches next at ranges left left' step f s r w)
+
+  -- there is no room for one more
+  pub fills-full : (now : List Span) (filled : Filled) (at ranges : ℕ) (left : Option ℕ)
+      → Filling tree text steps start before now filled.matches filled.next at left → filled.stop ≡ Full → length before - at < ranges → ranges ≡ ranges_of tree
+      → Fills tree text steps start before now filled left
+  fills-full now filled at ranges left f stop room r = record {
+    run = record { found = f.found; next = filled.next; stop = Full; steps = left; left = left };
+    is = record {
+      answers = f.answers;
+      limit = f.limit;
+      starts = f.starts;
+      fewer = f.fewer;
+      ranges = f.ranges;
+      stops = (let a = f.at_is in omega (arith, a, room, r), refl);
+    };
+    matches = f.count;
+    next = refl;
+    stop = stop;
+    left_is = refl;
+    written = f.written;
+  }
+
+  -- there is no further match
+  pub fills-over : (now : List Span) (filled : Filled) (next at : ℕ) (left left' : Option ℕ) → IsText text → units text < filled.next
+      → Filling tree text steps start before now filled.matches next at left → filled.stop ≡ Over → IsOver tree text left next × IsNoMore left' left
+      → Fills tree text steps start before now filled left'
+  fills-over now filled next at left left' is past f stop over =
+      let gone = new-comes tree text is left filled.next None (ap (λ b. if b then Some filled.next else None) (sym (lt-leb filled.next (units text) past))) in
+      record {
+        run = record { found = f.found; next = filled.next; stop = Over; steps = left; left = left' };
+        is = record {
+          answers = f.answers ∙ ap (λ xs. f.found ++ xs) (over.0.0 ∙ gone.0);
+          limit = f.limit ∙ over.0.1 ∙ gone.1;
+          starts = inr past;
+          fewer = no_more-trans left' left steps over.1 f.fewer;
+          ranges = f.ranges;
+          stops = ((sym gone.0, sym gone.1), over.1);
+        };
+        matches = f.count;
+        next = refl;
+        stop = stop;
+        left_is = refl;
+        written = f.written;
+      }
+
+  -- the search for one more was refused
+  pub fills-refused : (now : List Span) (filled : Filled) (at : ℕ) (left left' : Option ℕ) (e : SearchError)
+      → Filling tree text steps start before now filled.matches filled.next at left → filled.stop ≡ Refused e → GoesFrom tree text left filled.next (Err e) left'
+      → Fills tree text steps start before now filled left'
+  fills-refused now filled at left left' e f stop g =
+      let run : Run = record { found = f.found; next = filled.next; stop = Refused e; steps = left; left = left' } in
+      record {
+        run = run;
+        is = record {
+          answers = f.answers;
+          limit = f.limit;
+          starts = f.starts;
+          fewer = no_more-trans left' left steps (refusal-less tree text e filled.next left left' g) f.fewer;
+          ranges = f.ranges;
+          stops = refusal-stops tree text (length before) run e g;
+        };
+        matches = f.count;
+        next = refl;
+        stop = stop;
+        left_is = refl;
+        written = f.written;
+      }

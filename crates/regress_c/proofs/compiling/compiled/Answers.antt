@@ -1,0 +1,17 @@
+use Rattle.std.proofs.Common.{◌≤◌, length, sym, ap, ◌∙◌, arith}
+use Rattle.regex_pattern_front.specs.Depth.{nesting_of}
+use Rattle.regress_c.specs.Compiling.{given}
+use Rattle.regress_c.proofs.CompilingLemmas.{told-refuses}
+use Rattle.regress_c.proofs.compiling.compiled.Goals as goal
+
+pub returns : goal.returns
+returns g c =
+    let characters = g.S.Source.characters c.args.source.now in
+    let asked = given (g.S.Source.is_text c.args.source.now) characters c.args.flags.now in
+    let read = c.in_ok-code_points.ensures in
+    let short : length characters ≤ c.args.bounds.length =
+    let len = c.len.ensures ∙ sym c.deref.ensures.len ∙ ap length (c.deref.ensures.value ∙ read.1) in let test = c.if-len-bounds.false in omega (arith, len, test) in
+    let shallow : nesting_of characters ≤ c.args.bounds.nesting =
+    let deep = c.nesting.ensures ∙ ap nesting_of (c.deref.ensures.value ∙ read.1) in let test = c.if-nesting-bounds.false in omega (arith, deep, test) in
+    told-refuses asked c.args.bounds (record { letters = c.in_ok-flags.ensures.0; text = read.0 }) (record { length_is = short; nesting_is = shallow })
+    c.in-Err.error c.of_error.result c.told.result c.in-Err.ensures.refused c.of_error.ensures c.told.ensures.kept c.told.ensures.refuses

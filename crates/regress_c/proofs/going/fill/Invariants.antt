@@ -1,0 +1,15 @@
+use Rattle.std.proofs.Common.{◌≡◌, ◌-◌, ◌≤◌, length, None}
+use Rattle.regress_c.proofs.Filling.{Filling}
+use Rattle.regress_c.specs.declared.going.Stop.TheVariants.{Full}
+use Rattle.regress_c.proofs.going.fill.Given as goal
+
+-- what was written, of which search, and that nothing is said of it yet
+abbrev pub invariant-matches : goal.invariant-matches
+invariant-matches g l =
+    let e = g.E.Attempts in
+    Filling (e.tree l.fn.search) (e.text l.fn.search) (e.budget l.fn.search) l.fn.start l.fn.spans l.spans l.filled.matches l.filled.next l.at (e.budget l.search)
+    × (l.at ≤ length l.spans) × (e.tree l.search ≡ e.tree l.fn.search) × (e.text l.search ≡ e.text l.fn.search)
+    × (l.filled.stop ≡ Full) × (l.filled.left ≡ None)
+
+abbrev pub decreases-matches : goal.decreases-matches
+decreases-matches g l = length l.spans - l.at

@@ -1,0 +1,199 @@
+//! Texts that are written into a caller's buffer, with how long they are.
+
+ghost use Rattle.std.specs.Prelude.{◌≡◌, ◌≤◌, get_or, length, map, string_bytes, take, []};
+ghost use Rattle.std.specs.List.{sum_by};
+ghost use Rattle.std.specs.Result.{result_map_both};
+ghost use Rattle.regress_c.specs.Compiling.{given};
+ghost use Rattle.regress_c.specs.Texts.{Diagnoses, Escapes, Names, NamesBy, Replaces, ReplacesBy, RepliesText, RepliesTold, count_reply, left_by_made, left_by_text, made_reply, text_reply};
+
+use crate::flags::flags_from;
+use crate::pattern::Pattern;
+use crate::refusal::{DONE, Refusal};
+use crate::reply::Reply;
+use crate::source::Source;
+use regex_pattern_front::parse::diagnose;
+use regress_match::{Regex, escape};
+use std::alloc::{AllocError, Global};
+
+/// Which matches are replaced.
+#[derive(Clone, Copy)]
+pub(crate) enum Which {
+    First,
+    All,
+}
+
+// Writes a text over the first of the buffer, if there is room for all of it. The reply says how long it is.
+fn copied(text: &[u8], buffer: &mut [u8], code: u32) -> Reply
+    ensures reply { result ≡ text_reply code text.now (length buffer.old) }
+    ensures written { buffer.new ≡ left_by_text text.now buffer.old }
+{
+    let count = text.len();
+    if buffer.len() < count {
+        let code = Refusal::ShortBuffer.code();
+        return Reply { code, count };
+    }
+    buffer[..count].copy_from_slice(text);
+    Reply { code, count }
+}
+
+// The same of a text that was made, unless it was refused.
+fn answered(made: Result<String, Refusal>, buffer: &mut [u8]) -> Reply
+    ensures reply { result ≡ made_reply (result_map_both string_bytes (λ e. e) made) (length buffer.old) }
+    ensures written { buffer.new ≡ left_by_made (result_map_both string_bytes (λ e. e) made) buffer.old }
+{
+    match made {
+        Ok(text) => copied(text.as_bytes(), buffer, DONE),
+        Err(refusal) => refusal.reply(),
+    }
+}
+
+/// Writes the text with the replacement in place of matches.
+pub(crate) fn replace(
+    alloc: Global,
+    pattern: &mut Pattern,
+    text: &[u8],
+    replacement: &[u8],
+    which: Which,
+    buffer: &mut [u8],
+) -> Reply
+    ensures replies { RepliesText (ReplacesBy pattern.old.held text.now replacement.now which) buffer.old buffer.new result }
+    ensures kept { pattern.new.held ≡ pattern.old.held }
+{
+    let Some(re) = pattern.take(alloc) else {
+        return Refusal::Empty.reply();
+    };
+    let made = replaced(&re, text, replacement, which);
+    pattern.put(re);
+    answered(made, buffer)
+}
+
+fn replaced(re: &Regex, text: &[u8], replacement: &[u8], which: Which) -> Result<String, Refusal>
+    ensures { Replaces re.now text.now replacement.now which (result_map_both string_bytes (λ e. e) result) }
+{
+    let text = str::from_utf8(text)?;
+    let replacement = str::from_utf8(replacement)?;
+    match which {
+        Which::First => Ok(re.replace(text, replacement)?),
+        Which::All => Ok(re.replace_all(text, replacement)?),
+    }
+}
+
+/// Writes the text as it stands in a pattern for itself.
+pub(crate) fn escaped(alloc: Global, text: &[u8], buffer: &mut [u8]) -> Reply
+    ensures { RepliesText (Escapes text.now) buffer.old buffer.new result }
+{
+    answered(escaped_text(alloc, text), buffer)
+}
+
+fn escaped_text(alloc: Global, text: &[u8]) -> Result<String, Refusal>
+    ensures { Escapes text.now (result_map_both string_bytes (λ e. e) result) }
+{
+    Ok(escape(alloc, str::from_utf8(text)?)?)
+}
+
+/// How many ranges a match by the pattern of the handle has.
+pub(crate) fn range_count(alloc: Global, pattern: &mut Pattern) -> Reply
+    ensures reply { result ≡ count_reply pattern.old.held }
+    ensures kept { pattern.new.held ≡ pattern.old.held }
+{
+    let Some(re) = pattern.take(alloc) else {
+        return Refusal::Empty.reply();
+    };
+    let count = re.group_count() + 1;
+    pattern.put(re);
+    Reply { code: DONE, count }
+}
+
+/// Writes the name of a group, nothing where it has none.
+pub(crate) fn group_name(
+    alloc: Global,
+    pattern: &mut Pattern,
+    number: usize,
+    buffer: &mut [u8],
+) -> Reply
+    ensures replies { RepliesText (NamesBy pattern.old.held number) buffer.old buffer.new result }
+    ensures kept { pattern.new.held ≡ pattern.old.held }
+{
+    let Some(re) = pattern.take(alloc) else {
+        return Refusal::Empty.reply();
+    };
+    let reply = named(&re, number, buffer);
+    pattern.put(re);
+    reply
+}
+
+fn named(re: &Regex, number: usize, buffer: &mut [u8]) -> Reply
+    ensures { RepliesText (Names re.now number) buffer.old buffer.new result }
+{
+    if number == 0 || re.group_count() < number {
+        return Refusal::NoGroup.reply();
+    }
+    let name = name_at(re.group_names(), number - 1);
+    copied(name.as_bytes(), buffer, DONE)
+}
+
+// The name with this index; the empty one where there are not so many.
+fn name_at(names: &[String], index: usize) -> &str
+    ensures { result.now ≡ get_or (map string_bytes names.now) index [] }
+{
+    match names.get(index) {
+        Some(name) => name.as_str(),
+        None => "",
+    }
+}
+
+/// Writes what is wrong with a text that is no pattern, and where.
+pub(crate) fn diagnosis<S: Source>(
+    alloc: Global,
+    source: &S,
+    flags: &[u8],
+    at: &mut usize,
+    buffer: &mut [u8],
+) -> Reply
+    ensures { RepliesTold (given (S.is_text source.now) (S.characters source.now) flags.now) S.width_of at.old buffer.old at.new buffer.new result }
+{
+    match diagnosed(alloc, source, flags) {
+        Ok(Some(told)) => {
+            *at = told.at;
+            copied(told.cause.as_bytes(), buffer, Refusal::Syntax.code())
+        }
+        Ok(None) => Reply {
+            code: DONE,
+            count: 0,
+        },
+        Err(refusal) => refusal.reply(),
+    }
+}
+
+// What is wrong, and the offset in units of the pattern at which it begins.
+#[derive(Drop)]
+struct Told {
+    cause: String,
+    at: usize,
+}
+
+fn diagnosed<S: Source>(alloc: Global, source: &S, flags: &[u8]) -> Result<Option<Told>, Refusal>
+    ensures { Diagnoses (given (S.is_text source.now) (S.characters source.now) flags.now) S.width_of result }
+{
+    let flags = flags_from(flags)?;
+    let code_points = source.code_points(alloc)?;
+    let Some(diagnosis) = diagnose(alloc, &code_points, flags.for_front())? else {
+        return Ok(None);
+    };
+    Ok(Some(Told {
+        cause: format!(in alloc; "{}", diagnosis.cause)?,
+        at: units_before::<S>(&code_points, diagnosis.at),
+    }))
+}
+
+// How many units the first so many code points of a pattern have.
+fn units_before<S: Source>(code_points: &[u32], count: usize) -> usize
+    requires { count ≤ length code_points.now }
+    ensures { result ≡ sum_by S.width_of (take count code_points.now) }
+{
+    let mut units = 0;
+    for c in &code_points[..count] {
+        units += S::width(*c);
+    }
+    units
+}

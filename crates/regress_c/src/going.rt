@@ -1,0 +1,247 @@
+//! The next matches of a search that is open.
+
+ghost use Rattle.std.specs.Prelude.{◌≡◌, ◌<◌, ◌≤◌, ◌+◌, ◌++◌, None, Some, drop, length, take};
+ghost use Rattle.regress_c.specs.Codes.{code_of as number_of};
+ghost use Rattle.regress_c.specs.Going.{Fills, FillsFrom, FillsIn, RepliesNext, code_of_stop, ranges_of as ranges_by, tree_by};
+ghost use Rattle.regress_c.specs.Searching.{can_start_utf8, can_start_utf16};
+ghost use Rattle.regex_meaning.specs.Offsets.{units};
+ghost use Rattle.regress_exec.specs.Answers.{answer_of};
+ghost use Rattle.regress_c.specs.Replies.{spans_of};
+ghost use Rattle.regress_match.specs.Programs.{IsStart, as_ucs2, as_utf16, as_utf8, byte_tree, unit_tree};
+
+use crate::opening::{cuts_utf8, cuts_utf16};
+use crate::pattern::Pattern;
+use crate::refusal::{DONE, NO_MATCH, Refusal};
+use crate::reply::{Reply, Span, write_at};
+use crate::search::{Encoding, Search};
+use regress_exec::places::Attempts;
+use regress_match::{Regex, SearchError, Step, next_from};
+use std::alloc::Global;
+
+/// Why no further match was written.
+#[derive(Clone, Copy)]
+pub(crate) enum Stop {
+    /// There is no room for one more.
+    Full,
+    /// There is none.
+    Over,
+    /// The search for it was refused.
+    Refused(SearchError),
+}
+
+impl Stop {
+    fn code(self) -> u32
+        ensures { result ≡ code_of_stop self }
+    {
+        match self {
+            Stop::Full => DONE,
+            Stop::Over => NO_MATCH,
+            Stop::Refused(error) => Refusal::from(error).code(),
+        }
+    }
+}
+
+/// What was written: so many matches, where the list goes on behind them, and why no more.
+#[derive(Clone, Copy)]
+pub(crate) struct Filled {
+    pub(crate) matches: usize,
+    pub(crate) next: usize,
+    pub(crate) stop: Stop,
+    /// How many steps are left, where they are counted.
+    pub(crate) left: Option<u64>,
+}
+
+/// What a call answers, and how many steps are left, where they are counted.
+#[derive(Clone, Copy)]
+pub(crate) struct Went {
+    pub(crate) reply: Reply,
+    pub(crate) left: Option<u64>,
+}
+
+/// Writes the next matches of a search by the pattern of the handle, as many as there is room for. Where steps are counted,
+/// it answers how many are left.
+pub(crate) fn go_on(
+    alloc: Global,
+    pattern: &mut Pattern,
+    search: &mut Search<'_>,
+    steps: Option<u64>,
+    spans: &mut [Span],
+) -> Went
+    ensures replies { RepliesNext pattern.old.held search.old search.new steps result.left spans.old spans.new result.reply }
+    ensures kept { pattern.new.held ≡ pattern.old.held }
+{
+    let Some(re) = pattern.take(alloc) else {
+        return refused(Refusal::Empty, steps);
+    };
+    let went = go_on_by(&re, search, steps, spans);
+    pattern.put(re);
+    went
+}
+
+fn go_on_by(re: &Regex, search: &mut Search<'_>, steps: Option<u64>, spans: &mut [Span]) -> Went
+    ensures { RepliesNext (Some re.now) search.old search.new steps result.left spans.old spans.new result.reply }
+{
+    let Some(encoding) = search.encoding() else {
+        return refused(Refusal::NotOpen, steps);
+    };
+    let ranges = ranges_of(re, encoding);
+    if spans.len() < ranges {
+        let code = Refusal::ShortBuffer.code();
+        let reply = Reply {
+            code,
+            count: ranges,
+        };
+        return Went { reply, left: steps };
+    }
+    match filled_in(re, search, encoding, steps, spans) {
+        Ok(filled) => {
+            search.next = filled.next;
+            let reply = Reply {
+                code: filled.stop.code(),
+                count: filled.matches,
+            };
+            Went {
+                reply,
+                left: filled.left,
+            }
+        }
+        Err(refusal) => refused(refusal, steps),
+    }
+}
+
+fn refused(refusal: Refusal, steps: Option<u64>) -> Went
+    ensures { result ≡ record { reply = record { code = number_of refusal; count = 0 }; left = steps } }
+{
+    let reply = refusal.reply();
+    Went { reply, left: steps }
+}
+
+// How many ranges a match has.
+fn ranges_of(re: &Regex, encoding: Encoding) -> usize
+    ensures { result ≡ ranges_by (tree_by re.now encoding) }
+{
+    match encoding {
+        Encoding::Utf8 => re.group_count() + 1,
+        Encoding::Utf16 | Encoding::Ucs2 => re.unit_group_count() + 1,
+    }
+}
+
+// What is written of a search. Steps are counted in UTF-8 alone.
+fn filled_in(
+    re: &Regex,
+    search: &Search<'_>,
+    encoding: Encoding,
+    steps: Option<u64>,
+    spans: &mut [Span],
+) -> Result<Filled, Refusal>
+    ensures { FillsIn re.now search.now encoding steps spans.old spans.new result }
+{
+    let start = search.next;
+    match (encoding, steps) {
+        (Encoding::Utf8, None) => in_utf8(re, search.text(), start, spans),
+        (Encoding::Utf8, Some(steps)) => in_utf8_within(re, search.text(), start, steps, spans),
+        (Encoding::Utf16, None) => in_utf16(re, search.units, start, spans),
+        (Encoding::Ucs2, None) => in_ucs2(re, search.units, start, spans),
+        (Encoding::Utf16 | Encoding::Ucs2, Some(_)) => Err(Refusal::NotCounted),
+    }
+}
+
+fn in_utf8(re: &Regex, text: &str, start: usize, spans: &mut [Span]) -> Result<Filled, Refusal>
+    ensures { FillsFrom (byte_tree re.now) (as_utf8 re.now text.now) (can_start_utf8 text.now start) None start spans.old spans.new result }
+{
+    if cuts_utf8(text, start) {
+        return Err(Refusal::NotBoundary);
+    }
+    let mut executor = re.utf8_search(text)?;
+    Ok(fill(&mut executor, start, re.group_count() + 1, spans))
+}
+
+fn in_utf8_within(
+    re: &Regex,
+    text: &str,
+    start: usize,
+    steps: u64,
+    spans: &mut [Span],
+) -> Result<Filled, Refusal>
+    ensures { FillsFrom (byte_tree re.now) (as_utf8 re.now text.now) (can_start_utf8 text.now start) (Some steps) start spans.old spans.new result }
+{
+    if cuts_utf8(text, start) {
+        return Err(Refusal::NotBoundary);
+    }
+    let mut executor = re.utf8_search_limited(text, steps)?;
+    let mut filled = fill(&mut executor, start, re.group_count() + 1, spans);
+    filled.left = Some(executor.steps_left());
+    Ok(filled)
+}
+
+fn in_utf16(re: &Regex, units: &[u16], start: usize, spans: &mut [Span]) -> Result<Filled, Refusal>
+    ensures { FillsFrom (unit_tree re.now) (as_utf16 re.now units.now) (can_start_utf16 units.now start) None start spans.old spans.new result }
+{
+    if cuts_utf16(units, start) {
+        return Err(Refusal::NotBoundary);
+    }
+    let mut executor = re.utf16_search(units)?;
+    Ok(fill(&mut executor, start, re.unit_group_count() + 1, spans))
+}
+
+fn in_ucs2(re: &Regex, units: &[u16], start: usize, spans: &mut [Span]) -> Result<Filled, Refusal>
+    ensures { FillsFrom (unit_tree re.now) (as_ucs2 re.now units.now) (Unit {0}) None start spans.old spans.new result }
+{
+    let mut executor = re.ucs2_search(units)?;
+    Ok(fill(&mut executor, start, re.unit_group_count() + 1, spans))
+}
+
+// Writes matches from an offset on, as many as there is room for, each with so many ranges.
+fn fill<E: Attempts>(search: &mut E, start: usize, ranges: usize, spans: &mut [Span]) -> Filled
+    requires starts { IsStart (E.text search.old) start }
+    requires ranges { ranges ≡ ranges_by (E.tree search.old) }
+    ensures fills { Fills (E.tree search.old) (E.text search.old) (E.budget search.old) start spans.old spans.new result (E.budget search.new) }
+    ensures unset { result.left ≡ None }
+{
+    let mut filled = Filled {
+        matches: 0,
+        next: start,
+        stop: Stop::Full,
+        left: None,
+    };
+    let mut at = 0;
+    'matches: while spans.len() - at >= ranges {
+        match next_from(search, filled.next) {
+            Ok(Some(step)) => {
+                filled.next = write_step(step, ranges, at, spans);
+                filled.matches += 1;
+                at += ranges;
+            }
+            Ok(None) => {
+                filled.next = past_end(search);
+                filled.stop = Stop::Over;
+                return filled;
+            }
+            Err(error) => {
+                filled.stop = Stop::Refused(error);
+                return filled;
+            }
+        }
+    }
+    filled
+}
+
+// Writes a match over so many of the buffer from an index on, and answers from where the list goes on.
+fn write_step(step: Step, count: usize, at: usize, spans: &mut [Span]) -> usize
+    requires all { count ≡ length (spans_of (answer_of step.found)) }
+    requires room { at + count ≤ length spans.old }
+    ensures next { result ≡ step.next }
+    ensures written { spans.new ≡ take at spans.old ++ spans_of (answer_of step.found) ++ drop (at + count) spans.old }
+{
+    write_at(&step.found, count, at, spans);
+    step.next
+}
+
+// The greatest number, which is past the end of each text.
+fn past_end<E: Attempts>(search: &E) -> usize
+    ensures greatest { result ≡ usize.MAX }
+    ensures past { units (E.text search.now) < result }
+{
+    let _input = search.input();
+    usize::MAX
+}

@@ -1,0 +1,39 @@
+//! Where searches may start, and how they are put in their place.
+
+ghost use Rattle.std.specs.Prelude.{◌≡◌, true, false};
+ghost use Rattle.regress_c.specs.Opening.{code_of_opened, search_after};
+ghost use Rattle.regress_c.specs.Searching.{can_start_utf8, can_start_utf16};
+
+use crate::refusal::{DONE, Refusal};
+use crate::search::Search;
+use regress_match::is_unit_boundary;
+
+/// Puts a search that was opened in its place, and answers the code. On a refusal the one that was there stays.
+pub(crate) fn open<'t>(search: &mut Search<'t>, opened: Result<Search<'t>, Refusal>) -> u32
+    ensures code { result ≡ code_of_opened opened.entry }
+    ensures after { search.new ≡ search_after search.old opened.entry }
+{
+    match opened {
+        Ok(opened) => {
+            *search = opened;
+            DONE
+        }
+        Err(refusal) => refusal.code(),
+    }
+}
+
+/// Whether a start is within a text in UTF-8 and cuts a character.
+pub(crate) fn cuts_utf8(text: &str, start: usize) -> bool
+    ensures cut { result ≡ true → ¬ can_start_utf8 text.now start }
+    ensures whole { result ≡ false → can_start_utf8 text.now start }
+{
+    start <= text.len() && !text.is_char_boundary(start)
+}
+
+/// Whether a start is within a text in UTF-16 and cuts a pair of surrogates.
+pub(crate) fn cuts_utf16(units: &[u16], start: usize) -> bool
+    ensures cut { result ≡ true → ¬ can_start_utf16 units.now start }
+    ensures whole { result ≡ false → can_start_utf16 units.now start }
+{
+    start <= units.len() && !is_unit_boundary(units, start)
+}

@@ -1,0 +1,108 @@
+//! A search over a text that is tested once: where the text lies, and from where the list of matches goes on.
+
+ghost use Rattle.std.specs.Prelude.{◌≡◌, IsUtf8};
+ghost use Rattle.std.proofs.Props.{props};
+
+use crate::opening::{cuts_utf8, cuts_utf16};
+use crate::refusal::Refusal;
+
+/// How a text is read.
+#[derive(Clone, Copy)]
+pub(crate) enum Encoding {
+    Utf8,
+    Utf16,
+    Ucs2,
+}
+
+/// A search over a text that is borrowed from whoever opens it.
+#[repr(C)]
+#[derive(Drop)]
+pub struct Search<'t> {
+    /// The text in UTF-8; empty where it is one of 16-bit units.
+    pub bytes: &'t [u8],
+    /// The text of 16-bit units; empty where it is in UTF-8.
+    pub units: &'t [u16],
+    /// The offset in units of the text from which it goes on; past the end where it is over.
+    pub next: usize,
+    /// How its text is read: 1 for UTF-8, 2 for UTF-16, 3 for UCS-2; any other number where nothing is open.
+    pub encoding: usize,
+    pub ghost utf8: { IsUtf8 bytes.now } by { Prim.hlevel props },
+}
+
+impl<'t> Search<'t> {
+    ghost use Rattle.regress_c.specs.Opening.{OpensUtf8, OpensUtf16, SearchesUcs2, encoding_of};
+
+    /// Nothing is open.
+    pub(crate) fn closed() -> Self
+        ensures { result.encoding ≡ 0 }
+    {
+        Search {
+            bytes: &[],
+            units: &[],
+            next: 0,
+            encoding: 0,
+        }
+    }
+
+    /// How its text is read; none where nothing is open.
+    pub(crate) fn encoding(&self) -> Option<Encoding>
+        ensures { result ≡ encoding_of self.now.encoding }
+    {
+        match self.encoding {
+            1 => Some(Encoding::Utf8),
+            2 => Some(Encoding::Utf16),
+            3 => Some(Encoding::Ucs2),
+            _ => None,
+        }
+    }
+
+    /// The text in UTF-8.
+    pub(crate) fn text(&self) -> &'t str
+        ensures { result.now ≡ self.now.bytes.now }
+    {
+        unsafe { str::from_utf8_unchecked(self.bytes) }
+    }
+
+    /// Of a text in UTF-8, from an offset on.
+    pub(crate) fn in_utf8(bytes: &'t [u8], start: usize) -> Result<Self, Refusal>
+        ensures { OpensUtf8 bytes.now start result }
+    {
+        let text = str::from_utf8(bytes)?;
+        if cuts_utf8(text, start) {
+            return Err(Refusal::NotBoundary);
+        }
+        Ok(Search {
+            bytes: text.as_bytes(),
+            units: &[],
+            next: start,
+            encoding: 1,
+        })
+    }
+
+    /// Of a text in UTF-16, from an offset on.
+    pub(crate) fn in_utf16(units: &'t [u16], start: usize) -> Result<Self, Refusal>
+        ensures { OpensUtf16 units.now start result }
+    {
+        if cuts_utf16(units, start) {
+            return Err(Refusal::NotBoundary);
+        }
+        Ok(Search {
+            bytes: &[],
+            units,
+            next: start,
+            encoding: 2,
+        })
+    }
+
+    /// Of a text in UCS-2, from an offset on.
+    pub(crate) fn in_ucs2(units: &'t [u16], start: usize) -> Self
+        ensures { SearchesUcs2 units.now start result }
+    {
+        Search {
+            bytes: &[],
+            units,
+            next: start,
+            encoding: 3,
+        }
+    }
+}

@@ -1,0 +1,38 @@
+//! Regular expressions with the syntax and meaning of ECMAScript 2018, under the names of the crate `regress`, by a match engine
+//! that is formally verified.
+//!
+//! ```
+//! use regress_match::Regex;
+//!
+//! let re = Regex::new(r"(?<year>\d{4})-\d\d-\d\d").unwrap();
+//! let text = "from 2018-06-27 to 2019-01-15";
+//! let found = re.find(text).unwrap();
+//! assert_eq!(found.as_str(text), "2018-06-27");
+//! assert_eq!(found.named_group("year"), Some(5..9));
+//! assert_eq!(re.find_iter(text).count(), 2);
+//! ```
+//!
+//! What is proved is the C library below (`crates/regress_c`), and not this crate, which is plain Rust over it.
+#![deny(missing_docs, unsafe_op_in_unsafe_fn)]
+
+mod error;
+mod flags;
+mod found;
+#[allow(missing_docs)]
+mod raw;
+mod regex;
+mod search;
+
+pub use crate::error::{Cause, Error, SearchError};
+pub use crate::flags::Flags;
+pub use crate::found::{Groups, Match, NamedGroups};
+pub use crate::regex::{escape, Bounds, Regex};
+pub use crate::search::{Matches, TryMatches};
+
+/// A range of a text in units.
+pub type Range = std::ops::Range<usize>;
+
+/// The version of the C library below: of `1.2.3` 10203.
+pub fn library_version() -> u32 {
+    raw::version()
+}

@@ -25,13 +25,16 @@ pub fn push_text(text: &mut String, written: &str) -> Result<(), AllocError> {
 }
 
 // Whether a row is searched in this way. Only what is ASCII is read as such; and it is read in 16-bit units too, since its
-// offsets are the same there. Trees with bytes have no program for units, and of a pair of trees the second one has it.
+// offsets are the same there. Trees with bytes have no program for units, and of a pair of trees the second one has it. At one
+// place search the calls of each encoding.
 fn is_for(search: &Search<'_>, way: Way) -> bool {
     let is_of_bytes = search.flags == "pair"
         || search.flags == "tree" && search.pattern.contains("byte");
     match way {
-        Way::Utf8 | Way::Named | Way::Limited | Way::Copying => true,
-        Way::Ascii | Way::AsciiNamed | Way::AsciiCopying => search.text.is_ascii(),
+        Way::Utf8 => true,
+        Way::Ascii => search.text.is_ascii(),
+        Way::Named | Way::Limited | Way::Copying => !search.asked.is_at(),
+        Way::AsciiNamed | Way::AsciiCopying => search.text.is_ascii() && !search.asked.is_at(),
         Way::Utf16 | Way::Ucs2 => search.text.is_ascii() && !is_of_bytes,
     }
 }

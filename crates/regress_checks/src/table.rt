@@ -1,12 +1,31 @@
 //! The table of searches.
 
 // Rows of five fields: a pattern, the letters of its flags, a text in which `␤` stands for a line feed, a call, and what the
-// call finds. The calls are `all`, `first`, or an offset for all matches from there. In place of flags stand those of
+// call finds. The calls are `all`, `first`, an offset for all matches from there, or `at` and an offset for the match there. In place of flags stand those of
 // `regex_of`, as `tree` where the first field is a tree in words, which may be no pattern's.
 pub const SEARCHES: &str = r#"a|ab~~abc~all~0..1
 ((a)|(ab))((c)|(bc))~~abc~all~0..3 0..1 0..1 - 1..3 - 1..3
 (?<=x)y~~yxy~all~2..3
 (?<=x)y~~xyxy~1~1..2; 3..4
+a|ab~~xab~at 0~
+a|ab~~xab~at 1~1..2
+a|ab~~xab~at 2~
+a|ab~~xab~at 3~
+a|ab~~xab~at 4~
+a|ab~~xab~at 18446744073709551615~
+a*~~xaa~at 0~0..0
+a*~~xaa~at 1~1..3
+a*~~xaa~at 3~3..3
+(?<=(x))y~~xyxy~at 3~3..4 2..3
+(?<=(x))y~~xyxy~at 2~
+^a~~aa~at 0~0..1
+^a~~aa~at 1~
+^a~m~b␤a~at 2~2..3
+b$~~abb~at 1~
+(a)|b~~xab~at 2~2..3 -
+.~~é€~at 2~2..5
+.~~é€~at 1~no start
+[^é]~~ééa~at 0~
 a*~~aab~all~0..2; 2..2; 3..3
 a*~~aab~3~3..3
 a*~~aab~4~

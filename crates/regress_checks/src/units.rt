@@ -1,7 +1,7 @@
 //! Searches over 16-bit units.
 
 use crate::calls::Asked;
-use crate::lines::{write_ucs2, write_utf16};
+use crate::lines::{write_one, write_ucs2, write_utf16};
 use regress_match::{Regex, SearchError, is_unit_boundary};
 use regress_rows::patterns::{refusal, regex_of};
 use regress_rows::rows::{Row, compare};
@@ -55,6 +55,17 @@ a~~61~both~18446744073709551615~
 cat:2 char:D800 goal~tree~D800~both~0~0..1
 cat:2 char:110000 goal~tree~61~both~0~
 cat:2 a goal/cat:2 b goal~pair~61 62~both~0~1..2
+.~~61 D83D DE00 61~utf16~at 1~1..3
+.~~61 D83D DE00 61~utf16~at 2~no start
+.~~61 D83D DE00 61~ucs2~at 2~2..3
+.~~61 D83D DE00~both~at 3~
+.~~61 D83D DE00~both~at 4~
+b|é~~61 62 E9 62~both~at 0~
+b|é~~61 62 E9 62~both~at 2~2..3
+$~~DE00~both~at 1~1..1
+(?<=(.))~~D83D DE00~utf16~at 2~2..2 0..2
+(?<=(.))~~D83D DE00~ucs2~at 2~2..2 1..2
+a~~61~both~at 18446744073709551615~
 "#;
 
 // Rows of two fields: units in hexadecimal, and of each offset from 0 to 3 whether it is a boundary.
@@ -86,6 +97,9 @@ pub fn write_of_utf16(
 ) -> Result<(), SearchError> {
     let start = asked.start();
     if is_unit_boundary(units, start) || units.len() < start {
+        if asked.is_at() {
+            return write_one(line, &re.match_at_utf16(units, start)?);
+        }
         let mut matches = re.find_from_utf16(units, start)?;
         write_utf16(line, &mut matches, asked.is_first())
     } else {
@@ -99,6 +113,9 @@ pub fn write_of_ucs2(
     units: &[u16],
     asked: Asked,
 ) -> Result<(), SearchError> {
+    if asked.is_at() {
+        return write_one(line, &re.match_at_ucs2(units, asked.start())?);
+    }
     let mut matches = re.find_from_ucs2(units, asked.start())?;
     write_ucs2(line, &mut matches, asked.is_first())
 }

@@ -58,7 +58,8 @@ fn write_of_utf8(
         Asked::From(start) if is_start(text, start) => {
             write_utf8(line, &mut re.find_from(text, start)?, false)
         }
-        Asked::From(_) => Ok(line.push_str("no start")?),
+        Asked::At(at) if is_start(text, at) => write_one(line, &re.match_at(text, at)?),
+        Asked::From(_) | Asked::At(_) => Ok(line.push_str("no start")?),
     }
 }
 
@@ -74,6 +75,7 @@ fn write_of_ascii(
         Asked::First => write_one(line, &re.find_ascii(text)?),
         Asked::All => write_ascii(line, &mut re.find_iter_ascii(text)?, false),
         Asked::From(start) => { write_ascii(line, &mut re.find_from_ascii(text, start)?, false) }
+        Asked::At(at) => write_one(line, &re.match_at_ascii(text, at)?),
     }
 }
 

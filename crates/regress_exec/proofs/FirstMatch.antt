@@ -4,7 +4,7 @@ use Rattle.std.proofs.lemmas.Bool.{le-ltb}
 use Rattle.std.proofs.lemmas.Option.{slice_get_past, slice_get-get_or}
 use Rattle.std.specs.Prelude.{option_map, option_and_then, if◌then◌else◌, nat_lt, is_some, IsTrue}
 use Rattle.std.specs.Option.{option_or}
-use Rattle.regex_meaning.specs.Tree.{Tree}
+use Rattle.regex_meaning.specs.Tree.{Tree, Flags}
 use Rattle.regex_meaning.specs.Text.{Text, rightwards, last_place}
 use Rattle.regex_meaning.specs.Offsets.{IsText, IsBoundary, offset, place_at, read, read_at, units}
 use Rattle.regex_meaning.specs.Outcomes.{Groups, Outcome}
@@ -15,6 +15,8 @@ use Rattle.regex_meaning.specs.Ticks.{Item, tick, pair, pairs, items_at}
 use Rattle.regex_meaning.proofs.Ticked.{pairs-ticked}
 use Rattle.regex_meaning.proofs.Matches.{first-unfolds, first-past, stands-first, StandsFrom}
 use Rattle.regex_meaning.proofs.TextLemmas.{place_at-offset, offset-place_at, offset-IsBoundary, offset-less, offset-le}
+use Rattle.regex_pattern_front.specs.TreeOf.{tree_of}
+use Rattle.regex_pattern_front.specs.declared.ir.Regex.{Regex}
 use Rattle.regress_program.specs.Code.{compiled}
 use Rattle.regress_machine.specs.Finds.{first_pair, end_in_offsets, groups_in_offsets}
 use Rattle.regress_exec.specs.Answers.{answer_by}
@@ -34,9 +36,15 @@ pub flags-compiled : (tree : Tree) → (compiled tree).flags ≡ tree.flags
 unfolding compiled
 flags-compiled tree = refl
 
+-- a text that is made with the flags of a program is one of the pattern that it was made of
+pub read-as : {text made : Text} {flags : Flags} {re run : Regex} → text ≡ made → made.unicode ≡ flags.unicode → flags ≡ (compiled (tree_of run)).flags → run ≡ re
+    → text.unicode ≡ (tree_of re).flags.unicode
+read-as {run = run} is said told same =
+    ap (λ (t : Text). t.unicode) is ∙ said ∙ ap (λ (f : Flags). f.unicode) (told ∙ flags-compiled (tree_of run)) ∙ ap (λ (re : Regex). (tree_of re).flags.unicode) same
+
 -- ---- Items
 
-abbrev found_by : (place : ℕ) → Outcome → Found
+abbrev pub found_by : (place : ℕ) → Outcome → Found
 found_by p o = record { start = p; end = o.end; groups = o.groups }
 
 first-pairs : (p : ℕ) (items : List Item) → first_of p (pairs items) ≡ option_map (found_by p) (first_pair items)
@@ -51,7 +59,7 @@ module _ (tree : Tree) (text : Text) where
     pub boundary : IsBoundary text at
 
 module _ (tree : Tree) (text : Text) (is : IsText text) where
-  match-first : (p : ℕ) → match_at tree.root text p ≡ option_map (found_by p) (first_pair (items_at tree text p))
+  pub match-first : (p : ℕ) → match_at tree.root text p ≡ option_map (found_by p) (first_pair (items_at tree text p))
   match-first p = ap (first_of p) (sym (pairs-ticked text tree.root rightwards p (no_groups tree.root))) ∙ first-pairs p (items_at tree text p)
 
   -- ---- At an offset of a place

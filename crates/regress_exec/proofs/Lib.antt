@@ -13,3 +13,4 @@ mod LastMatch
 pub mod Skips
 pub mod Budget
 pub mod Walking
+pub mod OnePlace

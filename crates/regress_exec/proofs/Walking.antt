@@ -54,7 +54,7 @@ module _ {tree : Tree} {text : Text} {first : ℕ} {at_first now : Option ℕ} w
   }
 
   module _ {after : Option ℕ} {at : ℕ} where
-    pub attempt-found : {P : Type 0} (offset : P → ℕ) (groups : Groups) {o : Option P} {end : P} → IsText text → o ≡ Some end
+    attempt-found : {P : Type 0} (offset : P → ℕ) (groups : Groups) {o : Option P} {end : P} → IsText text → o ≡ Some end
         → Attempt tree text first at_first now after at (ends_with offset o groups) → Found tree text first at_first after at (offset end) groups
     attempt-found offset groups {end = end} is some a =
         let here : end_from tree text at ≡ Some (offset end, groups) = sym a.ends ∙ ap (λ o. ends_with offset o groups) some in
@@ -66,11 +66,11 @@ module _ {tree : Tree} {text : Text} {first : ℕ} {at_first now : Option ℕ} w
           spends = spent-found tree text is at_first now after (need_from tree text first) at (offset end, groups) a.walk.spent a.took.0 a.took.1 here;
         }
 
-    pub attempt-vain : {P : Type 0} (offset : P → ℕ) (groups : Groups) {o : Option P} → o ≡ None → Attempt tree text first at_first now after at (ends_with offset o groups)
+    attempt-vain : {P : Type 0} (offset : P → ℕ) (groups : Groups) {o : Option P} → o ≡ None → Attempt tree text first at_first now after at (ends_with offset o groups)
         → IsVain tree text at
     attempt-vain offset groups none a = sym a.ends ∙ ap (λ o. ends_with offset o groups) none
 
-    pub attempt-goes : {end : Option (ℕ × Groups)} {tree' : Tree} {text' : Text} {next : Option ℕ} → IsText text → Attempt tree text first at_first now after at end → IsVain tree text at → tree' ≡ tree → text' ≡ text
+    attempt-goes : {end : Option (ℕ × Groups)} {tree' : Tree} {text' : Text} {next : Option ℕ} → IsText text → Attempt tree text first at_first now after at end → IsVain tree text at → tree' ≡ tree → text' ≡ text
         → IsNextTry tree' text' (at + 1) next → (IsTrue (is_some after) → next ≡ next_tried tree' text' at) → Goes tree text first at_first after at next
     attempt-goes {tree' = tree'} {text' = text'} {next = next} is a vain t x tries counted =
         let same = subst (λ t. IsNextTry t text (at + 1) next) t (subst (λ x. IsNextTry tree' x (at + 1) next) x tries) in
@@ -84,6 +84,21 @@ module _ {tree : Tree} {text : Text} {first : ℕ} {at_first now : Option ℕ} w
           };
           less = goes.1;
         }
+
+  -- ---- By what an attempt at the next place answers
+
+  module _ {P : Type 0} (offset : P → ℕ) (groups : Groups) {tree' : Tree} {text' : Text} {after : Option ℕ} {next o : Option P} {at : P} (is : IsText text)
+      (walk : Walk tree text first at_first now (option_map offset next)) (here : next ≡ Some at) (same_tree : tree' ≡ tree) (same_text : text' ≡ text)
+      (ends : ends_with offset o groups ≡ end_from tree' text' (offset at))
+      (took : IsTrue (is_within now (ticks_from tree' text' (offset at))) × (after ≡ left_of now (ticks_from tree' text' (offset at)))) where
+    pub found-there : {end : P} → o ≡ Some end → Found tree text first at_first after (offset at) (offset end) groups
+    found-there some = attempt-found offset groups is some (attempt-at (walk-at offset walk here) same_tree same_text ends took)
+
+    pub goes-there : {tree'' : Tree} {text'' : Text} {further : Option ℕ} → o ≡ None → tree'' ≡ tree' → text'' ≡ text' → IsNextTry tree'' text'' (offset at + 1) further
+        → (IsTrue (is_some after) → further ≡ next_tried tree'' text'' (offset at)) → Goes tree text first at_first after (offset at) further
+    goes-there none t x tries counted =
+        let there : Attempt tree text first at_first now after (offset at) (ends_with offset o groups) = attempt-at (walk-at offset walk here) same_tree same_text ends took in
+        attempt-goes is there (attempt-vain offset groups none there) (t ∙ same_tree) (x ∙ same_text) tries counted
 
   -- an attempt that was refused is a search that is
   pub attempt-refused : {tree' : Tree} {text' : Text} {at : ℕ} → IsText text → (X : Type 0) (after : Option ℕ) (e : SearchError) → Walk tree text first at_first now (Some at) → tree' ≡ tree → text' ≡ text

@@ -17,6 +17,7 @@ use regress_program::insn::{CompiledRegex, GroupNames};
 use std::alloc::AllocError;
 use std::marker::Model;
 use std::ops::Range;
+use thiserror::Error;
 
 mod in_turn;
 mod parts;
@@ -24,11 +25,13 @@ mod parts;
 pub use self::in_turn::{Groups, NamedGroups};
 
 /// Why a search was refused.
-#[derive(Clone, Copy, Debug, PartialEq, Eq)]
+#[derive(Clone, Copy, Debug, PartialEq, Eq, Error)]
 pub enum SearchError {
     /// There was no memory.
+    #[error("out of memory")]
     Memory,
     /// The steps that were allowed are used up. Without a limit this never comes.
+    #[error("the steps are used up")]
     StepLimit,
 }
 
@@ -61,7 +64,11 @@ impl Match {
         captures: Vec<Option<Range<usize>>>,
         names: Vec<String>,
     ) -> Self
-        ensures { answer_of result ≡ record { range = range_of range; captures = map (option_map range_of) captures.items; names = map string_bytes names.items } }
+        ensures { answer_of result ≡ record {
+          range = range_of range;
+          captures = map (option_map range_of) captures.items;
+          names = map string_bytes names.items;
+        } }
     {
         Match::with_names(range, captures, GroupNames::owned(names))
     }
@@ -72,7 +79,11 @@ impl Match {
         captures: Vec<Option<Range<usize>>>,
         names: GroupNames,
     ) -> Self
-        ensures { answer_of result ≡ record { range = range_of range; captures = map (option_map range_of) captures.items; names = names } }
+        ensures { answer_of result ≡ record {
+          range = range_of range;
+          captures = map (option_map range_of) captures.items;
+          names = names;
+        } }
     {
         Match {
             range,
@@ -101,7 +112,8 @@ pub trait MatchProducer {
     /// The position of an offset in units, which is a boundary or past the end; none where it is past the end.
     fn initial_position(&self, offset: usize) -> Option<Self::Position>
         requires { IsBoundary (text self.now) offset ⊎ (units (text self.now) < offset) }
-        ensures { option_map Self.Position.offset result ≡ (if nat_le offset (units (text self.now)) then Some offset else None) };
+        ensures { option_map Self.Position.offset result
+            ≡ (if nat_le offset (units (text self.now)) then Some offset else None) };
 
     /// The first match from a position on. `next_start` becomes the position from which the list of matches
     /// goes on, none where it does not; without a match, and on a refusal, it stays as it was.
@@ -116,14 +128,15 @@ pub trait MatchProducer {
         next_start: &mut Option<Self::Position>,
     ) -> Result<Option<Match>, SearchError>
         requires { IsBoundary (text self.old) (Self.Position.offset pos) }
-        ensures found { IfOk result (λ m. option_map answer_of m ≡ first_answer (tree self.old).root (text self.old) (Self.Position.offset pos)) }
-        ensures goes_on { IfOk result (λ m. OnSome m (GoesOn (tree self.old) (text self.old) (Self.Position.offset pos) (option_map Self.Position.offset next_start.new))) }
-        ensures none { IfOk result (λ m. IfNone m (next_start.new ≡ next_start.old)) }
-        ensures refused { OnErr result (next_start.new ≡ next_start.old) }
-        ensures steps { Spends (need_from (tree self.old) (text self.old) (Self.Position.offset pos)) (budget self.old) result (budget self.new) }
+        ensures found { let at = Self.Position.offset in IfOk result (λ m.
+            (option_map answer_of m ≡ first_answer (tree self.old).root (text self.old) (at pos))
+            × OnSome m (GoesOn (tree self.old) (text self.old) (at pos) (option_map at next_start.new))) }
+        ensures stays { IfOk result (λ m. IfNone m (next_start.new ≡ next_start.old))
+            × OnErr result (next_start.new ≡ next_start.old) }
+        ensures steps { Spends (need_from (tree self.old) (text self.old) (Self.Position.offset pos))
+            (budget self.old) result (budget self.new) }
         ensures cause { IfErr result (λ e. e ≡ cause_of (out_of_steps self.new)) }
-        ensures same_tree { tree self.new ≡ tree self.old }
-        ensures same_text { text self.new ≡ text self.old };
+        ensures same { (tree self.new ≡ tree self.old) × (text self.new ≡ text self.old) };
 
     ghost is_text: { (it : Self) → IsText (text it) };
 }

@@ -1,16 +1,17 @@
 //! The walk over the places of a text, once for all executors.
 
-ghost use Rattle.std.specs.Prelude.{◌≡◌, ◌+◌, ◌≤◌, ℕ, ⊤, Bool, false, IfOk, IsSome, None, Option, map, option_map, length};
+ghost use Rattle.std.specs.Prelude.{◌≡◌, ◌+◌, ◌<◌, ◌≤◌, ◌⊎◌, ℕ, ⊤, Bool, false, IfErr, IfOk, IsSome, None, Option, map, option_map, length};
 ghost use Rattle.regex_meaning.specs.Tree.{Tree};
 ghost use Rattle.regex_meaning.specs.Text.{Text};
-ghost use Rattle.regex_meaning.specs.Offsets.{IsText, IsBoundary};
+ghost use Rattle.regex_meaning.specs.Offsets.{IsText, IsBoundary, units};
+ghost use Rattle.regex_meaning.specs.Answers.{answer_at};
 ghost use Rattle.regex_meaning.specs.Outcomes.{Groups, group_range};
 ghost use Rattle.regex_meaning.specs.Names.{names_by_id};
 ghost use Rattle.regex_pattern_front.specs.TreeOf.{tree_of};
 ghost use Rattle.regress_exec.specs.Answers.{answer_by, answer_of, range_of};
 ghost use Rattle.regress_exec.specs.Attempts.{IsNextTry, IsVain, ends_with, end_from, first_tried, next_tried, offset_behind, ticks_from};
 ghost use Rattle.regress_exec.specs.Positions.{span_of};
-ghost use Rattle.regress_exec.specs.Spends.{Spends, TakesIfBegun, Tells};
+ghost use Rattle.regress_exec.specs.Spends.{Spends, TakesIfBegun, Tells, cause_of};
 
 use crate::exec::{Match, MatchProducer, SearchError};
 use regress_input::indexing::InputIndexer;
@@ -58,12 +59,13 @@ pub trait Attempts {
         pos: <Self::Input as InputIndexer>::Position,
     ) -> Result<Option<<Self::Input as InputIndexer>::Position>, SearchError>
         requires { IsBoundary (text self.old) (Self.Input.Position.offset pos) }
-        ensures found { IfOk result (λ end. ends_with Self.Input.Position.offset end (groups self.new) ≡ end_from (tree self.old) (text self.old) (Self.Input.Position.offset pos)) }
-        ensures steps { Spends (ticks_from (tree self.old) (text self.old) (Self.Input.Position.offset pos)) (budget self.old) result (budget self.new) }
+        ensures found { let at = Self.Input.Position.offset in IfOk result (λ end.
+            ends_with at end (groups self.new) ≡ end_from (tree self.old) (text self.old) (at pos)) }
+        ensures steps { let ticks = ticks_from (tree self.old) (text self.old) in
+            Spends (ticks (Self.Input.Position.offset pos)) (budget self.old) result (budget self.new) }
         ensures begun { TakesIfBegun (has_begun self.new) (budget self.old) result (budget self.new) }
         ensures cause { Tells result (out_of_steps self.new) }
-        ensures same_tree { tree self.new ≡ tree self.old }
-        ensures same_text { text self.new ≡ text self.old };
+        ensures same { (tree self.new ≡ tree self.old) × (text self.new ≡ text self.old) };
 
     /// How many groups the last attempt that found an end had.
     fn group_count(&self) -> usize
@@ -79,7 +81,8 @@ pub trait Attempts {
             <Self::Input as InputIndexer>::Position,
         ),
     >
-        ensures { option_map (span_of Self.Input.Position.offset) result ≡ group_range (groups self.now) id };
+        ensures { option_map (span_of Self.Input.Position.offset) result
+            ≡ group_range (groups self.now) id };
 
     /// The first position to try from one on: no match begins before it. None where none begins from there on.
     fn place_from(
@@ -87,8 +90,10 @@ pub trait Attempts {
         pos: <Self::Input as InputIndexer>::Position,
     ) -> Option<<Self::Input as InputIndexer>::Position>
         requires { IsBoundary (text self.now) (Self.Input.Position.offset pos) }
-        ensures next { IsNextTry (tree self.now) (text self.now) (Self.Input.Position.offset pos) (option_map Self.Input.Position.offset result) }
-        ensures counted { IsSome (budget self.now) → option_map Self.Input.Position.offset result ≡ first_tried (tree self.now) (text self.now) (Self.Input.Position.offset pos) };
+        ensures next { let at = Self.Input.Position.offset in
+            IsNextTry (tree self.now) (text self.now) (at pos) (option_map at result) }
+        ensures counted { let at = Self.Input.Position.offset in IsSome (budget self.now)
+            → option_map at result ≡ first_tried (tree self.now) (text self.now) (at pos) };
 
     /// The first position to try behind one that was tried in vain: no match begins between them. None where none
     /// begins behind it.
@@ -98,8 +103,10 @@ pub trait Attempts {
     ) -> Option<<Self::Input as InputIndexer>::Position>
         requires at { IsBoundary (text self.now) (Self.Input.Position.offset tried) }
         requires vain { IsVain (tree self.now) (text self.now) (Self.Input.Position.offset tried) }
-        ensures next { IsNextTry (tree self.now) (text self.now) (Self.Input.Position.offset tried + 1) (option_map Self.Input.Position.offset result) }
-        ensures counted { IsSome (budget self.now) → option_map Self.Input.Position.offset result ≡ next_tried (tree self.now) (text self.now) (Self.Input.Position.offset tried) };
+        ensures next { let at = Self.Input.Position.offset in
+            IsNextTry (tree self.now) (text self.now) (at tried + 1) (option_map at result) }
+        ensures counted { let at = Self.Input.Position.offset in IsSome (budget self.now)
+            → option_map at result ≡ next_tried (tree self.now) (text self.now) (at tried) };
 
     ghost is_text: { (it : Self) → IsText (text it) };
 }
@@ -136,7 +143,8 @@ fn successful_match<A: Attempts>(
     start: <A::Input as InputIndexer>::Position,
     end: <A::Input as InputIndexer>::Position,
 ) -> Result<Match, AllocError>
-    ensures { IfOk result (λ m. answer_of m ≡ answer_by (A.Input.Position.offset start) (A.Input.Position.offset end) (A.groups executor.now) (names_by_id (A.tree executor.now).root)) }
+    ensures { let at = A.Input.Position.offset in IfOk result (λ m. answer_of m
+        ≡ answer_by (at start) (at end) (A.groups executor.now) (names_by_id (A.tree executor.now).root)) }
 {
     let captures = captures_of(executor)?;
     let names = executor.program().shared_names().clone()?;
@@ -152,7 +160,8 @@ fn position_behind<Input: InputIndexer>(
     end: Input::Position,
 ) -> Option<Input::Position>
     requires { IsBoundary (Input.text input.now) (Input.Position.offset end) }
-    ensures { option_map Input.Position.offset result ≡ offset_behind (Input.text input.now) (Input.Position.offset start) (Input.Position.offset end) }
+    ensures { let at = Input.Position.offset in
+        option_map at result ≡ offset_behind (Input.text input.now) (at start) (at end) }
 {
     if input.pos_to_offset(start) < input.pos_to_offset(end) {
         Some(end)
@@ -195,4 +204,29 @@ impl<A: Attempts> MatchProducer for A {
         }
         Ok(None)
     }
+}
+
+/// The most preferred match that begins at an offset in units, which is a boundary or past the end; none where none begins
+/// there. No other place is tried: it takes the steps of one attempt.
+///
+/// # Errors
+///
+/// `StepLimit` where more steps are needed than are left, and then none is; and `Memory`, behind which the steps
+/// that were taken stay taken.
+pub fn match_at<A: Attempts>(executor: &mut A, at: usize) -> Result<Option<Match>, SearchError>
+    requires { IsBoundary (A.text executor.old) at ⊎ (units (A.text executor.old) < at) }
+    ensures found { IfOk result (λ m. option_map answer_of m
+        ≡ answer_at (A.tree executor.old).root (A.text executor.old) at) }
+    ensures steps { Spends (ticks_from (A.tree executor.old) (A.text executor.old) at)
+        (A.budget executor.old) result (A.budget executor.new) }
+    ensures cause { IfErr result (λ e. e ≡ cause_of (A.out_of_steps executor.new)) }
+{
+    let Some(start) = executor.initial_position(at) else {
+        return Ok(None);
+    };
+    let Some(end) = executor.attempt(start)? else {
+        return Ok(None);
+    };
+    let found = successful_match(executor, start, end)?;
+    Ok(Some(found))
 }

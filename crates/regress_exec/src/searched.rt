@@ -44,7 +44,9 @@ impl<'r, Input: InputIndexer> Searched<'r, Input> {
     #[inline(always)]
     pub fn next_try(&self, tried: Input::Position) -> Option<Input::Position>
         requires { IsBoundary (Input.text self.now.input) (Input.Position.offset tried) }
-        ensures { IsNextTry (tree_of self.now.program.now) (Input.text self.now.input) (Input.Position.offset tried + 1) (option_map Input.Position.offset result) }
+        ensures { let at = Input.Position.offset in
+            IsNextTry (tree_of self.now.program.now)
+            (Input.text self.now.input) (at tried + 1) (option_map at result) }
     {
         behind_tried(&self.input, self.is_anchored(), tried)
     }
@@ -58,7 +60,8 @@ fn behind_tried<Input: InputIndexer>(
     tried: Input::Position,
 ) -> Option<Input::Position>
     requires { IsBoundary (Input.text input.now) (Input.Position.offset tried) }
-    ensures { option_map Input.Position.offset result ≡ tried_next anchored (Input.text input.now) (Input.Position.offset tried) }
+    ensures { let at = Input.Position.offset in
+        option_map at result ≡ tried_next anchored (Input.text input.now) (at tried) }
 {
     if anchored {
         None
@@ -67,21 +70,48 @@ fn behind_tried<Input: InputIndexer>(
     }
 }
 
-impl<'r, 't> Searched<'r, Utf8Input<'t>> {
-    /// A program over a text in UTF-8.
-    pub fn in_utf8(re: &'r CompiledRegex, text: &'t str) -> Self
+impl<'r, Input: InputIndexer> Searched<'r, Input> {
+    // A program for bytes, over an input of bytes.
+    fn in_bytes(re: &'r CompiledRegex, input: Input) -> Self
+        requires unicode { (Input.text input).unicode ≡ (tree_of re.now).flags.unicode }
+        requires bytes { IsInBytes (Input.text input) Input.Units.ARE_BYTES }
         ensures same { result.program.now ≡ re.now }
-        ensures program { tree_of result.program.now ≡ tree_of re.now }
-        ensures text { ⟦<Utf8Input<'t> as InputIndexer>⟧.text result.input ≡ utf8_text text.now (tree_of re.now).flags.unicode }
+        ensures input { result.input ≡ input }
     {
         let program = re.program();
-        let flags = program.flags();
         let _well_formed = program.insns();
         Searched {
             program,
             start_pred: Some(re.start_pred()),
-            input: Utf8Input::new(text, flags.unicode),
+            input,
         }
+    }
+
+    // A program for 16-bit units, over an input of any kind.
+    fn in_units(re: &'r CompiledUnits, input: Input) -> Self
+        requires { (Input.text input).unicode ≡ (tree_of re.now).flags.unicode }
+        ensures same { result.program.now ≡ re.now }
+        ensures input { result.input ≡ input }
+    {
+        let program = re.program();
+        let _well_formed = program.insns();
+        Searched {
+            program,
+            start_pred: None,
+            input,
+        }
+    }
+}
+
+impl<'r, 't> Searched<'r, Utf8Input<'t>> {
+    /// A program over a text in UTF-8.
+    pub fn in_utf8(re: &'r CompiledRegex, text: &'t str) -> Self
+        ensures same { result.program.now ≡ re.now }
+        ensures text { ⟦<Utf8Input<'t> as InputIndexer>⟧.text result.input
+            ≡ utf8_text text.now (tree_of re.now).flags.unicode }
+    {
+        let flags = re.program().flags();
+        Searched::in_bytes(re, Utf8Input::new(text, flags.unicode))
     }
 }
 
@@ -90,17 +120,11 @@ impl<'r, 't> Searched<'r, AsciiInput<'t>> {
     pub fn in_ascii(re: &'r CompiledRegex, text: &'t str) -> Self
         requires { IsAscii text.now }
         ensures same { result.program.now ≡ re.now }
-        ensures program { tree_of result.program.now ≡ tree_of re.now }
-        ensures text { ⟦<AsciiInput<'t> as InputIndexer>⟧.text result.input ≡ ascii_text text.now (tree_of re.now).flags.unicode }
+        ensures text { ⟦<AsciiInput<'t> as InputIndexer>⟧.text result.input
+            ≡ ascii_text text.now (tree_of re.now).flags.unicode }
     {
-        let program = re.program();
-        let flags = program.flags();
-        let _well_formed = program.insns();
-        Searched {
-            program,
-            start_pred: Some(re.start_pred()),
-            input: AsciiInput::new(text, flags.unicode),
-        }
+        let flags = re.program().flags();
+        Searched::in_bytes(re, AsciiInput::new(text, flags.unicode))
     }
 }
 
@@ -108,17 +132,11 @@ impl<'r, 't> Searched<'r, Utf16Input<'t>> {
     /// A program for 16-bit units over a text in UTF-16.
     pub fn in_utf16(re: &'r CompiledUnits, text: &'t [u16]) -> Self
         ensures same { result.program.now ≡ re.now }
-        ensures program { tree_of result.program.now ≡ tree_of re.now }
-        ensures text { ⟦<Utf16Input<'t> as InputIndexer>⟧.text result.input ≡ utf16_text text.now (tree_of re.now).flags.unicode }
+        ensures text { ⟦<Utf16Input<'t> as InputIndexer>⟧.text result.input
+            ≡ utf16_text text.now (tree_of re.now).flags.unicode }
     {
-        let program = re.program();
-        let flags = program.flags();
-        let _well_formed = program.insns();
-        Searched {
-            program,
-            start_pred: None,
-            input: Utf16Input::new(text, flags.unicode),
-        }
+        let flags = re.program().flags();
+        Searched::in_units(re, Utf16Input::new(text, flags.unicode))
     }
 }
 
@@ -126,16 +144,10 @@ impl<'r, 't> Searched<'r, Ucs2Input<'t>> {
     /// A program for 16-bit units over a text in UCS-2.
     pub fn in_ucs2(re: &'r CompiledUnits, text: &'t [u16]) -> Self
         ensures same { result.program.now ≡ re.now }
-        ensures program { tree_of result.program.now ≡ tree_of re.now }
-        ensures text { ⟦<Ucs2Input<'t> as InputIndexer>⟧.text result.input ≡ ucs2_text text.now (tree_of re.now).flags.unicode }
+        ensures text { ⟦<Ucs2Input<'t> as InputIndexer>⟧.text result.input
+            ≡ ucs2_text text.now (tree_of re.now).flags.unicode }
     {
-        let program = re.program();
-        let flags = program.flags();
-        let _well_formed = program.insns();
-        Searched {
-            program,
-            start_pred: None,
-            input: Ucs2Input::new(text, flags.unicode),
-        }
+        let flags = re.program().flags();
+        Searched::in_units(re, Ucs2Input::new(text, flags.unicode))
     }
 }

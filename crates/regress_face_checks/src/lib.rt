@@ -8,6 +8,8 @@ mod constructors;
 #[cfg(test)]
 mod deep;
 #[cfg(test)]
+mod errors;
+#[cfg(test)]
 mod flags;
 #[cfg(test)]
 mod groups;

@@ -126,3 +126,42 @@ pub fn agree(alloc: Global, line: &str) -> Result<bool, Fault> {
     }
     Ok(agree)
 }
+
+// Whether an executor finds two matches in turn. One to which memory is refused at the second has taken so many steps for it
+// by then, at least: what the first one took serves until then.
+fn finds_both<P: Counting>(
+    executor: &mut P,
+    first: &str,
+    second: &str,
+    taken: u64,
+) -> Result<bool, Fault>
+    requires { IsStart (P.text executor.old) 0 }
+{
+    let Some(pos) = executor.initial_position(0) else {
+        return Ok(false);
+    };
+    let mut next = Some(pos);
+    let is_found = is_first(executor.next_match(pos, &mut next)?, first)?;
+    let (true, Some(behind)) = (is_found, next) else {
+        return Ok(false);
+    };
+    let before = executor.left();
+    match executor.next_match(behind, &mut next) {
+        Ok(found) => is_first(found, second),
+        Err(_) if before.saturating_sub(executor.left()) < taken => Err(Fault::Wrong),
+        Err(error) => Err(Fault::from(error)),
+    }
+}
+
+/// Whether steps stay taken that were taken before memory was refused, of a row with a pattern, the letters of its flags, a text,
+/// its first two matches, and how many steps the second takes at least before it asks for memory.
+pub fn stay_taken(alloc: Global, line: &str) -> Result<bool, Fault> {
+    let mut fields = Fields::of(line);
+    let re = compile(alloc, fields.next(), fields.next(), false)?;
+    let text = fields.next();
+    let mut executor = LimitedExecutor::new(&re.bytes, text, u64::MAX)?;
+    let first = fields.next();
+    let second = fields.next();
+    let taken = fields.next().parse::<u64>().unwrap_or(0);
+    finds_both(&mut executor, first, second, taken)
+}

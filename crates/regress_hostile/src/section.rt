@@ -13,6 +13,7 @@ pub enum Section {
     Searches,
     Odd,
     Limits,
+    Taken,
     Constructors,
     Replacements,
     Escapes,
@@ -20,10 +21,11 @@ pub enum Section {
 }
 
 /// Each of them.
-pub const SECTIONS: [Section; 7] = [
+pub const SECTIONS: [Section; 8] = [
     Section::Searches,
     Section::Odd,
     Section::Limits,
+    Section::Taken,
     Section::Constructors,
     Section::Replacements,
     Section::Escapes,
@@ -36,6 +38,7 @@ impl Section {
             Section::Searches => "searches",
             Section::Odd => "odd",
             Section::Limits => "limits",
+            Section::Taken => "taken steps",
             Section::Constructors => "constructors",
             Section::Replacements => "replacements",
             Section::Escapes => "escapes",
@@ -48,6 +51,7 @@ impl Section {
             Section::Searches => table::SEARCHES,
             Section::Odd => table::ODD,
             Section::Limits => table::LIMITS,
+            Section::Taken => table::TAKEN,
             Section::Constructors => table::CONSTRUCTORS,
             Section::Replacements => table::REPLACEMENTS,
             Section::Escapes => table::ESCAPES,
@@ -59,6 +63,7 @@ impl Section {
         match self {
             Section::Searches | Section::Odd => searches::agree(alloc, line),
             Section::Limits => limits::agree(alloc, line),
+            Section::Taken => limits::stay_taken(alloc, line),
             Section::Constructors => are_constructed(alloc, line),
             Section::Replacements => is_replaced(alloc, line),
             Section::Escapes => is_escaped(alloc, line),

@@ -15,7 +15,9 @@ pub fn next<Input: InputIndexer, Dir: Direction>(
     pos: &mut Input::Position,
 ) -> Option<Input::Element>
     requires { IsBoundary (Input.text input.now) (Input.Position.offset pos.old) }
-    ensures read { option_map (λ e. (Input.Element.number e, Input.Position.offset pos.new)) result ≡ read (Input.text input.now) (way Dir.FORWARD) (Input.Position.offset pos.old) }
+    ensures read { let at = Input.Position.offset in
+        option_map (λ e. (Input.Element.number e, at pos.new)) result
+        ≡ read (Input.text input.now) (way Dir.FORWARD) (at pos.old) }
     ensures stays { IfNone result (pos.new ≡ pos.old) }
     ensures boundary { IsBoundary (Input.text input.now) (Input.Position.offset pos.new) }
     ensures inside { Input.Position.offset pos.new ≤ units (Input.text input.now) }
@@ -36,8 +38,10 @@ pub fn next_byte<Input: InputIndexer, Dir: Direction>(
     pos: &mut Input::Position,
 ) -> Option<u8>
     requires inside { Input.Position.offset pos.old ≤ units (Input.text input.now) }
-    ensures byte { result ≡ where_bytes Input.Units.ARE_BYTES (byte_beside (bytes_of (Input.text input.now)) (way Dir.FORWARD) (Input.Position.offset pos.old)) }
-    ensures moves { IfSome result (λ _. Input.Position.offset pos.new ≡ one_on (way Dir.FORWARD) (Input.Position.offset pos.old)) }
+    ensures byte { result ≡ where_bytes Input.Units.ARE_BYTES (byte_beside
+        (bytes_of (Input.text input.now)) (way Dir.FORWARD) (Input.Position.offset pos.old)) }
+    ensures moves { let at = Input.Position.offset in
+        IfSome result (λ _. at pos.new ≡ one_on (way Dir.FORWARD) (at pos.old)) }
     ensures stays { IfNone result (pos.new ≡ pos.old) }
 {
     if Dir::FORWARD {

@@ -58,38 +58,43 @@ pub trait InputIndexer: Copy + Debug + UnitsAre {
     /// The unit at any offset that is not the right end.
     fn unit(&self, pos: Self::Position) -> u32
         requires { Self.Position.offset pos < units (text self.now) }
-        ensures { slice_get (units_in Self.Units.encoding (text self.now)) (Self.Position.offset pos) ≡ Some result };
+        ensures { slice_get (units_in Self.Units.encoding (text self.now)) (Self.Position.offset pos)
+            ≡ Some result };
 
     /// The character to the right of a boundary that is not the right end, and the position past it.
     fn character_right(&self, pos: Self::Position) -> (Self::Element, Self::Position)
         requires at { IsBoundary (text self.now) (Self.Position.offset pos) }
         requires inside { Self.Position.offset pos < units (text self.now) }
-        ensures { read (text self.now) rightwards (Self.Position.offset pos) ≡ Some (Self.Element.number result.0, Self.Position.offset result.1) };
+        ensures { let at = Self.Position.offset in
+            read (text self.now) rightwards (at pos) ≡ Some (Self.Element.number result.0, at result.1) };
 
     /// The character to the left of a boundary that is not the left end, and the position before it.
     fn character_left(&self, pos: Self::Position) -> (Self::Element, Self::Position)
         requires at { IsBoundary (text self.now) (Self.Position.offset pos) }
         requires inside { 0 < Self.Position.offset pos }
-        ensures { read (text self.now) leftwards (Self.Position.offset pos) ≡ Some (Self.Element.number result.0, Self.Position.offset result.1) };
+        ensures { let at = Self.Position.offset in
+            read (text self.now) leftwards (at pos) ≡ Some (Self.Element.number result.0, at result.1) };
 
     /// The position past the character to the right of a boundary that is not the right end.
     fn past(&self, pos: Self::Position) -> Self::Position
         requires at { IsBoundary (text self.now) (Self.Position.offset pos) }
         requires inside { Self.Position.offset pos < units (text self.now) }
-        ensures { past_character (text self.now) rightwards (Self.Position.offset pos) ≡ Some (Self.Position.offset result) };
+        ensures { let at = Self.Position.offset in
+            past_character (text self.now) rightwards (at pos) ≡ Some (at result) };
 
     /// The position before the character to the left of a boundary that is not the left end.
     fn before(&self, pos: Self::Position) -> Self::Position
         requires at { IsBoundary (text self.now) (Self.Position.offset pos) }
         requires inside { 0 < Self.Position.offset pos }
-        ensures { past_character (text self.now) leftwards (Self.Position.offset pos) ≡ Some (Self.Position.offset result) };
+        ensures { let at = Self.Position.offset in
+            past_character (text self.now) leftwards (at pos) ≡ Some (at result) };
 
     /// The text between two boundaries. Its positions count from its own left end.
     fn between(&self, start: Self::Position, end: Self::Position) -> Self
         requires from { IsBoundary (text self.now) (Self.Position.offset start) }
         requires to { IsBoundary (text self.now) (Self.Position.offset end) }
         requires in_order { Self.Position.offset start ≤ Self.Position.offset end }
-        ensures { text result ≡ part (text self.now) (Self.Position.offset start) (Self.Position.offset end) };
+        ensures { let at = Self.Position.offset in text result ≡ part (text self.now) (at start) (at end) };
 
     /// The position behind the characters between two boundaries, where they stand once more on the direction's side of
     /// a third, read left to right.
@@ -104,7 +109,8 @@ pub trait InputIndexer: Copy + Debug + UnitsAre {
         requires from { IsBoundary (text self.now) (Self.Position.offset start) }
         requires to { IsBoundary (text self.now) (Self.Position.offset end) }
         requires in_order { Self.Position.offset start ≤ Self.Position.offset end }
-        ensures { option_map (λ p. Self.Position.offset p) result ≡ past_range (text self.now) (Self.Position.offset start) (Self.Position.offset end) (way Dir.FORWARD) (Self.Position.offset pos) };
+        ensures { let at = Self.Position.offset in option_map at result
+            ≡ past_range (text self.now) (at start) (at end) (way Dir.FORWARD) (at pos) };
 
     ghost is_text: { (it : Self) → IsText (text it) };
 
@@ -121,7 +127,8 @@ pub trait InputIndexer: Copy + Debug + UnitsAre {
     /// Whether two characters are the same, or have the same fold.
     #[inline(always)]
     final fn fold_equals(&self, c1: Self::Element, c2: Self::Element) -> bool
-        ensures { result ≡ same_fold (text self.now).fold (Self.Element.number c1) (Self.Element.number c2) }
+        ensures { result ≡ same_fold (text self.now).fold
+            (Self.Element.number c1) (Self.Element.number c2) }
     {
         c1.as_u32() == c2.as_u32() || self.fold(c1).as_u32() == self.fold(c2).as_u32()
     }
@@ -158,7 +165,8 @@ pub trait InputIndexer: Copy + Debug + UnitsAre {
         requires from { IsBoundary (text self.now) (Self.Position.offset range.start) }
         requires to { IsBoundary (text self.now) (Self.Position.offset range.end) }
         requires in_order { Self.Position.offset range.start ≤ Self.Position.offset range.end }
-        ensures { text result ≡ part (text self.now) (Self.Position.offset range.start) (Self.Position.offset range.end) }
+        ensures { let at = Self.Position.offset in
+            text result ≡ part (text self.now) (at range.start) (at range.end) }
     {
         self.between(range.start, range.end)
     }
@@ -167,7 +175,9 @@ pub trait InputIndexer: Copy + Debug + UnitsAre {
     #[inline(always)]
     final fn next_right(&self, pos: &mut Self::Position) -> Option<Self::Element>
         requires { IsBoundary (text self.now) (Self.Position.offset pos.old) }
-        ensures read { option_map (λ e. (Self.Element.number e, Self.Position.offset pos.new)) result ≡ read (text self.now) rightwards (Self.Position.offset pos.old) }
+        ensures read { let at = Self.Position.offset in
+            option_map (λ e. (Self.Element.number e, at pos.new)) result
+            ≡ read (text self.now) rightwards (at pos.old) }
         ensures stays { IfNone result (pos.new ≡ pos.old) }
         ensures ahead { IfSome result (λ _. Self.Position.offset pos.old < Self.Position.offset pos.new) }
         ensures boundary { IsBoundary (text self.now) (Self.Position.offset pos.new) }
@@ -185,7 +195,9 @@ pub trait InputIndexer: Copy + Debug + UnitsAre {
     #[inline(always)]
     final fn next_left(&self, pos: &mut Self::Position) -> Option<Self::Element>
         requires { IsBoundary (text self.now) (Self.Position.offset pos.old) }
-        ensures read { option_map (λ e. (Self.Element.number e, Self.Position.offset pos.new)) result ≡ read (text self.now) leftwards (Self.Position.offset pos.old) }
+        ensures read { let at = Self.Position.offset in
+            option_map (λ e. (Self.Element.number e, at pos.new)) result
+            ≡ read (text self.now) leftwards (at pos.old) }
         ensures stays { IfNone result (pos.new ≡ pos.old) }
         ensures ahead { IfSome result (λ _. Self.Position.offset pos.new < Self.Position.offset pos.old) }
         ensures boundary { IsBoundary (text self.now) (Self.Position.offset pos.new) }
@@ -203,7 +215,8 @@ pub trait InputIndexer: Copy + Debug + UnitsAre {
     #[inline(always)]
     final fn next_right_pos(&self, pos: Self::Position) -> Option<Self::Position>
         requires { IsBoundary (text self.now) (Self.Position.offset pos) }
-        ensures read { option_map (λ p. Self.Position.offset p) result ≡ past_character (text self.now) rightwards (Self.Position.offset pos) }
+        ensures read { let at = Self.Position.offset in
+            option_map at result ≡ past_character (text self.now) rightwards (at pos) }
         ensures ahead { IfSome result (λ p. Self.Position.offset pos < Self.Position.offset p) }
         ensures boundary { IfSome result (λ p. IsBoundary (text self.now) (Self.Position.offset p)) }
         ensures inside { IfSome result (λ p. Self.Position.offset p ≤ units (text self.now)) }
@@ -218,7 +231,8 @@ pub trait InputIndexer: Copy + Debug + UnitsAre {
     #[inline(always)]
     final fn next_left_pos(&self, pos: Self::Position) -> Option<Self::Position>
         requires { IsBoundary (text self.now) (Self.Position.offset pos) }
-        ensures read { option_map (λ p. Self.Position.offset p) result ≡ past_character (text self.now) leftwards (Self.Position.offset pos) }
+        ensures read { let at = Self.Position.offset in
+            option_map at result ≡ past_character (text self.now) leftwards (at pos) }
         ensures ahead { IfSome result (λ p. Self.Position.offset p < Self.Position.offset pos) }
         ensures boundary { IfSome result (λ p. IsBoundary (text self.now) (Self.Position.offset p)) }
         ensures inside { IfSome result (λ p. Self.Position.offset p ≤ units (text self.now)) }
@@ -233,7 +247,8 @@ pub trait InputIndexer: Copy + Debug + UnitsAre {
     #[inline(always)]
     final fn peek_right(&self, pos: Self::Position) -> Option<Self::Element>
         requires { IsBoundary (text self.now) (Self.Position.offset pos) }
-        ensures { option_map (λ e. Self.Element.number e) result ≡ character (text self.now) rightwards (Self.Position.offset pos) }
+        ensures { option_map Self.Element.number result
+            ≡ character (text self.now) rightwards (Self.Position.offset pos) }
     {
         let mut at = pos;
         self.next_right(&mut at)
@@ -243,7 +258,8 @@ pub trait InputIndexer: Copy + Debug + UnitsAre {
     #[inline(always)]
     final fn peek_left(&self, pos: Self::Position) -> Option<Self::Element>
         requires { IsBoundary (text self.now) (Self.Position.offset pos) }
-        ensures { option_map (λ e. Self.Element.number e) result ≡ character (text self.now) leftwards (Self.Position.offset pos) }
+        ensures { option_map Self.Element.number result
+            ≡ character (text self.now) leftwards (Self.Position.offset pos) }
     {
         let mut at = pos;
         self.next_left(&mut at)
@@ -264,7 +280,8 @@ pub trait InputIndexer: Copy + Debug + UnitsAre {
     #[inline(always)]
     final fn peek_byte_right(&self, pos: Self::Position) -> Option<u8>
         requires inside { Self.Position.offset pos ≤ units (text self.now) }
-        ensures { result ≡ where_bytes Self.Units.ARE_BYTES (byte_beside (bytes_of (text self.now)) rightwards (Self.Position.offset pos)) }
+        ensures { result ≡ where_bytes Self.Units.ARE_BYTES
+            (byte_beside (bytes_of (text self.now)) rightwards (Self.Position.offset pos)) }
     {
         match self.as_bytes() {
             Some(all) => units::unit_right(all, pos.to_offset()),
@@ -276,7 +293,8 @@ pub trait InputIndexer: Copy + Debug + UnitsAre {
     #[inline(always)]
     final fn peek_byte_left(&self, pos: Self::Position) -> Option<u8>
         requires inside { Self.Position.offset pos ≤ units (text self.now) }
-        ensures { result ≡ where_bytes Self.Units.ARE_BYTES (byte_beside (bytes_of (text self.now)) leftwards (Self.Position.offset pos)) }
+        ensures { result ≡ where_bytes Self.Units.ARE_BYTES
+            (byte_beside (bytes_of (text self.now)) leftwards (Self.Position.offset pos)) }
     {
         match self.as_bytes() {
             Some(all) => units::unit_left(all, pos.to_offset()),
@@ -288,7 +306,8 @@ pub trait InputIndexer: Copy + Debug + UnitsAre {
     /// also one that is past it already.
     #[inline(always)]
     final fn try_move_right(&self, pos: Self::Position, amt: usize) -> Option<Self::Position>
-        ensures { option_map (λ p. Self.Position.offset p) result ≡ units_on (units (text self.now)) rightwards amt (Self.Position.offset pos) }
+        ensures { let at = Self.Position.offset in
+            option_map at result ≡ units_on (units (text self.now)) rightwards amt (at pos) }
     {
         let to = units::moved_right(self.unit_count(), pos.to_offset(), amt);
         units::position_at(to)
@@ -298,7 +317,8 @@ pub trait InputIndexer: Copy + Debug + UnitsAre {
     /// one past the right end there is none either where the move ends past it still.
     #[inline(always)]
     final fn try_move_left(&self, pos: Self::Position, amt: usize) -> Option<Self::Position>
-        ensures { option_map (λ p. Self.Position.offset p) result ≡ units_on (units (text self.now)) leftwards amt (Self.Position.offset pos) }
+        ensures { let at = Self.Position.offset in
+            option_map at result ≡ units_on (units (text self.now)) leftwards amt (at pos) }
     {
         let to = units::moved_left(self.unit_count(), pos.to_offset(), amt);
         units::position_at(to)
@@ -313,7 +333,9 @@ pub trait InputIndexer: Copy + Debug + UnitsAre {
         search: &Search,
     ) -> Option<Self::Position>
         requires inside { Self.Position.offset pos ≤ units (text self.now) }
-        ensures { IsFoundFrom Self.Units.ARE_BYTES (Search.stands_at search.now) (bytes_of (text self.now)) (Self.Position.offset pos) (option_map (λ p. Self.Position.offset p) result) }
+        ensures { let at = Self.Position.offset in
+            IsFoundFrom Self.Units.ARE_BYTES (Search.stands_at search.now)
+            (bytes_of (text self.now)) (at pos) (option_map at result) }
     {
         match self.as_bytes() {
             Some(all) => units::position_at(units::find_from(all, pos.to_offset(), search)),
@@ -334,7 +356,8 @@ pub trait InputIndexer: Copy + Debug + UnitsAre {
         requires from { IsBoundary (text self.now) (Self.Position.offset range.start) }
         requires to { IsBoundary (text self.now) (Self.Position.offset range.end) }
         requires in_order { Self.Position.offset range.start ≤ Self.Position.offset range.end }
-        ensures { let at = Self.Position.offset in led_to result (at pos.new) ≡ past_range (text self.now) (at range.start) (at range.end) (way Dir.FORWARD) (at pos.old) }
+        ensures { let at = Self.Position.offset in led_to result (at pos.new)
+            ≡ past_range (text self.now) (at range.start) (at range.end) (way Dir.FORWARD) (at pos.old) }
     {
         let to = self.past_again(dir, *pos, range.start, range.end);
         units::leave_at(pos, to)
@@ -350,7 +373,9 @@ pub trait InputIndexer: Copy + Debug + UnitsAre {
         bytes: &[u8],
     ) -> bool
         requires inside { Self.Position.offset pos.old ≤ units (text self.now) }
-        ensures { led_to result (Self.Position.offset pos.new) ≡ where_bytes Self.Units.ARE_BYTES (past_bytes (bytes_of (text self.now)) bytes.now (way Dir.FORWARD) (Self.Position.offset pos.old)) }
+        ensures { let at = Self.Position.offset in
+            led_to result (at pos.new) ≡ where_bytes Self.Units.ARE_BYTES
+            (past_bytes (bytes_of (text self.now)) bytes.now (way Dir.FORWARD) (at pos.old)) }
     {
         let Some(all) = self.as_bytes() else {
             return false;

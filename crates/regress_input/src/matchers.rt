@@ -24,7 +24,9 @@ pub fn backref<Input: InputIndexer, Dir: Direction>(
     requires from { IsBoundary (Input.text input.now) (Input.Position.offset orig_range.start) }
     requires to { IsBoundary (Input.text input.now) (Input.Position.offset orig_range.end) }
     requires in_order { Input.Position.offset orig_range.start ≤ Input.Position.offset orig_range.end }
-    ensures { let at = Input.Position.offset in led_to result (at pos.new) ≡ past_range (Input.text input.now) (at orig_range.start) (at orig_range.end) (way Dir.FORWARD) (at pos.old) }
+    ensures { let at = Input.Position.offset in
+        led_to result (at pos.new) ≡ past_range (Input.text input.now)
+        (at orig_range.start) (at orig_range.end) (way Dir.FORWARD) (at pos.old) }
 {
     input.subrange_eq(dir, pos, orig_range)
 }
@@ -42,7 +44,9 @@ pub fn backref_icase<Input: InputIndexer, Dir: Direction>(
     requires from { IsBoundary (Input.text input.now) (Input.Position.offset orig_range.start) }
     requires to { IsBoundary (Input.text input.now) (Input.Position.offset orig_range.end) }
     requires in_order { Input.Position.offset orig_range.start ≤ Input.Position.offset orig_range.end }
-    ensures { let at = Input.Position.offset in led_to result (at pos.new) ≡ past_range_icase (Input.text input.now) (at orig_range.start) (at orig_range.end) (way Dir.FORWARD) (at pos.old) }
+    ensures { let at = Input.Position.offset in
+        led_to result (at pos.new) ≡ past_range_icase (Input.text input.now)
+        (at orig_range.start) (at orig_range.end) (way Dir.FORWARD) (at pos.old) }
 {
     let start = orig_range.start;
     let end = orig_range.end;

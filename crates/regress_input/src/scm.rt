@@ -26,7 +26,8 @@ pub trait SingleCharMatcher<Input: InputIndexer, Dir: Direction> {
     fn matches(&self, input: &Input, dir: Dir, pos: &mut Input::Position) -> bool
         requires can { can_match self.now }
         requires at { IsBoundary (Input.text input.now) (Input.Position.offset pos.old) }
-        ensures { led_to result (Input.Position.offset pos.new) ≡ past_if (Input.text input.now) (accepted self.now) (way Dir.FORWARD) (Input.Position.offset pos.old) };
+        ensures { let at = Input.Position.offset in led_to result (at pos.new)
+            ≡ past_if (Input.text input.now) (accepted self.now) (way Dir.FORWARD) (at pos.old) };
 }
 
 /// One character.
@@ -180,7 +181,9 @@ fn matches_ascii<Bytes: ByteSet, Input: InputIndexer, Dir: Direction>(
 ) -> bool
     requires ascii { All (λ b. b < 128) (Bytes.members bytes.now) }
     requires at { IsBoundary (Input.text input.now) (Input.Position.offset pos.old) }
-    ensures { led_to result (Input.Position.offset pos.new) ≡ past_if (Input.text input.now) (contains (Bytes.members bytes.now)) (way Dir.FORWARD) (Input.Position.offset pos.old) }
+    ensures { let at = Input.Position.offset in
+        led_to result (at pos.new) ≡ past_if (Input.text input.now)
+        (contains (Bytes.members bytes.now)) (way Dir.FORWARD) (at pos.old) }
 {
     if Input::Units::ARE_BYTES {
         match cursor::next_byte(input, dir, pos) {

@@ -111,7 +111,8 @@ fn character_of_three(first: u8, second: u8, third: u8) -> char
 
 #[inline(always)]
 fn character_of_four(first: u8, second: u8, third: u8, fourth: u8) -> char
-    requires { (c : ℕ) × IsScalar c × (c + 63447168 ≡ first * 262144 + second * 4096 + third * 64 + fourth) }
+    requires { (c : ℕ) × IsScalar c
+        × (c + 63447168 ≡ first * 262144 + second * 4096 + third * 64 + fourth) }
     ensures { result + 63447168 ≡ first * 262144 + second * 4096 + third * 64 + fourth }
 {
     let code = first as u32 * 262144 + second as u32 * 4096 + third as u32 * 64 + fourth as u32

@@ -45,7 +45,8 @@ fn compared_in_order<'a>(p: IndexPosition<'a>, q: IndexPosition<'a>) -> (bool, b
 
 fn added<'a>(mut p: IndexPosition<'a>, units: usize) -> IndexPosition<'a>
     requires { ⟦<IndexPosition<'a> as PositionType>⟧.offset p + units < 2 ^ 64 }
-    ensures { ⟦<IndexPosition<'a> as PositionType>⟧.offset result ≡ ⟦<IndexPosition<'a> as PositionType>⟧.offset p.entry + units }
+    ensures { ⟦<IndexPosition<'a> as PositionType>⟧.offset result
+        ≡ ⟦<IndexPosition<'a> as PositionType>⟧.offset p.entry + units }
 {
     p += units;
     p
@@ -53,7 +54,8 @@ fn added<'a>(mut p: IndexPosition<'a>, units: usize) -> IndexPosition<'a>
 
 fn taken_off<'a>(mut p: IndexPosition<'a>, units: usize) -> IndexPosition<'a>
     requires { units ≤ ⟦<IndexPosition<'a> as PositionType>⟧.offset p }
-    ensures { ⟦<IndexPosition<'a> as PositionType>⟧.offset result ≡ ⟦<IndexPosition<'a> as PositionType>⟧.offset p.entry - units }
+    ensures { ⟦<IndexPosition<'a> as PositionType>⟧.offset result
+        ≡ ⟦<IndexPosition<'a> as PositionType>⟧.offset p.entry - units }
 {
     p -= units;
     p

@@ -1,4 +1,5 @@
 pub mod CallerLemmas
+pub mod FoundLemmas
 pub mod Closures
 pub mod EscapeLemmas
 pub mod Expansion
@@ -7,3 +8,4 @@ pub mod RefusalLemmas
 pub mod Replacing
 pub mod SearchLemmas
 pub mod Starts
+pub mod ResumingLemmas

@@ -6,3 +6,4 @@ pub mod Parts
 pub mod Refusals
 pub mod Replacements
 pub mod Searches
+pub mod Resuming

@@ -1,10 +1,11 @@
 -- The trees whose programs a `Regex` holds, and what it finds.
-use Rattle.std.specs.Prelude.{◌≡◌, ◌<◌, ◌⊎◌, ℕ, Bool, List, Some, IsTrue}
+use Rattle.std.specs.Prelude.{◌≡◌, ◌<◌, ◌⊎◌, ℕ, Bool, List, Option, Some, IsTrue}
 use Rattle.regex_meaning.specs.Tree.{Tree, Flags}
 use Rattle.regex_meaning.specs.Text.{Text, utf8_text, ascii_text, utf16_text, ucs2_text}
 use Rattle.regex_meaning.specs.Offsets.{IsBoundary, units}
 use Rattle.regex_meaning.specs.Layout.{IsByteCodeOf, IsUnitCodeOf}
 use Rattle.regex_meaning.specs.Names.{Answer, answers_from}
+use Rattle.regex_meaning.specs.Answers.{answer_at}
 use Rattle.regex_meaning.specs.Steps.{answers_within, end_within}
 use Rattle.regex_meaning.specs.WellFormed.{is_well_formed}
 use Rattle.regex_pattern_front.specs.TreeOf.{tree_of}
@@ -66,6 +67,19 @@ utf16_answers re units start = answers_from (unit_tree re).root (utf16_text unit
 -- the answers in a text in UCS-2 from an offset on
 abbrev pub ucs2_answers : Regex → (units : List ℕ) → (start : ℕ) → List Answer
 ucs2_answers re units start = answers_from (unit_tree re).root (ucs2_text units (unit_tree re).flags.unicode) start
+
+-- the match that begins at an offset of a text, if one does, in each of the encodings
+abbrev pub utf8_answer_at : Regex → (bytes : List ℕ) → (at : ℕ) → Option Answer
+utf8_answer_at re bytes at = answer_at (byte_tree re).root (as_utf8 re bytes) at
+
+abbrev pub ascii_answer_at : Regex → (bytes : List ℕ) → (at : ℕ) → Option Answer
+ascii_answer_at re bytes at = answer_at (byte_tree re).root (as_ascii re bytes) at
+
+abbrev pub utf16_answer_at : Regex → (units : List ℕ) → (at : ℕ) → Option Answer
+utf16_answer_at re units at = answer_at (unit_tree re).root (as_utf16 re units) at
+
+abbrev pub ucs2_answer_at : Regex → (units : List ℕ) → (at : ℕ) → Option Answer
+ucs2_answer_at re units at = answer_at (unit_tree re).root (as_ucs2 re units) at
 
 -- searches may start there: at a boundary, or past the end
 abbrev pub IsStart : Text → (start : ℕ) → Type 0

@@ -1,5 +1,5 @@
 -- What replacements write, and what they ask of matches.
-use Rattle.std.specs.Prelude.{◌≤◌, ℕ, List, [], ◌∷◌, map, IsCharBoundary, IfSome}
+use Rattle.std.specs.Prelude.{◌≤◌, ℕ, List, [], ◌∷◌, length, map, IsCharBoundary, IfSome}
 use Rattle.regex_meaning.specs.Laws.{Each}
 use Rattle.regex_meaning.specs.Names.{Answer}
 use Rattle.regex_meaning.specs.Replace.{expansion}
@@ -21,3 +21,11 @@ pub record FitsText (text : List ℕ) (m : Answer) : Type 0 where
 abbrev pub StandFrom : (text : List ℕ) → (from : ℕ) → List Answer → Type 0
 StandFrom text from [] = Unit {0}
 StandFrom text from (m ∷ ms) = (from ≤ m.range.0) × FitsText text m × StandFrom text m.range.1 ms
+
+-- the range lies within the units of a text, and so do that of the match and those of its groups
+abbrev pub IsWithin : (units : List ℕ) → ℕ × ℕ → Type 0
+IsWithin units range = (range.0 ≤ range.1) × (range.1 ≤ length units)
+
+pub record FitsUnits (units : List ℕ) (m : Answer) : Type 0 where
+  pub whole : IsWithin units m.range
+  pub groups : Each (λ g. IfSome g (IsWithin units)) m.captures

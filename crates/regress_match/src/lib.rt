@@ -8,12 +8,15 @@
 
 pub mod api;
 pub mod backends;
+mod executors;
 pub mod program;
 
 pub use crate::api::{
-    AsciiMatches, Error, Flags, Groups, LimitedMatches, Match, Matches, NamedGroups, Range, Regex,
-    ReplaceError, SearchError, escape, is_unit_boundary,
+    AsciiMatches, Caret, Cause, Diagnosis, Error, Flags, Groups, LimitedMatches, Match, Matches,
+    NamedGroups, Range, Regex, ReplaceError, SearchError, Step, escape, is_unit_boundary,
+    next_from,
 };
+pub use regex_pattern_front::depth::nesting;
 pub use regress_exec::{exec, places};
 pub use regress_input::{cursor, front, indexing, matchers, position, scm};
 pub use regress_program::{emit, insn, startpredicate};

@@ -36,7 +36,8 @@ impl Before {
 impl Plan {
     /// What must stand before a match, if the first operation tells.
     pub(crate) fn before(&self, units: Units) -> Option<Before>
-        ensures { IfSome result (λ before. (program : Program) → AreOps (wide_of units) program self.now → IsBefore (wide_of units) program before) }
+        ensures { IfSome result (λ before. (program : Program)
+            → AreOps (wide_of units) program self.now → IsBefore (wide_of units) program before) }
     {
         match self.ops.get(0) {
             Some(Op::LineStart { multiline }) if *multiline => {
@@ -50,7 +51,8 @@ impl Plan {
     // The same where this lookaround stands first.
     fn before_look(&self, look: Look, units: Units) -> Option<Before>
         requires { slice_get self.now.ops.items 0 ≡ Some (Op.Look look) }
-        ensures { IfSome result (λ before. (program : Program) → AreOps (wide_of units) program self.now → IsBefore (wide_of units) program before) }
+        ensures { IfSome result (λ before. (program : Program)
+            → AreOps (wide_of units) program self.now → IsBefore (wide_of units) program before) }
     {
         if look.forward || look.negate {
             return None;

@@ -136,14 +136,16 @@ fn all_but(from: usize, count: usize) -> u16
 
 /// What must stand where the program of this plan begins to match.
 pub(crate) fn front_of(plan: &Plan) -> Front
-    ensures { (wide : Bool) (program : Program) → AreOps wide program plan.now → IsFrontAt wide program 0 result }
+    ensures { (wide : Bool) (program : Program)
+        → AreOps wide program plan.now → IsFrontAt wide program 0 result }
 {
     front_at(plan, 0, STEPS)
 }
 
 // What must stand from an operation on, as far as so many operations tell. Where two of them lead on, either has half of the rest.
 fn front_at(plan: &Plan, from: usize, steps: usize) -> Front
-    ensures { (wide : Bool) (program : Program) → AreOps wide program plan.now → IsFrontAt wide program from result }
+    ensures { (wide : Bool) (program : Program)
+        → AreOps wide program plan.now → IsFrontAt wide program from result }
 {
     let mut front = Front::unknown();
     let mut ip = from;
@@ -180,7 +182,8 @@ fn front_at(plan: &Plan, from: usize, steps: usize) -> Front
 
 // What an operation says.
 fn said_at(plan: &Plan, ip: usize) -> Ahead
-    ensures { (wide : Bool) (program : Program) → AreOps wide program plan.now → Leads wide program ip result }
+    ensures { (wide : Bool) (program : Program)
+        → AreOps wide program plan.now → Leads wide program ip result }
 {
     match plan.ops.get(ip) {
         Some(op) => said_of_op(plan, *op, ip),

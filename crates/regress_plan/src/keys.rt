@@ -107,7 +107,8 @@ fn single_units_of(key: u8) -> Begun
 
 /// The key of the first unit of a character; of a number that is no character, some key.
 pub fn first_key(c: u32, units: Units) -> usize
-    ensures is { (e : Encoding) → is_wide e ≡ wide_of units → is_character e c ≡ true → first_key_in e (key_of (wide_of units)) c ≡ Some result }
+    ensures is { (e : Encoding) → is_wide e ≡ wide_of units → is_character e c ≡ true
+        → first_key_in e (key_of (wide_of units)) c ≡ Some result }
     ensures inside { result < 256 }
 {
     let key = match units {

@@ -273,7 +273,8 @@ impl Front {
     // Whether only units that pass may stand there.
     fn all_pass(&self, probe: Probe) -> bool
         requires { probe.ahead < 16 }
-        ensures { result ≡ true → (k : ℕ) → k < 256 → allowed_of self.now probe.ahead k ≡ true → has_bits probe k ≡ true }
+        ensures { result ≡ true → (k : ℕ) → k < 256
+            → allowed_of self.now probe.ahead k ≡ true → has_bits probe k ≡ true }
     {
         let mut others = false;
         for key in 0..KEYS {

@@ -1,13 +1,15 @@
 -- A program that is being made.
-use Rattle.std.specs.Prelude.{ℕ, ◌+◌, ◌<◌, ◌^◌, Bool, ◌&&◌, if◌then◌else◌, List, [], ◌∷◌, ◌++◌, map, length, slice_set, nat_lt, Vec}
+use Rattle.std.specs.Prelude.{◌≡◌, ℕ, ◌+◌, ◌<◌, ◌^◌, Bool, ◌&&◌, if◌then◌else◌, List, [], ◌∷◌, ◌++◌, map, length, slice_set, nat_lt, Vec}
 use Rattle.std.specs.List.{list_all}
 use Rattle.regex_meaning.specs.Tree.{BracketContents, Lookaround, Node, cat, alt, capture_group, lookaround, loop, loop_1_char_body}
 use Rattle.regex_meaning.specs.Layout.{Insn, Alt, Jump}
 use Rattle.regex_pattern_front.specs.Optimized.{reads_one_character}
-use Rattle.regex_pattern_front.specs.TreeOf.{contents_of}
+use Rattle.regex_pattern_front.specs.TreeOf.{contents_of, node_of}
 use Rattle.regress_program.specs.Insns.{insn_of}
 use Rattle.regress_program.specs.Code.{size, loop_count, brackets_of, code_of}
 use Rattle.regress_program.specs.declared.emit.emitter.Emitter.{Emitter}
+use Rattle.regress_program.specs.declared.emit.emitter.Mode.{Mode}
+use Rattle.regex_pattern_front.specs.declared.ir.Node as ir
 use Rattle.regress_program.specs.declared.emit.emitter.Lookaround as declared
 
 pub record State : Type 0 where
@@ -49,6 +51,10 @@ with_code unicode behind node s = record {
   brackets = s.brackets ++ brackets_of node;
 }
 
+-- behind the one program the code of a node was put, which gave the other
+abbrev pub IsEmitted : Mode → Node → (before after : Emitter) → Type 0
+IsEmitted mode node before after = state_of after ≡ with_code mode.unicode mode.behind node (state_of before)
+
 -- where the jump behind an alternative comes to stand
 abbrev pub jump_behind : (arm : Node) → State → ℕ
 jump_behind arm s = length s.insns + size arm + 1
@@ -86,6 +92,10 @@ shaped narrow (loop q start_group end_group loopee) =
     else loop q start_group end_group (shaped narrow loopee)
 shaped narrow (loop_1_char_body q loopee) = loop_1_char_body q (shaped narrow loopee)
 shaped narrow node = node
+
+-- the same of a declared node, in a mode
+abbrev pub shaped_in : Mode → ir.Node → Node
+shaped_in mode node = shaped mode.narrow (node_of node)
 
 -- The numbers of what the node adds can be held.
 pub record HasRoom (s : State) (node : Node) : Type 0 where

@@ -1,12 +1,17 @@
 -- The ids of groups, as a test of trees reads them.
-use Rattle.std.specs.Prelude.{ℕ, ◌+◌, ◌-◌, ◌^◌, ◌/◌, ◌%◌, Bool, true, not, ◌&&◌, ◌||◌, List, [], ◌∷◌, length, min, max, ◌==◌, slice_index}
+use Rattle.std.specs.Prelude.{◌≡◌, ℕ, ◌+◌, ◌-◌, ◌^◌, ◌/◌, ◌%◌, Bool, true, not, ◌&&◌, ◌||◌, List, [], ◌∷◌, length, min, max, ◌==◌, slice_index}
 use Rattle.std.specs.Int.{bit_at}
+use Rattle.regex_meaning.specs.Lists.{contains}
 use Rattle.regex_meaning.specs.Tree.{Node, group_ids, every}
 use Rattle.regex_meaning.specs.WellFormed.{names_the_groups_inside, encloses, refers_to_a_group, has_order_in_quantifier, has_one_character_body, has_text_in_sequence, fits_instructions}
 
 -- 64 ids to a word, the lowest bit first
 abbrev pub is_seen : List ℕ → ℕ → Bool
 is_seen bits id = bit_at (slice_index bits (id / 64)) (id % 64) == 1
+
+-- these ids are seen besides
+abbrev pub AddsSeen : List ℕ → (before after : List ℕ) → Type 0
+AddsSeen ids before after = (k : ℕ) → is_seen after k ≡ (is_seen before k || contains ids k)
 
 -- none of the ids is seen, and none stands twice
 unfoldable pub are_fresh : (seen : ℕ → Bool) → List ℕ → Bool

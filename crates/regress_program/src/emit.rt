@@ -1,11 +1,10 @@
 //! From trees to programs.
 
-ghost use Rattle.std.specs.Prelude.{◌≡◌, false, length, IfOk, OnOk, IfErr, IsErrOf};
+ghost use Rattle.std.specs.Prelude.{◌≡◌, false, length, IfOk, OnOk, IfErr};
 ghost use Rattle.regex_meaning.specs.Tree.{group_ids};
 ghost use Rattle.regex_meaning.specs.Layout.{IsByteCodeOf, IsUnitCodeOf};
 ghost use Rattle.regex_pattern_front.specs.TreeOf.{node_of, tree_of};
 ghost use Rattle.regress_program.specs.Code.{compiled};
-ghost use Rattle.regress_program.specs.declared.emit.EmitError.TheVariants.{NotWellFormed, BytesInUnits, TooManyGroups, TooManyLoops, TooManyInstructions, Memory};
 ghost use Rattle.regress_program.specs.Emitting.{nothing, shaped, state_of, with_code};
 ghost use Rattle.regress_program.specs.Programs.{IsRunOf};
 ghost use Rattle.regress_program.specs.Refusals.{IsRefused, IsRefusedInUnits, IsRefusedWith, FitsLimits};
@@ -34,21 +33,28 @@ use regex_pattern_front::types::{LoopID, MAX_CAPTURE_GROUPS};
 use regress_plan::keys::Units;
 use regress_plan::plan::{Code, Plan};
 use std::alloc::{AllocError, Global};
+use thiserror::Error;
 
 /// Why a tree is not compiled.
-#[derive(Clone, Copy, Debug, PartialEq, Eq)]
+#[derive(Clone, Copy, Debug, PartialEq, Eq, Error)]
 pub enum EmitError {
     /// The tree is not well formed.
+    #[error("the tree is not well formed")]
     NotWellFormed,
     /// A byte set or a byte sequence stands in a tree for 16-bit units.
+    #[error("bytes stand in a tree for 16-bit units")]
     BytesInUnits,
     /// There are more than `MAX_CAPTURE_GROUPS` groups.
+    #[error("too many groups")]
     TooManyGroups,
     /// There are more than `LoopID::MAX` loops.
+    #[error("too many loops")]
     TooManyLoops,
     /// There are more than `u32::MAX` instructions.
+    #[error("too many instructions")]
     TooManyInstructions,
     /// A growth was refused.
+    #[error("out of memory")]
     Memory,
 }
 
@@ -73,12 +79,7 @@ pub fn emit(alloc: Global, re: &ir::Regex) -> Result<CompiledRegex, EmitError>
     ensures tree { IfOk result (λ p. p ≡ re.now) }
     ensures code { OnOk result (IsByteCodeOf (compiled (tree_of re.now)) (tree_of re.now)) }
     ensures fits { OnOk result (FitsLimits (tree_of re.now)) }
-    ensures not_well_formed { IsErrOf result EmitError.NotWellFormed → IsRefused NotWellFormed (tree_of re.now) }
-    ensures too_many_groups { IsErrOf result EmitError.TooManyGroups → IsRefused TooManyGroups (tree_of re.now) }
-    ensures too_many_loops { IsErrOf result EmitError.TooManyLoops → IsRefused TooManyLoops (tree_of re.now) }
-    ensures too_many_instructions { IsErrOf result EmitError.TooManyInstructions → IsRefused TooManyInstructions (tree_of re.now) }
-    ensures memory { IsErrOf result EmitError.Memory → IsRefused Memory (tree_of re.now) }
-    ensures no_units { ¬ (IsErrOf result EmitError.BytesInUnits) }
+    ensures refused { IfErr result (λ e. IsRefused e (tree_of re.now)) }
 {
     let program = compile(alloc, re, false)?;
     let start_pred = predicate_for_re(alloc, re)?;
@@ -100,12 +101,7 @@ pub fn emit_units(alloc: Global, re: &ir::Regex) -> Result<CompiledUnits, EmitEr
     ensures tree { IfOk result (λ p. p ≡ re.now) }
     ensures code { OnOk result (IsUnitCodeOf (compiled (tree_of re.now)) (tree_of re.now)) }
     ensures fits { OnOk result (FitsLimits (tree_of re.now)) }
-    ensures not_well_formed { IsErrOf result EmitError.NotWellFormed → IsRefusedInUnits NotWellFormed (tree_of re.now) }
-    ensures bytes_in_units { IsErrOf result EmitError.BytesInUnits → IsRefusedInUnits BytesInUnits (tree_of re.now) }
-    ensures too_many_groups { IsErrOf result EmitError.TooManyGroups → IsRefusedInUnits TooManyGroups (tree_of re.now) }
-    ensures too_many_loops { IsErrOf result EmitError.TooManyLoops → IsRefusedInUnits TooManyLoops (tree_of re.now) }
-    ensures too_many_instructions { IsErrOf result EmitError.TooManyInstructions → IsRefusedInUnits TooManyInstructions (tree_of re.now) }
-    ensures memory { IsErrOf result EmitError.Memory → IsRefusedInUnits Memory (tree_of re.now) }
+    ensures refused { IfErr result (λ e. IsRefusedInUnits e (tree_of re.now)) }
 {
     let program = compile(alloc, re, reads_bytes(&re.node))?;
     let run = run_of(alloc, re, &program)?;
@@ -138,7 +134,8 @@ fn run_of(alloc: Global, re: &ir::Regex, program: &Program) -> Result<Run, Alloc
 // The code of a tree; loops over one character are narrow in it or not.
 fn emitted(alloc: Global, re: &ir::Regex, narrow: bool) -> Result<Emitter, AllocError>
     requires { FitsLimits (tree_of re.now) }
-    ensures { IfOk result (λ e. state_of e ≡ with_code re.now.flags.unicode false (shaped narrow (node_of re.now.node)) nothing) }
+    ensures { IfOk result (λ e. state_of e
+        ≡ with_code re.now.flags.unicode false (shaped narrow (node_of re.now.node)) nothing) }
 {
     let mut emitter = Emitter::new(alloc);
     let mode = Mode {

@@ -35,7 +35,8 @@ use std::alloc::{AllocError, Global};
 /// tree is anchored, or where neither a byte sequence nor an inverted class is met before it is decided.
 pub fn predicate_for_re(alloc: Global, re: &ir::Regex) -> Result<StartPredicate, AllocError>
     ensures predicate { IfOk result (λ p. start_of p ≡ start_predicate (tree_of re.now)) }
-    ensures sound { IsWellFormed (tree_of re.now).root → IfOk result (λ p. IsSound (start_of p) (tree_of re.now).root) }
+    ensures sound { IsWellFormed (tree_of re.now).root
+        → IfOk result (λ p. IsSound (start_of p) (tree_of re.now).root) }
     ensures short { IfOk result IsShort }
     ensures no_memory { may_take_memory (tree_of re.now) ≡ false → IsOk result }
 {

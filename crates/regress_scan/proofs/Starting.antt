@@ -28,7 +28,7 @@ use Rattle.regress_scan.proofs.FirstUnits.{own-key, fits-past, fits-behind}
 use Rattle.regress_plan.specs.declared.front.Front.{Front}
 use Rattle.regress_plan.specs.Fronts.{allowed_of, fits, IsInAscii}
 use Rattle.regress_scan.proofs.LowUnits.{fit-boundary}
-use Rattle.regress_scan.specs.Starts.{allows_at, AllowsNone, IsFirstAllowed, IsFirstWhere, AllowsLeads, IsPast, few_allowed, fits_in}
+use Rattle.regress_scan.specs.Starts.{allows_at, AllowsNone, IsFirstAllowed, IsFirstWhere, AllowsLeads, IsPast, IsFoundIn, few_allowed, fits_in}
 
 -- ---- Past a unit
 
@@ -47,20 +47,20 @@ none-between text is at to led x on more less = by (read text rightwards at) ref
         let before = place-less text q.0 (suc step.place) is q.1.within upto.within (omega (arith, upto.offset_is, q.1.offset_is, less, same)) in
         omega (arith, after, before)
 
-pub past-byte : (text : Text) (at to : ℕ) → to ≡ at + 1 → at < units text → IsPast text true at to
-past-byte text at to e less = record {
-  ahead = omega (arith, e);
-  inside = omega (arith, e, less);
-  alone = λ x on more before. omega (arith, e, more, before);
-  boundary = λ h. cc;
-}
-
 pub past-character : (text : Text) → IsText text → (are_bytes : Bool) (at to : ℕ) → past text rightwards at ≡ Some to → IsPast text are_bytes at to
 past-character text is are_bytes at to led = record {
   ahead = past_ahead text is at to led;
   inside = boundary_inside text is to (past_boundary text is at to led);
   alone = none-between text is at to led;
   boundary = λ h. past_boundary text is at to led;
+}
+
+pub past-byte : (text : Text) (are_bytes : Bool) → are_bytes ≡ true → (at : ℕ) → at < units text → IsPast text are_bytes at (at + 1)
+past-byte text are_bytes is at less = record {
+  ahead = omega arith;
+  inside = omega (arith, less);
+  alone = λ x on more before. omega (arith, more, before);
+  boundary = λ no. let never : true ≡ false = sym is ∙ no in cc;
 }
 
 -- ---- Bytes that begin characters stand at boundaries
@@ -78,7 +78,7 @@ lead-begins k is = elim (cases_lt k 0x80) [
 ]
 
 boundary-lead : (e : Encoding) (text : Text) → HasUnits e text → (table : Table) → AllowsLeads (is_wide e) table → (at k : ℕ)
-    → key_at e (key (is_wide e)) text at ≡ Some k → k < 256 → table.keys k ≡ true → (is_wide e ≡ true → IsBoundary text at) → IsBoundary text at
+    → key_at e (key (is_wide e)) text at ≡ Some k → k < 256 → table.keys k ≡ true → (is_of_bytes e ≡ false → IsBoundary text at) → IsBoundary text at
 boundary-lead utf8 text has table leads at k there small allowed wide =
     boundary-byte text has.spelled at k (sym (own-key (slice_get (units_in utf8 text) at)) ∙ there) ∙ ap not (lead-begins k (leads refl k small allowed))
 boundary-lead utf16 text has table leads at k there small allowed wide = wide refl
@@ -87,11 +87,11 @@ boundary-lead ucs2 text has table leads at k there small allowed wide = wide ref
 -- ---- Unit by unit
 
 module _ (w : Searching) (table : Table) (from : ℕ) where
-  -- up to this offset the table allows nothing; in 16-bit units that is a boundary
+  -- up to this offset the table allows nothing; where units are no bytes that is a boundary
   pub record Scans (at : ℕ) : Type 0 where
     pub passed : from ≤ at
     pub inside : at ≤ units w.text
-    pub boundary : is_wide w.encoding ≡ true → IsBoundary w.text at
+    pub boundary : is_of_bytes w.encoding ≡ false → IsBoundary w.text at
     pub none : AllowsNone w table from at
 
   pub scan-begins : IsText w.text → IsBoundary w.text from → Scans from
@@ -105,12 +105,12 @@ module _ (w : Searching) (table : Table) (from : ℕ) where
   bars : (at k : ℕ) → key_at w.encoding (key (is_wide w.encoding)) w.text at ≡ Some k → table.keys k ≡ false → allows_at w table at ≡ false
   bars at k there none = ap (allows table) there ∙ none
 
-  pub scan-goes : (at to k : ℕ) (are_bytes : Bool) → are_bytes ≡ is_of_bytes w.encoding → Scans at → IsPast w.text are_bytes at to
+  pub scan-goes : (at to k : ℕ) → Scans at → IsPast w.text (is_of_bytes w.encoding) at to
       → key_at w.encoding (key (is_wide w.encoding)) w.text at ≡ Some k → table.keys k ≡ false → Scans to
-  scan-goes at to k are_bytes same s p there barred = record {
+  scan-goes at to k s p there barred = record {
     passed = let a = s.passed in let b = p.ahead in omega (arith, a, b);
     inside = p.inside;
-    boundary = λ wide. p.boundary (same ∙ no-bytes w.encoding wide);
+    boundary = p.boundary;
     none = λ x on le less. elim (cases_lt x at) [
       | inl before ↦ s.none x on le before
       | inr after ↦ elim (cases_lt at x) [
@@ -119,11 +119,6 @@ module _ (w : Searching) (table : Table) (from : ℕ) where
       ]
     ];
   }
-    where
-      no-bytes : (e : Encoding) → is_wide e ≡ true → is_of_bytes e ≡ false
-      no-bytes utf8 h = cc
-      no-bytes utf16 h = refl
-      no-bytes ucs2 h = refl
 
   module _ (has : HasUnits w.encoding w.text) where
     pub scan-finds : (at k : ℕ) (is : Bool) → AllowsLeads (is_wide w.encoding) table → Scans at → key_at w.encoding (key (is_wide w.encoding)) w.text at ≡ Some k
@@ -221,11 +216,6 @@ byte-count utf8 text bytes spelled = units-length utf8 text spelled ∙ ap lengt
 byte-count utf16 text bytes spelled = cc
 byte-count ucs2 text bytes spelled = cc
 
-wide-none : (e : Encoding) → is_of_bytes e ≡ true → is_wide e ≡ true → ⊥
-wide-none utf8 bytes wide = cc
-wide-none utf16 bytes wide = cc
-wide-none ucs2 bytes wide = cc
-
 pub narrow-bytes : (e : Encoding) → is_wide e ≡ false → is_of_bytes e ≡ true
 narrow-bytes utf8 narrow = refl
 narrow-bytes utf16 narrow = cc
@@ -235,6 +225,15 @@ narrow-bytes ucs2 narrow = cc
 pub bytes-there : (are_bytes : Bool) (text : Text) (all : List ℕ) → Some all ≡ bytes_if are_bytes text → are_bytes ≡ true
 bytes-there true text all e = refl
 bytes-there false text all e = cc
+
+-- what was found from a position on
+pub found-in : {are_bytes : Bool} {text : Text} {pos : ℕ} {found : Option ℕ} (w : Searching) (stands_at : List ℕ → ℕ → Bool) (from : ℕ) (there : Option ℕ)
+    → are_bytes ≡ is_of_bytes w.encoding → text ≡ w.text → pos ≡ from → found ≡ there → IsFoundFrom are_bytes stands_at (bytes_of text) pos found → IsFoundIn w stands_at from there
+found-in {are_bytes = are_bytes} {text = text} {pos = pos} w stands_at from there bytes is at same found =
+    subst (λ b. IsFoundFrom b stands_at (bytes_of w.text) from there) bytes
+    (subst (λ t. IsFoundFrom are_bytes stands_at (bytes_of t) from there) is
+    (subst (λ n. IsFoundFrom are_bytes stands_at (bytes_of text) n there) at
+    (subst (λ o. IsFoundFrom are_bytes stands_at (bytes_of text) pos o) same found)))
 
 -- the first of a few units, found in bytes
 pub few-found : (w : Searching) → HasUnits w.encoding w.text → (us : List ℕ) (len from : ℕ) → is_of_bytes w.encoding ≡ true → AllowsLeads (is_wide w.encoding) (few_allowed us len)
@@ -285,7 +284,7 @@ few-found w has us len from bytes leads inside found f = by f.0 f.1 found f.2
         ap (λ at. contains (take len us) (get_or all at 0)) there ∙ sym (tested i) ∙ first.passes in
         let keyed = byte-key w.encoding w.text bytes to ∙ slice_get-get_or all to 0 less in (
           boundary-lead w.encoding w.text has table leads to (get_or all to 0)
-              keyed (byte-small w.encoding w.text has bytes to (get_or all to 0) keyed) has_it (λ wide. absurd (wide-none w.encoding bytes wide)),
+              keyed (byte-small w.encoding w.text has bytes to (get_or all to 0) keyed) has_it (λ no. let never : true ≡ false = sym bytes ∙ no in cc),
           omega (arith, there),
           allowed to less ∙ has_it,
           λ x on le before. barred x le (omega (arith, before, less)) (first.none_before (x - from) (omega (arith, le, before, there))),

@@ -7,3 +7,4 @@ pub mod Starts
 pub mod Reached
 pub mod LeftOut
 pub mod Further
+pub mod Fitting

@@ -1,10 +1,10 @@
 -- What tables let through at offsets, and where a search tries.
-use Rattle.std.specs.Prelude.{◌≡◌, ◌≤◌, ◌<◌, ℕ, ◌+◌, Bool, true, false, List, map, take, Option, Some, None}
+use Rattle.std.specs.Prelude.{◌≡◌, ◌⊎◌, ◌≤◌, ◌<◌, ℕ, ◌+◌, Bool, true, false, List, map, take, Option, Some, None}
 use Rattle.regex_meaning.specs.Lists.{contains}
 use Rattle.regex_meaning.specs.Text.{Text, rightwards}
 use Rattle.regex_meaning.specs.Offsets.{IsBoundary, units}
 use Rattle.regex_meaning.specs.Units.{units_in}
-use Rattle.regress_input.specs.Reading.{past}
+use Rattle.regress_input.specs.Reading.{past, bytes_of, is_of_bytes, IsFoundFrom}
 use Rattle.regress_plan.specs.Before.{lets_begin}
 use Rattle.regress_plan.specs.declared.front.Front.{Front}
 use Rattle.regress_plan.specs.declared.plan.Start.{Start}
@@ -35,6 +35,14 @@ AllowsNone w table from to = NoneWhere w (λ at. allows_at w table at) from to
 abbrev pub IsFirstAllowed : Searching → Table → (from : ℕ) → Option ℕ → Type 0
 IsFirstAllowed w table from next = IsFirstWhere w (λ at. allows_at w table at) from next
 
+-- the first offset from one on at which what is looked for stands in bytes; none where units are no bytes
+abbrev pub IsFoundIn : Searching → (stands_at : List ℕ → ℕ → Bool) → (from : ℕ) → Option ℕ → Type 0
+IsFoundIn w stands_at from found = IsFoundFrom (is_of_bytes w.encoding) stands_at (bytes_of w.text) from found
+
+-- that boundary, or else the end
+abbrev pub IsFirstOrEnd : Searching → Table → (from at : ℕ) → Type 0
+IsFirstOrEnd w table from at = IsFirstAllowed w table from (Some at) ⊎ (IsFirstAllowed w table from None × (at ≡ units w.text))
+
 -- of bytes, those alone that begin characters
 abbrev pub AllowsLeads : (wide : Bool) → Table → Type 0
 AllowsLeads wide table = wide ≡ false → (k : ℕ) → k < 256 → table.keys k ≡ true → is_lead k ≡ true
@@ -57,6 +65,10 @@ keys_in w = map (key (is_wide w.encoding)) (units_in w.encoding w.text)
 -- whether each of the first units may stand at an offset
 abbrev pub fits_in : Searching → Front → (at : ℕ) → Bool
 fits_in w front at = fits (allowed_of front) (keys_in w) at front.len
+
+-- the first boundary from an offset on at which they all may
+abbrev pub IsFirstFitting : Searching → Front → (from : ℕ) → Option ℕ → Type 0
+IsFirstFitting w front from next = IsFirstWhere w (fits_in w front) from next
 
 -- past the first character that the table allows
 abbrev pub IsPastFirst : Searching → Table → (from : ℕ) → Option ℕ → Type 0

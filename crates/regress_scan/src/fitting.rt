@@ -2,8 +2,8 @@
 
 ghost use Rattle.std.specs.Prelude.{◌≡◌, ◌≤◌, ◌<◌, length, IfSome};
 ghost use Rattle.std.proofs.Props.{props};
-ghost use Rattle.regex_pattern_front.specs.Searching.{FindsFirst};
 ghost use Rattle.regress_plan.specs.Fronts.{allowed_of, fits, IsRare, IsLiteral};
+ghost use Rattle.regress_scan.specs.Fitting.{FindsFit};
 
 use memchr::{memchr, memmem};
 use regress_input::front::ByteSearcher;
@@ -42,7 +42,7 @@ impl ByteSearcher for Fitting<'_> {
 #[inline(always)]
 fn find_fitting(front: &Front, bytes: &[u8]) -> Option<usize>
     requires { 0 < front.now.len }
-    ensures { FindsFirst (λ at. fits (allowed_of front.now) bytes.now at front.now.len) (length bytes.now) result }
+    ensures { FindsFit front.now bytes.now result }
 {
     let len = front.len;
     let mut state = !1u16;
@@ -62,7 +62,7 @@ fn find_fitting(front: &Front, bytes: &[u8]) -> Option<usize>
 #[inline(always)]
 fn find_rare(front: &Front, rare: Rare, bytes: &[u8]) -> Option<usize>
     requires { IsRare front.now rare }
-    ensures { FindsFirst (λ at. fits (allowed_of front.now) bytes.now at front.now.len) (length bytes.now) result }
+    ensures { FindsFit front.now bytes.now result }
 {
     let mut at = 0;
     'places: while at + rare.ahead < bytes.len() {
@@ -83,7 +83,7 @@ fn find_rare(front: &Front, rare: Rare, bytes: &[u8]) -> Option<usize>
 fn find_literal(front: &Front, literal: &Literal, bytes: &[u8]) -> Option<usize>
     requires some { 0 < front.now.len }
     requires literal { IsLiteral front.now literal.now }
-    ensures { FindsFirst (λ at. fits (allowed_of front.now) bytes.now at front.now.len) (length bytes.now) result }
+    ensures { FindsFit front.now bytes.now result }
 {
     let needle = &literal.units[..literal.len];
     let mut at = 0;

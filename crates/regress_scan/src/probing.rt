@@ -1,17 +1,14 @@
 //! Places where the first units of a match may stand, by bits of some of them.
 
-ghost use Rattle.std.specs.Prelude.{◌≡◌, ◌≤◌, ◌<◌, ◌+◌, ◌-◌, ◌^◌, true, false, Some, option_map, slice_get};
+ghost use Rattle.std.specs.Prelude.{◌≡◌, ◌≤◌, ◌<◌, ◌+◌, ◌-◌, ◌^◌, true, false};
 ghost use Rattle.regex_meaning.specs.Offsets.{IsBoundary, units};
-ghost use Rattle.regex_meaning.specs.Units.{units_in};
 ghost use Rattle.regress_plan.specs.Fronts.{AreProbes, IsInAscii};
 ghost use Rattle.regress_plan.specs.declared.front.Front as front;
 ghost use Rattle.regress_scan.specs.Probing.{NoneFits, IsFirstFit, HasRoom};
-ghost use Rattle.regress_scan.specs.Starts.{fits_in, IsFirstWhere};
+ghost use Rattle.regress_scan.specs.Starts.{fits_in, IsFirstFitting};
 
-use crate::characters::key_here;
-use crate::planned::{At, Planned};
-use regress_input::indexing::InputIndexer;
-use regress_input::position::PositionType;
+use crate::characters::{key_here, unit_here};
+use crate::planned::{Planned, text_end};
 use regress_plan::front::Front;
 use regress_plan::prefilters::Probe;
 
@@ -24,34 +21,15 @@ const PART: usize = 8;
 /// So many of the bits, of which the most seldom ones stand first, are looked for alone in a block.
 const SELDOM: usize = 2;
 
-// The position so many units on.
-#[inline(always)]
-fn units_on<W: Planned>(planned: &W, at: At<W>, count: usize) -> At<W>
-    requires { W.Input.Position.offset at + count ≤ units (W.searching planned.now).text }
-    ensures { W.Input.Position.offset result ≡ W.Input.Position.offset at + count }
-{
-    let _text = planned.input();
-    at + count
-}
-
-// The unit at a place.
-#[inline(always)]
-fn unit_here<W: Planned>(planned: &W, at: At<W>) -> u32
-    requires { W.Input.Position.offset at < units (W.searching planned.now).text }
-    ensures { slice_get (units_in (W.searching planned.now).encoding (W.searching planned.now).text) (W.Input.Position.offset at) ≡ Some result }
-{
-    planned.input().unit(at)
-}
-
 // Whether each of the first units may stand at a place.
 #[inline(always)]
-fn fits_here<W: Planned>(planned: &W, front: &Front, at: At<W>) -> bool
-    requires { W.Input.Position.offset at + front.now.len ≤ units (W.searching planned.now).text }
-    ensures { result ≡ fits_in (W.searching planned.now) front.now (W.Input.Position.offset at) }
+fn fits_here<W: Planned>(planned: &W, front: &Front, at: usize) -> bool
+    requires { at + front.now.len ≤ units (W.searching planned.now).text }
+    ensures { result ≡ fits_in (W.searching planned.now) front.now at }
 {
     let mut ahead = 0;
     'units: while ahead < front.len {
-        let key = key_here(planned, units_on(planned, at, ahead));
+        let key = key_here(planned, at + ahead);
         if !front.may_stand(key, ahead) {
             return false;
         }
@@ -62,16 +40,16 @@ fn fits_here<W: Planned>(planned: &W, front: &Front, at: At<W>) -> bool
 
 // Whether all bits stand where they are looked for from a place on, as they do where the first units may stand.
 #[inline(always)]
-fn all_pass<W: Planned>(planned: &W, probes: &[Probe], at: At<W>) -> bool
-    requires { HasRoom probes.now (W.Input.Position.offset at + 1) (units (W.searching planned.now).text) }
-    ensures { (f : front.Front) → AreProbes f probes.now → fits_in (W.searching planned.now) f (W.Input.Position.offset at) ≡ true → result ≡ true }
+fn all_pass<W: Planned>(planned: &W, probes: &[Probe], at: usize) -> bool
+    requires { HasRoom probes.now (at + 1) (units (W.searching planned.now).text) }
+    ensures { (f : front.Front) → AreProbes f probes.now
+        → fits_in (W.searching planned.now) f at ≡ true → result ≡ true }
 {
     let mut all = true;
     let mut i = 0;
     'probes: while i < probes.len() {
         let probe = probes[i];
-        let there = units_on(planned, at, probe.ahead);
-        all &= probe.passes(unit_here(planned, there));
+        all &= probe.passes(unit_here(planned, at + probe.ahead));
         i += 1;
     }
     all
@@ -79,17 +57,16 @@ fn all_pass<W: Planned>(planned: &W, probes: &[Probe], at: At<W>) -> bool
 
 // Whether they do at one of so many places.
 #[inline(always)]
-fn some_pass<W: Planned>(planned: &W, probes: &[Probe], from: At<W>, count: usize) -> bool
-    requires room { HasRoom probes.now (W.Input.Position.offset from + count) (units (W.searching planned.now).text) }
-    requires inside { W.Input.Position.offset from + count ≤ units (W.searching planned.now).text }
+fn some_pass<W: Planned>(planned: &W, probes: &[Probe], from: usize, count: usize) -> bool
+    requires room { HasRoom probes.now (from + count) (units (W.searching planned.now).text) }
+    requires inside { from + count ≤ units (W.searching planned.now).text }
     ensures { (f : front.Front) → AreProbes f probes.now → result ≡ false
-        → NoneFits (W.searching planned.now) f (W.Input.Position.offset from) (W.Input.Position.offset from + count) }
+        → NoneFits (W.searching planned.now) f from (from + count) }
 {
     let mut some = false;
     let mut i = 0;
     'places: while i < count {
-        let at = units_on(planned, from, i);
-        some |= all_pass(planned, probes, at);
+        some |= all_pass(planned, probes, from + i);
         i += 1;
     }
     some
@@ -97,14 +74,15 @@ fn some_pass<W: Planned>(planned: &W, probes: &[Probe], from: At<W>, count: usiz
 
 // The first of so many places at which the first units may stand.
 #[inline(always)]
-fn first_fitting<W: Planned>(planned: &W, front: &Front, from: At<W>, count: usize) -> Option<At<W>>
+fn first_fitting<W: Planned>(planned: &W, front: &Front, from: usize, count: usize) -> Option<usize>
     requires some { 0 < front.now.len }
-    requires room { 0 < count → W.Input.Position.offset from + count + front.now.len ≤ units (W.searching planned.now).text + 1 }
-    ensures { IsFirstFit (W.searching planned.now) front.now (W.Input.Position.offset from) (W.Input.Position.offset from + count) (option_map (λ p. W.Input.Position.offset p) result) }
+    requires room { 0 < count
+        → from + count + front.now.len ≤ units (W.searching planned.now).text + 1 }
+    ensures { IsFirstFit (W.searching planned.now) front.now from (from + count) result }
 {
     let mut i = 0;
     'places: while i < count {
-        let at = units_on(planned, from, i);
+        let at = from + i;
         if fits_here(planned, front, at) {
             return Some(at);
         }
@@ -119,12 +97,12 @@ fn first_in_part<W: Planned>(
     planned: &W,
     front: &Front,
     probes: &[Probe; 4],
-    from: At<W>,
-) -> Option<At<W>>
+    from: usize,
+) -> Option<usize>
     requires some { 0 < front.now.len }
     requires probes { AreProbes front.now probes.now }
-    requires room { W.Input.Position.offset from + 8 + front.now.len ≤ units (W.searching planned.now).text }
-    ensures { IsFirstFit (W.searching planned.now) front.now (W.Input.Position.offset from) (W.Input.Position.offset from + 8) (option_map (λ p. W.Input.Position.offset p) result) }
+    requires room { from + PART + front.now.len ≤ units (W.searching planned.now).text }
+    ensures { IsFirstFit (W.searching planned.now) front.now from (from + PART) result }
 {
     if some_pass(planned, probes, from, PART) {
         first_fitting(planned, front, from, PART)
@@ -139,16 +117,16 @@ fn first_in_parts<W: Planned>(
     planned: &W,
     front: &Front,
     probes: &[Probe; 4],
-    from: At<W>,
-) -> Option<At<W>>
+    from: usize,
+) -> Option<usize>
     requires some { 0 < front.now.len }
     requires probes { AreProbes front.now probes.now }
-    requires room { W.Input.Position.offset from + 32 + front.now.len ≤ units (W.searching planned.now).text }
-    ensures { IsFirstFit (W.searching planned.now) front.now (W.Input.Position.offset from) (W.Input.Position.offset from + 32) (option_map (λ p. W.Input.Position.offset p) result) }
+    requires room { from + BLOCK + front.now.len ≤ units (W.searching planned.now).text }
+    ensures { IsFirstFit (W.searching planned.now) front.now from (from + BLOCK) result }
 {
     let mut behind = 0;
     'parts: while behind < BLOCK {
-        let at = units_on(planned, from, behind);
+        let at = from + behind;
         if let Some(found) = first_in_part(planned, front, probes, at) {
             return Some(found);
         }
@@ -159,11 +137,11 @@ fn first_in_parts<W: Planned>(
 
 // Whether bits stand at one of a block's places: the most seldom ones are asked first, and then all.
 #[inline(always)]
-fn block_passes<W: Planned>(planned: &W, probes: &[Probe; 4], from: At<W>) -> bool
-    requires room { HasRoom probes.now (W.Input.Position.offset from + 32) (units (W.searching planned.now).text) }
-    requires inside { W.Input.Position.offset from + 32 ≤ units (W.searching planned.now).text }
+fn block_passes<W: Planned>(planned: &W, probes: &[Probe; 4], from: usize) -> bool
+    requires room { HasRoom probes.now (from + BLOCK) (units (W.searching planned.now).text) }
+    requires inside { from + BLOCK ≤ units (W.searching planned.now).text }
     ensures { (f : front.Front) → AreProbes f probes.now → result ≡ false
-        → NoneFits (W.searching planned.now) f (W.Input.Position.offset from) (W.Input.Position.offset from + 32) }
+        → NoneFits (W.searching planned.now) f from (from + BLOCK) }
 {
     let seldom = &probes[..SELDOM];
     some_pass(planned, seldom, from, BLOCK) && some_pass(planned, probes, from, BLOCK)
@@ -175,12 +153,12 @@ fn first_in_block<W: Planned>(
     planned: &W,
     front: &Front,
     probes: &[Probe; 4],
-    from: At<W>,
-) -> Option<At<W>>
+    from: usize,
+) -> Option<usize>
     requires some { 0 < front.now.len }
     requires probes { AreProbes front.now probes.now }
-    requires room { W.Input.Position.offset from + 32 + front.now.len ≤ units (W.searching planned.now).text }
-    ensures { IsFirstFit (W.searching planned.now) front.now (W.Input.Position.offset from) (W.Input.Position.offset from + 32) (option_map (λ p. W.Input.Position.offset p) result) }
+    requires room { from + BLOCK + front.now.len ≤ units (W.searching planned.now).text }
+    ensures { IsFirstFit (W.searching planned.now) front.now from (from + BLOCK) result }
 {
     if block_passes(planned, probes, from) {
         first_in_parts(planned, front, probes, from)
@@ -204,22 +182,21 @@ pub(crate) fn next_probed<W: Planned>(
     planned: &W,
     front: &Front,
     probes: &[Probe; 4],
-    from: At<W>,
-) -> Option<At<W>>
-    requires at { IsBoundary (W.searching planned.now).text (W.Input.Position.offset from) }
+    from: usize,
+) -> Option<usize>
+    requires at { IsBoundary (W.searching planned.now).text from }
     requires probes { AreProbes front.now probes.now }
     requires some { 0 < front.now.len }
     requires ascii { IsInAscii front.now }
-    ensures { IsFirstWhere (W.searching planned.now) (fits_in (W.searching planned.now) front.now) (W.Input.Position.offset from) (option_map (λ p. W.Input.Position.offset p) result) }
+    ensures { IsFirstFitting (W.searching planned.now) front.now from result }
 {
-    let units = planned.input().unit_count();
-    let mut left = places_left(units, from.to_offset(), front.len);
+    let mut left = places_left(text_end(planned), from, front.len);
     let mut at = from;
     'blocks: while left > BLOCK {
         if let Some(found) = first_in_block(planned, front, probes, at) {
             return Some(found);
         }
-        at = units_on(planned, at, BLOCK);
+        at += BLOCK;
         left -= BLOCK;
     }
     first_fitting(planned, front, at, left)

@@ -15,7 +15,8 @@ use regress_plan::ops::Edge;
 #[inline(always)]
 pub fn is_line_start<Input: InputIndexer>(input: &Input, multiline: bool, at: usize) -> bool
     requires { IsBoundary (Input.text input.now) at }
-    ensures { result ≡ anchor_holds (Input.text input.now) start_of_line multiline (place (Input.text input.now) at) }
+    ensures { let text = Input.text input.now in
+        result ≡ anchor_holds text start_of_line multiline (place text at) }
 {
     at_line_start(input, multiline, position(input, at))
 }
@@ -24,7 +25,8 @@ pub fn is_line_start<Input: InputIndexer>(input: &Input, multiline: bool, at: us
 #[inline(always)]
 pub fn is_line_end<Input: InputIndexer>(input: &Input, multiline: bool, at: usize) -> bool
     requires { IsBoundary (Input.text input.now) at }
-    ensures { result ≡ anchor_holds (Input.text input.now) end_of_line multiline (place (Input.text input.now) at) }
+    ensures { let text = Input.text input.now in
+        result ≡ anchor_holds text end_of_line multiline (place text at) }
 {
     at_line_end(input, multiline, position(input, at))
 }
@@ -33,7 +35,8 @@ pub fn is_line_end<Input: InputIndexer>(input: &Input, multiline: bool, at: usiz
 #[inline(always)]
 pub fn is_word_edge<Input: InputIndexer>(input: &Input, edge: Edge, at: usize) -> bool
     requires { IsBoundary (Input.text input.now) at }
-    ensures { result ≡ differ edge.invert (is_at_word_boundary (Input.text input.now) edge.unicode_icase (place (Input.text input.now) at)) }
+    ensures { let text = Input.text input.now in
+        result ≡ differ edge.invert (is_at_word_boundary text edge.unicode_icase (place text at)) }
 {
     at_word_boundary(input, edge.invert, edge.unicode_icase, position(input, at))
 }

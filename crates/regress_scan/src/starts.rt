@@ -1,27 +1,28 @@
 //! Where a search tries: at other places no match begins.
 
-ghost use Rattle.std.specs.Prelude.{◌≡◌, ◌<◌, ℕ, false, slice_index_or, option_map};
+ghost use Rattle.std.specs.Prelude.{◌≡◌, ◌<◌, false, IfSome};
 ghost use Rattle.regex_meaning.specs.Offsets.{IsBoundary, units};
 ghost use Rattle.regress_exec.specs.Attempts.{IsNextTry};
+ghost use Rattle.regress_input.specs.Reading.{is_of_bytes};
 ghost use Rattle.regress_machine.specs.Finds.{CanSearch};
 ghost use Rattle.regress_plan.specs.Before.{HasLeadKeys};
-ghost use Rattle.regress_plan.specs.Fronts.{IsInAscii, AreKnown, IsPrefilter};
+ghost use Rattle.regress_plan.specs.Fronts.{IsInAscii, IsLiteral, IsRare, AreKnown, IsPrefilter};
 ghost use Rattle.regress_plan.specs.Keys.{is_wide};
 ghost use Rattle.regress_plan.specs.Plans.{numbered};
 ghost use Rattle.regress_serves.specs.Tables.{Table};
 ghost use Rattle.regress_scan.specs.Searching.{program_of};
-ghost use Rattle.regress_scan.specs.Starts.{IsFirstAllowed, IsFirstWhere, IsFirstTry, AllowsLeads, IsPast, IsPastFirst, few_allowed, fits_in, tries_at};
+ghost use Rattle.regress_scan.specs.Starts.{IsFirstAllowed, IsFirstWhere, IsFirstFitting, IsFirstTry, IsFoundIn, AllowsLeads, IsPast, IsPastFirst, few_allowed, tries_at};
 
 use crate::characters::key_here;
 use crate::few::Few;
 use crate::fitting::Fitting;
-use crate::planned::{At, Planned};
+use crate::planned::{Planned, offset_in, position_in, text_end};
 use crate::probing::next_probed;
-use regress_input::indexing::{CodeUnits, InputIndexer};
-use regress_input::position::PositionType;
+use regress_input::front::ByteSearcher;
+use regress_input::indexing::{CodeUnits, HasUnits, InputIndexer};
 use regress_plan::before::Before;
 use regress_plan::beginnings::Beginnings;
-use regress_plan::front::Front;
+use regress_plan::front::{Front, Literal, Rare};
 use regress_plan::plan::Start;
 use regress_plan::prefilters::{Known, Prefilter};
 
@@ -76,41 +77,43 @@ impl MayStand for Few {
 
 // Past a unit; past a character, where units are no bytes.
 #[inline(always)]
-fn past_unit<Input: InputIndexer>(input: &Input, at: Input::Position) -> Input::Position
-    requires inside { Input.Position.offset at < units (Input.text input.now) }
-    requires at { Input.Units.ARE_BYTES ≡ false → IsBoundary (Input.text input.now) (Input.Position.offset at) }
-    ensures { IsPast (Input.text input.now) Input.Units.ARE_BYTES (Input.Position.offset at) (Input.Position.offset result) }
+fn past_unit<W: Planned>(planned: &W, at: usize) -> usize
+    requires inside { at < units (W.searching planned.now).text }
+    requires at { let w = W.searching planned.now in
+        is_of_bytes w.encoding ≡ false → IsBoundary w.text at }
+    ensures { let w = W.searching planned.now in IsPast w.text (is_of_bytes w.encoding) at result }
 {
-    if Input::Units::ARE_BYTES {
+    let input = planned.input();
+    if <<W::Input as HasUnits>::Units as CodeUnits>::ARE_BYTES {
         at + 1
     } else {
-        input.past(at)
+        offset_in(planned, input.past(position_in(planned, at)))
     }
 }
 
 // The first place from one on where this may stand next.
 #[inline(always)]
-fn first_place<W: Planned, Set: MayStand>(planned: &W, set: &Set, from: At<W>) -> Option<At<W>>
-    requires at { IsBoundary (W.searching planned.now).text (W.Input.Position.offset from) }
+fn first_place<W: Planned, Set: MayStand>(planned: &W, set: &Set, from: usize) -> Option<usize>
+    requires at { IsBoundary (W.searching planned.now).text from }
     requires leads { AllowsLeads (is_wide (W.searching planned.now).encoding) (Set.table set.now) }
-    ensures { IsFirstAllowed (W.searching planned.now) (Set.table set.now) (W.Input.Position.offset from) (option_map (λ p. W.Input.Position.offset p) result) }
+    ensures { IsFirstAllowed (W.searching planned.now) (Set.table set.now) from result }
 {
-    let end = planned.input().unit_count();
+    let end = text_end(planned);
     let mut at = from;
-    'units: while at.to_offset() < end {
+    'units: while at < end {
         if set.has_key(key_here(planned, at)) {
             return Some(at);
         }
-        at = past_unit(planned.input(), at);
+        at = past_unit(planned, at);
     }
     if set.has_end() { Some(at) } else { None }
 }
 
 // The first place from one on where what stands next is in the set of this number.
 #[inline(always)]
-fn next_among<W: Planned>(planned: &W, number: u32, from: At<W>) -> Option<At<W>>
-    requires { IsBoundary (W.searching planned.now).text (W.Input.Position.offset from) }
-    ensures { IsFirstAllowed (W.searching planned.now) (numbered (W.searching planned.now).plan number) (W.Input.Position.offset from) (option_map (λ p. W.Input.Position.offset p) result) }
+fn next_among<W: Planned>(planned: &W, number: u32, from: usize) -> Option<usize>
+    requires { IsBoundary (W.searching planned.now).text from }
+    ensures { let w = W.searching planned.now in IsFirstAllowed w (numbered w.plan number) from result }
 {
     planned.is_of_program();
     match planned.set(number) {
@@ -119,56 +122,76 @@ fn next_among<W: Planned>(planned: &W, number: u32, from: At<W>) -> Option<At<W>
     }
 }
 
+// The first place from one on where what is looked for stands in bytes.
+#[inline(always)]
+fn find<W: Planned, Search: ByteSearcher>(
+    planned: &W,
+    search: &Search,
+    from: usize,
+) -> Option<usize>
+    requires { IsBoundary (W.searching planned.now).text from }
+    ensures { IsFoundIn (W.searching planned.now) (Search.stands_at search.now) from result }
+{
+    let pos = position_in(planned, from);
+    match planned.input().find_bytes(pos, search) {
+        Some(pos) => Some(offset_in(planned, pos)),
+        None => None,
+    }
+}
+
 /// The first place from one on where one of a few units stands.
 #[inline(never)]
-pub(crate) fn next_of_few<W: Planned>(planned: &W, few: Few, from: At<W>) -> Option<At<W>>
-    requires at { IsBoundary (W.searching planned.now).text (W.Input.Position.offset from) }
-    requires leads { AllowsLeads (is_wide (W.searching planned.now).encoding) (few_allowed few.units few.len) }
-    ensures { IsFirstAllowed (W.searching planned.now) (few_allowed few.units few.len) (W.Input.Position.offset from) (option_map (λ p. W.Input.Position.offset p) result) }
+pub(crate) fn next_of_few<W: Planned>(planned: &W, few: Few, from: usize) -> Option<usize>
+    requires at { IsBoundary (W.searching planned.now).text from }
+    requires leads { let wide = is_wide (W.searching planned.now).encoding in
+        AllowsLeads wide (few_allowed few.units few.len) }
+    ensures { IsFirstAllowed (W.searching planned.now) (few_allowed few.units few.len) from result }
 {
     match planned.input().as_bytes() {
-        Some(_) => planned.input().find_bytes(from, &few),
+        Some(_) => find(planned, &few, from),
         None => first_place(planned, &few, from),
     }
 }
 
-// The first place from one on where the first units of a match fit, which are looked for in bytes.
+// ---- By the first units of a match
+
+// The first place from one on where they fit, which is looked for in bytes: by those in a row that are known, by one that
+// is seldom, or by bits.
 #[inline(never)]
-fn next_fitting<W: Planned>(planned: &W, fitting: Fitting<'_>, from: At<W>) -> Option<At<W>>
-    requires at { IsBoundary (W.searching planned.now).text (W.Input.Position.offset from) }
+fn next_fitting<W: Planned>(
+    planned: &W,
+    front: &Front,
+    literal: Option<&Literal>,
+    rare: Option<Rare>,
+    from: usize,
+) -> Option<usize>
+    requires at { IsBoundary (W.searching planned.now).text from }
     requires bytes { is_wide (W.searching planned.now).encoding ≡ false }
-    requires ascii { IsInAscii fitting.front.now }
-    ensures { IsFirstWhere (W.searching planned.now) (fits_in (W.searching planned.now) fitting.entry.front.now) (W.Input.Position.offset from) (option_map (λ p. W.Input.Position.offset p) result) }
+    requires front { (0 < front.now.len) × IsInAscii front.now }
+    requires literal { IfSome literal (λ l. IsLiteral front.now l.now) }
+    requires rare { IfSome rare (λ r. IsRare front.now r) }
+    ensures { IsFirstFitting (W.searching planned.now) front.now from result }
 {
-    planned.input().find_bytes(from, &fitting)
+    let fitting = Fitting {
+        front,
+        literal,
+        rare,
+    };
+    find(planned, &fitting, from)
 }
 
 // The same, by units that are known: in a long text by those in a row.
 #[inline(always)]
-fn next_known<W: Planned>(planned: &W, front: &Front, known: &Known, from: At<W>) -> Option<At<W>>
-    requires at { IsBoundary (W.searching planned.now).text (W.Input.Position.offset from) }
+fn next_known<W: Planned>(planned: &W, front: &Front, known: &Known, from: usize) -> Option<usize>
+    requires at { IsBoundary (W.searching planned.now).text from }
     requires bytes { is_wide (W.searching planned.now).encoding ≡ false }
     requires some { 0 < front.now.len }
     requires ascii { IsInAscii front.now }
     requires known { AreKnown front.now known.now }
-    ensures { IsFirstWhere (W.searching planned.now) (fits_in (W.searching planned.now) front.now) (W.Input.Position.offset from) (option_map (λ p. W.Input.Position.offset p) result) }
+    ensures { IsFirstFitting (W.searching planned.now) front.now from result }
 {
-    let left = planned
-        .input()
-        .unit_count()
-        .saturating_sub(from.to_offset());
-    if left > LONG {
-        let literal = Some(&known.literal);
-        let rare = None;
-        return next_fitting(
-            planned,
-            Fitting {
-                front,
-                literal,
-                rare,
-            },
-            from,
-        );
+    if text_end(planned).saturating_sub(from) > LONG {
+        return next_fitting(planned, front, Some(&known.literal), None, from);
     }
     next_in_short(planned, front, known, from)
 }
@@ -179,31 +202,21 @@ fn next_in_short<W: Planned>(
     planned: &W,
     front: &Front,
     known: &Known,
-    from: At<W>,
-) -> Option<At<W>>
-    requires at { IsBoundary (W.searching planned.now).text (W.Input.Position.offset from) }
+    from: usize,
+) -> Option<usize>
+    requires at { IsBoundary (W.searching planned.now).text from }
     requires bytes { is_wide (W.searching planned.now).encoding ≡ false }
     requires some { 0 < front.now.len }
     requires ascii { IsInAscii front.now }
     requires known { AreKnown front.now known.now }
-    ensures { IsFirstWhere (W.searching planned.now) (fits_in (W.searching planned.now) front.now) (W.Input.Position.offset from) (option_map (λ p. W.Input.Position.offset p) result) }
+    ensures { IsFirstFitting (W.searching planned.now) front.now from result }
 {
-    let rare = known.rare;
-    if rare.is_none() {
+    if known.rare.is_none() {
         if let Some(probes) = &known.probes {
             return next_probed(planned, front, probes, from);
         }
     }
-    let literal = None;
-    next_fitting(
-        planned,
-        Fitting {
-            front,
-            literal,
-            rare,
-        },
-        from,
-    )
+    next_fitting(planned, front, None, known.rare, from)
 }
 
 // The same, by what is looked for first.
@@ -212,55 +225,47 @@ fn first_filtered<W: Planned>(
     planned: &W,
     front: &Front,
     prefilter: &Prefilter,
-    from: At<W>,
-) -> Option<At<W>>
-    requires at { IsBoundary (W.searching planned.now).text (W.Input.Position.offset from) }
+    from: usize,
+) -> Option<usize>
+    requires at { IsBoundary (W.searching planned.now).text from }
     requires some { 0 < front.now.len }
     requires ascii { IsInAscii front.now }
     requires filter { IsPrefilter (is_wide (W.searching planned.now).encoding) front.now prefilter.now }
-    ensures { IsFirstWhere (W.searching planned.now) (fits_in (W.searching planned.now) front.now) (W.Input.Position.offset from) (option_map (λ p. W.Input.Position.offset p) result) }
+    ensures { IsFirstFitting (W.searching planned.now) front.now from result }
 {
     match prefilter {
         Prefilter::Probes(probes) => next_probed(planned, front, probes, from),
         Prefilter::Known(known) => next_known(planned, front, known, from),
-        Prefilter::Absent => {
-            let literal = None;
-            let rare = None;
-            next_fitting(
-                planned,
-                Fitting {
-                    front,
-                    literal,
-                    rare,
-                },
-                from,
-            )
-        }
+        Prefilter::Absent => next_fitting(planned, front, None, None, from),
     }
 }
 
+// ---- By the character before
+
 // The place past the first character from one on that begins with one of a few units.
 #[inline(always)]
-fn next_past<W: Planned>(planned: &W, few: Few, from: At<W>) -> Option<At<W>>
-    requires at { IsBoundary (W.searching planned.now).text (W.Input.Position.offset from) }
-    requires leads { AllowsLeads (is_wide (W.searching planned.now).encoding) (few_allowed few.units few.len) }
-    ensures { IsPastFirst (W.searching planned.now) (few_allowed few.units few.len) (W.Input.Position.offset from) (option_map (λ p. W.Input.Position.offset p) result) }
+fn next_past<W: Planned>(planned: &W, few: Few, from: usize) -> Option<usize>
+    requires at { IsBoundary (W.searching planned.now).text from }
+    requires leads { let wide = is_wide (W.searching planned.now).encoding in
+        AllowsLeads wide (few_allowed few.units few.len) }
+    ensures { IsPastFirst (W.searching planned.now) (few_allowed few.units few.len) from result }
 {
     let hit = next_of_few(planned, few, from)?;
-    Some(planned.input().past(hit))
+    Some(offset_in(planned, planned.input().past(position_in(planned, hit))))
 }
 
 // The first place from one on where what stands before lets a match begin.
 #[inline(never)]
-fn next_behind<W: Planned>(planned: &W, before: Before, from: At<W>) -> Option<At<W>>
-    requires at { IsBoundary (W.searching planned.now).text (W.Input.Position.offset from) }
+fn next_behind<W: Planned>(planned: &W, before: Before, from: usize) -> Option<usize>
+    requires at { IsBoundary (W.searching planned.now).text from }
     requires leads { HasLeadKeys (is_wide (W.searching planned.now).encoding) before }
-    ensures { IsFirstWhere (W.searching planned.now) (tries_at (W.searching planned.now) (Start.Behind before)) (W.Input.Position.offset from) (option_map (λ p. W.Input.Position.offset p) result) }
+    ensures { let w = W.searching planned.now in
+        IsFirstWhere w (tries_at w (Start.Behind before)) from result }
 {
     let Before { keys, len, edge } = before;
     let few = Few { units: keys, len };
-    match planned.input().next_left_pos(from) {
-        Some(start) => next_past(planned, few, start),
+    match planned.input().next_left_pos(position_in(planned, from)) {
+        Some(start) => next_past(planned, few, offset_in(planned, start)),
         None => {
             if edge {
                 Some(from)
@@ -271,11 +276,13 @@ fn next_behind<W: Planned>(planned: &W, before: Before, from: At<W>) -> Option<A
     }
 }
 
-// The first place from one on where the plan says to try.
+// ---- By the plan
+
+// The first place from one on where it says to try.
 #[inline(always)]
-fn first_try<W: Planned>(planned: &W, from: At<W>) -> Option<At<W>>
-    requires { IsBoundary (W.searching planned.now).text (W.Input.Position.offset from) }
-    ensures { IsFirstTry (W.searching planned.now) (W.Input.Position.offset from) (option_map (λ p. W.Input.Position.offset p) result) }
+fn first_try<W: Planned>(planned: &W, from: usize) -> Option<usize>
+    requires { IsBoundary (W.searching planned.now).text from }
+    ensures { IsFirstTry (W.searching planned.now) from result }
 {
     planned.is_of_program();
     match planned.start() {
@@ -295,11 +302,11 @@ fn first_try<W: Planned>(planned: &W, from: At<W>) -> Option<At<W>>
 
 /// The first place to try from one on, by the plan; none where no match begins from there on.
 #[inline(always)]
-pub fn next_start<W: Planned>(planned: &W, from: At<W>) -> Option<At<W>>
-    requires at { IsBoundary (W.searching planned.now).text (W.Input.Position.offset from) }
-    requires can { CanSearch (program_of (W.searching planned.now)) (W.searching planned.now).tree (W.searching planned.now).text }
-    ensures first { IsFirstTry (W.searching planned.now) (W.Input.Position.offset from) (option_map (λ p. W.Input.Position.offset p) result) }
-    ensures next { IsNextTry (W.searching planned.now).tree (W.searching planned.now).text (W.Input.Position.offset from) (option_map (λ p. W.Input.Position.offset p) result) }
+pub fn next_start<W: Planned>(planned: &W, from: usize) -> Option<usize>
+    requires at { IsBoundary (W.searching planned.now).text from }
+    requires can { let w = W.searching planned.now in CanSearch (program_of w) w.tree w.text }
+    ensures first { IsFirstTry (W.searching planned.now) from result }
+    ensures next { let w = W.searching planned.now in IsNextTry w.tree w.text from result }
 {
     planned.is_of_program();
     first_try(planned, from)

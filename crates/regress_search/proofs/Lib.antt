@@ -1,2 +1,3 @@
+pub mod Fetching
 pub mod Remains
 pub mod Turns

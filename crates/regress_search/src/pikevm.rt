@@ -61,9 +61,11 @@ fn turn_in<Input: InputIndexer>(
     state: State<Input::Position>,
 ) -> Result<Turn<Input::Position>, AllocError>
     requires code { map insn_of insns.now ≡ (compiled (tree_of searched.now.program.now)).insns }
-    requires can { CanTake (turn_at Input.Position.offset searched.now.program.now (Input.text searched.now.input) forward state) }
+    requires can { let s = searched.now in
+        CanTake (turn_at Input.Position.offset s.program.now (Input.text s.input) forward state) }
     requires inside { Input.Position.offset state.pos ≤ units (Input.text searched.now.input) }
-    ensures { IfOk result (λ t. next_of Input.Position.offset t ≡ turn_at Input.Position.offset searched.now.program.now (Input.text searched.now.input) forward state) }
+    ensures { let s = searched.now in IfOk result (λ t. next_of Input.Position.offset t
+        ≡ turn_at Input.Position.offset s.program.now (Input.text s.input) forward state) }
 {
     if forward {
         take_turn(searched, insns, Forward, state)
@@ -88,7 +90,8 @@ fn take_scanned<P: PositionType>(
     mut states: Vec<State<P>>,
     stack: &mut Vec<State<P>>,
 ) -> Result<Option<State<P>>, AllocError>
-    ensures { IfOk result (λ next. in_hand P.offset next stack.new.items ≡ in_turn (preferred_last P.offset states.items) ++ waiting_of P.offset stack.old.items) }
+    ensures { IfOk result (λ next. in_hand P.offset next stack.new.items
+        ≡ in_turn (preferred_last P.offset states.items) ++ waiting_of P.offset stack.old.items) }
 {
     let Some(next) = states.pop() else {
         return Ok(None);
@@ -106,8 +109,10 @@ fn run<Input: InputIndexer>(
     start: State<Input::Position>,
 ) -> Result<Option<State<Input::Position>>, AllocError>
     requires inside { Input.Position.offset start.pos ≤ units (Input.text searched.now.input) }
-    requires answers { IsSome (search_at Input.Position.offset searched.now.program.now (Input.text searched.now.input) forward (Input.Position.offset at) start) }
-    ensures { IfOk result (HasRun Input.Position.offset searched.now.program.now (Input.text searched.now.input) forward (Input.Position.offset at) start) }
+    requires answers { let s = searched.now in IsSome (search_at Input.Position.offset s.program.now
+        (Input.text s.input) forward (Input.Position.offset at) start) }
+    ensures { let s = searched.now in IfOk result (HasRun Input.Position.offset s.program.now
+        (Input.text s.input) forward (Input.Position.offset at) start) }
 {
     stack.clear();
     let insns = searched.program.insns();
@@ -146,7 +151,8 @@ fn preferred_end<Input: InputIndexer>(
     pos: Input::Position,
 ) -> Result<Option<State<Input::Position>>, AllocError>
     requires { IsBoundary (Input.text searched.now.input) (Input.Position.offset pos) }
-    ensures { IfOk result (λ end. end_with Input.Position.offset end ≡ end_from (tree_of searched.now.program.now) (Input.text searched.now.input) (Input.Position.offset pos)) }
+    ensures { let s = searched.now in IfOk result (λ end. end_with Input.Position.offset end
+        ≡ end_from (tree_of s.program.now) (Input.text s.input) (Input.Position.offset pos)) }
 {
     let start = initial_state(searched.program, pos)?;
     let end = run(searched, pos, true, stack, start)?;
@@ -243,9 +249,12 @@ impl<'r, 't> PikeVMExecutor<'r, Utf16Input<'t>> {
     ///
     /// None so far: it takes no memory.
     pub fn new_utf16(re: &'r CompiledUnits, text: &'t [u16]) -> Result<Self, AllocError>
-        ensures tree { IfOk result (λ e. ⟦<PikeVMExecutor<'r, Utf16Input<'t>> as MatchProducer>⟧.tree e ≡ tree_of re.now) }
-        ensures text { IfOk result (λ e. ⟦<PikeVMExecutor<'r, Utf16Input<'t>> as MatchProducer>⟧.text e ≡ utf16_text text.now (tree_of re.now).flags.unicode) }
-        ensures unlimited { IfOk result (λ e. ⟦<PikeVMExecutor<'r, Utf16Input<'t>> as MatchProducer>⟧.budget e ≡ None) }
+        ensures tree { IfOk result (λ e. ⟦<PikeVMExecutor<'r, Utf16Input<'t>> as MatchProducer>⟧.tree e
+            ≡ tree_of re.now) }
+        ensures text { IfOk result (λ e. ⟦<PikeVMExecutor<'r, Utf16Input<'t>> as MatchProducer>⟧.text e
+            ≡ utf16_text text.now (tree_of re.now).flags.unicode) }
+        ensures unlimited { IfOk result (λ e.
+            ⟦<PikeVMExecutor<'r, Utf16Input<'t>> as MatchProducer>⟧.budget e ≡ None) }
     {
         Ok(PikeVMExecutor::over(Searched::in_utf16(re, text)))
     }
@@ -258,9 +267,12 @@ impl<'r, 't> PikeVMExecutor<'r, Ucs2Input<'t>> {
     ///
     /// None so far: it takes no memory.
     pub fn new_ucs2(re: &'r CompiledUnits, text: &'t [u16]) -> Result<Self, AllocError>
-        ensures tree { IfOk result (λ e. ⟦<PikeVMExecutor<'r, Ucs2Input<'t>> as MatchProducer>⟧.tree e ≡ tree_of re.now) }
-        ensures text { IfOk result (λ e. ⟦<PikeVMExecutor<'r, Ucs2Input<'t>> as MatchProducer>⟧.text e ≡ ucs2_text text.now (tree_of re.now).flags.unicode) }
-        ensures unlimited { IfOk result (λ e. ⟦<PikeVMExecutor<'r, Ucs2Input<'t>> as MatchProducer>⟧.budget e ≡ None) }
+        ensures tree { IfOk result (λ e. ⟦<PikeVMExecutor<'r, Ucs2Input<'t>> as MatchProducer>⟧.tree e
+            ≡ tree_of re.now) }
+        ensures text { IfOk result (λ e. ⟦<PikeVMExecutor<'r, Ucs2Input<'t>> as MatchProducer>⟧.text e
+            ≡ ucs2_text text.now (tree_of re.now).flags.unicode) }
+        ensures unlimited { IfOk result (λ e.
+            ⟦<PikeVMExecutor<'r, Ucs2Input<'t>> as MatchProducer>⟧.budget e ≡ None) }
     {
         Ok(PikeVMExecutor::over(Searched::in_ucs2(re, text)))
     }
@@ -268,12 +280,24 @@ impl<'r, 't> PikeVMExecutor<'r, Ucs2Input<'t>> {
 
 /// What `AsAscii` of the executor over UTF-8 names takes each text of ASCII, and reads each of its bytes as a character.
 pub fn ascii_is_read_in_bytes()
-    ensures takes { (text : Bor (List ℕ)) → IsAscii text.now → ⟦<<PikeVMExecutor<'static, Utf8Input<'static>> as Executor<'static, 'static>>::AsAscii as Searcher<'static>>⟧.can_search text }
-    ensures reads { ⟦<<PikeVMExecutor<'static, Utf8Input<'static>> as Executor<'static, 'static>>::AsAscii as Searcher<'static>>⟧.text_of ≡ (λ text. ascii_text text.now) }
+    ensures takes { let ascii =
+        ⟦<<PikeVMExecutor<'static, Utf8Input<'static>> as Executor<'static, 'static>>::AsAscii
+        as Searcher<'static>>⟧ in
+        (text : Bor (List ℕ)) → IsAscii text.now → ascii.can_search text }
+    ensures reads { let ascii =
+        ⟦<<PikeVMExecutor<'static, Utf8Input<'static>> as Executor<'static, 'static>>::AsAscii
+        as Searcher<'static>>⟧ in
+        ascii.text_of ≡ (λ text. ascii_text text.now) }
 {}
 
 /// What `AsAscii` of the executor over ASCII names does so too.
 pub fn ascii_stays_in_bytes()
-    ensures takes { (text : Bor (List ℕ)) → IsAscii text.now → ⟦<<PikeVMExecutor<'static, AsciiInput<'static>> as Executor<'static, 'static>>::AsAscii as Searcher<'static>>⟧.can_search text }
-    ensures reads { ⟦<<PikeVMExecutor<'static, AsciiInput<'static>> as Executor<'static, 'static>>::AsAscii as Searcher<'static>>⟧.text_of ≡ (λ text. ascii_text text.now) }
+    ensures takes { let ascii =
+        ⟦<<PikeVMExecutor<'static, AsciiInput<'static>> as Executor<'static, 'static>>::AsAscii
+        as Searcher<'static>>⟧ in
+        (text : Bor (List ℕ)) → IsAscii text.now → ascii.can_search text }
+    ensures reads { let ascii =
+        ⟦<<PikeVMExecutor<'static, AsciiInput<'static>> as Executor<'static, 'static>>::AsAscii
+        as Searcher<'static>>⟧ in
+        ascii.text_of ≡ (λ text. ascii_text text.now) }
 {}

@@ -1,7 +1,7 @@
 //! What a search remembers: a row of slots, a log of the values that they had, and the ways still to try.
 
-ghost use Rattle.std.specs.Prelude.{◌≡◌, ◌≢◌, ◌<◌, ◌≤◌, ◌+◌, ◌-◌, ◌^◌, ◌++◌, ℕ, [], ◌∷◌, length, take, if◌then◌else◌, nat_lt, false, slice_get, slice_set, Some, OnOk, OnErr, IfOk};
-ghost use Rattle.regress_turns.specs.Memory.{Held, undone, AreThere, first_slots, state_of, loop_in, with_marks, IsUndone, IsSet, Becomes, with_open, without_range, with_range, with_iteration};
+ghost use Rattle.std.specs.Prelude.{◌≡◌, ◌≢◌, ◌<◌, ◌≤◌, ◌+◌, ◌-◌, ◌^◌, ◌++◌, ℕ, [], ◌∷◌, length, take, slice_get, slice_set, Some, OnOk, OnErr, IfOk};
+ghost use Rattle.regress_turns.specs.Memory.{Held, undone, AreThere, first_slots, slot_before, laid_out, state_of, loop_in, with_marks, IsUndone, IsSet, Becomes, with_open, without_range, with_range, with_iteration};
 
 use std::alloc::{AllocError, Global};
 use std::marker::Model;
@@ -121,7 +121,7 @@ fn make(slots: &mut Vec<Slot>, count: usize) -> Result<(), AllocError>
 // The slot of this number before a search from an offset. Those of groups come first, of which there are so many.
 #[inline(always)]
 fn first_slot(id: usize, groups: usize, at: usize) -> Slot
-    ensures { result ≡ (if nat_lt id groups then record { number = at; from = 0; to = 0; has_range = false } else record { number = 0; from = at; to = 0; has_range = false }) }
+    ensures { result ≡ slot_before id groups at }
 {
     let (number, from) = if id < groups { (at, 0) } else { (0, at) };
     Slot {
@@ -162,7 +162,7 @@ impl Memory {
     /// only where there were fewer slots before.
     pub fn begin(&mut self, groups: usize, loops: usize, at: usize) -> Result<(), AllocError>
         requires { groups + loops < 2 ^ 64 }
-        ensures begun { OnOk result (self.new ≡ record { groups = groups; slots = first_slots groups loops at; log = []; marks = [] }) }
+        ensures begun { OnOk result (self.new ≡ laid_out groups loops at) }
         ensures refused { OnErr result (length self.new.slots ≢ groups + loops) }
         ensures short { OnErr result (length self.old.slots < groups + loops) }
     {

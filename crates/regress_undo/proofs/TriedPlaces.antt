@@ -92,6 +92,13 @@ reads-bytes utf8 are_bytes text by sure characters spelled = record { scalars = 
 reads-bytes utf16 are_bytes text by sure characters spelled = cc
 reads-bytes ucs2 are_bytes text by sure characters spelled = cc
 
+-- the byte that is read at a boundary of one
+pub begins-here : (e : Encoding) {are_bytes : Bool} {text : Text} → are_bytes ≡ is_of_bytes e → IsTrue are_bytes → IsTrue (list_all (is_character e) text.characters)
+    → (IsTrue are_bytes → IsInUtf8 text) → IsText text → (members : List ℕ) (at : ℕ) → IsBoundary text at → (byte : Option ℕ)
+    → byte ≡ where_bytes are_bytes (slice_get (encode_utf8_all text.characters) at) → is_member members byte ≡ begins_with_one_of members (bytes_from text (place text at))
+begins-here e {are_bytes = are} {text = text} by sure characters spelled is =
+    begins-read text is (reads-bytes e are text by sure characters spelled) are sure
+
 -- ---- The walk
 
 pub and-then-mapped : {X Y : Type 0} (f : X → ℕ) (h : Y → ℕ) (k : ℕ → Option ℕ) (x : Option X) (y : Option Y) → option_map f x ≡ option_map h y

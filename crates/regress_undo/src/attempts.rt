@@ -44,13 +44,15 @@ pub(crate) fn attempt<W: Planned, S: Steps>(
     memory: &mut Memory,
     steps: &mut S,
 ) -> Result<Option<At<W>>, SearchError>
-    requires can { let w = W.searching planned.now in CanBeSearched w.tree w.text }
-    requires at { IsBoundary (W.searching planned.now).text (W.Input.Position.offset pos) }
+    requires can { let w = W.searching planned.now in
+        CanBeSearched w.tree w.text × IsBoundary w.text (W.Input.Position.offset pos) }
     requires fresh { (S.budget steps.old).out ≡ false }
-    ensures found { IfOk result (IsEndFrom W.Input.Position.offset (W.searching planned.now) (W.Input.Position.offset pos) memory.new) }
-    ensures steps { SpendsAt (W.searching planned.now) (W.Input.Position.offset pos) S.COUNTS (S.budget steps.old) result (S.budget steps.new) }
-    ensures begun { TakesIfLaidOut (W.searching planned.now) memory.new S.COUNTS (S.budget steps.old) result
-        (S.budget steps.new) }
+    ensures found { let at = W.Input.Position.offset in
+        IfOk result (IsEndFrom at (W.searching planned.now) (at pos) memory.new) }
+    ensures steps { SpendsAt (W.searching planned.now) (W.Input.Position.offset pos) S.COUNTS
+        (S.budget steps.old) result (S.budget steps.new) }
+    ensures begun { TakesIfLaidOut (W.searching planned.now) memory.new S.COUNTS
+        (S.budget steps.old) result (S.budget steps.new) }
     ensures cause { Tells result (S.budget steps.new).out }
 {
     let at = planned.input().pos_to_offset(pos);

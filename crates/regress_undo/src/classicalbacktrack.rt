@@ -1,9 +1,13 @@
 //! The executor that keeps one state and undoes its changes.
 
-ghost use Rattle.std.specs.Prelude.{◌≡◌, ◌<◌, IsAscii, IfOk, None, ⊤, ℕ, List};
+ghost use Rattle.std.specs.Prelude.{◌≡◌, IsAscii, IfOk, None, option_map, ⊤, ℕ, List};
 ghost use Rattle.std.specs.Borrow.{Bor};
+ghost use Rattle.regex_meaning.specs.Offsets.{IsBoundary};
 ghost use Rattle.regex_meaning.specs.Text.{ascii_text, utf8_text, utf16_text, ucs2_text};
 ghost use Rattle.regex_pattern_front.specs.TreeOf.{tree_of};
+ghost use Rattle.regress_exec.specs.Attempts.{IsNextTry};
+ghost use Rattle.regress_machine.specs.Finds.{CanSearch};
+ghost use Rattle.regress_scan.specs.Searching.{program_of};
 ghost use Rattle.regress_turns.specs.Memory.{state_of};
 
 use crate::attempts::attempt;
@@ -13,7 +17,7 @@ use regress_exec::places::Attempts;
 use regress_exec::searched::Searched;
 use regress_input::indexing::{AsciiInput, InputIndexer, Ucs2Input, Utf8Input, Utf16Input};
 use regress_program::insn::{CompiledRegex, CompiledUnits, Program};
-use regress_scan::planned::{PlannedProgram, PlannedSearch};
+use regress_scan::planned::{At, Planned, PlannedProgram, PlannedSearch, offset_in, position_in};
 use regress_scan::starts::next_start;
 use regress_turns::memory::Memory;
 use regress_turns::steps::Free;
@@ -41,6 +45,20 @@ impl<'r, Input: InputIndexer> BacktrackExecutor<'r, Input> {
             memory: Memory::new(alloc),
             tried: None,
         }
+    }
+}
+
+// The first position to try from one on, by the plan.
+#[inline(always)]
+fn next_place<W: Planned>(planned: &W, from: At<W>) -> Option<At<W>>
+    requires at { IsBoundary (W.searching planned.now).text (W.Input.Position.offset from) }
+    requires can { let w = W.searching planned.now in CanSearch (program_of w) w.tree w.text }
+    ensures { let w = W.searching planned.now in let at = W.Input.Position.offset in
+        IsNextTry w.tree w.text (at from) (option_map at result) }
+{
+    match next_start(planned, offset_in(planned, from)) {
+        Some(at) => Some(position_in(planned, at)),
+        None => None,
     }
 }
 
@@ -85,12 +103,12 @@ impl<'r, Input: InputIndexer> Attempts for BacktrackExecutor<'r, Input> {
         if self.search.searched.is_anchored() {
             return Some(pos);
         }
-        next_start(&self.search, pos)
+        next_place(&self.search, pos)
     }
 
     fn place_behind(&self, tried: Input::Position) -> Option<Input::Position> {
         let next = self.search.searched.next_try(tried)?;
-        next_start(&self.search, next)
+        next_place(&self.search, next)
     }
 }
 
@@ -101,9 +119,12 @@ impl<'r, 't> BacktrackExecutor<'r, Utf16Input<'t>> {
     ///
     /// None so far: it takes no memory.
     pub fn new_utf16(re: &'r CompiledUnits, text: &'t [u16]) -> Result<Self, AllocError>
-        ensures tree { IfOk result (λ e. ⟦<BacktrackExecutor<'r, Utf16Input<'t>> as MatchProducer>⟧.tree e ≡ tree_of re.now) }
-        ensures text { IfOk result (λ e. ⟦<BacktrackExecutor<'r, Utf16Input<'t>> as MatchProducer>⟧.text e ≡ utf16_text text.now (tree_of re.now).flags.unicode) }
-        ensures unlimited { IfOk result (λ e. ⟦<BacktrackExecutor<'r, Utf16Input<'t>> as MatchProducer>⟧.budget e ≡ None) }
+        ensures tree { IfOk result (λ e. ⟦<BacktrackExecutor<'r, Utf16Input<'t>> as MatchProducer>⟧.tree e
+            ≡ tree_of re.now) }
+        ensures text { IfOk result (λ e. ⟦<BacktrackExecutor<'r, Utf16Input<'t>> as MatchProducer>⟧.text e
+            ≡ utf16_text text.now (tree_of re.now).flags.unicode) }
+        ensures unlimited { IfOk result (λ e.
+            ⟦<BacktrackExecutor<'r, Utf16Input<'t>> as MatchProducer>⟧.budget e ≡ None) }
     {
         let search = PlannedSearch::new(
             PlannedProgram::for_units(re),
@@ -120,9 +141,12 @@ impl<'r, 't> BacktrackExecutor<'r, Ucs2Input<'t>> {
     ///
     /// None so far: it takes no memory.
     pub fn new_ucs2(re: &'r CompiledUnits, text: &'t [u16]) -> Result<Self, AllocError>
-        ensures tree { IfOk result (λ e. ⟦<BacktrackExecutor<'r, Ucs2Input<'t>> as MatchProducer>⟧.tree e ≡ tree_of re.now) }
-        ensures text { IfOk result (λ e. ⟦<BacktrackExecutor<'r, Ucs2Input<'t>> as MatchProducer>⟧.text e ≡ ucs2_text text.now (tree_of re.now).flags.unicode) }
-        ensures unlimited { IfOk result (λ e. ⟦<BacktrackExecutor<'r, Ucs2Input<'t>> as MatchProducer>⟧.budget e ≡ None) }
+        ensures tree { IfOk result (λ e. ⟦<BacktrackExecutor<'r, Ucs2Input<'t>> as MatchProducer>⟧.tree e
+            ≡ tree_of re.now) }
+        ensures text { IfOk result (λ e. ⟦<BacktrackExecutor<'r, Ucs2Input<'t>> as MatchProducer>⟧.text e
+            ≡ ucs2_text text.now (tree_of re.now).flags.unicode) }
+        ensures unlimited { IfOk result (λ e.
+            ⟦<BacktrackExecutor<'r, Ucs2Input<'t>> as MatchProducer>⟧.budget e ≡ None) }
     {
         let search = PlannedSearch::new(PlannedProgram::for_units(re), Searched::in_ucs2(re, text));
         Ok(BacktrackExecutor::over(search))
@@ -169,12 +193,24 @@ impl<'r, 't> Executor<'r, 't> for BacktrackExecutor<'r, AsciiInput<'t>> {
 
 /// What `AsAscii` of the executor over UTF-8 names takes each text of ASCII, and reads each of its bytes as a character.
 pub fn ascii_is_read_in_bytes()
-    ensures takes { (text : Bor (List ℕ)) → IsAscii text.now → ⟦<<BacktrackExecutor<'static, Utf8Input<'static>> as Executor<'static, 'static>>::AsAscii as Searcher<'static>>⟧.can_search text }
-    ensures reads { ⟦<<BacktrackExecutor<'static, Utf8Input<'static>> as Executor<'static, 'static>>::AsAscii as Searcher<'static>>⟧.text_of ≡ (λ text. ascii_text text.now) }
+    ensures takes { let ascii =
+        ⟦<<BacktrackExecutor<'static, Utf8Input<'static>> as Executor<'static, 'static>>::AsAscii
+        as Searcher<'static>>⟧ in
+        (text : Bor (List ℕ)) → IsAscii text.now → ascii.can_search text }
+    ensures reads { let ascii =
+        ⟦<<BacktrackExecutor<'static, Utf8Input<'static>> as Executor<'static, 'static>>::AsAscii
+        as Searcher<'static>>⟧ in
+        ascii.text_of ≡ (λ text. ascii_text text.now) }
 {}
 
 /// What `AsAscii` of the executor over ASCII names does so too.
 pub fn ascii_stays_in_bytes()
-    ensures takes { (text : Bor (List ℕ)) → IsAscii text.now → ⟦<<BacktrackExecutor<'static, AsciiInput<'static>> as Executor<'static, 'static>>::AsAscii as Searcher<'static>>⟧.can_search text }
-    ensures reads { ⟦<<BacktrackExecutor<'static, AsciiInput<'static>> as Executor<'static, 'static>>::AsAscii as Searcher<'static>>⟧.text_of ≡ (λ text. ascii_text text.now) }
+    ensures takes { let ascii =
+        ⟦<<BacktrackExecutor<'static, AsciiInput<'static>> as Executor<'static, 'static>>::AsAscii
+        as Searcher<'static>>⟧ in
+        (text : Bor (List ℕ)) → IsAscii text.now → ascii.can_search text }
+    ensures reads { let ascii =
+        ⟦<<BacktrackExecutor<'static, AsciiInput<'static>> as Executor<'static, 'static>>::AsAscii
+        as Searcher<'static>>⟧ in
+        ascii.text_of ≡ (λ text. ascii_text text.now) }
 {}

@@ -38,9 +38,12 @@ impl<'r, 't> LimitedExecutor<'r, 't> {
     ///
     /// Where there is no memory for it.
     pub fn new(re: &'r CompiledRegex, text: &'t str, steps: u64) -> Result<Self, AllocError>
-        ensures tree { IfOk result (λ e. ⟦<LimitedExecutor<'r, 't> as MatchProducer>⟧.tree e ≡ tree_of re.now) }
-        ensures text { IfOk result (λ e. ⟦<LimitedExecutor<'r, 't> as MatchProducer>⟧.text e ≡ utf8_text text.now (tree_of re.now).flags.unicode) }
-        ensures budget { IfOk result (λ e. ⟦<LimitedExecutor<'r, 't> as MatchProducer>⟧.budget e ≡ Some steps) }
+        ensures tree { IfOk result (λ e. ⟦<LimitedExecutor<'r, 't> as MatchProducer>⟧.tree e
+            ≡ tree_of re.now) }
+        ensures text { IfOk result (λ e. ⟦<LimitedExecutor<'r, 't> as MatchProducer>⟧.text e
+            ≡ utf8_text text.now (tree_of re.now).flags.unicode) }
+        ensures budget { IfOk result (λ e. ⟦<LimitedExecutor<'r, 't> as MatchProducer>⟧.budget e
+            ≡ Some steps) }
     {
         let executor = BacktrackExecutor::<Utf8Input>::new(re, text)?;
         Ok(LimitedExecutor {

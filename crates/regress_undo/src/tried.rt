@@ -24,7 +24,8 @@ fn begins_with<Input: InputIndexer, Set: ByteSet>(
 ) -> bool
     requires at { IsBoundary (Input.text input.now) (Input.Position.offset at) }
     requires bytes { IsTrue Input.Units.ARE_BYTES }
-    ensures { let text = Input.text input.now in result ≡ begins_with_one_of (Set.members set.now) (bytes_from text (place text (Input.Position.offset at))) }
+    ensures { let text = Input.text input.now in
+        result ≡ begins_with_one_of (Set.members set.now) (bytes_from text (place text (Input.Position.offset at))) }
 {
     match input.peek_byte_right(at) {
         Some(byte) => set.contains(byte),
@@ -37,7 +38,8 @@ fn begins_with<Input: InputIndexer, Set: ByteSet>(
 fn stands<Input: InputIndexer>(input: &Input, bytes: &[u8], at: Input::Position) -> bool
     requires at { IsBoundary (Input.text input.now) (Input.Position.offset at) }
     requires bytes { IsTrue Input.Units.ARE_BYTES }
-    ensures { let text = Input.text input.now in result ≡ starts_with nat_eq (bytes_from text (place text (Input.Position.offset at))) bytes.now }
+    ensures { let text = Input.text input.now in
+        result ≡ starts_with nat_eq (bytes_from text (place text (Input.Position.offset at))) bytes.now }
 {
     let mut to = at;
     input.match_bytes(Forward, &mut to, bytes)
@@ -51,7 +53,8 @@ fn lets_through<Input: InputIndexer>(
 ) -> bool
     requires at { IsBoundary (Input.text input.now) (Input.Position.offset at) }
     requires bytes { IsTrue Input.Units.ARE_BYTES }
-    ensures { let text = Input.text input.now in result ≡ lets (start_of start.now) text (place text (Input.Position.offset at)) }
+    ensures { let text = Input.text input.now in
+        result ≡ lets (start_of start.now) text (place text (Input.Position.offset at)) }
 {
     match start {
         StartPredicate::Arbitrary | StartPredicate::StartAnchored => true,
@@ -71,7 +74,8 @@ pub(crate) fn first_tried<Input: InputIndexer>(
 ) -> Option<Input::Position>
     requires at { IsBoundary (Input.text input.now) (Input.Position.offset from) }
     requires bytes { IsTrue Input.Units.ARE_BYTES }
-    ensures { IsFirstTried (start_of start.now) (Input.text input.now) (Input.Position.offset from) (option_map Input.Position.offset result) }
+    ensures { let at = Input.Position.offset in
+        IsFirstTried (start_of start.now) (Input.text input.now) (at from) (option_map at result) }
 {
     let mut next = Some(from);
     'places: while let Some(at) = next {
@@ -99,7 +103,8 @@ pub(crate) fn next_tried<Input: InputIndexer>(
 ) -> Option<Input::Position>
     requires at { IsBoundary (Input.text input.now) (Input.Position.offset tried) }
     requires bytes { IsTrue Input.Units.ARE_BYTES }
-    ensures { IsNextTried (start_of start.now) (Input.text input.now) (Input.Position.offset tried) (option_map Input.Position.offset result) }
+    ensures { let at = Input.Position.offset in
+        IsNextTried (start_of start.now) (Input.text input.now) (at tried) (option_map at result) }
 {
     if is_anchored(start) {
         return None;

@@ -38,7 +38,8 @@ impl Match {
 
 // The first name from an id on that stands at none before, and the id behind it.
 fn new_name_from(names: &[String], from: usize) -> Option<(usize, &str)>
-    ensures { let names = map string_bytes names.now in MatchOption result (new_names names from ≡ []) (λ found. new_names names from ≡ found.1.now ∷ new_names names found.0) }
+    ensures { let left = new_names (map string_bytes names.now) in
+        MatchOption result (left from ≡ []) (λ found. left from ≡ found.1.now ∷ left found.0) }
 {
     for id in from..names.len() {
         let name = names[id].as_str();

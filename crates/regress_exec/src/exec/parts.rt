@@ -68,7 +68,8 @@ impl Match {
 
     // The first range that is there among the groups whose name is this one, be it the empty one.
     pub(super) fn first_named(&self, name: &str) -> Option<Range<usize>>
-        ensures { option_map range_of result ≡ first_range (answer_of self.now) (ids_named (answer_of self.now) name.now) }
+        ensures { option_map range_of result
+            ≡ first_range (answer_of self.now) (ids_named (answer_of self.now) name.now) }
     {
         let names = self.names.as_slice();
         for (id, other) in names.iter().enumerate() {

@@ -7,15 +7,19 @@ use regex_pattern_front::parse::ParseError;
 use regress_exec::exec::SearchError;
 use regress_program::emit::EmitError;
 use std::alloc::AllocError;
+use std::fmt;
 
 /// Why a pattern is not compiled.
-#[derive(Clone, Copy, Debug, PartialEq, Eq)]
+#[derive(Clone, Copy, Debug, PartialEq, Eq, thiserror::Error)]
 pub enum Error {
     /// It is no pattern.
+    #[error("{0}")]
     Parse(ParseError),
     /// Its tree has no program.
+    #[error("{0}")]
     Emit(EmitError),
     /// There was no memory.
+    #[error("out of memory")]
     Memory,
 }
 
@@ -52,11 +56,14 @@ impl From<EmitError> for Error {
 }
 
 /// Why a text is not made of what a closure answers for matches.
-#[derive(Debug, Drop)]
+#[derive(Debug, Drop, thiserror::Error)]
+#[error_bound(E: fmt::Display)]
 pub enum ReplaceError<E> {
     /// The search was refused, or there was no memory for the text.
+    #[error("{0}")]
     Search(SearchError),
     /// The closure refused a match.
+    #[error("{0}")]
     Closure(E),
 }
 

@@ -9,8 +9,9 @@ ghost use Rattle.regress_match.specs.Replacements.{FitsText, StandFrom};
 ghost use Rattle.regress_match.specs.Searches.{YieldsMatches};
 ghost use Rattle.regress_program.specs.Running.{tree_to_run};
 
+use crate::api::diagnosis::code_points;
 use crate::api::{Error, Flags};
-use crate::backends::{DefaultAsciiExecutor, DefaultExecutor, LimitedExecutor, search_from};
+use crate::executors::{DefaultAsciiExecutor, DefaultExecutor, LimitedExecutor, search_from};
 use regex_pattern_front::ir;
 use regex_pattern_front::optimizer::optimize;
 use regex_pattern_front::parse::try_parse;
@@ -83,13 +84,13 @@ impl Regex {
     ///
     /// # Errors
     ///
-    /// `Parse` where the text is no pattern, `Emit` where its tree has too many groups, loops or instructions, and
+    /// `Parse` where the text is no pattern (`diagnose` tells what is wrong with it), `Emit` where its tree has too many groups, loops or instructions, and
     /// `Memory` where there is no memory for one of the steps.
     pub fn with_flags(alloc: Global, pattern: &str, flags: Flags) -> Result<Regex, Error>
         ensures compiled { IfOk result (IsCompiledWith (flags_of flags)) }
         ensures refused { IfErr result CanRefuse }
     {
-        let code_points: Vec<u32> = pattern.chars().map(u32::from).collect(alloc)?;
+        let code_points = code_points(alloc, pattern)?;
         Regex::from_unicode(alloc, &code_points, flags)
     }
 
@@ -158,7 +159,8 @@ impl Regex {
     ///
     /// `Memory` where there is no memory for the search.
     pub fn find(&self, text: &str) -> Result<Option<Match>, SearchError>
-        ensures first { IfOk result (λ m. option_map answer_of m ≡ slice_get (utf8_answers self.now text.now 0) 0) }
+        ensures first { IfOk result (λ m. option_map answer_of m
+            ≡ slice_get (utf8_answers self.now text.now 0) 0) }
         ensures fits { IfOk result (λ m. IfSome m (λ found. FitsText text.now (answer_of found))) }
         ensures refused { IfErr result IsMemory }
     {
@@ -195,7 +197,8 @@ impl Regex {
         start: usize,
     ) -> Result<Matches<'r, 't>, SearchError>
         requires { IsCharBoundary text.now start ⊎ (length text.now < start) }
-        ensures answers { IfOk result (YieldsMatches (byte_tree self.now) (as_utf8 self.now text.now) start) }
+        ensures answers { IfOk result
+            (YieldsMatches (byte_tree self.now) (as_utf8 self.now text.now) start) }
         ensures stand { IfOk result (λ it. StandFrom text.now start it.answers) }
         ensures ended { IfOk result (λ it. it.ended ≡ not (nat_le start (length text.now))) }
         ensures refused { IfErr result IsMemory }
@@ -220,9 +223,11 @@ impl Regex {
         steps: u64,
     ) -> Result<LimitedMatches<'r, 't>, SearchError>
         requires { IsCharBoundary text.now start ⊎ (length text.now < start) }
-        ensures answers { IfOk result (λ it. it.answers ≡ utf8_answers_within steps self.now text.now start) }
+        ensures answers { IfOk result (λ it. it.answers
+            ≡ utf8_answers_within steps self.now text.now start) }
         ensures stand { IfOk result (λ it. StandFrom text.now start it.answers) }
-        ensures limited { IfOk result (λ it. it.limited ≡ not (is_utf8_end_within steps self.now text.now start)) }
+        ensures limited { IfOk result (λ it. it.limited
+            ≡ not (is_utf8_end_within steps self.now text.now start)) }
         ensures ended { IfOk result (λ it. it.ended ≡ not (nat_le start (length text.now))) }
         ensures refused { IfErr result IsMemory }
     {
@@ -238,7 +243,8 @@ impl Regex {
     /// `Memory` where there is no memory for the search.
     pub fn find_ascii(&self, text: &str) -> Result<Option<Match>, SearchError>
         requires { IsAscii text.now }
-        ensures first { IfOk result (λ m. option_map answer_of m ≡ slice_get (ascii_answers self.now text.now 0) 0) }
+        ensures first { IfOk result (λ m. option_map answer_of m
+            ≡ slice_get (ascii_answers self.now text.now 0) 0) }
         ensures fits { IfOk result (λ m. IfSome m (λ found. FitsText text.now (answer_of found))) }
         ensures refused { IfErr result IsMemory }
     {
@@ -274,7 +280,8 @@ impl Regex {
         start: usize,
     ) -> Result<AsciiMatches<'r, 't>, SearchError>
         requires { IsAscii text.now }
-        ensures answers { IfOk result (YieldsMatches (byte_tree self.now) (as_ascii self.now text.now) start) }
+        ensures answers { IfOk result
+            (YieldsMatches (byte_tree self.now) (as_ascii self.now text.now) start) }
         ensures stand { IfOk result (λ it. StandFrom text.now start it.answers) }
         ensures ended { IfOk result (λ it. it.ended ≡ not (nat_le start (length text.now))) }
         ensures refused { IfErr result IsMemory }

@@ -28,7 +28,8 @@ impl Regex {
     ///
     /// `Memory` where there is no memory for the search or the text.
     pub fn replace(&self, text: &str, replacement: &str) -> Result<String, SearchError>
-        ensures made { IfOk result (λ s. string_bytes s ≡ replaced text.now 0 (expanded text.now replacement.now (take 1 (utf8_answers self.now text.now 0)))) }
+        ensures made { IfOk result (λ s. string_bytes s ≡ replaced text.now 0
+            (expanded text.now replacement.now (take 1 (utf8_answers self.now text.now 0)))) }
         ensures refused { IfErr result IsMemory }
     {
         expand_first(self.allocator(), self.find_iter(text)?, text, replacement)
@@ -41,7 +42,8 @@ impl Regex {
     ///
     /// `Memory` where there is no memory for the search or the text.
     pub fn replace_all(&self, text: &str, replacement: &str) -> Result<String, SearchError>
-        ensures made { IfOk result (λ s. string_bytes s ≡ replaced text.now 0 (expanded text.now replacement.now (utf8_answers self.now text.now 0))) }
+        ensures made { IfOk result (λ s. string_bytes s
+            ≡ replaced text.now 0 (expanded text.now replacement.now (utf8_answers self.now text.now 0))) }
         ensures refused { IfErr result IsMemory }
     {
         expand_each(self.allocator(), self.find_iter(text)?, text, replacement)
@@ -58,7 +60,8 @@ fn reach(made: &mut String, text: &str, from: usize, found: &Match) -> Result<us
     requires rising { from ≤ found.now.range.start }
     requires boundary { IsCharBoundary text.now from }
     requires fits { FitsText text.now (answer_of found.now) }
-    ensures made { IfOk result (λ _. string_bytes made.new ≡ string_bytes made.old ++ slice_range text.now from found.now.range.start) }
+    ensures made { IfOk result (λ _. string_bytes made.new
+        ≡ string_bytes made.old ++ slice_range text.now from found.now.range.start) }
     ensures behind { IfOk result (λ to. to ≡ found.now.range.end) }
 {
     made.push_str(&text[from..found.start()])?;
@@ -82,7 +85,8 @@ fn expand_first<P: MatchProducer + Drop>(
     replacement: &str,
 ) -> Result<String, SearchError>
     requires { StandFrom text.now 0 matches.answers }
-    ensures made { IfOk result (λ s. string_bytes s ≡ replaced text.now 0 (expanded text.now replacement.now (take 1 matches.answers))) }
+    ensures made { IfOk result (λ s. string_bytes s
+        ≡ replaced text.now 0 (expanded text.now replacement.now (take 1 matches.answers))) }
     ensures refused { matches.limited ≡ false → IfErr result IsMemory }
 {
     let mut made = String::new(alloc);
@@ -103,7 +107,8 @@ fn expand_each<P: MatchProducer + Drop>(
     replacement: &str,
 ) -> Result<String, SearchError>
     requires { StandFrom text.now 0 matches.answers }
-    ensures made { IfOk result (λ s. string_bytes s ≡ replaced text.now 0 (expanded text.now replacement.now matches.answers)) }
+    ensures made { IfOk result (λ s. string_bytes s
+        ≡ replaced text.now 0 (expanded text.now replacement.now matches.answers)) }
     ensures refused { matches.limited ≡ false → IfErr result IsMemory }
 {
     let mut made = String::new(alloc);

@@ -7,7 +7,7 @@ ghost use Rattle.regress_match.specs.Refusals.{IsMemory};
 ghost use Rattle.regress_match.specs.Searches.{YieldsMatches};
 
 use crate::api::{Regex, SearchError};
-use crate::backends::{DefaultUcs2Executor, DefaultUtf16Executor};
+use crate::executors::{DefaultUcs2Executor, DefaultUtf16Executor};
 use regress_exec::exec::Matches;
 
 impl Regex {
@@ -26,7 +26,8 @@ impl Regex {
         start: usize,
     ) -> Result<Matches<DefaultUtf16Executor<'r, 't>>, SearchError>
         requires { IsTrue (is_boundary_of text.now start) ⊎ (length text.now < start) }
-        ensures answers { IfOk result (YieldsMatches (unit_tree self.now) (as_utf16 self.now text.now) start) }
+        ensures answers { IfOk result
+            (YieldsMatches (unit_tree self.now) (as_utf16 self.now text.now) start) }
         ensures ended { IfOk result (λ it. it.ended ≡ not (nat_le start (length text.now))) }
         ensures refused { IfErr result IsMemory }
     {
@@ -45,7 +46,8 @@ impl Regex {
         text: &'t [u16],
         start: usize,
     ) -> Result<Matches<DefaultUcs2Executor<'r, 't>>, SearchError>
-        ensures answers { IfOk result (YieldsMatches (unit_tree self.now) (as_ucs2 self.now text.now) start) }
+        ensures answers { IfOk result
+            (YieldsMatches (unit_tree self.now) (as_ucs2 self.now text.now) start) }
         ensures ended { IfOk result (λ it. it.ended ≡ not (nat_le start (length text.now))) }
         ensures refused { IfErr result IsMemory }
     {

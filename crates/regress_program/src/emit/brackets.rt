@@ -11,7 +11,7 @@ ghost use Rattle.regex_meaning.specs.StartPredicate.{bytes_where};
 ghost use Rattle.regex_pattern_front.specs.TreeOf.{contents_of};
 ghost use Rattle.regex_pattern_front.specs.ByteSets.{ascii_bitmap_bytes};
 ghost use Rattle.regex_pattern_front.specs.Intervals.{interval_of};
-ghost use Rattle.regress_program.specs.Emitting.{state_of, with_code, with_bracket};
+ghost use Rattle.regress_program.specs.Emitting.{IsEmitted, state_of, with_bracket};
 
 use crate::emit::emitter::{Emitter, Mode};
 use regex_pattern_front::bytesearch::AsciiBitmap;
@@ -27,7 +27,7 @@ impl Emitter {
         mode: Mode,
         contents: &BracketContents,
     ) -> Result<(), AllocError>
-        ensures { OnOk result (state_of self.new ≡ with_code mode.unicode mode.behind (bracket (contents_of contents.now)) (state_of self.old)) }
+        ensures { OnOk result (IsEmitted mode (bracket (contents_of contents.now)) self.old self.new) }
     {
         match ascii_bitmap(contents) {
             Some(bitmap) => {
@@ -45,7 +45,8 @@ impl Emitter {
 
     // One bracket more beside the code.
     fn add_bracket(&mut self, contents: &BracketContents) -> Result<(), AllocError>
-        ensures { OnOk result (state_of self.new ≡ with_bracket (contents_of contents.now) (state_of self.old)) }
+        ensures { OnOk result (state_of self.new
+            ≡ with_bracket (contents_of contents.now) (state_of self.old)) }
     {
         self.brackets.push(contents.clone()?)?;
         Ok(())
@@ -55,7 +56,8 @@ impl Emitter {
 // The set as one of bytes below 128, if it is one.
 fn ascii_bitmap(contents: &BracketContents) -> Option<AsciiBitmap>
     ensures found { is_some result ≡ is_ascii_set (contents_of contents.now) }
-    ensures members { IfSome result (λ b. ascii_bitmap_bytes b ≡ bytes_where (in_intervals (contents_of contents.now).intervals)) }
+    ensures members { IfSome result (λ b. ascii_bitmap_bytes b
+        ≡ bytes_where (in_intervals (contents_of contents.now).intervals)) }
 {
     if !is_ascii(contents) {
         return None;
@@ -65,7 +67,8 @@ fn ascii_bitmap(contents: &BracketContents) -> Option<AsciiBitmap>
 
 // The members of these intervals that are below 128.
 fn ascii_members(intervals: &[Interval]) -> AsciiBitmap
-    ensures { ascii_bitmap_bytes result ≡ bytes_where (λ b. nat_lt b 128 && in_intervals (map interval_of intervals.now) b) }
+    ensures { ascii_bitmap_bytes result
+        ≡ bytes_where (λ b. nat_lt b 128 && in_intervals (map interval_of intervals.now) b) }
 {
     let mut bitmap = AsciiBitmap::default();
     for interval in intervals {
@@ -76,7 +79,9 @@ fn ascii_members(intervals: &[Interval]) -> AsciiBitmap
 
 // Adds the members of the interval that are below 128.
 fn add_ascii_members(interval: Interval, bitmap: &mut AsciiBitmap)
-    ensures { ascii_bitmap_bytes bitmap.new ≡ bytes_where (λ b. contains (ascii_bitmap_bytes bitmap.old) b || (nat_lt b 128 && is_in_range interval.first interval.last b)) }
+    ensures { ascii_bitmap_bytes bitmap.new
+        ≡ bytes_where (λ b. contains (ascii_bitmap_bytes bitmap.old) b
+        || (nat_lt b 128 && is_in_range interval.first interval.last b)) }
 {
     let end = interval.last.min(127) + 1;
     for member in interval.first..end {

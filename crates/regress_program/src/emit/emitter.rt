@@ -10,7 +10,7 @@ ghost use Rattle.regex_pattern_front.specs.TreeOf.{node_of, quantifier_of};
 ghost use Rattle.regress_program.specs.Insns.{insn_of};
 ghost use Rattle.regress_program.specs.Code.{resets};
 ghost use Rattle.regress_program.specs.Nodes.{cat_of, is_leaf};
-ghost use Rattle.regress_program.specs.Emitting.{HasRoom, shaped, state_of, with_code, with_insn, with_insns, with_insn_at, with_loop, nothing, lookaround_of, with_arm, jump_behind, with_jumps, are_below};
+ghost use Rattle.regress_program.specs.Emitting.{HasRoom, shaped, state_of, with_code, with_insn, with_insns, with_insn_at, with_loop, nothing, shaped_in, IsEmitted, lookaround_of, with_arm, jump_behind, with_jumps, are_below};
 
 use crate::emit::leaves::{anchor_insn, byte_set_insn, char_set_insn, word_boundary_insn};
 use regex_pattern_front::ir::{Node, Quantifier};
@@ -59,7 +59,12 @@ pub(crate) struct Lookaround {
 impl Lookaround {
     // The one over these groups.
     fn new(negate: bool, backwards: bool, groups: Range<CaptureGroupID>) -> Lookaround
-        ensures { result ≡ record { negate = negate; backwards = backwards; start_group = groups.start; end_group = groups.end } }
+        ensures { result ≡ record {
+          negate = negate;
+          backwards = backwards;
+          start_group = groups.start;
+          end_group = groups.end;
+        } }
     {
         Lookaround {
             negate,
@@ -119,8 +124,8 @@ impl Emitter {
     #[cycle(emit)]
     pub(crate) fn emit(&mut self, mode: Mode, node: &Node) -> Result<(), AllocError>
         requires sets { IsTrue (every fits_instructions (node_of node.now)) }
-        requires room { HasRoom (state_of self.old) (shaped mode.narrow (node_of node.now)) }
-        ensures { OnOk result (state_of self.new ≡ with_code mode.unicode mode.behind (shaped mode.narrow (node_of node.now)) (state_of self.old)) }
+        requires room { HasRoom (state_of self.old) (shaped_in mode node.now) }
+        ensures { OnOk result (IsEmitted mode (shaped_in mode node.now) self.old self.new) }
     {
         match node {
             Node::Cat(nodes) => self.emit_all(mode, nodes),
@@ -158,7 +163,7 @@ impl Emitter {
         requires leaf { is_leaf (node_of node.now) ≡ true }
         requires sets { IsTrue (every fits_instructions (node_of node.now)) }
         requires room { HasRoom (state_of self.old) (node_of node.now) }
-        ensures { OnOk result (state_of self.new ≡ with_code mode.unicode mode.behind (node_of node.now) (state_of self.old)) }
+        ensures { OnOk result (IsEmitted mode (node_of node.now) self.old self.new) }
     {
         match node {
             Node::Empty => Ok(()),
@@ -199,7 +204,7 @@ impl Emitter {
     fn emit_all(&mut self, mode: Mode, nodes: &[Node]) -> Result<(), AllocError>
         requires sets { IsTrue (every fits_instructions (cat_of nodes.now)) }
         requires room { HasRoom (state_of self.old) (shaped mode.narrow (cat_of nodes.now)) }
-        ensures { OnOk result (state_of self.new ≡ with_code mode.unicode mode.behind (shaped mode.narrow (cat_of nodes.now)) (state_of self.old)) }
+        ensures { OnOk result (IsEmitted mode (shaped mode.narrow (cat_of nodes.now)) self.old self.new) }
     {
         for node in nodes {
             self.emit(mode, node)?;
@@ -219,8 +224,10 @@ impl Emitter {
     ) -> Result<(), AllocError>
         requires first { IsTrue (every fits_instructions (node_of first.now)) }
         requires others { IsTrue (every fits_instructions (node_of others.now)) }
-        requires room { HasRoom (state_of self.old) (alt (shaped mode.narrow (node_of first.now)) (shaped mode.narrow (node_of others.now))) }
-        ensures { OnOk result (state_of self.new ≡ with_code mode.unicode mode.behind (alt (shaped mode.narrow (node_of first.now)) (shaped mode.narrow (node_of others.now))) (state_of self.old)) }
+        requires room { HasRoom (state_of self.old)
+            (alt (shaped_in mode first.now) (shaped_in mode others.now)) }
+        ensures { OnOk result (IsEmitted mode
+            (alt (shaped_in mode first.now) (shaped_in mode others.now)) self.old self.new) }
     {
         let mut jumps = Vec::new(*self.insns.allocator());
         jumps.push(self.emit_arm(mode, first)?)?;
@@ -239,9 +246,11 @@ impl Emitter {
     #[cycle(emit)]
     fn emit_arm(&mut self, mode: Mode, arm: &Node) -> Result<u32, AllocError>
         requires sets { IsTrue (every fits_instructions (node_of arm.now)) }
-        requires room { HasRoom (state_of self.old) (alt (shaped mode.narrow (node_of arm.now)) empty) }
-        ensures code { OnOk result (state_of self.new ≡ with_arm mode.unicode mode.behind (shaped mode.narrow (node_of arm.now)) (state_of self.old)) }
-        ensures jump { IfOk result (λ jump. jump ≡ jump_behind (shaped mode.narrow (node_of arm.now)) (state_of self.old)) }
+        requires room { HasRoom (state_of self.old) (alt (shaped_in mode arm.now) empty) }
+        ensures code { OnOk result (state_of self.new
+            ≡ with_arm mode.unicode mode.behind (shaped_in mode arm.now) (state_of self.old)) }
+        ensures jump { IfOk result (λ jump. jump
+            ≡ jump_behind (shaped_in mode arm.now) (state_of self.old)) }
     {
         let branch = self.insns.len();
         self.put(Insn::Alt { secondary: 0 })?;
@@ -275,8 +284,9 @@ impl Emitter {
         contents: &Node,
     ) -> Result<(), AllocError>
         requires sets { IsTrue (every fits_instructions (node_of contents.now)) }
-        requires room { HasRoom (state_of self.old) (capture_group id [] (shaped mode.narrow (node_of contents.now))) }
-        ensures { OnOk result (state_of self.new ≡ with_code mode.unicode mode.behind (capture_group id [] (shaped mode.narrow (node_of contents.now))) (state_of self.old)) }
+        requires room { HasRoom (state_of self.old) (capture_group id [] (shaped_in mode contents.now)) }
+        ensures { OnOk result
+            (IsEmitted mode (capture_group id [] (shaped_in mode contents.now)) self.old self.new) }
     {
         self.put(Insn::BeginCaptureGroup(id))?;
         self.emit(mode, contents)?;
@@ -294,8 +304,10 @@ impl Emitter {
         contents: &Node,
     ) -> Result<(), AllocError>
         requires sets { IsTrue (every fits_instructions (node_of contents.now)) }
-        requires room { HasRoom (state_of self.old) (lookaround (lookaround_of look) (shaped mode.narrow (node_of contents.now))) }
-        ensures { OnOk result (state_of self.new ≡ with_code mode.unicode mode.behind (lookaround (lookaround_of look) (shaped mode.narrow (node_of contents.now))) (state_of self.old)) }
+        requires room { HasRoom (state_of self.old)
+            (lookaround (lookaround_of look) (shaped_in mode contents.now)) }
+        ensures { OnOk result (IsEmitted mode
+            (lookaround (lookaround_of look) (shaped_in mode contents.now)) self.old self.new) }
     {
         let head = self.insns.len();
         self.put(look.insn(0))?;
@@ -322,8 +334,10 @@ impl Emitter {
         loopee: &Node,
     ) -> Result<(), AllocError>
         requires sets { IsTrue (every fits_instructions (node_of loopee.now)) }
-        requires room { HasRoom (state_of self.old) (loop_of (quantifier_of quant.now) groups.now.start groups.now.end (shaped mode.narrow (node_of loopee.now))) }
-        ensures { OnOk result (state_of self.new ≡ with_code mode.unicode mode.behind (loop_of (quantifier_of quant.now) groups.now.start groups.now.end (shaped mode.narrow (node_of loopee.now))) (state_of self.old)) }
+        requires room { HasRoom (state_of self.old) (loop_of (quantifier_of quant.now)
+            groups.now.start groups.now.end (shaped_in mode loopee.now)) }
+        ensures { OnOk result (IsEmitted mode (loop_of (quantifier_of quant.now)
+            groups.now.start groups.now.end (shaped_in mode loopee.now)) self.old self.new) }
     {
         let begin = self.next();
         let mut fields = LoopFields {
@@ -352,8 +366,10 @@ impl Emitter {
         loopee: &Node,
     ) -> Result<(), AllocError>
         requires sets { IsTrue (every fits_instructions (node_of loopee.now)) }
-        requires room { HasRoom (state_of self.old) (loop_1_char_body (quantifier_of quant.now) (shaped mode.narrow (node_of loopee.now))) }
-        ensures { OnOk result (state_of self.new ≡ with_code mode.unicode mode.behind (loop_1_char_body (quantifier_of quant.now) (shaped mode.narrow (node_of loopee.now))) (state_of self.old)) }
+        requires room { HasRoom (state_of self.old)
+            (loop_1_char_body (quantifier_of quant.now) (shaped_in mode loopee.now)) }
+        ensures { OnOk result (IsEmitted mode
+            (loop_1_char_body (quantifier_of quant.now) (shaped_in mode loopee.now)) self.old self.new) }
     {
         self.put(Insn::Loop1CharBody {
             min_iters: quant.min,

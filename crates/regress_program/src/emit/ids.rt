@@ -2,13 +2,12 @@
 #![tactic(auto, unfolding(regex_pattern_front::specs::TreeOf::node_of, crate::specs::Ids::are_fresh, crate::specs::Ids::least, crate::specs::Ids::past, crate::proofs::Weights::weight))]
 
 ghost use Rattle.std.specs.Prelude.{◌≡◌, ◌≤◌, ◌<◌, ◌^◌, ◌&&◌, ◌||◌, ◌+◌, ◌-◌, ◌∷◌, [], not, ◌==◌, ℕ, false, length, IsTrue, nat_le};
-ghost use Rattle.regex_meaning.specs.Lists.{contains};
 ghost use Rattle.regex_meaning.specs.Tree.{alt, group_ids, every};
 ghost use Rattle.regex_meaning.specs.WellFormed.{names_the_groups_inside};
 ghost use Rattle.regex_pattern_front.specs.TreeOf.{node_of};
 ghost use Rattle.regress_program.specs.Nodes.{cat_of};
-ghost use Rattle.regress_program.specs.Ids.{is_seen, are_fresh, ids_stand, ids_stand_within, span_of, joined as joined_spans, Span as SpanOfIds};
-ghost use Rattle.regress_program.specs.Spans.{as_span};
+ghost use Rattle.regress_program.specs.Ids.{is_seen, are_fresh, ids_stand, ids_stand_within, span_of, AddsSeen, joined as joined_spans, Span as SpanOfIds};
+ghost use Rattle.regress_program.specs.Spans.{as_span, AddsSpan};
 
 use regex_pattern_front::ir::Node;
 use regex_pattern_front::types::CaptureGroupID;
@@ -54,7 +53,8 @@ impl Span {
 
     // Whether distinct ids of this span are those from the first up to the end, which is not counted in.
     fn fills(self, start: CaptureGroupID, end: CaptureGroupID) -> bool
-        ensures { result ≡ (nat_le start end && (self.count == (end - start)) && nat_le start self.low && nat_le self.high end) }
+        ensures { result ≡ (nat_le start end && (self.count == (end - start))
+            && nat_le start self.low && nat_le self.high end) }
     {
         start <= end
             && self.count == usize::from(end - start)
@@ -98,7 +98,8 @@ impl Ids {
     fn see(&mut self, id: CaptureGroupID) -> bool
         ensures fresh { result ≡ not (is_seen self.old.bits id) }
         ensures seen { (k : ℕ) → is_seen self.new.bits k ≡ (is_seen self.old.bits k || k == id) }
-        ensures span { as_span self.new.inside ≡ joined_spans (as_span self.old.inside) (span_of (id ∷ [])) }
+        ensures span { as_span self.new.inside
+            ≡ joined_spans (as_span self.old.inside) (span_of (id ∷ [])) }
     {
         let word = usize::from(id / 64);
         let bit = id % 64;
@@ -114,8 +115,9 @@ impl Ids {
     #[cycle(gather)]
     pub(crate) fn gather(&mut self, root: &Node) -> bool
         ensures found { result ≡ ids_stand (is_seen self.old.bits) (node_of root.now) }
-        ensures span { IsTrue result → as_span self.new.inside ≡ joined_spans (as_span self.old.inside) (span_of (group_ids (node_of root.now))) }
-        ensures seen { IsTrue result → (k : ℕ) → is_seen self.new.bits k ≡ (is_seen self.old.bits k || contains (group_ids (node_of root.now)) k) }
+        ensures span { IsTrue result
+            → AddsSpan (group_ids (node_of root.now)) self.old.inside self.new.inside }
+        ensures seen { IsTrue result → AddsSeen (group_ids (node_of root.now)) self.old.bits self.new.bits }
     {
         let mut rest = root;
         loop {
@@ -158,8 +160,9 @@ impl Ids {
     #[inline(never)]
     fn gather_row(&mut self, nodes: &[Node]) -> bool
         ensures found { result ≡ ids_stand (is_seen self.old.bits) (cat_of nodes.now) }
-        ensures span { IsTrue result → as_span self.new.inside ≡ joined_spans (as_span self.old.inside) (span_of (group_ids (cat_of nodes.now))) }
-        ensures seen { IsTrue result → (k : ℕ) → is_seen self.new.bits k ≡ (is_seen self.old.bits k || contains (group_ids (cat_of nodes.now)) k) }
+        ensures span { IsTrue result
+            → AddsSpan (group_ids (cat_of nodes.now)) self.old.inside self.new.inside }
+        ensures seen { IsTrue result → AddsSeen (group_ids (cat_of nodes.now)) self.old.bits self.new.bits }
     {
         for node in nodes {
             if !self.gather(node) {
@@ -179,8 +182,10 @@ impl Ids {
         contents: &Node,
     ) -> bool
         ensures found { result ≡ ids_stand_within (is_seen self.old.bits) start end (node_of contents.now) }
-        ensures span { IsTrue result → as_span self.new.inside ≡ joined_spans (as_span self.old.inside) (span_of (group_ids (node_of contents.now))) }
-        ensures seen { IsTrue result → (k : ℕ) → is_seen self.new.bits k ≡ (is_seen self.old.bits k || contains (group_ids (node_of contents.now)) k) }
+        ensures span { IsTrue result
+            → AddsSpan (group_ids (node_of contents.now)) self.old.inside self.new.inside }
+        ensures seen { IsTrue result
+            → AddsSeen (group_ids (node_of contents.now)) self.old.bits self.new.bits }
     {
         let before = self.inside;
         self.inside = Span::NONE;

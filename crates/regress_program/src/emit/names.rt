@@ -8,7 +8,7 @@ ghost use Rattle.regex_meaning.specs.WellFormed.{each_id_stands_once};
 ghost use Rattle.regex_meaning.specs.Names.{named_ids, names_by_id as names_of_tree};
 ghost use Rattle.regex_pattern_front.specs.TreeOf.{node_of, name_of};
 ghost use Rattle.regress_program.specs.Nodes.{cat_of};
-ghost use Rattle.regress_program.specs.Filing.{filed, is_nameless, is_unnamed as is_node_unnamed};
+ghost use Rattle.regress_program.specs.Filing.{AreFiled, is_nameless, is_unnamed as is_node_unnamed};
 ghost use Rattle.regress_program.specs.Walked.{passes};
 
 use crate::emit::walk::{Visitor, walk};
@@ -49,7 +49,7 @@ fn no_names(alloc: Global, count: u32) -> Result<Vec<String>, AllocError>
 #[cycle(file)]
 fn file(alloc: Global, node: &Node, names: &mut [String]) -> Result<(), AllocError>
     ensures long { length names.new ≡ length names.old }
-    ensures filed { OnOk result (map string_bytes names.new ≡ filed (named_ids (node_of node.now)) (map string_bytes names.old)) }
+    ensures filed { OnOk result (AreFiled (named_ids (node_of node.now)) names.old names.new) }
 {
     match node {
         Node::Cat(nodes) => file_all(alloc, nodes, names),
@@ -68,7 +68,7 @@ fn file(alloc: Global, node: &Node, names: &mut [String]) -> Result<(), AllocErr
 #[cycle(file)]
 fn file_all(alloc: Global, nodes: &[Node], names: &mut [String]) -> Result<(), AllocError>
     ensures long { length names.new ≡ length names.old }
-    ensures filed { OnOk result (map string_bytes names.new ≡ filed (named_ids (cat_of nodes.now)) (map string_bytes names.old)) }
+    ensures filed { OnOk result (AreFiled (named_ids (cat_of nodes.now)) names.old names.new) }
 {
     for node in nodes {
         file(alloc, node, names)?;
@@ -85,7 +85,8 @@ fn file_alternatives(
     names: &mut [String],
 ) -> Result<(), AllocError>
     ensures long { length names.new ≡ length names.old }
-    ensures filed { OnOk result (map string_bytes names.new ≡ filed (named_ids (alt (node_of first.now) (node_of others.now))) (map string_bytes names.old)) }
+    ensures filed { let both = alt (node_of first.now) (node_of others.now) in
+        OnOk result (AreFiled (named_ids both) names.old names.new) }
 {
     file(alloc, first, names)?;
     let mut rest = others;
@@ -106,7 +107,8 @@ fn file_group(
     names: &mut [String],
 ) -> Result<(), AllocError>
     ensures long { length names.new ≡ length names.old }
-    ensures filed { OnOk result (map string_bytes names.new ≡ filed ((id, name_of name.now) ∷ named_ids (node_of contents.now)) (map string_bytes names.old)) }
+    ensures filed { let named = (id, name_of name.now) ∷ named_ids (node_of contents.now) in
+        OnOk result (AreFiled named names.old names.new) }
 {
     let copy = copied(alloc, name)?;
     put(names, id, copy);
@@ -118,7 +120,8 @@ fn file_group(
 #[tactic(auto, using(std::proofs::lemmas::Grind::common_steps, crate::proofs::FilingLemmas::put_past, crate::proofs::FilingLemmas::put_there))]
 fn put(names: &mut [String], id: CaptureGroupID, name: String)
     ensures long { length names.new ≡ length names.old }
-    ensures filed { map string_bytes names.new ≡ set (map string_bytes names.old) id (string_bytes name) }
+    ensures filed { map string_bytes names.new
+        ≡ set (map string_bytes names.old) id (string_bytes name) }
 {
     let place = usize::from(id);
     if place >= names.len() {

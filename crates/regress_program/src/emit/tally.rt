@@ -35,9 +35,12 @@ impl Tally {
 
     // Counts a node and those inside it, too.
     pub(crate) fn add(&mut self, node: &Node)
-        ensures groups { min self.new.groups (2 ^ 64 - 1) ≡ min (self.old.groups + length (group_ids (node_of node.now))) (2 ^ 64 - 1) }
-        ensures loops { min self.new.loops (2 ^ 64 - 1) ≡ min (self.old.loops + loop_count (node_of node.now)) (2 ^ 64 - 1) }
-        ensures insns { min self.new.insns (2 ^ 64 - 1) ≡ min (self.old.insns + size (node_of node.now)) (2 ^ 64 - 1) }
+        ensures groups { min self.new.groups (2 ^ 64 - 1)
+            ≡ min (self.old.groups + length (group_ids (node_of node.now))) (2 ^ 64 - 1) }
+        ensures loops { min self.new.loops (2 ^ 64 - 1)
+            ≡ min (self.old.loops + loop_count (node_of node.now)) (2 ^ 64 - 1) }
+        ensures insns { min self.new.insns (2 ^ 64 - 1)
+            ≡ min (self.old.insns + size (node_of node.now)) (2 ^ 64 - 1) }
     {
         let _ = walk(self, node);
     }

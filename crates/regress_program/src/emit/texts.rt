@@ -6,7 +6,7 @@ ghost use Rattle.regex_meaning.specs.Text.{expand_code_point as expansion};
 ghost use Rattle.regex_meaning.specs.Layout.{chunks};
 ghost use Rattle.regex_meaning.specs.Layout as layout;
 ghost use Rattle.regress_program.specs.Code.{string_code, strings_size as size_of_strings};
-ghost use Rattle.regress_program.specs.Emitting.{state_of, with_code, with_insn, with_insns, code_points_of};
+ghost use Rattle.regress_program.specs.Emitting.{IsEmitted, state_of, with_insn, with_insns, code_points_of};
 
 use crate::emit::emitter::{Emitter, Mode};
 use crate::emit::leaves::spelling_insn;
@@ -38,7 +38,7 @@ pub(crate) fn strings_size(strings: &[Vec<u32>]) -> usize
 impl Emitter {
     // Literal bytes in chunks, the last chunk first inside a lookbehind.
     pub(crate) fn emit_bytes(&mut self, mode: Mode, bytes: &[u8]) -> Result<(), AllocError>
-        ensures { OnOk result (state_of self.new ≡ with_code mode.unicode mode.behind (byte_sequence bytes.now) (state_of self.old)) }
+        ensures { OnOk result (IsEmitted mode (byte_sequence bytes.now) self.old self.new) }
     {
         let count = chunk_count(bytes);
         for at in 0..count {
@@ -49,7 +49,8 @@ impl Emitter {
 
     fn put_chunk(&mut self, bytes: &[u8], chunk: usize) -> Result<(), AllocError>
         requires { chunk * 16 < length bytes.now }
-        ensures { OnOk result (state_of self.new ≡ with_insn (layout.ByteSeq (take 16 (drop (chunk * 16) bytes.now))) (state_of self.old)) }
+        ensures { OnOk result (state_of self.new
+            ≡ with_insn (layout.ByteSeq (take 16 (drop (chunk * 16) bytes.now))) (state_of self.old)) }
     {
         let rest = &bytes[chunk * MAX_BYTE_SEQ_LENGTH..];
         self.put(byte_seq(&rest[..rest.len().min(MAX_BYTE_SEQ_LENGTH)]))
@@ -62,8 +63,10 @@ impl Emitter {
         icase: bool,
         strings: &[Vec<u32>],
     ) -> Result<(), AllocError>
-        requires { length (state_of self.old).insns + size_of_strings (code_points_of strings.now) < 2 ^ 32 }
-        ensures { OnOk result (state_of self.new ≡ with_code mode.unicode mode.behind (string_set (code_points_of strings.now) icase) (state_of self.old)) }
+        requires { length (state_of self.old).insns + size_of_strings
+            (code_points_of strings.now) < 2 ^ 32 }
+        ensures { OnOk result
+            (IsEmitted mode (string_set (code_points_of strings.now) icase) self.old self.new) }
     {
         if strings.is_empty() {
             return self.put(Insn::JustFail);
@@ -82,7 +85,8 @@ impl Emitter {
 
     // The code points of a string, the last one first inside a lookbehind.
     fn emit_string(&mut self, mode: Mode, icase: bool, string: &[u32]) -> Result<(), AllocError>
-        ensures { OnOk result (state_of self.new ≡ with_insns (string_code mode.unicode icase mode.behind string.now) (state_of self.old)) }
+        ensures { OnOk result (state_of self.new
+            ≡ with_insns (string_code mode.unicode icase mode.behind string.now) (state_of self.old)) }
     {
         for at in 0..string.len() {
             self.put_spellings(mode, icase, string[mode.place(at, string.len())])?;
@@ -91,7 +95,8 @@ impl Emitter {
     }
 
     fn put_spellings(&mut self, mode: Mode, icase: bool, c: u32) -> Result<(), AllocError>
-        ensures { OnOk result (state_of self.new ≡ with_insn (layout.spelling_insn (expansion c icase mode.unicode)) (state_of self.old)) }
+        ensures { OnOk result (state_of self.new
+            ≡ with_insn (layout.spelling_insn (expansion c icase mode.unicode)) (state_of self.old)) }
     {
         let alloc = *self.insns.allocator();
         let members = expand_code_point(alloc, c, icase, mode.unicode)?;

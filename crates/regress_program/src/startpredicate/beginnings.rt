@@ -44,7 +44,8 @@ pub(crate) fn begins(node: &Node) -> Result<Beginning<'_>, AllocError>
 // of the frames of those that do: so deep nesting costs little stack.
 #[cycle(add)]
 fn add<'a>(shared: &mut Beginning<'a>, node: &'a Node) -> Result<bool, AllocError>
-    ensures shared { OnOk result (beginning_of shared.new ≡ after (beginning_of shared.old) (beginning (node_of node.now))) }
+    ensures shared { OnOk result (beginning_of shared.new
+        ≡ after (beginning_of shared.old) (beginning (node_of node.now))) }
     ensures reads { IfOk result (λ reads. reads ≡ not (is_open (beginning (node_of node.now)))) }
     ensures no_memory { may_grow (node_of node.now) ≡ false → IsOk result }
 {
@@ -74,7 +75,8 @@ fn add<'a>(shared: &mut Beginning<'a>, node: &'a Node) -> Result<bool, AllocErro
 // The same of nodes one after another, of which the first that reads something decides.
 #[cycle(add)]
 fn add_row<'a>(shared: &mut Beginning<'a>, nodes: &'a [Node]) -> Result<bool, AllocError>
-    ensures shared { OnOk result (beginning_of shared.new ≡ after (beginning_of shared.old) (beginning (cat_of nodes.now))) }
+    ensures shared { OnOk result (beginning_of shared.new
+        ≡ after (beginning_of shared.old) (beginning (cat_of nodes.now))) }
     ensures reads { IfOk result (λ reads. reads ≡ not (is_open (beginning (cat_of nodes.now)))) }
     ensures no_memory { may_grow (cat_of nodes.now) ≡ false → IsOk result }
 {
@@ -93,8 +95,10 @@ fn add_arms<'a>(
     first: &'a Node,
     others: &'a Node,
 ) -> Result<(), AllocError>
-    ensures shared { OnOk result (beginning_of shared.new ≡ after_arm (after_arm (beginning_of shared.old) (beginning (node_of first.now))) (beginning (node_of others.now))) }
-    ensures no_memory { may_grow (node_of first.now) ≡ false → may_grow (node_of others.now) ≡ false → IsOk result }
+    ensures shared { let begun = after_arm (beginning_of shared.old) (beginning (node_of first.now)) in
+        OnOk result (beginning_of shared.new ≡ after_arm begun (beginning (node_of others.now))) }
+    ensures no_memory { may_grow (node_of first.now) ≡ false
+        → may_grow (node_of others.now) ≡ false → IsOk result }
 {
     add_arm(shared, first)?;
     let mut rest = others;
@@ -108,7 +112,8 @@ fn add_arms<'a>(
 // Joins what an alternative begins with, which is anything where it reads nothing.
 #[cycle(add)]
 fn add_arm<'a>(shared: &mut Beginning<'a>, arm: &'a Node) -> Result<(), AllocError>
-    ensures shared { OnOk result (beginning_of shared.new ≡ after_arm (beginning_of shared.old) (beginning (node_of arm.now))) }
+    ensures shared { OnOk result (beginning_of shared.new
+        ≡ after_arm (beginning_of shared.old) (beginning (node_of arm.now))) }
     ensures no_memory { may_grow (node_of arm.now) ≡ false → IsOk result }
 {
     if !add(shared, arm)? {
@@ -121,7 +126,8 @@ fn add_arm<'a>(shared: &mut Beginning<'a>, arm: &'a Node) -> Result<(), AllocErr
 #[inline(never)]
 fn add_leaf<'a>(shared: &mut Beginning<'a>, node: &'a Node) -> Result<(), AllocError>
     requires { is_leaf (node_of node.now) ≡ true }
-    ensures shared { OnOk result (beginning_of shared.new ≡ after (beginning_of shared.old) (beginning (node_of node.now))) }
+    ensures shared { OnOk result (beginning_of shared.new
+        ≡ after (beginning_of shared.old) (beginning (node_of node.now))) }
     ensures no_memory { may_grow (node_of node.now) ≡ false → IsOk result }
 {
     *shared = joined_to(*shared, leaf_begins(node)?);
@@ -199,7 +205,8 @@ fn join<'a>(left: Beginning<'a>, right: Beginning<'a>) -> Beginning<'a>
 
 // What both have in front or, where that is nothing, one of both first bytes.
 fn join_sequences<'a>(xs: &'a [u8], ys: &[u8]) -> Beginning<'a>
-    ensures { beginning_of result ≡ sequence_or (shared_front xs.now ys.now) (union (first_byte xs.now) (first_byte ys.now)) }
+    ensures { beginning_of result
+        ≡ sequence_or (shared_front xs.now ys.now) (union (first_byte xs.now) (first_byte ys.now)) }
 {
     let front = shared_front(xs, ys);
     if !front.is_empty() {

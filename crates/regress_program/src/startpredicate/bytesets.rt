@@ -33,7 +33,8 @@ pub(crate) fn add_first_byte(set: &mut ByteBitmap, bytes: &[u8])
 }
 
 pub(crate) fn add_all(set: &mut ByteBitmap, other: &ByteBitmap)
-    ensures { byte_bitmap_bytes set.new ≡ union (byte_bitmap_bytes set.old) (byte_bitmap_bytes other.now) }
+    ensures { byte_bitmap_bytes set.new
+        ≡ union (byte_bitmap_bytes set.old) (byte_bitmap_bytes other.now) }
 {
     for byte in 0..=u8::MAX {
         if other.contains(byte) {
@@ -59,7 +60,8 @@ pub(crate) fn first_bytes_of_members(members: &[u32]) -> ByteBitmap
 
 // The first bytes of the code points that the class accepts.
 pub(crate) fn first_bytes_of_class(contents: &BracketContents) -> Result<ByteBitmap, AllocError>
-    ensures bytes { IfOk result (λ s. byte_bitmap_bytes s ≡ first_bytes (code_points (contents_of contents.now))) }
+    ensures bytes { IfOk result (λ s. byte_bitmap_bytes s
+        ≡ first_bytes (code_points (contents_of contents.now))) }
     ensures no_memory { contents.now.invert ≡ false → IsOk result }
 {
     if contents.invert {
@@ -83,7 +85,8 @@ fn first_bytes_of_intervals(intervals: &[Interval]) -> ByteBitmap
 // The least member from a number on.
 pub(crate) fn next_member(set: &ByteBitmap, from: usize) -> Option<u8>
     requires { from ≤ 256 }
-    ensures { MatchOption result (bytes_from (byte_bitmap_bytes set.now) from ≡ []) (λ b. bytes_from (byte_bitmap_bytes set.now) from ≡ b ∷ bytes_from (byte_bitmap_bytes set.now) (b + 1)) }
+    ensures { let left = bytes_from (byte_bitmap_bytes set.now) in
+        MatchOption result (left from ≡ []) (λ b. left from ≡ b ∷ left (b + 1)) }
 {
     for number in from..256 {
         let byte = number as u8;

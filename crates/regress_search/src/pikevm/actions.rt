@@ -9,8 +9,8 @@ ghost use Rattle.regress_program.specs.Insns.{insn_of, loop_fields_of};
 ghost use Rattle.regress_machine.specs.Machine.{running, waiting, goes, asks, at_ip, next_ip, span, loop_turn, again_with, again_at};
 ghost use Rattle.regress_search.specs.Acting.{turn_at, turn_by, turn_again, turn_back};
 ghost use Rattle.regress_search.specs.States.{state_of, loop_of, next_of};
-ghost use Rattle.regress_machine.specs.Turns.{opened, closed, reset, entered_at, CanTake, is_literal, is_reader};
-ghost use Rattle.regress_exec.specs.Passing.{IsInBytes};
+ghost use Rattle.regress_machine.specs.Turns.{opened, closed, reset, entered_at, CanTake, is_reader};
+ghost use Rattle.regress_exec.specs.Passing.{IsSpelledFor};
 
 use super::runs::{Run, scan};
 use super::states::{LoopData, State, Turn, copy_of};
@@ -32,9 +32,11 @@ pub(crate) fn take_turn<Input: InputIndexer, Dir: Direction>(
     state: State<Input::Position>,
 ) -> Result<Turn<Input::Position>, AllocError>
     requires code { map insn_of insns.now ≡ (compiled (tree_of searched.now.program.now)).insns }
-    requires can { CanTake (turn_at Input.Position.offset searched.now.program.now (Input.text searched.now.input) Dir.FORWARD state) }
+    requires can { let s = searched.now in
+        CanTake (turn_at Input.Position.offset s.program.now (Input.text s.input) Dir.FORWARD state) }
     requires inside { Input.Position.offset state.pos ≤ units (Input.text searched.now.input) }
-    ensures { IfOk result (λ t. next_of Input.Position.offset t ≡ turn_at Input.Position.offset searched.now.program.now (Input.text searched.now.input) Dir.FORWARD state) }
+    ensures { let s = searched.now in IfOk result (λ t. next_of Input.Position.offset t
+        ≡ turn_at Input.Position.offset s.program.now (Input.text s.input) Dir.FORWARD state) }
 {
     let insn = insns[state.ip];
     perform(insn, searched, insns, dir, state)
@@ -49,11 +51,13 @@ fn perform<Input: InputIndexer, Dir: Direction>(
     mut state: State<Input::Position>,
 ) -> Result<Turn<Input::Position>, AllocError>
     requires code { map insn_of insns.now ≡ (compiled (tree_of searched.now.program.now)).insns }
-    requires can { CanTake (turn_by Input.Position.offset searched.now.program.now (Input.text searched.now.input) Dir.FORWARD insn state) }
-    requires bytes { IsTrue (is_literal (insn_of insn)) → IsInBytes (Input.text searched.now.input) Input.Units.ARE_BYTES }
+    requires can { let s = searched.now in CanTake (turn_by Input.Position.offset
+        s.program.now (Input.text s.input) Dir.FORWARD insn state) }
+    requires bytes { IsSpelledFor insn (Input.text searched.now.input) Input.Units.ARE_BYTES }
     requires inside { Input.Position.offset state.pos ≤ units (Input.text searched.now.input) }
     requires within { state.ip + 1 < 2 ^ 64 }
-    ensures { IfOk result (λ t. next_of Input.Position.offset t ≡ turn_by Input.Position.offset searched.now.program.now (Input.text searched.now.input) Dir.FORWARD insn state) }
+    ensures { let s = searched.now in IfOk result (λ t. next_of Input.Position.offset t
+        ≡ turn_by Input.Position.offset s.program.now (Input.text s.input) Dir.FORWARD insn state) }
 {
     match insn {
         Insn::Goal => Ok(Turn::Done(state)),
@@ -103,12 +107,14 @@ fn read<Input: InputIndexer, Dir: Direction>(
     dir: Dir,
     mut state: State<Input::Position>,
 ) -> Turn<Input::Position>
-    requires can { CanTake (turn_by Input.Position.offset searched.now.program.now (Input.text searched.now.input) Dir.FORWARD insn state) }
+    requires can { let s = searched.now in CanTake (turn_by Input.Position.offset
+        s.program.now (Input.text s.input) Dir.FORWARD insn state) }
     requires reader { IsTrue (is_reader (insn_of insn)) }
-    requires bytes { IsTrue (is_literal (insn_of insn)) → IsInBytes (Input.text searched.now.input) Input.Units.ARE_BYTES }
+    requires bytes { IsSpelledFor insn (Input.text searched.now.input) Input.Units.ARE_BYTES }
     requires inside { Input.Position.offset state.pos ≤ units (Input.text searched.now.input) }
     requires within { state.ip + 1 < 2 ^ 64 }
-    ensures { next_of Input.Position.offset result ≡ turn_by Input.Position.offset searched.now.program.now (Input.text searched.now.input) Dir.FORWARD insn state }
+    ensures { let s = searched.now in next_of Input.Position.offset result
+        ≡ turn_by Input.Position.offset s.program.now (Input.text s.input) Dir.FORWARD insn state }
 {
     if reading::passes(searched, insn, dir, &mut state.pos) {
         state.ip += 1;
@@ -121,7 +127,8 @@ fn read<Input: InputIndexer, Dir: Direction>(
 // The next instruction, or else the one with this number.
 fn fork<P: PositionType>(secondary: u32, mut state: State<P>) -> Result<Turn<P>, AllocError>
     requires { state.ip + 1 < 2 ^ 64 }
-    ensures { IfOk result (λ t. next_of P.offset t ≡ goes (running (next_ip (state_of P.offset state)) ∷ waiting (at_ip secondary (state_of P.offset state)) ∷ [])) }
+    ensures { let s = state_of P.offset state in IfOk result (λ t. next_of P.offset t
+        ≡ goes (running (next_ip s) ∷ waiting (at_ip secondary s) ∷ [])) }
 {
     let mut second = copy_of(&state)?;
     second.ip = secondary as usize;
@@ -137,7 +144,8 @@ fn ask<P: PositionType>(
     mut state: State<P>,
 ) -> Result<Turn<P>, AllocError>
     requires { state.ip + 1 < 2 ^ 64 }
-    ensures { IfOk result (λ t. next_of P.offset t ≡ asks (way forward) negate (next_ip (state_of P.offset state)) (at_ip continuation (state_of P.offset state))) }
+    ensures { let s = state_of P.offset state in IfOk result (λ t. next_of P.offset t
+        ≡ asks (way forward) negate (next_ip s) (at_ip continuation s)) }
 {
     let mut inner = copy_of(&state)?;
     inner.ip += 1;
@@ -183,7 +191,8 @@ fn close_group<P: PositionType, Dir: Direction>(
 // The range of two positions, of which the second was reached from the first.
 #[inline(always)]
 fn span_of<P: PositionType, Dir: Direction>(_dir: Dir, from: P, to: P) -> (P, P)
-    ensures { (P.offset result.0, P.offset result.1) ≡ span (way Dir.FORWARD) (P.offset from) (P.offset to) }
+    ensures { (P.offset result.0, P.offset result.1)
+        ≡ span (way Dir.FORWARD) (P.offset from) (P.offset to) }
 {
     if Dir::FORWARD { (from, to) } else { (to, from) }
 }
@@ -208,9 +217,11 @@ fn read_back<Input: InputIndexer, Dir: Direction>(
     dir: Dir,
     state: State<Input::Position>,
 ) -> Turn<Input::Position>
-    requires can { CanTake (turn_back Input.Position.offset (Input.text searched.now.input) Dir.FORWARD icase group state) }
+    requires can { CanTake (turn_back Input.Position.offset
+        (Input.text searched.now.input) Dir.FORWARD icase group state) }
     requires within { state.ip + 1 < 2 ^ 64 }
-    ensures { next_of Input.Position.offset result ≡ turn_back Input.Position.offset (Input.text searched.now.input) Dir.FORWARD icase group state }
+    ensures { let at = Input.Position.offset in
+        next_of at result ≡ turn_back at (Input.text searched.now.input) Dir.FORWARD icase group state }
 {
     let range = state.groups[group as usize];
     read_again(range, icase, searched, dir, state)
@@ -224,9 +235,11 @@ fn read_again<Input: InputIndexer, Dir: Direction>(
     dir: Dir,
     mut state: State<Input::Position>,
 ) -> Turn<Input::Position>
-    requires can { CanTake (turn_again Input.Position.offset (Input.text searched.now.input) Dir.FORWARD icase range state) }
+    requires can { CanTake (turn_again Input.Position.offset
+        (Input.text searched.now.input) Dir.FORWARD icase range state) }
     requires within { state.ip + 1 < 2 ^ 64 }
-    ensures { next_of Input.Position.offset result ≡ turn_again Input.Position.offset (Input.text searched.now.input) Dir.FORWARD icase range state }
+    ensures { let at = Input.Position.offset in
+        next_of at result ≡ turn_again at (Input.text searched.now.input) Dir.FORWARD icase range state }
 {
     let Some(span) = range else {
         state.ip += 1;
@@ -251,7 +264,8 @@ fn begin_iteration<P: PositionType>(
 ) -> Result<Turn<P>, AllocError>
     requires can { CanTake (loop_turn (loop_fields_of fields) begin k (state_of P.offset state)) }
     requires within { begin + 1 < 2 ^ 64 }
-    ensures { IfOk result (λ t. next_of P.offset t ≡ loop_turn (loop_fields_of fields) begin k (state_of P.offset state)) }
+    ensures { IfOk result (λ t. next_of P.offset t
+        ≡ loop_turn (loop_fields_of fields) begin k (state_of P.offset state)) }
 {
     let may_leave = fields.min_iters <= k;
     if k >= fields.max_iters {
@@ -297,7 +311,8 @@ fn end_body<P: PositionType>(
 ) -> Result<Turn<P>, AllocError>
     requires can { CanTake (again_at (Some (insn_of head)) begin (state_of P.offset state)) }
     requires within { begin + 1 < 2 ^ 64 }
-    ensures { IfOk result (λ t. next_of P.offset t ≡ again_at (Some (insn_of head)) begin (state_of P.offset state)) }
+    ensures { IfOk result (λ t. next_of P.offset t
+        ≡ again_at (Some (insn_of head)) begin (state_of P.offset state)) }
 {
     match head {
         Insn::EnterLoop(fields) => {
@@ -315,9 +330,11 @@ fn end_iteration<P: PositionType>(
     last: LoopData<P>,
     state: State<P>,
 ) -> Result<Turn<P>, AllocError>
-    requires can { CanTake (again_with (loop_fields_of fields) begin (loop_of P.offset last) (state_of P.offset state)) }
+    requires can { CanTake
+        (again_with (loop_fields_of fields) begin (loop_of P.offset last) (state_of P.offset state)) }
     requires within { begin + 1 < 2 ^ 64 }
-    ensures { IfOk result (λ t. next_of P.offset t ≡ again_with (loop_fields_of fields) begin (loop_of P.offset last) (state_of P.offset state)) }
+    ensures { IfOk result (λ t. next_of P.offset t
+        ≡ again_with (loop_fields_of fields) begin (loop_of P.offset last) (state_of P.offset state)) }
 {
     if last.entry == state.pos && fields.min_iters < last.iters + 1 {
         Ok(Turn::Dead)

@@ -3,8 +3,8 @@
 ghost use Rattle.std.specs.Prelude.{◌≡◌, ◌<◌, ◌^◌, ◌+◌, ℕ, IfOk, OnOk, IsTrue, IsSome, if◌then◌else◌, reverse};
 ghost use Rattle.regex_meaning.specs.Offsets.{IsBoundary};
 ghost use Rattle.regress_program.specs.Insns.{insn_of};
-ghost use Rattle.regress_machine.specs.Turns.{behind_at, CanTake, is_literal};
-ghost use Rattle.regress_exec.specs.Passing.{IsInBytes, test_in};
+ghost use Rattle.regress_machine.specs.Turns.{behind_at, CanTake};
+ghost use Rattle.regress_exec.specs.Passing.{IsSpelledFor, test_in};
 ghost use Rattle.regress_search.specs.Acting.{turn_over, HasReached, HasKept};
 ghost use Rattle.regress_search.specs.States.{state_of, next_of};
 
@@ -33,10 +33,12 @@ pub(crate) fn scan<Input: InputIndexer, Dir: Direction>(
     dir: Dir,
     state: State<Input::Position>,
 ) -> Result<Turn<Input::Position>, AllocError>
-    requires can { CanTake (turn_over Input.Position.offset searched.now.program.now (Input.text searched.now.input) Dir.FORWARD run body state) }
-    requires bytes { IsTrue (is_literal (insn_of body)) → IsInBytes (Input.text searched.now.input) Input.Units.ARE_BYTES }
+    requires can { let s = searched.now in CanTake (turn_over Input.Position.offset
+        s.program.now (Input.text s.input) Dir.FORWARD run body state) }
+    requires bytes { IsSpelledFor body (Input.text searched.now.input) Input.Units.ARE_BYTES }
     requires within { state.ip + 2 < 2 ^ 64 }
-    ensures { IfOk result (λ t. next_of Input.Position.offset t ≡ turn_over Input.Position.offset searched.now.program.now (Input.text searched.now.input) Dir.FORWARD run body state) }
+    ensures { let s = searched.now in IfOk result (λ t. next_of Input.Position.offset t
+        ≡ turn_over Input.Position.offset s.program.now (Input.text s.input) Dir.FORWARD run body state) }
 {
     let (tries, states) = reached(run, body, searched, dir, &state)?;
     Ok(Turn::Scan(tries, preferred_last(run.greedy, states)))
@@ -61,10 +63,12 @@ fn reached<Input: InputIndexer, Dir: Direction>(
     state: &State<Input::Position>,
 ) -> Result<(usize, Vec<State<Input::Position>>), AllocError>
     requires test { IsSome (test_in searched.now.program.now body) }
-    requires boundary { IsBoundary (Input.text searched.now.input) (Input.Position.offset state.now.pos) }
-    requires bytes { IsTrue (is_literal (insn_of body)) → IsInBytes (Input.text searched.now.input) Input.Units.ARE_BYTES }
+    requires boundary { IsBoundary (Input.text searched.now.input)
+        (Input.Position.offset state.now.pos) }
+    requires bytes { IsSpelledFor body (Input.text searched.now.input) Input.Units.ARE_BYTES }
     requires within { state.now.ip + 2 < 2 ^ 64 }
-    ensures { IfOk result (λ r. HasReached Input.Position.offset searched.now.program.now (Input.text searched.now.input) Dir.FORWARD run body state.now r.0 r.1.items) }
+    ensures { let s = searched.now in IfOk result (λ r. HasReached Input.Position.offset
+        s.program.now (Input.text s.input) Dir.FORWARD run body state.now r.0 r.1.items) }
 {
     let mut states = Vec::new(*state.groups.allocator());
     let mut at = state.pos;
@@ -100,7 +104,8 @@ fn keep<P: PositionType>(
 // The state behind a loop over one character at a position.
 fn behind<P: PositionType>(at: P, state: &State<P>) -> Result<State<P>, AllocError>
     requires { state.now.ip + 2 < 2 ^ 64 }
-    ensures { IfOk result (λ s. state_of P.offset s ≡ behind_at (P.offset at) (state_of P.offset state.now)) }
+    ensures { IfOk result (λ s. state_of P.offset s
+        ≡ behind_at (P.offset at) (state_of P.offset state.now)) }
 {
     let mut next = copy_of(state)?;
     next.ip += 2;

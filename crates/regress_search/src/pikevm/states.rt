@@ -78,7 +78,8 @@ pub(crate) fn initial_state<P: PositionType>(
     program: &Program,
     pos: P,
 ) -> Result<State<P>, AllocError>
-    ensures { IfOk result (λ s. state_of P.offset s ≡ initial (compiled (tree_of program.now)) (P.offset pos)) }
+    ensures { IfOk result (λ s. state_of P.offset s
+        ≡ initial (compiled (tree_of program.now)) (P.offset pos)) }
 {
     let alloc = program.allocator();
     let groups = program.groups() as usize;
@@ -106,7 +107,8 @@ pub(crate) fn resume<P: PositionType>(
     after: State<P>,
     found: Option<State<P>>,
 ) -> Option<State<P>>
-    ensures { running_of P.offset result ≡ resumed negate (state_of P.offset after) (option_map (λ s. state_of P.offset s) found) }
+    ensures { running_of P.offset result
+        ≡ resumed negate (state_of P.offset after) (option_map (λ s. state_of P.offset s) found) }
 {
     match found {
         Some(mut inner) => {

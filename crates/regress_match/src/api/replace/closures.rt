@@ -22,8 +22,10 @@ impl Regex {
     where
         F: FnOnce(&Match) -> Result<String, E>,
         requires { CanBeCalled (F.pre with) (take 1 (utf8_answers self.now text.now 0)) }
-        ensures made { IfOk result (λ s. IsReplacedBy (F.post with) text.now (take 1 (utf8_answers self.now text.now 0)) (string_bytes s)) }
-        ensures refused { IfErr result (CanRefuseWith (F.post with) (take 1 (utf8_answers self.now text.now 0))) }
+        ensures made { IfOk result (λ s. IsReplacedBy (F.post with) text.now
+            (take 1 (utf8_answers self.now text.now 0)) (string_bytes s)) }
+        ensures refused { IfErr result
+            (CanRefuseWith (F.post with) (take 1 (utf8_answers self.now text.now 0))) }
     {
         write_first(self.allocator(), self.find_iter(text)?, text, with)
     }
@@ -38,7 +40,8 @@ impl Regex {
     where
         F: Fn(&Match) -> Result<String, E>,
         requires { CanBeCalled (F.pre with) (utf8_answers self.now text.now 0) }
-        ensures made { IfOk result (λ s. IsReplacedBy (F.post with) text.now (utf8_answers self.now text.now 0) (string_bytes s)) }
+        ensures made { IfOk result (λ s.
+            IsReplacedBy (F.post with) text.now (utf8_answers self.now text.now 0) (string_bytes s)) }
         ensures refused { IfErr result (CanRefuseWith (F.post with) (utf8_answers self.now text.now 0)) }
     {
         write_each(self.allocator(), self.find_iter(text)?, text, with)
@@ -47,7 +50,8 @@ impl Regex {
 
 // Writes what the closure answered at a match.
 fn write_answer<E>(made: &mut String, answer: Result<String, E>) -> Result<(), ReplaceError<E>>
-    ensures made { IfOk result (λ _. IsOkAnd answer (λ piece. string_bytes made.new ≡ string_bytes made.old ++ string_bytes piece)) }
+    ensures made { IfOk result (λ _. IsOkAnd answer (λ piece. string_bytes made.new
+        ≡ string_bytes made.old ++ string_bytes piece)) }
     ensures refused { IfErr result (CanRefuseAnswer answer) }
 {
     let piece = answer.map_err(ReplaceError::Closure)?;
@@ -66,8 +70,10 @@ where
     F: FnOnce(&Match) -> Result<String, E>,
     requires stand { StandFrom text.now 0 matches.answers }
     requires can { CanBeCalled (F.pre with) (take 1 matches.answers) }
-    ensures made { IfOk result (λ s. IsReplacedBy (F.post with) text.now (take 1 matches.answers) (string_bytes s)) }
-    ensures refused { matches.limited ≡ false → IfErr result (CanRefuseWith (F.post with) (take 1 matches.answers)) }
+    ensures made { IfOk result (λ s.
+        IsReplacedBy (F.post with) text.now (take 1 matches.answers) (string_bytes s)) }
+    ensures refused { matches.limited ≡ false
+        → IfErr result (CanRefuseWith (F.post with) (take 1 matches.answers)) }
 {
     let mut made = String::new(alloc);
     let Some(item) = matches.next() else {
@@ -90,8 +96,10 @@ where
     F: Fn(&Match) -> Result<String, E>,
     requires stand { StandFrom text.now 0 matches.answers }
     requires can { CanBeCalled (F.pre with) matches.answers }
-    ensures made { IfOk result (λ s. IsReplacedBy (F.post with) text.now matches.answers (string_bytes s)) }
-    ensures refused { matches.limited ≡ false → IfErr result (CanRefuseWith (F.post with) matches.answers) }
+    ensures made { IfOk result (λ s.
+        IsReplacedBy (F.post with) text.now matches.answers (string_bytes s)) }
+    ensures refused { matches.limited ≡ false
+        → IfErr result (CanRefuseWith (F.post with) matches.answers) }
 {
     let mut made = String::new(alloc);
     let mut from = 0;

@@ -31,7 +31,8 @@ pub(super) fn expand(
     replacement: &str,
 ) -> Result<(), AllocError>
     requires { FitsText text.now (answer_of found.now) }
-    ensures { IfOk result (λ _. string_bytes out.new ≡ string_bytes out.old ++ expansion text.now (answer_of found.now) replacement.now) }
+    ensures { IfOk result (λ _. string_bytes out.new
+        ≡ string_bytes out.old ++ expansion text.now (answer_of found.now) replacement.now) }
 {
     let mut rest = replacement;
     while let Some((before, behind)) = rest.split_once('$') {
@@ -84,7 +85,8 @@ fn read_number(digits: &str) -> (usize, &str)
 
 // The number with one digit more and what is left, if another digit is to be read.
 fn next_digit(number: usize, digits: &str) -> Option<(usize, &str)>
-    ensures ends { IfNone result (numbered number digits.now ≡ part_then (group_part number) digits.now) }
+    ensures ends { IfNone result (numbered number digits.now
+        ≡ part_then (group_part number) digits.now) }
     ensures goes_on { IfSome result (λ next. numbered number digits.now ≡ numbered next.0 next.1.now) }
     ensures shorter { IfSome result (λ next. length next.1.now < length digits.now) }
 {
@@ -99,7 +101,8 @@ fn next_digit(number: usize, digits: &str) -> Option<(usize, &str)>
 // Writes what a part says for a match.
 fn write_part(out: &mut String, found: &Match, text: &str, part: Part<'_>) -> Result<(), AllocError>
     requires { FitsText text.now (answer_of found.now) }
-    ensures { IfOk result (λ _. string_bytes out.new ≡ string_bytes out.old ++ text_of_parts text.now (answer_of found.now) (parts_in part.entry)) }
+    ensures { IfOk result (λ _. string_bytes out.new
+        ≡ string_bytes out.old ++ text_of_parts text.now (answer_of found.now) (parts_in part.entry)) }
 {
     match part {
         Part::Dollar(behind) => {
@@ -114,7 +117,8 @@ fn write_part(out: &mut String, found: &Match, text: &str, part: Part<'_>) -> Re
 // Writes what stands in a range, if there is one.
 fn write_range(out: &mut String, text: &str, range: Option<Range<usize>>) -> Result<(), AllocError>
     requires { IfSome (option_map range_of range) (IsSlice text.now) }
-    ensures { IfOk result (λ _. (m : Answer) → string_bytes out.new ≡ string_bytes out.old ++ text_of text.now m (option_map range_of range)) }
+    ensures { IfOk result (λ _. (m : Answer) → string_bytes out.new
+        ≡ string_bytes out.old ++ text_of text.now m (option_map range_of range)) }
 {
     match range {
         Some(range) => out.push_str(&text[range.start..range.end]),

@@ -6,7 +6,7 @@ use Rattle.regress_scan.proofs.probing.all_pass.Given as goal
 
 abbrev pub invariant-probes : goal.invariant-probes
 invariant-probes g l =
-    (f : Front) → AreProbes f l.probes → fits_in (g.W.Planned.searching l.planned) f (g.W.Input.Position.PositionType.offset l.at) ≡ true → l.all ≡ true
+    (f : Front) → AreProbes f l.probes → fits_in (g.W.Planned.searching l.planned) f l.at ≡ true → l.all ≡ true
 
 abbrev pub decreases-probes : goal.decreases-probes
 decreases-probes g l = length l.probes - l.i

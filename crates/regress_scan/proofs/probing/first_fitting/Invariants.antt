@@ -4,7 +4,7 @@ use Rattle.regress_scan.proofs.probing.first_fitting.Given as goal
 
 abbrev pub invariant-places : goal.invariant-places
 invariant-places g l =
-    let from = g.W.Input.Position.PositionType.offset l.from in
+    let from = l.from in
     (l.i ≤ l.count) × NoneFits (g.W.Planned.searching l.planned) l.front from (from + l.i)
 
 abbrev pub decreases-places : goal.decreases-places

@@ -1,17 +1,15 @@
-use Rattle.std.proofs.Common.{◌+◌, subst, arith}
-use Rattle.regress_scan.specs.Probing.{NoneFits}
+use Rattle.std.proofs.Common.{◌+◌, arith}
 use Rattle.regress_scan.proofs.ProbeLemmas.{none-then}
 use Rattle.regress_scan.proofs.probing.first_in_parts.Goals as goal
 
 pub parts-preserved : goal.parts-preserved
 parts-preserved g c =
     let w = g.W.Planned.searching c.args.planned.now in
-    let offset = g.W.Input.Position.PositionType.offset in
-    let from = offset c.args.from in
+    let from = c.args.from in
     let most = c.parts.invariant.0 in
     let whole = c.parts.invariant.1 in (
       omega (arith, c.parts-test.true, whole),
       omega (arith, whole),
       λ x le less. none-then w c.args.front.now from (from + c.parts.behind) (from + c.parts.behind + 8) c.parts.invariant.2
-          (subst (λ a. NoneFits w c.args.front.now a (a + 8)) c.units_on-at.ensures c.in_default.ensures) x le (omega (arith, less)),
+          c.in_default.ensures x le (omega (arith, less)),
     )

@@ -4,7 +4,7 @@ use Rattle.regress_scan.proofs.probing.first_in_parts.Given as goal
 
 abbrev pub invariant-parts : goal.invariant-parts
 invariant-parts g l =
-    let from = g.W.Input.Position.PositionType.offset l.from in
+    let from = l.from in
     (l.behind ≤ 32) × (l.behind % 8 ≡ 0) × NoneFits (g.W.Planned.searching l.planned) l.front from (from + l.behind)
 
 abbrev pub decreases-parts : goal.decreases-parts

@@ -6,7 +6,7 @@ use Rattle.regress_scan.proofs.probing.fits_here.Given as goal
 abbrev pub invariant-units : goal.invariant-units
 invariant-units g l =
     (l.ahead ≤ l.front.len)
-    × (fits (allowed_of l.front) (keys_in (g.W.Planned.searching l.planned)) (g.W.Input.Position.PositionType.offset l.at) l.ahead ≡ true)
+    × (fits (allowed_of l.front) (keys_in (g.W.Planned.searching l.planned)) l.at l.ahead ≡ true)
 
 abbrev pub decreases-units : goal.decreases-units
 decreases-units g l = l.front.len - l.ahead

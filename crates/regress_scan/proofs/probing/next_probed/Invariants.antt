@@ -6,11 +6,10 @@ use Rattle.regress_scan.proofs.probing.next_probed.Given as goal
 abbrev pub invariant-blocks-2 : goal.invariant-blocks-2
 invariant-blocks-2 g l =
     let w = g.W.Planned.searching l.planned in
-    let offset = g.W.Input.Position.PositionType.offset in
-    (offset l.fn.from ≤ offset l.at)
-    × (offset l.at ≤ units w.text)
-    × (l.left ≡ units w.text + 1 - (offset l.at + l.front.len))
-    × NoneFits w l.front (offset l.fn.from) (offset l.at)
+    (l.fn.from ≤ l.at)
+    × (l.at ≤ units w.text)
+    × (l.left ≡ units w.text + 1 - (l.at + l.front.len))
+    × NoneFits w l.front l.fn.from l.at
 
 abbrev pub decreases-blocks-2 : goal.decreases-blocks-2
 decreases-blocks-2 g l = l.left

@@ -6,7 +6,7 @@ use Rattle.regress_scan.proofs.probing.some_pass.Given as goal
 
 abbrev pub invariant-places : goal.invariant-places
 invariant-places g l =
-    let from = g.W.Input.Position.PositionType.offset l.from in
+    let from = l.from in
     (l.i ≤ l.count) × ((f : Front) → AreProbes f l.probes → l.some ≡ false → NoneFits (g.W.Planned.searching l.planned) f from (from + l.i))
 
 abbrev pub decreases-places : goal.decreases-places

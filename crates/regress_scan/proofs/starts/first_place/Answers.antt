@@ -1,32 +1,35 @@
-use Rattle.std.proofs.Common.{◌≤◌, ap, arith}
+use Rattle.std.proofs.Common.{◌≤◌, sym, ◌∙◌, arith}
 use Rattle.regex_meaning.specs.Offsets.{units}
-use Rattle.regress_scan.proofs.Starting.{scan-begins, scan-finds, scan-ends, scan-fails}
+use Rattle.regress_scan.proofs.Starting.{scan-begins, scan-goes, scan-finds, scan-ends, scan-fails}
 use Rattle.regress_scan.proofs.starts.first_place.Goals as goal
 
 pub units-init : goal.units-init
 units-init g c =
     let w = g.W.Planned.searching c.args.planned.now in
-    scan-begins w (g.Set.MayStand.table c.args.set.now) (g.W.Input.Position.PositionType.offset c.args.from) (g.met.W.Planned.is_text c.args.planned.now) c.requires.at
+    scan-begins w (g.Set.MayStand.table c.args.set.now) c.args.from (g.met.W.Planned.is_text c.args.planned.now) c.requires.at
+
+pub units-preserved : goal.units-preserved
+units-preserved g c =
+    let w = g.W.Planned.searching c.args.planned.now in
+    scan-goes w (g.Set.MayStand.table c.args.set.now) c.args.from c.units.at c.past_unit-at.result c.key_here.result c.units.invariant c.past_unit-at.ensures
+    c.key_here.ensures.is (sym c.has_key.ensures ∙ c.if-has_key.false)
 
 pub returns-then-has_key : goal.returns-then-has_key
 returns-then-has_key g c =
     let w = g.W.Planned.searching c.args.planned.now in
-    let offset = g.W.Input.Position.PositionType.offset in
-    scan-finds w (g.Set.MayStand.table c.args.set.now) (offset c.args.from) (g.met.W.Planned.has_units c.args.planned.now) (offset c.units.at) c.key_here.result
+    scan-finds w (g.Set.MayStand.table c.args.set.now) c.args.from (g.met.W.Planned.has_units c.args.planned.now) c.units.at c.key_here.result
     c.has_key.result c.requires.leads c.units.invariant c.key_here.ensures.is c.key_here.ensures.inside c.has_key.ensures c.if-has_key.true
 
 pub returns-then-has_end : goal.returns-then-has_end
 returns-then-has_end g c =
     let w = g.W.Planned.searching c.args.planned.now in
-    let offset = g.W.Input.Position.PositionType.offset in
-    let end : units w.text ≤ offset c.units.at = omega (arith, c.units-test.false, c.to_offset.ensures, c.unit_count-end.ensures, ap units c.input.ensures.text) in
-    scan-ends w (g.Set.MayStand.table c.args.set.now) (offset c.args.from) (g.met.W.Planned.has_units c.args.planned.now) (offset c.units.at) c.has_end.result c.units.invariant end
+    let end : units w.text ≤ c.units.at = omega (arith, c.units-test.false, c.text_end-end.ensures) in
+    scan-ends w (g.Set.MayStand.table c.args.set.now) c.args.from (g.met.W.Planned.has_units c.args.planned.now) c.units.at c.has_end.result c.units.invariant end
     c.has_end.ensures c.if-has_end.true
 
 pub returns-else-has_end : goal.returns-else-has_end
 returns-else-has_end g c =
     let w = g.W.Planned.searching c.args.planned.now in
-    let offset = g.W.Input.Position.PositionType.offset in
-    let end : units w.text ≤ offset c.units.at = omega (arith, c.units-test.false, c.to_offset.ensures, c.unit_count-end.ensures, ap units c.input.ensures.text) in
-    scan-fails w (g.Set.MayStand.table c.args.set.now) (offset c.args.from) (g.met.W.Planned.has_units c.args.planned.now) (offset c.units.at) c.has_end.result c.units.invariant end
+    let end : units w.text ≤ c.units.at = omega (arith, c.units-test.false, c.text_end-end.ensures) in
+    scan-fails w (g.Set.MayStand.table c.args.set.now) c.args.from (g.met.W.Planned.has_units c.args.planned.now) c.units.at c.has_end.result c.units.invariant end
     c.has_end.ensures c.if-has_end.false

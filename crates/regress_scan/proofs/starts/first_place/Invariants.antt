@@ -5,8 +5,7 @@ use Rattle.regress_scan.proofs.starts.first_place.Given as goal
 
 abbrev pub invariant-units : goal.invariant-units
 invariant-units g l =
-    let offset = g.W.Input.Position.PositionType.offset in
-    Scans (g.W.Planned.searching l.planned) (g.Set.MayStand.table l.set) (offset l.fn.from) (offset l.at)
+    Scans (g.W.Planned.searching l.planned) (g.Set.MayStand.table l.set) l.fn.from l.at
 
 abbrev pub decreases-units : goal.decreases-units
-decreases-units g l = units (g.W.Planned.searching l.planned).text - g.W.Input.Position.PositionType.offset l.at
+decreases-units g l = units (g.W.Planned.searching l.planned).text - l.at

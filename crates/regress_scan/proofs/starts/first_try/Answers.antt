@@ -1,5 +1,4 @@
 use Rattle.std.proofs.Common.{Some, sym, ◌∙◌}
-use Rattle.std.specs.Prelude.{option_map}
 use Rattle.regress_plan.specs.Keys.{is_wide}
 use Rattle.regress_plan.specs.declared.plan.Start.TheVariants.{Anywhere, Among, Few, Behind, Front}
 use Rattle.regress_scan.proofs.Allowing.{try-as, few-known, front-known, try-anywhere}
@@ -9,14 +8,13 @@ use Rattle.regress_scan.proofs.starts.first_try.Goals as goal
 pub returns-in-Anywhere : goal.returns-in-Anywhere
 returns-in-Anywhere g c =
     let w = g.W.Planned.searching c.args.planned.now in
-    let from = g.W.Input.Position.PositionType.offset c.args.from in
+    let from = c.args.from in
     try-as w Anywhere (sym c.start.ensures ∙ c.in-Anywhere.is) from (Some from) (try-anywhere w from c.requires)
 
 pub returns-in-Among : goal.returns-in-Among
 returns-in-Among g c =
     let w = g.W.Planned.searching c.args.planned.now in
-    let offset = g.W.Input.Position.PositionType.offset in
-    try-as w (Among c.in-Among.set) (sym c.start.ensures ∙ c.in-Among.is) (offset c.args.from) (option_map offset c.next_among.result) c.next_among.ensures
+    try-as w (Among c.in-Among.set) (sym c.start.ensures ∙ c.in-Among.is) c.args.from c.next_among.result c.next_among.ensures
 
 pub next_of_few-requires-clause-leads : goal.next_of_few-requires-clause-leads
 next_of_few-requires-clause-leads g c =
@@ -27,8 +25,7 @@ next_of_few-requires-clause-leads g c =
 pub returns-in-Few : goal.returns-in-Few
 returns-in-Few g c =
     let w = g.W.Planned.searching c.args.planned.now in
-    let offset = g.W.Input.Position.PositionType.offset in
-    try-as w (Few c.in-Few.units c.in-Few.len) (sym c.start.ensures ∙ c.in-Few.is) (offset c.args.from) (option_map offset c.next_of_few.result) c.next_of_few.ensures
+    try-as w (Few c.in-Few.units c.in-Few.len) (sym c.start.ensures ∙ c.in-Few.is) c.args.from c.next_of_few.result c.next_of_few.ensures
 
 pub next_behind-requires-clause-leads : goal.next_behind-requires-clause-leads
 next_behind-requires-clause-leads g c =
@@ -38,8 +35,7 @@ next_behind-requires-clause-leads g c =
 pub returns-in-Behind : goal.returns-in-Behind
 returns-in-Behind g c =
     let w = g.W.Planned.searching c.args.planned.now in
-    let offset = g.W.Input.Position.PositionType.offset in
-    try-as w (Behind c.in-Behind.before) (sym c.start.ensures ∙ c.in-Behind.is) (offset c.args.from) (option_map offset c.next_behind.result) c.next_behind.ensures
+    try-as w (Behind c.in-Behind.before) (sym c.start.ensures ∙ c.in-Behind.is) c.args.from c.next_behind.result c.next_behind.ensures
 
 pub first_filtered-requires-clause-some : goal.first_filtered-requires-clause-some
 first_filtered-requires-clause-some g c =
@@ -59,5 +55,4 @@ first_filtered-requires-clause-filter g c =
 pub returns-in-Front : goal.returns-in-Front
 returns-in-Front g c =
     let w = g.W.Planned.searching c.args.planned.now in
-    let offset = g.W.Input.Position.PositionType.offset in
-    try-as w (Front c.in-Front.front c.in-Front.prefilter) (sym c.start.ensures ∙ c.in-Front.is) (offset c.args.from) (option_map offset c.first_filtered.result) c.first_filtered.ensures
+    try-as w (Front c.in-Front.front c.in-Front.prefilter) (sym c.start.ensures ∙ c.in-Front.is) c.args.from c.first_filtered.result c.first_filtered.ensures

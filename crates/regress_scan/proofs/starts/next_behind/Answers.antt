@@ -1,7 +1,4 @@
-use Rattle.std.proofs.Common.{inl, inr, refl, sym, ap, ◌∙◌}
-use Rattle.std.specs.Prelude.{option_map}
-use Rattle.regex_meaning.specs.Text.{leftwards}
-use Rattle.regress_input.specs.Reading.{past}
+use Rattle.std.proofs.Common.{inl, inr, refl, sym}
 use Rattle.regress_plan.specs.Keys.{is_wide}
 use Rattle.regress_scan.proofs.Behind.{first-behind}
 use Rattle.regress_scan.proofs.Starting.{few-leads}
@@ -18,15 +15,13 @@ next_past-requires-else-edge-clause-leads g c = λ narrow.
 pub returns-in-Some : goal.returns-in-Some
 returns-in-Some g c =
     let w = g.W.Planned.searching c.args.planned.now in
-    let offset = g.W.Input.Position.PositionType.offset in
-    first-behind w (g.met.W.Planned.has_units c.args.planned.now) c.args.before (offset c.args.from) (offset c.in-Some.start) c.requires.at
-    (inl (ap (λ t. past t leftwards (offset c.args.from)) (sym c.input.ensures.text) ∙ sym c.next_left_pos.ensures.read ∙ ap (option_map offset) c.in-Some.is))
-    (option_map offset c.next_past.result) c.next_past.ensures
+    first-behind w (g.met.W.Planned.has_units c.args.planned.now) c.args.before c.args.from c.offset_in.result c.requires.at
+    (inl (rw (← c.input.ensures.text, ← c.position_in.ensures, c.offset_in.ensures) (sym c.in-Some.ensures.read)))
+    c.next_past.result c.next_past.ensures
 
 pub returns-else-edge : goal.returns-else-edge
 returns-else-edge g c =
     let w = g.W.Planned.searching c.args.planned.now in
-    let offset = g.W.Input.Position.PositionType.offset in
-    first-behind w (g.met.W.Planned.has_units c.args.planned.now) c.args.before (offset c.args.from) (offset c.args.from) c.requires.at
-    (inr (ap (λ t. past t leftwards (offset c.args.from)) (sym c.input.ensures.text) ∙ sym c.next_left_pos.ensures.read ∙ ap (option_map offset) c.in-None.is, refl, c.if-edge.false))
-    (option_map offset c.next_past-else-edge.result) c.next_past-else-edge.ensures
+    first-behind w (g.met.W.Planned.has_units c.args.planned.now) c.args.before c.args.from c.args.from c.requires.at
+    (inr (rw (← c.input.ensures.text, ← c.position_in.ensures) (sym c.in-None.ensures.read), refl, c.if-edge.false))
+    c.next_past-else-edge.result c.next_past-else-edge.ensures

@@ -6,5 +6,5 @@ use Rattle.regress_scan.proofs.starts.next_past.Goals as goal
 pub past-requires-clause-inside : goal.past-requires-clause-inside
 past-requires-clause-inside g c =
     let w = g.W.Planned.searching c.args.planned.now in
-    let inside = unit-inside w (g.met.W.Planned.has_units c.args.planned.now) c.args.few.units c.args.few.len (g.W.Input.Position.PositionType.offset c.in_ok-hit.hit) c.in_ok-hit.ensures.2 in
-    omega (arith, inside, ap units c.input.ensures.text)
+    let inside = unit-inside w (g.met.W.Planned.has_units c.args.planned.now) c.args.few.units c.args.few.len c.in_ok-hit.hit c.in_ok-hit.ensures.2 in
+    omega (arith, inside, c.position_in.ensures, ap units c.input.ensures.text)

@@ -1,9 +1,7 @@
-use Rattle.std.specs.Prelude.{option_map}
 use Rattle.regress_scan.proofs.Allowing.{first-tried}
 use Rattle.regress_scan.proofs.starts.next_start.Goals as goal
 
 pub returns-clause-next : goal.returns-clause-next
 returns-clause-next g c =
-    let offset = g.W.Input.Position.PositionType.offset in
     first-tried (g.W.Planned.searching c.args.planned.now) (g.met.W.Planned.has_units c.args.planned.now) c.is_of_program.ensures c.requires.can
-    (offset c.args.from) (option_map offset c.first_try.result) c.first_try.ensures
+    c.args.from c.first_try.result c.first_try.ensures

@@ -25,7 +25,7 @@ search-here : (g : Over) (c : In_ok-begin g) → Begins (g.W.Planned.searching c
 search-here g c =
     let w = g.W.Planned.searching c.args.planned.now in
     begins w (g.W.Input.Position.PositionType.offset c.args.pos)
-    (can-search w.tree w.text c.requires.can.well_formed (g.met.W.Planned.is_text c.args.planned.now) c.requires.can.unicode c.requires.can.bytes) c.requires.at
+    (can-search w.tree w.text c.requires.can.0.well_formed (g.met.W.Planned.is_text c.args.planned.now) c.requires.can.0.unicode c.requires.can.0.bytes) c.requires.can.1
 
 -- what is remembered begins as that state
 state-here : (g : Over) (c : In_ok-begin g)
@@ -42,7 +42,7 @@ pub run-requires-clause-inside : goal.run-requires-clause-inside
 run-requires-clause-inside g c =
     let text = (g.W.Planned.searching c.args.planned.now).text in
     subst (λ at. at ≤ units text) (sym c.pos_to_offset-at.ensures)
-    (boundary_inside text (g.met.W.Planned.is_text c.args.planned.now) (g.W.Input.Position.PositionType.offset c.args.pos) c.requires.at)
+    (boundary_inside text (g.met.W.Planned.is_text c.args.planned.now) (g.W.Input.Position.PositionType.offset c.args.pos) c.requires.can.1)
 
 pub run-requires-clause-answers : goal.run-requires-clause-answers
 run-requires-clause-answers g c =

@@ -1,4 +1,4 @@
-use Rattle.std.proofs.Common.{ap, sym, ◌∙◌}
+use Rattle.std.proofs.Common.{sym, ◌∙◌}
 use Rattle.std.specs.Prelude.{option_map}
 use Rattle.regress_program.specs.Insns.{start_of}
 use Rattle.regress_undo.proofs.TriedPlaces.{next-anchored, next-none, next-open, reads-bytes}
@@ -15,29 +15,21 @@ reads-here g c =
 
 pub returns-then-is_anchored : goal.returns-then-is_anchored
 returns-then-is_anchored g c =
-    let input = c.args.input.now in
-    let text = g.Input.InputIndexer.text input in
-    let is = g.met.Input.InputIndexer.is_text input in
+    let is = g.met.Input.InputIndexer.is_text c.args.input.now in
     let reads = reads-here g (goal.at.returns-then-is_anchored g c).After-is_anchored in
-    let offset = g.Input.Position.PositionType.offset in
-    next-anchored (start_of c.args.start.now) text is reads.scalars (offset c.args.tried) c.requires.at (sym c.is_anchored.ensures ∙ c.if-is_anchored.true)
+    next-anchored (start_of c.args.start.now) _ is reads.scalars _ c.requires.at (sym c.is_anchored.ensures ∙ c.if-is_anchored.true)
 
 pub returns-in-None : goal.returns-in-None
 returns-in-None g c =
-    let input = c.args.input.now in
-    let text = g.Input.InputIndexer.text input in
-    let is = g.met.Input.InputIndexer.is_text input in
+    let is = g.met.Input.InputIndexer.is_text c.args.input.now in
     let reads = reads-here g (goal.at.returns-in-None g c).After-is_anchored in
-    let offset = g.Input.Position.PositionType.offset in
-    next-none (start_of c.args.start.now) text is reads.scalars (offset c.args.tried) c.requires.at (sym c.is_anchored.ensures ∙ c.if-is_anchored.false)
-    (sym c.next_right_pos.ensures.read ∙ ap (option_map offset) c.in-None.is)
+    next-none (start_of c.args.start.now) _ is reads.scalars _ c.requires.at (sym c.is_anchored.ensures ∙ c.if-is_anchored.false)
+    (sym c.in-None.ensures.read)
 
 pub returns-in-Some : goal.returns-in-Some
 returns-in-Some g c =
-    let input = c.args.input.now in
-    let text = g.Input.InputIndexer.text input in
-    let is = g.met.Input.InputIndexer.is_text input in
+    let is = g.met.Input.InputIndexer.is_text c.args.input.now in
     let reads = reads-here g (goal.at.returns-in-Some g c).After-is_anchored in
     let offset = g.Input.Position.PositionType.offset in
-    next-open (start_of c.args.start.now) text is reads.scalars (offset c.args.tried) (offset c.in-Some.next) (option_map offset c.first_tried.result) c.requires.at (sym c.is_anchored.ensures ∙ c.if-is_anchored.false)
-    (sym c.next_right_pos.ensures.read ∙ ap (option_map offset) c.in-Some.is) c.first_tried.ensures
+    next-open (start_of c.args.start.now) _ is reads.scalars _ (offset c.in-Some.next) (option_map offset c.first_tried.result) c.requires.at (sym c.is_anchored.ensures ∙ c.if-is_anchored.false)
+    (sym c.in-Some.ensures.read) c.first_tried.ensures

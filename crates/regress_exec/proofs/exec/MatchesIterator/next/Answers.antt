@@ -10,9 +10,9 @@ pub invariant_of-self : goal.invariant_of-self
 invariant_of-self g c = λ x e.
     let offset = g.P.Position.PositionType.offset in
     let mp = c.self.inside.mp in
-    subst (λ t. IsBoundary t (offset x)) (sym c.in-Ok-Some.ensures.same_text)
+    subst (λ t. IsBoundary t (offset x)) (sym c.in-Ok-Some.ensures.same.1)
     (next-boundary (g.P.MatchProducer.tree mp) (g.P.MatchProducer.text mp) (g.met.P.MatchProducer.is_text mp) (offset c.in_ok-pos.pos) (offset x)
-    (ap (option_map offset) (sym e) ∙ (rw c.in-Ok-Some.field-0-is at c.in-Ok-Some.ensures.goes_on)))
+    (ap (option_map offset) (sym e) ∙ (rw c.in-Ok-Some.field-0-is at c.in-Ok-Some.ensures.found).1))
 
 pub returns-in-Ok-Some-clause-steps : goal.returns-in-Ok-Some-clause-steps
 returns-in-Ok-Some-clause-steps g c =
@@ -23,8 +23,8 @@ returns-in-Ok-Some-clause-steps g c =
     call-some (p.tree mp) (p.text mp) (g.met.P.MatchProducer.is_text mp) c.args.self.now
     (p.budget mp) (option_map offset c.self.inside.position) (p.out_of_steps mp) (offset c.in_ok-pos.pos) c.self.view_is (ap (option_map offset) c.in_ok-pos.was)
     (answer_of c.in-Ok-Some.found) (p.tree new) (p.text new) (p.budget new) (option_map offset c.next_match.new.next_start)
-    (rw c.in-Ok-Some.field-0-is at c.in-Ok-Some.ensures.found) (rw c.in-Ok-Some.field-0-is at c.in-Ok-Some.ensures.goes_on)
-    c.in-Ok-Some.ensures.same_tree c.in-Ok-Some.ensures.same_text c.in-Ok-Some.ensures.steps.0 c.in-Ok-Some.ensures.steps.1
+    (rw c.in-Ok-Some.field-0-is at c.in-Ok-Some.ensures.found).0 (rw c.in-Ok-Some.field-0-is at c.in-Ok-Some.ensures.found).1
+    c.in-Ok-Some.ensures.same.0 c.in-Ok-Some.ensures.same.1 c.in-Ok-Some.ensures.steps.0 c.in-Ok-Some.ensures.steps.1
 
 pub returns-in-Ok-Some-clause-goes : goal.returns-in-Ok-Some-clause-goes
 returns-in-Ok-Some-clause-goes g c =
@@ -45,7 +45,7 @@ returns-in-Ok-None-clause-steps g c =
     let mp = c.self.inside.mp in
     let none = call-none (p.tree mp) (p.text mp) (g.met.P.MatchProducer.is_text mp) c.args.self.now (p.budget mp)
     (option_map offset c.self.inside.position) (p.out_of_steps mp) (offset c.in_ok-pos.pos) c.self.view_is (ap (option_map offset) c.in_ok-pos.was)
-    (rw c.in-Ok-None.field-0-is at c.in-Ok-None.ensures.found) c.in-Ok-None.ensures.steps.0 in
+    (rw c.in-Ok-None.field-0-is at c.in-Ok-None.ensures.found).0 c.in-Ok-None.ensures.steps.0 in
     (none.0, none.1, (refl, refl, refl))
 
 pub returns-in-Err-clause-steps : goal.returns-in-Err-clause-steps

@@ -9,7 +9,7 @@ use Rattle.regress_exec.specs.declared.exec.Match.{Match}
 use Rattle.regress_exec.specs.declared.exec.SearchError.TheVariants.{Memory}
 use Rattle.regress_exec.proofs.Budget.{handed, refused-last, spent-begins}
 use Rattle.regress_exec.proofs.Skips.{untried, walk-begins}
-use Rattle.regress_exec.proofs.Walking.{walk-at, attempt-at, attempt-found, attempt-vain, attempt-goes, attempt-refused}
+use Rattle.regress_exec.proofs.Walking.{walk-at, attempt-refused, found-there, goes-there}
 use Rattle.regress_exec.proofs.places.AnyMatchProducer.next_match.Goals as goal
 
 pub places-init : goal.places-init
@@ -26,40 +26,34 @@ places-init g c = record {
 pub position_behind-requires : goal.position_behind-requires
 position_behind-requires g c =
     let invariant = c.places.invariant in
-    let attempt = attempt-at (walk-at g.A.Input.Position.PositionType.offset invariant.walk c.in-Some.is) invariant.same_tree invariant.same_text c.in_ok-end.ensures.found c.in_ok-end.ensures.steps in
-    let found = attempt-found g.A.Input.Position.PositionType.offset (g.A.Attempts.groups c.attempt.new.self) (g.met.A.Attempts.is_text c.args.self.now) c.in-Some-2.is attempt in
-    subst (λ x. IsBoundary x (g.A.Input.Position.PositionType.offset c.in-Some-2.end)) (sym (c.input.ensures ∙ c.in_ok-end.ensures.same_text ∙ invariant.same_text)) found.boundary
+    let found = found-there g.A.Input.Position.PositionType.offset (g.A.Attempts.groups c.attempt.new.self) (g.met.A.Attempts.is_text c.args.self.now)
+    c.places.invariant.walk c.in-Some.is c.places.invariant.same_tree c.places.invariant.same_text c.in_ok-end.ensures.found c.in_ok-end.ensures.steps c.in-Some-2.is in
+    subst (λ x. IsBoundary x (g.A.Input.Position.PositionType.offset c.in-Some-2.end)) (sym (c.input.ensures ∙ c.in_ok-end.ensures.same.1 ∙ invariant.same_text)) found.boundary
 
 pub returns-in-Some-2-clause-found : goal.returns-in-Some-2-clause-found
 returns-in-Some-2-clause-found g c =
     let invariant = c.places.invariant in
-    let attempt = attempt-at (walk-at g.A.Input.Position.PositionType.offset invariant.walk c.in-Some.is) invariant.same_tree invariant.same_text c.in_ok-end.ensures.found c.in_ok-end.ensures.steps in
-    let found = attempt-found g.A.Input.Position.PositionType.offset (g.A.Attempts.groups c.attempt.new.self) (g.met.A.Attempts.is_text c.args.self.now) c.in-Some-2.is attempt in
+    let found = found-there g.A.Input.Position.PositionType.offset (g.A.Attempts.groups c.attempt.new.self) (g.met.A.Attempts.is_text c.args.self.now)
+    c.places.invariant.walk c.in-Some.is c.places.invariant.same_tree c.places.invariant.same_text c.in_ok-end.ensures.found c.in_ok-end.ensures.steps c.in-Some-2.is in
     let offset = g.A.Input.Position.PositionType.offset in
-    ap Some (c.in_ok-found.ensures ∙ ap (λ (t : Tree). answer_by (offset c.in-Some.start) (offset c.in-Some-2.end) (g.A.Attempts.groups c.attempt.new.self) (names_by_id t.root)) (c.in_ok-end.ensures.same_tree ∙ invariant.same_tree)) ∙ found.answer
-
-pub returns-in-Some-2-clause-goes_on : goal.returns-in-Some-2-clause-goes_on
-returns-in-Some-2-clause-goes_on g c =
-    let invariant = c.places.invariant in
-    let attempt = attempt-at (walk-at g.A.Input.Position.PositionType.offset invariant.walk c.in-Some.is) invariant.same_tree invariant.same_text c.in_ok-end.ensures.found c.in_ok-end.ensures.steps in
-    let found = attempt-found g.A.Input.Position.PositionType.offset (g.A.Attempts.groups c.attempt.new.self) (g.met.A.Attempts.is_text c.args.self.now) c.in-Some-2.is attempt in
-    let offset = g.A.Input.Position.PositionType.offset in
-    c.position_behind.ensures ∙ ap (λ x. offset_behind x (offset c.in-Some.start) (offset c.in-Some-2.end)) (c.input.ensures ∙ c.in_ok-end.ensures.same_text ∙ invariant.same_text) ∙ found.behind
+    let tree = c.in_ok-end.ensures.same.0 ∙ invariant.same_tree in
+    let text = c.input.ensures ∙ c.in_ok-end.ensures.same.1 ∙ invariant.same_text in
+    let groups = g.A.Attempts.groups c.attempt.new.self in (
+      ap Some (c.in_ok-found.ensures ∙ ap (λ (t : Tree). answer_by (offset c.in-Some.start) (offset c.in-Some-2.end) groups (names_by_id t.root)) tree) ∙ found.answer,
+      c.position_behind.ensures ∙ ap (λ x. offset_behind x (offset c.in-Some.start) (offset c.in-Some-2.end)) text ∙ found.behind,
+    )
 
 pub returns-in-Some-2-clause-steps : goal.returns-in-Some-2-clause-steps
 returns-in-Some-2-clause-steps g c =
-    let invariant = c.places.invariant in
-    let attempt = attempt-at (walk-at g.A.Input.Position.PositionType.offset invariant.walk c.in-Some.is) invariant.same_tree invariant.same_text c.in_ok-end.ensures.found c.in_ok-end.ensures.steps in
-    let found = attempt-found g.A.Input.Position.PositionType.offset (g.A.Attempts.groups c.attempt.new.self) (g.met.A.Attempts.is_text c.args.self.now) c.in-Some-2.is attempt in
+    let found = found-there g.A.Input.Position.PositionType.offset (g.A.Attempts.groups c.attempt.new.self) (g.met.A.Attempts.is_text c.args.self.now)
+    c.places.invariant.walk c.in-Some.is c.places.invariant.same_tree c.places.invariant.same_text c.in_ok-end.ensures.found c.in_ok-end.ensures.steps c.in-Some-2.is in
     found.spends
 
 pub places-smaller : goal.places-smaller
 places-smaller g c =
-    let invariant = c.places.invariant in
-    let attempt = attempt-at (walk-at g.A.Input.Position.PositionType.offset invariant.walk c.in-Some.is) invariant.same_tree invariant.same_text c.in_ok-end.ensures.found c.in_ok-end.ensures.steps in
-    let same_tree = c.in_ok-end.ensures.same_tree ∙ invariant.same_tree in
-    let same_text = c.in_ok-end.ensures.same_text ∙ invariant.same_text in
-    let goes = attempt-goes (g.met.A.Attempts.is_text c.args.self.now) attempt (attempt-vain g.A.Input.Position.PositionType.offset (g.A.Attempts.groups c.attempt.new.self) c.in_default-2.is attempt) same_tree same_text c.place_behind-next.ensures.next c.place_behind-next.ensures.counted in
+    let goes = goes-there g.A.Input.Position.PositionType.offset (g.A.Attempts.groups c.attempt.new.self) (g.met.A.Attempts.is_text c.args.self.now)
+    c.places.invariant.walk c.in-Some.is c.places.invariant.same_tree c.places.invariant.same_text c.in_ok-end.ensures.found c.in_ok-end.ensures.steps
+    c.in_default-2.is c.in_ok-end.ensures.same.0 c.in_ok-end.ensures.same.1 c.place_behind-next.ensures.next c.place_behind-next.ensures.counted in
     let offset = g.A.Input.Position.PositionType.offset in
     let text = g.A.Attempts.text c.args.self.now in
     subst (λ o. untried text (option_map offset c.place_behind-next.result) < untried text (option_map offset o)) (sym c.in-Some.is) goes.less
@@ -67,11 +61,10 @@ places-smaller g c =
 pub places-preserved : goal.places-preserved
 places-preserved g c =
     let invariant = c.places.invariant in
-    let attempt = attempt-at (walk-at g.A.Input.Position.PositionType.offset invariant.walk c.in-Some.is) invariant.same_tree invariant.same_text c.in_ok-end.ensures.found c.in_ok-end.ensures.steps in
-    let same_tree = c.in_ok-end.ensures.same_tree ∙ invariant.same_tree in
-    let same_text = c.in_ok-end.ensures.same_text ∙ invariant.same_text in
-    let goes = attempt-goes (g.met.A.Attempts.is_text c.args.self.now) attempt (attempt-vain g.A.Input.Position.PositionType.offset (g.A.Attempts.groups c.attempt.new.self) c.in_default-2.is attempt) same_tree same_text c.place_behind-next.ensures.next c.place_behind-next.ensures.counted in
-    record { walk = goes.walk; same_tree = same_tree; same_text = same_text; next_start = invariant.next_start }
+    let goes = goes-there g.A.Input.Position.PositionType.offset (g.A.Attempts.groups c.attempt.new.self) (g.met.A.Attempts.is_text c.args.self.now)
+    c.places.invariant.walk c.in-Some.is c.places.invariant.same_tree c.places.invariant.same_text c.in_ok-end.ensures.found c.in_ok-end.ensures.steps
+    c.in_default-2.is c.in_ok-end.ensures.same.0 c.in_ok-end.ensures.same.1 c.place_behind-next.ensures.next c.place_behind-next.ensures.counted in
+    record { walk = goes.walk; same_tree = c.in_ok-end.ensures.same.0 ∙ invariant.same_tree; same_text = c.in_ok-end.ensures.same.1 ∙ invariant.same_text; next_start = invariant.next_start }
 
 pub returns-in_err-end-clause-steps : goal.returns-in_err-end-clause-steps
 returns-in_err-end-clause-steps g c =
@@ -83,10 +76,9 @@ returns-in_err-end-clause-steps g c =
 
 pub returns-in_err-found-clause-steps : goal.returns-in_err-found-clause-steps
 returns-in_err-found-clause-steps g c =
-    let invariant = c.places.invariant in
     let budget = g.A.Attempts.budget in
-    let attempt = attempt-at (walk-at g.A.Input.Position.PositionType.offset invariant.walk c.in-Some.is) invariant.same_tree invariant.same_text c.in_ok-end.ensures.found c.in_ok-end.ensures.steps in
-    let found = attempt-found g.A.Input.Position.PositionType.offset (g.A.Attempts.groups c.attempt.new.self) (g.met.A.Attempts.is_text c.args.self.now) c.in-Some-2.is attempt in
+    let found = found-there g.A.Input.Position.PositionType.offset (g.A.Attempts.groups c.attempt.new.self) (g.met.A.Attempts.is_text c.args.self.now)
+    c.places.invariant.walk c.in-Some.is c.places.invariant.same_tree c.places.invariant.same_text c.in_ok-end.ensures.found c.in_ok-end.ensures.steps c.in-Some-2.is in
     let need = need_from _ _ (g.A.Input.Position.PositionType.offset c.args.pos) in
     handed (Option Match) (Option Match) need (budget c.args.self.now) (budget c.attempt.new.self) Memory c.from_residual-in_err-found.result c.from_residual-in_err-found.ensures.1
     (refused-last (Option Match) need (budget c.args.self.now) (budget c.attempt.new.self) found.spends.1)

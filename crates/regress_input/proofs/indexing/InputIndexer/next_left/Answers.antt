@@ -2,22 +2,11 @@ use Rattle.regress_input.proofs.Places.{boundary_inside, left_ahead, left_bounda
 use Rattle.regress_input.proofs.indexing.InputIndexer.next_left.Goals as goal
 
 pub returns-clause-ahead : goal.returns-clause-ahead
-returns-clause-ahead g c =
-    let it = c.args.self.now in
-    let text = g.Self.InputIndexer.text it in
-    let is_text = g.met.Self.InputIndexer.is_text it in
-    left_ahead text is_text _ _ _ c.character_left-c.ensures
+returns-clause-ahead g c = left_ahead _ (g.met.Self.InputIndexer.is_text c.args.self.now) _ _ _ c.character_left-c.ensures
 
 pub returns-clause-boundary : goal.returns-clause-boundary
-returns-clause-boundary g c =
-    let it = c.args.self.now in
-    let text = g.Self.InputIndexer.text it in
-    let is_text = g.met.Self.InputIndexer.is_text it in
-    left_boundary text is_text _ _ _ c.character_left-c.ensures
+returns-clause-boundary g c = left_boundary _ (g.met.Self.InputIndexer.is_text c.args.self.now) _ _ _ c.character_left-c.ensures
 
 pub returns-clause-inside : goal.returns-clause-inside
 returns-clause-inside g c =
-    let it = c.args.self.now in
-    let text = g.Self.InputIndexer.text it in
-    let is_text = g.met.Self.InputIndexer.is_text it in
-    boundary_inside text is_text _ (left_boundary text is_text _ _ _ c.character_left-c.ensures)
+    boundary_inside _ (g.met.Self.InputIndexer.is_text c.args.self.now) _ (left_boundary _ (g.met.Self.InputIndexer.is_text c.args.self.now) _ _ _ c.character_left-c.ensures)

@@ -4,36 +4,19 @@ use Rattle.regress_input.proofs.indexing.InputIndexer.next_right.Goals as goal
 
 pub returns-then-to_offset-unit_count-clause-read : goal.returns-then-to_offset-unit_count-clause-read
 returns-then-to_offset-unit_count-clause-read g c =
-    let it = c.args.self.now in
-    let text = g.Self.InputIndexer.text it in
-    let is_text = g.met.Self.InputIndexer.is_text it in
-    sym (read-last text is_text _ (sym c.to_offset.ensures ∙ c.if-to_offset-unit_count.true ∙ c.unit_count.ensures))
+    sym (read-last _ (g.met.Self.InputIndexer.is_text c.args.self.now) _ (sym c.to_offset.ensures ∙ c.if-to_offset-unit_count.true ∙ c.unit_count.ensures))
 
 pub character_right-c-requires-clause-inside : goal.character_right-c-requires-clause-inside
 character_right-c-requires-clause-inside g c =
-    let it = c.args.self.now in
-    let text = g.Self.InputIndexer.text it in
-    let is_text = g.met.Self.InputIndexer.is_text it in
-    let inside = boundary_inside text is_text _ c.requires in
+    let inside = boundary_inside _ (g.met.Self.InputIndexer.is_text c.args.self.now) _ c.requires in
     omega (arith, inside, c.to_offset.ensures, c.unit_count.ensures, c.if-to_offset-unit_count.false)
 
 pub returns-clause-ahead : goal.returns-clause-ahead
-returns-clause-ahead g c =
-    let it = c.args.self.now in
-    let text = g.Self.InputIndexer.text it in
-    let is_text = g.met.Self.InputIndexer.is_text it in
-    right_ahead text is_text _ _ _ c.character_right-c.ensures
+returns-clause-ahead g c = right_ahead _ (g.met.Self.InputIndexer.is_text c.args.self.now) _ _ _ c.character_right-c.ensures
 
 pub returns-clause-boundary : goal.returns-clause-boundary
-returns-clause-boundary g c =
-    let it = c.args.self.now in
-    let text = g.Self.InputIndexer.text it in
-    let is_text = g.met.Self.InputIndexer.is_text it in
-    right_boundary text is_text _ _ _ c.character_right-c.ensures
+returns-clause-boundary g c = right_boundary _ (g.met.Self.InputIndexer.is_text c.args.self.now) _ _ _ c.character_right-c.ensures
 
 pub returns-clause-inside : goal.returns-clause-inside
 returns-clause-inside g c =
-    let it = c.args.self.now in
-    let text = g.Self.InputIndexer.text it in
-    let is_text = g.met.Self.InputIndexer.is_text it in
-    boundary_inside text is_text _ (right_boundary text is_text _ _ _ c.character_right-c.ensures)
+    boundary_inside _ (g.met.Self.InputIndexer.is_text c.args.self.now) _ (right_boundary _ (g.met.Self.InputIndexer.is_text c.args.self.now) _ _ _ c.character_right-c.ensures)

@@ -4,8 +4,5 @@ use Rattle.regress_input.proofs.indexing.InputIndexer.peek_byte_right.Goals as g
 
 pub unit_right-requires : goal.unit_right-requires
 unit_right-requires g c =
-    let it = c.args.self.now in
-    let text = g.Self.InputIndexer.text it in
-    let is_text = g.met.Self.InputIndexer.is_text it in
-    let all = inside_bytes g.Self.Units.CodeUnits.ARE_BYTES text is_text (g.met.Self.InputIndexer.in_utf8 it) c.in-Some.all.now c.in-Some.ensures in
+    let all = inside_bytes g.Self.Units.CodeUnits.ARE_BYTES _ (g.met.Self.InputIndexer.is_text c.args.self.now) (g.met.Self.InputIndexer.in_utf8 c.args.self.now) c.in-Some.all.now c.in-Some.ensures in
     omega (arith, all, c.requires.inside, c.to_offset.ensures)

@@ -9,7 +9,8 @@ use Rattle.regress_machine.specs.Machine.{act_on, again_at, with_some, test_of, 
 use Rattle.regress_search.specs.States.{state_of, next_of}
 use Rattle.regress_machine.specs.Turns.{CanTake}
 use Rattle.regress_exec.proofs.Literals.{literal-reads}
-use Rattle.regress_machine.proofs.Fetched.{again-some, test-some, fetched-some, fetched-below}
+use Rattle.regress_machine.proofs.Fetched.{again-some, fetched-some}
+use Rattle.regress_search.proofs.Fetching.{insn-behind, fits-behind}
 use Rattle.regress_search.proofs.pikevm.actions.perform.Goals as goal
 
 pub read-requires-clause-can : goal.read-requires-clause-can
@@ -39,38 +40,32 @@ returns-in-LoopAgain g c =
     (subst (λ o. IfOk c.end_body.result (λ t. next_of offset t ≡ again_at o begin s)) (sym head) c.end_body.ensures)
 
 pub scan-requires-clause-bytes : goal.scan-requires-clause-bytes
-scan-requires-clause-bytes g c =
-    let program = compiled (tree_of c.args.searched.now.program.now) in
-    let text = g.Input.InputIndexer.text c.args.searched.now.input in
-    let d = way g.Dir.Direction.FORWARD in
+scan-requires-clause-bytes g c = λ literal.
+    let re = c.args.searched.now.program.now in
     let s = state_of g.Input.Position.PositionType.offset c.args.state in
-    let can = subst (λ i. CanTake (act_on program text d (Some (insn_of i)) s)) c.in-Loop1CharBody.is c.requires.can in
-    let there = test-some program (slice_get program.insns (s.ip + 1)) _ can in
-    let is = fetched-some insn_of c.args.insns.now program.insns (s.ip + 1) c.index-insns-state.result c.index-insns-state.is c.requires.code there in
-    λ literal. c.args.searched.now.bytes (literal-reads (tree_of c.args.searched.now.program.now) (s.ip + 1) (insn_of c.index-insns-state.result) is literal)
+    let can = subst (λ i. CanTake (act_on (compiled (tree_of re)) (g.Input.InputIndexer.text c.args.searched.now.input) (way g.Dir.Direction.FORWARD) (Some (insn_of i)) s)) c.in-Loop1CharBody.is c.requires.can in
+    let is = insn-behind re c.args.insns.now c.requires.code (s.ip + 1) _ can c.index-insns-state.result c.index-insns-state.is in
+    c.args.searched.now.bytes (literal-reads (tree_of re) (s.ip + 1) (insn_of c.index-insns-state.result) is literal)
 
 pub scan-requires-clause-within : goal.scan-requires-clause-within
 scan-requires-clause-within g c =
-    let program = compiled (tree_of c.args.searched.now.program.now) in
-    let text = g.Input.InputIndexer.text c.args.searched.now.input in
-    let d = way g.Dir.Direction.FORWARD in
+    let short : length c.args.insns.now < 2 ^ 64 = search rules in
     let s = state_of g.Input.Position.PositionType.offset c.args.state in
-    let can = subst (λ i. CanTake (act_on program text d (Some (insn_of i)) s)) c.in-Loop1CharBody.is c.requires.can in
-    let there = test-some program (slice_get program.insns (s.ip + 1)) _ can in
-    let below = fetched-below insn_of c.args.insns.now program.insns (s.ip + 1) c.requires.code there in
-    let fits : length c.args.insns.now < 2 ^ 64 = search rules in
-    omega (arith, below, fits)
+    let re = c.args.searched.now.program.now in
+    let can = subst (λ i. CanTake (act_on (compiled (tree_of re)) (g.Input.InputIndexer.text c.args.searched.now.input) (way g.Dir.Direction.FORWARD) (Some (insn_of i)) s)) c.in-Loop1CharBody.is c.requires.can in
+    let below = fits-behind re c.args.insns.now c.requires.code (s.ip + 1) _ can short in
+    omega (arith, below)
 
 pub returns-in-Loop1CharBody : goal.returns-in-Loop1CharBody
 returns-in-Loop1CharBody g c =
-    let program = compiled (tree_of c.args.searched.now.program.now) in
+    let re = c.args.searched.now.program.now in
+    let program = compiled (tree_of re) in
     let text = g.Input.InputIndexer.text c.args.searched.now.input in
-    let offset = g.Input.Position.PositionType.offset in
     let d = way g.Dir.Direction.FORWARD in
+    let offset = g.Input.Position.PositionType.offset in
     let s = state_of offset c.args.state in
     let can = subst (λ i. CanTake (act_on program text d (Some (insn_of i)) s)) c.in-Loop1CharBody.is c.requires.can in
-    let there = test-some program (slice_get program.insns (s.ip + 1)) _ can in
-    let body = fetched-some insn_of c.args.insns.now program.insns (s.ip + 1) c.index-insns-state.result c.index-insns-state.is c.requires.code there in
+    let body = insn-behind re c.args.insns.now c.requires.code (s.ip + 1) _ can c.index-insns-state.result c.index-insns-state.is in
     subst (λ i. IfOk c.scan.result (λ t. next_of offset t ≡ act_on program text d (Some (insn_of i)) s)) (sym c.in-Loop1CharBody.is)
     (subst (λ o. IfOk c.scan.result (λ t. next_of offset t ≡ with_some (test_of program o) (λ test. with_some (place_at text s.pos) (λ p.
     scan text c.in-Loop1CharBody.min_iters c.in-Loop1CharBody.max_iters c.in-Loop1CharBody.greedy test d p s)))) (sym body) c.scan.ensures)

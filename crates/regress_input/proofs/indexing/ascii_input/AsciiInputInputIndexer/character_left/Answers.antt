@@ -5,9 +5,7 @@ use Rattle.regress_input.proofs.OneUnit.{inside, read-unit-left}
 use Rattle.regress_input.proofs.indexing.ascii_input.AsciiInputInputIndexer.character_left.Goals as goal
 
 pub bounds-self-start : goal.bounds-self-start
-bounds-self-start c =
-    let it = c.args.self.now in
-    omega (arith, c.requires.inside, inside it.input.now it.unicode (fold_ascii it.unicode) _ c.requires.at)
+bounds-self-start c = omega (arith, c.requires.inside, inside c.args.self.now.input.now c.args.self.now.unicode (fold_ascii c.args.self.now.unicode) _ c.requires.at)
 
 pub returns : goal.returns
 returns c =

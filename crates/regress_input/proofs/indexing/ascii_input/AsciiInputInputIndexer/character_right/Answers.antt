@@ -5,14 +5,11 @@ use Rattle.regress_input.proofs.OneUnit.{read-unit, units-length}
 use Rattle.regress_input.proofs.indexing.ascii_input.AsciiInputInputIndexer.character_right.Goals as goal
 
 pub bounds-self-pos : goal.bounds-self-pos
-bounds-self-pos c =
-    let it = c.args.self.now in
-    omega (arith, c.requires.inside, units-length it.input.now it.unicode (fold_ascii it.unicode))
+bounds-self-pos c = omega (arith, c.requires.inside, units-length c.args.self.now.input.now c.args.self.now.unicode (fold_ascii c.args.self.now.unicode))
 
 pub overflow_add-pos : goal.overflow_add-pos
 overflow_add-pos c =
-    let it = c.args.self.now in
-    omega (arith, c.requires.inside, units-length it.input.now it.unicode (fold_ascii it.unicode), it.fits)
+    omega (arith, c.requires.inside, units-length c.args.self.now.input.now c.args.self.now.unicode (fold_ascii c.args.self.now.unicode), c.args.self.now.fits)
 
 pub returns : goal.returns
 returns c =

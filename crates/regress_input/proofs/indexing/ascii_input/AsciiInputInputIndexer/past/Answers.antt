@@ -5,8 +5,7 @@ use Rattle.regress_input.proofs.indexing.ascii_input.AsciiInputInputIndexer.past
 
 pub overflow_add-pos : goal.overflow_add-pos
 overflow_add-pos c =
-    let it = c.args.self.now in
-    omega (arith, c.requires.inside, units-length it.input.now it.unicode (fold_ascii it.unicode), it.fits)
+    omega (arith, c.requires.inside, units-length c.args.self.now.input.now c.args.self.now.unicode (fold_ascii c.args.self.now.unicode), c.args.self.now.fits)
 
 pub returns : goal.returns
 returns c =

@@ -6,9 +6,7 @@ use Rattle.regress_input.proofs.UnitsIn.{ascii_text-units_in}
 use Rattle.regress_input.proofs.indexing.ascii_input.AsciiInputInputIndexer.unit.Goals as goal
 
 pub bounds-self-pos : goal.bounds-self-pos
-bounds-self-pos c =
-    let it = c.args.self.now in
-    omega (arith, c.requires, units-length it.input.now it.unicode (fold_ascii it.unicode))
+bounds-self-pos c = omega (arith, c.requires, units-length c.args.self.now.input.now c.args.self.now.unicode (fold_ascii c.args.self.now.unicode))
 
 pub returns : goal.returns
 returns c =

@@ -5,15 +5,10 @@ use Rattle.regress_input.proofs.indexing.ucs2_input.Ucs2InputInputIndexer.betwee
 
 pub offset_bounds-self-start : goal.offset_bounds-self-start
 offset_bounds-self-start c =
-    let it = c.args.self.now in
-    omega (arith, inside it.input.now it.unicode (fold_code_point it.unicode) _ c.requires.to, it.sized, c.requires.in_order)
+    omega (arith, inside c.args.self.now.input.now c.args.self.now.unicode (fold_code_point c.args.self.now.unicode) _ c.requires.to, c.args.self.now.sized, c.requires.in_order)
 
 pub slice_bounds-result-end : goal.slice_bounds-result-end
-slice_bounds-result-end c =
-    let it = c.args.self.now in
-    inside it.input.now it.unicode (fold_code_point it.unicode) _ c.requires.to
+slice_bounds-result-end c = inside c.args.self.now.input.now c.args.self.now.unicode (fold_code_point c.args.self.now.unicode) _ c.requires.to
 
 pub returns : goal.returns
-returns c =
-    let it = c.args.self.now in
-    part-one it.input.now it.unicode (fold_code_point it.unicode) _ _ c.requires.from c.requires.to c.requires.in_order
+returns c = part-one c.args.self.now.input.now c.args.self.now.unicode (fold_code_point c.args.self.now.unicode) _ _ c.requires.from c.requires.to c.requires.in_order

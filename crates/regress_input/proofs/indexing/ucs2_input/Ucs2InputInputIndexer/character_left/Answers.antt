@@ -6,13 +6,10 @@ use Rattle.regress_input.proofs.indexing.ucs2_input.Ucs2InputInputIndexer.charac
 
 pub offset_bounds-self-start : goal.offset_bounds-self-start
 offset_bounds-self-start c =
-    let it = c.args.self.now in
-    omega (arith, inside it.input.now it.unicode (fold_code_point it.unicode) _ c.requires.at, it.sized)
+    omega (arith, inside c.args.self.now.input.now c.args.self.now.unicode (fold_code_point c.args.self.now.unicode) _ c.requires.at, c.args.self.now.sized)
 
 pub bounds-self-start : goal.bounds-self-start
-bounds-self-start c =
-    let it = c.args.self.now in
-    omega (arith, c.requires.inside, inside it.input.now it.unicode (fold_code_point it.unicode) _ c.requires.at)
+bounds-self-start c = omega (arith, c.requires.inside, inside c.args.self.now.input.now c.args.self.now.unicode (fold_code_point c.args.self.now.unicode) _ c.requires.at)
 
 pub returns : goal.returns
 returns c =

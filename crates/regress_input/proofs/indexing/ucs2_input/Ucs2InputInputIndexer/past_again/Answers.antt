@@ -6,22 +6,16 @@ use Rattle.regress_input.proofs.indexing.ucs2_input.Ucs2InputInputIndexer.past_a
 
 pub offset_bounds-all-start : goal.offset_bounds-all-start
 offset_bounds-all-start g c =
-    let it = c.args.self.now in
-    omega (arith, inside it.input.now it.unicode (fold_code_point it.unicode) _ c.requires.to, it.sized, c.requires.in_order)
+    omega (arith, inside c.args.self.now.input.now c.args.self.now.unicode (fold_code_point c.args.self.now.unicode) _ c.requires.to, c.args.self.now.sized, c.requires.in_order)
 
 pub slice_bounds-past_units-end : goal.slice_bounds-past_units-end
-slice_bounds-past_units-end g c =
-    let it = c.args.self.now in
-    inside it.input.now it.unicode (fold_code_point it.unicode) _ c.requires.to
+slice_bounds-past_units-end g c = inside c.args.self.now.input.now c.args.self.now.unicode (fold_code_point c.args.self.now.unicode) _ c.requires.to
 
 pub past_units-to-requires : goal.past_units-to-requires
-past_units-to-requires g c =
-    let it = c.args.self.now in
-    inside it.input.now it.unicode (fold_code_point it.unicode) _ c.requires.at
+past_units-to-requires g c = inside c.args.self.now.input.now c.args.self.now.unicode (fold_code_point c.args.self.now.unicode) _ c.requires.at
 
 pub returns : goal.returns
 returns g c =
-    let it = c.args.self.now in
     c.position_at.ensures ∙ c.past_units-to.ensures
-    ∙ ap (λ forward. past_bytes it.input.now (slice_range it.input.now c.args.start.offset c.args.end.offset) (way forward) c.args.pos.offset) c.FORWARD.ensures
-    ∙ literal-one it.input.now it.unicode (fold_code_point it.unicode) (way g.Dir.Direction.FORWARD) _ _ _ c.requires.at c.requires.from c.requires.to c.requires.in_order
+    ∙ ap (λ forward. past_bytes c.args.self.now.input.now (slice_range c.args.self.now.input.now c.args.start.offset c.args.end.offset) (way forward) c.args.pos.offset) c.FORWARD.ensures
+    ∙ literal-one c.args.self.now.input.now c.args.self.now.unicode (fold_code_point c.args.self.now.unicode) (way g.Dir.Direction.FORWARD) _ _ _ c.requires.at c.requires.from c.requires.to c.requires.in_order

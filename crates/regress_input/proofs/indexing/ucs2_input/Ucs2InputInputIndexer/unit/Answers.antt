@@ -7,13 +7,10 @@ use Rattle.regress_input.proofs.indexing.ucs2_input.Ucs2InputInputIndexer.unit.G
 
 pub offset_bounds-self-pos : goal.offset_bounds-self-pos
 offset_bounds-self-pos c =
-    let it = c.args.self.now in
-    omega (arith, c.requires, units-length it.input.now it.unicode (fold_code_point it.unicode), it.sized)
+    omega (arith, c.requires, units-length c.args.self.now.input.now c.args.self.now.unicode (fold_code_point c.args.self.now.unicode), c.args.self.now.sized)
 
 pub bounds-self-pos : goal.bounds-self-pos
-bounds-self-pos c =
-    let it = c.args.self.now in
-    omega (arith, c.requires, units-length it.input.now it.unicode (fold_code_point it.unicode))
+bounds-self-pos c = omega (arith, c.requires, units-length c.args.self.now.input.now c.args.self.now.unicode (fold_code_point c.args.self.now.unicode))
 
 pub returns : goal.returns
 returns c =

@@ -4,6 +4,4 @@ use Rattle.regress_input.proofs.OneUnit.{units-length}
 use Rattle.regress_input.proofs.indexing.ucs2_input.Ucs2InputInputIndexer.unit_count.Goals as goal
 
 pub returns : goal.returns
-returns c =
-    let it = c.args.self.now in
-    sym (units-length it.input.now it.unicode (fold_code_point it.unicode))
+returns c = sym (units-length c.args.self.now.input.now c.args.self.now.unicode (fold_code_point c.args.self.now.unicode))

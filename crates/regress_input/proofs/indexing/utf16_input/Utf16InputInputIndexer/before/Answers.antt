@@ -3,11 +3,8 @@ use Rattle.regress_input.proofs.Utf16Reads.{inside, left-past}
 use Rattle.regress_input.proofs.indexing.utf16_input.Utf16InputInputIndexer.before.Goals as goal
 
 pub start_of_character-start-requires-clause-inside : goal.start_of_character-start-requires-clause-inside
-start_of_character-start-requires-clause-inside c =
-    let it = c.args.self.now in
-    inside it.input.now it.small it.unicode _ c.requires.at
+start_of_character-start-requires-clause-inside c = inside c.args.self.now.input.now c.args.self.now.small c.args.self.now.unicode _ c.requires.at
 
 pub returns : goal.returns
 returns c =
-    let it = c.args.self.now in
-    left-past it.input.now it.small it.unicode _ c.requires.at (λ z. absurd (omega (arith, c.requires.inside, z))) _ (c.new.ensures ∙ c.start_of_character-start.ensures)
+    left-past c.args.self.now.input.now c.args.self.now.small c.args.self.now.unicode _ c.requires.at (λ z. absurd (omega (arith, c.requires.inside, z))) _ (c.new.ensures ∙ c.start_of_character-start.ensures)

@@ -4,9 +4,7 @@ use Rattle.regress_input.proofs.Utf16Reads.{right-is, units-length}
 use Rattle.regress_input.proofs.indexing.utf16_input.Utf16InputInputIndexer.character_right.Goals as goal
 
 pub character_at-c-requires : goal.character_at-c-requires
-character_at-c-requires c =
-    let it = c.args.self.now in
-    omega (arith, c.requires.inside, units-length it.input.now it.small it.unicode)
+character_at-c-requires c = omega (arith, c.requires.inside, units-length c.args.self.now.input.now c.args.self.now.small c.args.self.now.unicode)
 
 pub returns : goal.returns
 returns c =

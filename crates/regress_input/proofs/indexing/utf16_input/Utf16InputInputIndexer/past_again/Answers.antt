@@ -7,23 +7,17 @@ use Rattle.regress_input.proofs.indexing.utf16_input.Utf16InputInputIndexer.past
 
 pub offset_bounds-all-start : goal.offset_bounds-all-start
 offset_bounds-all-start g c =
-    let it = c.args.self.now in
-    omega (arith, inside it.input.now it.small it.unicode _ c.requires.to, it.sized, c.requires.in_order)
+    omega (arith, inside c.args.self.now.input.now c.args.self.now.small c.args.self.now.unicode _ c.requires.to, c.args.self.now.sized, c.requires.in_order)
 
 pub slice_bounds-past_units-end : goal.slice_bounds-past_units-end
-slice_bounds-past_units-end g c =
-    let it = c.args.self.now in
-    inside it.input.now it.small it.unicode _ c.requires.to
+slice_bounds-past_units-end g c = inside c.args.self.now.input.now c.args.self.now.small c.args.self.now.unicode _ c.requires.to
 
 pub past_units-to-requires : goal.past_units-to-requires
-past_units-to-requires g c =
-    let it = c.args.self.now in
-    inside it.input.now it.small it.unicode _ c.requires.at
+past_units-to-requires g c = inside c.args.self.now.input.now c.args.self.now.small c.args.self.now.unicode _ c.requires.at
 
 pub returns : goal.returns
 returns g c =
-    let it = c.args.self.now in
-    let us = it.input.now in
+    let us = c.args.self.now.input.now in
     c.position_at.ensures ∙ c.at_boundary.ensures ∙ ap (if_boundary us) c.past_units-to.ensures
     ∙ ap (λ forward. if_boundary us (past_bytes us (slice_range us c.args.start.offset c.args.end.offset) (way forward) c.args.pos.offset)) c.FORWARD.ensures
-    ∙ literal us it.small it.unicode (way g.Dir.Direction.FORWARD) _ _ _ c.requires.at c.requires.from c.requires.to c.requires.in_order
+    ∙ literal us c.args.self.now.small c.args.self.now.unicode (way g.Dir.Direction.FORWARD) _ _ _ c.requires.at c.requires.from c.requires.to c.requires.in_order

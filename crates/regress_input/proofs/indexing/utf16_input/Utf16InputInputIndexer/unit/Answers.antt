@@ -5,14 +5,10 @@ use Rattle.regress_input.proofs.UnitsIn.{utf16_text-units_in}
 use Rattle.regress_input.proofs.indexing.utf16_input.Utf16InputInputIndexer.unit.Goals as goal
 
 pub offset_bounds-self-pos : goal.offset_bounds-self-pos
-offset_bounds-self-pos c =
-    let it = c.args.self.now in
-    omega (arith, c.requires, units-length it.input.now it.small it.unicode, it.sized)
+offset_bounds-self-pos c = omega (arith, c.requires, units-length c.args.self.now.input.now c.args.self.now.small c.args.self.now.unicode, c.args.self.now.sized)
 
 pub bounds-self-pos : goal.bounds-self-pos
-bounds-self-pos c =
-    let it = c.args.self.now in
-    omega (arith, c.requires, units-length it.input.now it.small it.unicode)
+bounds-self-pos c = omega (arith, c.requires, units-length c.args.self.now.input.now c.args.self.now.small c.args.self.now.unicode)
 
 pub returns : goal.returns
 returns c =

@@ -4,10 +4,8 @@ use Rattle.regress_input.proofs.indexing.utf8_input.Utf8InputInputIndexer.before
 
 pub start_of_character-start-requires : goal.start_of_character-start-requires
 start_of_character-start-requires c =
-    let it = c.args.self.now in
-    ends_at it.input.now it.unicode it.is_utf8 _ c.as_bytes.ensures.value _ c.requires.at (λ z. absurd (omega (arith, c.requires.inside, z)))
+    ends_at c.args.self.now.input.now c.args.self.now.unicode c.args.self.now.is_utf8 _ c.as_bytes.ensures.value _ c.requires.at (λ z. absurd (omega (arith, c.requires.inside, z)))
 
 pub returns : goal.returns
 returns c =
-    let it = c.args.self.now in
-    sym (read-before it.input.now it.unicode it.is_utf8 _ c.as_bytes.ensures.value _ _ c.requires.at (λ z. absurd (omega (arith, c.requires.inside, z))) c.start_of_character-start.ensures) ∙ ap Some (sym c.new.ensures)
+    sym (read-before c.args.self.now.input.now c.args.self.now.unicode c.args.self.now.is_utf8 _ c.as_bytes.ensures.value _ _ c.requires.at (λ z. absurd (omega (arith, c.requires.inside, z))) c.start_of_character-start.ensures) ∙ ap Some (sym c.new.ensures)

@@ -5,10 +5,8 @@ use Rattle.regress_input.proofs.indexing.utf8_input.Utf8InputInputIndexer.charac
 
 pub character_before-c-requires : goal.character_before-c-requires
 character_before-c-requires c =
-    let it = c.args.self.now in
-    ends_at it.input.now it.unicode it.is_utf8 _ c.as_bytes.ensures.value _ c.requires.at (λ z. absurd (omega (arith, c.requires.inside, z)))
+    ends_at c.args.self.now.input.now c.args.self.now.unicode c.args.self.now.is_utf8 _ c.as_bytes.ensures.value _ c.requires.at (λ z. absurd (omega (arith, c.requires.inside, z)))
 
 pub returns : goal.returns
 returns c =
-    let it = c.args.self.now in
-    sym (read-character-left it.input.now it.unicode it.is_utf8 _ c.as_bytes.ensures.value _ _ _ c.requires.at (λ z. absurd (omega (arith, c.requires.inside, z))) c.character_before-c.ensures) ∙ ap (λ n. Some (pair c.character_before-c.result.0 n)) (sym c.new.ensures)
+    sym (read-character-left c.args.self.now.input.now c.args.self.now.unicode c.args.self.now.is_utf8 _ c.as_bytes.ensures.value _ _ _ c.requires.at (λ z. absurd (omega (arith, c.requires.inside, z))) c.character_before-c.ensures) ∙ ap (λ n. Some (pair c.character_before-c.result.0 n)) (sym c.new.ensures)

@@ -6,8 +6,7 @@ use Rattle.regress_input.proofs.indexing.utf8_input.Utf8InputInputIndexer.unit.G
 
 pub bounds-as_bytes-pos : goal.bounds-as_bytes-pos
 bounds-as_bytes-pos c =
-    let it = c.args.self.now in
-    omega (arith, c.requires, units-bytes it.input.now it.unicode it.is_utf8, ap length c.as_bytes.ensures.value)
+    omega (arith, c.requires, units-bytes c.args.self.now.input.now c.args.self.now.unicode c.args.self.now.is_utf8, ap length c.as_bytes.ensures.value)
 
 pub returns : goal.returns
 returns c =

@@ -3,6 +3,4 @@ use Rattle.regress_input.proofs.Utf8Reads.{units-bytes}
 use Rattle.regress_input.proofs.indexing.utf8_input.Utf8InputInputIndexer.unit_count.Goals as goal
 
 pub returns : goal.returns
-returns c =
-    let it = c.args.self.now in
-    sym (units-bytes it.input.now it.unicode it.is_utf8)
+returns c = sym (units-bytes c.args.self.now.input.now c.args.self.now.unicode c.args.self.now.is_utf8)

@@ -1,4 +1,4 @@
-use Rattle.std.proofs.Common.{◌≡◌, ◌∙◌, ap, sym, subst, IsTrue}
+use Rattle.std.proofs.Common.{◌≡◌, ◌∙◌, ap, sym, subst, IsTrue, true≢false}
 use Rattle.regex_meaning.specs.Layout.{IsByteCodeOf, IsUnitCodeOf}
 use Rattle.regex_meaning.specs.Tree.{Tree}
 use Rattle.regex_meaning.specs.WellFormed.{IsWellFormed}
@@ -7,7 +7,8 @@ use Rattle.regex_pattern_front.specs.TreeOf.{tree_of, flags_of}
 use Rattle.regress_program.specs.Code.{compiled}
 use Rattle.regress_program.specs.Running.{tree_to_run}
 use Rattle.regress_program.proofs.RunningLemmas.{well_formed-planned}
-use Rattle.std.specs.Prelude.{Err, true}
+use Rattle.regress_program.specs.Refusals.{IsRefused, IsRefusedInUnits}
+use Rattle.std.specs.Prelude.{true}
 use Rattle.regress_match.specs.Refusals.{of_emit}
 use Rattle.regress_match.proofs.RefusalLemmas.{emit-refuses, err-refused, reads-not}
 use Rattle.regress_match.proofs.api.regex.Regex.from_unicode.Goals as goal
@@ -33,8 +34,8 @@ returns-in_err-units-clause-refused c =
     let e = c.in_err-units.field-0.0 in
     err-refused c.from_residual-in_err-units.result (of_emit e) _ (λ x h. h) c.from_residual-in_err-units.ensures.1
     (emit-refuses e
-    (λ is. c.emit_units.ensures.not_well_formed (c.in_err-units.was ∙ ap Err is) parsed.well_formed)
-    (λ is. reads-not tree.root parsed.characters (c.emit_units.ensures.bytes_in_units (c.in_err-units.was ∙ ap Err is)).1))
+    (λ is. subst (λ x. IsRefusedInUnits x tree) is c.in_err-units.ensures.refused parsed.well_formed)
+    (λ is. reads-not tree.root parsed.characters (subst (λ x. IsRefusedInUnits x tree) is c.in_err-units.ensures.refused).1))
 
 pub returns-in_err-cr-clause-refused : goal.returns-in_err-cr-clause-refused
 returns-in_err-cr-clause-refused c =
@@ -43,6 +44,6 @@ returns-in_err-cr-clause-refused c =
     let is_run : tree_of c.to_run-tree.result ≡ tree_to_run tree = c.to_run-tree.ensures in
     err-refused c.from_residual-in_err-cr.result (of_emit e) _ (λ x h. h) c.from_residual-in_err-cr.ensures.1
     (emit-refuses e
-    (λ is. c.emit.ensures.not_well_formed (c.in_err-cr.was ∙ ap Err is)
+    (λ is. subst (λ x. IsRefused x (tree_of c.to_run-tree.result)) is c.in_err-cr.ensures.refused
     (subst (λ (t : Tree). IsWellFormed t.root) (sym is_run) (well_formed-planned true tree c.in_ok-parsed.ensures.well_formed)))
-    (λ is. c.emit.ensures.no_units (c.in_err-cr.was ∙ ap Err is)))
+    (λ is. true≢false (sym (subst (λ x. IsRefused x (tree_of c.to_run-tree.result)) is c.in_err-cr.ensures.refused).1)))

@@ -1,0 +1,106 @@
+//! The texts of errors, and what is told of patterns that are refused.
+
+use regress_match::emit::EmitError;
+use regress_match::{Error, Flags, Regex, ReplaceError, SearchError};
+use std::alloc::AllocError;
+use std::test::Fail;
+
+// An error, and its text.
+const EMIT_ERRORS: [(EmitError, &str); 6] = [
+    (EmitError::NotWellFormed, "the tree is not well formed"),
+    (
+        EmitError::BytesInUnits,
+        "bytes stand in a tree for 16-bit units",
+    ),
+    (EmitError::TooManyGroups, "too many groups"),
+    (EmitError::TooManyLoops, "too many loops"),
+    (EmitError::TooManyInstructions, "too many instructions"),
+    (EmitError::Memory, "out of memory"),
+];
+
+#[test]
+fn errors_of_programs_have_texts(rt: HostRuntime) -> Result<(), Fail> {
+    for (error, wanted) in EMIT_ERRORS {
+        let mut found = String::new(rt.alloc());
+        write!(found, "{error}")?;
+        assert!(rt; found.as_str() == wanted, "{found}");
+        let mut found = String::new(rt.alloc());
+        write!(found, "{}", Error::Emit(error))?;
+        assert!(rt; found.as_str() == wanted, "{found}");
+    }
+    Ok(())
+}
+
+fn write_refusal(text: &mut String, pattern: &str) -> Result<(), AllocError> {
+    match Regex::new(*text.allocator(), pattern) {
+        Ok(_) => text.push_str("a pattern"),
+        Err(error) => write!(text, "{error}"),
+    }
+}
+
+#[test]
+fn errors_of_the_face_have_texts(rt: HostRuntime) -> Result<(), Fail> {
+    let mut found = String::new(rt.alloc());
+    write_refusal(&mut found, "(a|b")?;
+    write!(found, "; {}; {}", Error::Memory, SearchError::StepLimit)?;
+    write!(found, "; {}", SearchError::Memory)?;
+    let search: ReplaceError<SearchError> = ReplaceError::Search(SearchError::Memory);
+    let closure = ReplaceError::Closure(Error::Memory);
+    write!(found, "; {search}; {closure}")?;
+    let wanted =
+        "the text is no pattern; out of memory; the steps are used up; out of memory; out of memory; out of memory";
+    assert!(rt; found.as_str() == wanted, "{found}");
+    Ok(())
+}
+
+fn write_told(text: &mut String, pattern: &str, flags: &str) -> Result<(), AllocError> {
+    match Regex::diagnose(*text.allocator(), pattern, Flags::from(flags))? {
+        Some(told) => write!(
+            text,
+            "{told}, byte {}\n{}",
+            told.offset_in(pattern),
+            told.below_text(pattern)
+        ),
+        None => text.push_str("a pattern"),
+    }
+}
+
+// A pattern with its flags, and what is told of it.
+const TOLD: [(&str, &str, &str); 6] = [
+    (
+        "é(a|b",
+        "",
+        "unclosed group at 1, byte 2\né(a|b\n ^ unclosed group",
+    ),
+    (
+        "a{2,1}",
+        "",
+        "quantifier out of order at 1, byte 1\na{2,1}\n ^ quantifier out of order",
+    ),
+    (
+        r"\p{L}",
+        "u",
+        "property escapes are not supported at 0, byte 0\n\\p{L}\n^ property escapes are not supported",
+    ),
+    (
+        "(?<n>a)|(?<n>b)",
+        "",
+        "duplicate name at 11, byte 11\n(?<n>a)|(?<n>b)\n           ^ duplicate name",
+    ),
+    (
+        "a{2",
+        "u",
+        "lone bracket at 1, byte 1\na{2\n ^ lone bracket",
+    ),
+    ("a{2", "", "a pattern"),
+];
+
+#[test]
+fn causes_are_told_by_flags(rt: HostRuntime) -> Result<(), Fail> {
+    for (pattern, flags, wanted) in TOLD {
+        let mut found = String::new(rt.alloc());
+        write_told(&mut found, pattern, flags)?;
+        assert!(rt; found.as_str() == wanted, "{found}");
+    }
+    Ok(())
+}

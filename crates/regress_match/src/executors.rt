@@ -1,0 +1,43 @@
+//! The executors of the searches, and what makes a search of one.
+
+ghost use Rattle.std.specs.Prelude.{◌≡◌, IfErr, IfOk, nat_le, not};
+ghost use Rattle.regex_meaning.specs.Offsets.{units};
+ghost use Rattle.regex_pattern_front.specs.TreeOf.{tree_of};
+ghost use Rattle.regress_match.specs.Programs.{IsStart};
+ghost use Rattle.regress_match.specs.Refusals.{IsMemory};
+ghost use Rattle.regress_match.specs.Searches.{YieldsMatches};
+
+use regress_exec::exec::{Matches, SearchError, Searcher};
+use regress_input::indexing::{AsciiInput, Ucs2Input, Utf8Input, Utf16Input};
+use regress_program::insn::CompiledRegex;
+pub use regress_undo::classicalbacktrack::{BacktrackExecutor, LimitedExecutor};
+
+/// What searches texts in UTF-8.
+pub type DefaultExecutor<'r, 't> = BacktrackExecutor<'r, Utf8Input<'t>>;
+
+/// What searches texts of ASCII.
+pub type DefaultAsciiExecutor<'r, 't> = BacktrackExecutor<'r, AsciiInput<'t>>;
+
+/// What searches texts in UTF-16.
+pub type DefaultUtf16Executor<'r, 't> = BacktrackExecutor<'r, Utf16Input<'t>>;
+
+/// What searches texts in UCS-2.
+pub type DefaultUcs2Executor<'r, 't> = BacktrackExecutor<'r, Ucs2Input<'t>>;
+
+// The matches from an offset on, as `S` finds them with this program.
+pub(crate) fn search_from<'r, S: Searcher<'r>>(
+    re: &'r CompiledRegex,
+    text: S::Text,
+    start: usize,
+) -> Result<Matches<S>, SearchError>
+    requires can { S.can_search text }
+    requires start { IsStart (S.text_of text (tree_of re.now).flags.unicode) start }
+    ensures answers { IfOk result
+        (YieldsMatches (tree_of re.now) (S.text_of text (tree_of re.now).flags.unicode) start) }
+    ensures ended { IfOk result (λ it. it.ended
+        ≡ not (nat_le start (units (S.text_of text (tree_of re.now).flags.unicode)))) }
+    ensures refused { IfErr result IsMemory }
+{
+    let executor = S::new(re, text)?;
+    Ok(Matches::new(executor, start))
+}

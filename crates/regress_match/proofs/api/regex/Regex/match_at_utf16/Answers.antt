@@ -18,7 +18,7 @@ pub returns-clause-found : goal.returns-clause-found
 returns-clause-found c =
     IfOk-map c.match_at.result _ _
     (λ m e. e ∙ ap₂ (λ (t : Tree) (x : Text). answer_at t.root x c.args.at) c.in_ok-executor.ensures.tree c.in_ok-executor.ensures.text
-        ∙ ap (λ re. answer_at (tree_of re).root (utf16_text c.args.text.now (tree_of re).flags.unicode) c.args.at) c.unit_program.ensures) c.match_at.ensures.found
+    ∙ ap (λ re. answer_at (tree_of re).root (utf16_text c.args.text.now (tree_of re).flags.unicode) c.args.at) c.unit_program.ensures) c.match_at.ensures.found
 
 pub returns-clause-fits : goal.returns-clause-fits
 returns-clause-fits c =

@@ -56,7 +56,8 @@ pub(crate) fn replace(
     which: Which,
     buffer: &mut [u8],
 ) -> Reply
-    ensures replies { RepliesText (ReplacesBy pattern.old.held text.now replacement.now which) buffer.old buffer.new result }
+    ensures replies { RepliesText (ReplacesBy pattern.old.held text.now replacement.now which) buffer.old
+        buffer.new result }
     ensures kept { pattern.new.held ≡ pattern.old.held }
 {
     let Some(re) = pattern.take(alloc) else {
@@ -150,7 +151,8 @@ pub(crate) fn diagnosis<S: Source>(
     at: &mut usize,
     buffer: &mut [u8],
 ) -> Reply
-    ensures { RepliesTold (given (S.is_text source.now) (S.characters source.now) flags.now) S.width_of at.old buffer.old at.new buffer.new result }
+    ensures { RepliesTold (given (S.is_text source.now) (S.characters source.now) flags.now) S.width_of
+        at.old buffer.old at.new buffer.new result }
 {
     match diagnosed(alloc, source, flags) {
         Ok(Some(told)) => {

@@ -40,7 +40,8 @@ pub(crate) fn compile<S: Source>(
     flags: &[u8],
     bounds: Bounds,
 ) -> u32
-    ensures { RepliesMade pattern.old.held (given (S.is_text source.now) (S.characters source.now) flags.now) bounds pattern.new.held result }
+    ensures { RepliesMade pattern.old.held (given (S.is_text source.now) (S.characters source.now) flags.now)
+        bounds pattern.new.held result }
 {
     match pattern.take(alloc) {
         Some(held) => {
@@ -59,7 +60,8 @@ fn fill<S: Source>(
     bounds: Bounds,
 ) -> u32
     requires { pattern.old.held ≡ None }
-    ensures { RepliesMade None (given (S.is_text source.now) (S.characters source.now) flags.now) bounds pattern.new.held result }
+    ensures { RepliesMade None (given (S.is_text source.now) (S.characters source.now) flags.now) bounds
+        pattern.new.held result }
 {
     match compiled(alloc, source, flags, bounds) {
         Ok(re) => {
@@ -77,7 +79,8 @@ fn compiled<S: Source>(
     flags: &[u8],
     bounds: Bounds,
 ) -> Result<Box<Regex>, Refusal>
-    ensures { Compiles (given (S.is_text source.now) (S.characters source.now) flags.now) bounds (result_map_both (λ b. b.value) (λ e. e) result) }
+    ensures { Compiles (given (S.is_text source.now) (S.characters source.now) flags.now) bounds
+        (result_map_both (λ b. b.value) (λ e. e) result) }
 {
     let flags = flags_from(flags)?;
     let code_points = source.code_points(alloc)?;

@@ -67,7 +67,8 @@ pub(crate) fn go_on(
     steps: Option<u64>,
     spans: &mut [Span],
 ) -> Went
-    ensures replies { RepliesNext pattern.old.held search.old search.new steps result.left spans.old spans.new result.reply }
+    ensures replies { RepliesNext pattern.old.held search.old search.new steps result.left spans.old
+        spans.new result.reply }
     ensures kept { pattern.new.held ≡ pattern.old.held }
 {
     let Some(re) = pattern.take(alloc) else {
@@ -147,7 +148,8 @@ fn filled_in(
 }
 
 fn in_utf8(re: &Regex, text: &str, start: usize, spans: &mut [Span]) -> Result<Filled, Refusal>
-    ensures { FillsFrom (byte_tree re.now) (as_utf8 re.now text.now) (can_start_utf8 text.now start) None start spans.old spans.new result }
+    ensures { FillsFrom (byte_tree re.now) (as_utf8 re.now text.now) (can_start_utf8 text.now start) None
+        start spans.old spans.new result }
 {
     if cuts_utf8(text, start) {
         return Err(Refusal::NotBoundary);
@@ -163,7 +165,8 @@ fn in_utf8_within(
     steps: u64,
     spans: &mut [Span],
 ) -> Result<Filled, Refusal>
-    ensures { FillsFrom (byte_tree re.now) (as_utf8 re.now text.now) (can_start_utf8 text.now start) (Some steps) start spans.old spans.new result }
+    ensures { FillsFrom (byte_tree re.now) (as_utf8 re.now text.now) (can_start_utf8 text.now start)
+        (Some steps) start spans.old spans.new result }
 {
     if cuts_utf8(text, start) {
         return Err(Refusal::NotBoundary);
@@ -175,7 +178,8 @@ fn in_utf8_within(
 }
 
 fn in_utf16(re: &Regex, units: &[u16], start: usize, spans: &mut [Span]) -> Result<Filled, Refusal>
-    ensures { FillsFrom (unit_tree re.now) (as_utf16 re.now units.now) (can_start_utf16 units.now start) None start spans.old spans.new result }
+    ensures { FillsFrom (unit_tree re.now) (as_utf16 re.now units.now) (can_start_utf16 units.now start)
+        None start spans.old spans.new result }
 {
     if cuts_utf16(units, start) {
         return Err(Refusal::NotBoundary);
@@ -195,7 +199,8 @@ fn in_ucs2(re: &Regex, units: &[u16], start: usize, spans: &mut [Span]) -> Resul
 fn fill<E: Attempts>(search: &mut E, start: usize, ranges: usize, spans: &mut [Span]) -> Filled
     requires starts { IsStart (E.text search.old) start }
     requires ranges { ranges ≡ ranges_by (E.tree search.old) }
-    ensures fills { Fills (E.tree search.old) (E.text search.old) (E.budget search.old) start spans.old spans.new result (E.budget search.new) }
+    ensures fills { Fills (E.tree search.old) (E.text search.old) (E.budget search.old) start spans.old
+        spans.new result (E.budget search.new) }
     ensures unset { result.left ≡ None }
 {
     let mut filled = Filled {

@@ -64,7 +64,8 @@ pub extern "C" fn regress_c_compile_utf8(
     text: &[u8],
     flags: &[u8],
 ) -> u32
-    ensures { RepliesMade pattern.old.held (given (IsUtf8 text.now) (chars text.now) flags.now) unbounded pattern.new.held result }
+    ensures { RepliesMade pattern.old.held (given (IsUtf8 text.now) (chars text.now) flags.now) unbounded
+        pattern.new.held result }
 {
     compile(
         alloc,
@@ -84,7 +85,8 @@ pub extern "C" fn regress_c_compile_utf8_within(
     flags: &[u8],
     bounds: &Bounds,
 ) -> u32
-    ensures { RepliesMade pattern.old.held (given (IsUtf8 text.now) (chars text.now) flags.now) bounds.now pattern.new.held result }
+    ensures { RepliesMade pattern.old.held (given (IsUtf8 text.now) (chars text.now) flags.now) bounds.now
+        pattern.new.held result }
 {
     compile(alloc, pattern, &Utf8Source { bytes: text }, flags, *bounds)
 }
@@ -97,7 +99,8 @@ pub extern "C" fn regress_c_compile_utf16(
     text: &[u16],
     flags: &[u8],
 ) -> u32
-    ensures { RepliesMade pattern.old.held (given (Unit {0}) (utf16_characters text.now) flags.now) unbounded pattern.new.held result }
+    ensures { RepliesMade pattern.old.held (given (Unit {0}) (utf16_characters text.now) flags.now)
+        unbounded pattern.new.held result }
 {
     compile(
         alloc,
@@ -117,7 +120,8 @@ pub extern "C" fn regress_c_compile_utf16_within(
     flags: &[u8],
     bounds: &Bounds,
 ) -> u32
-    ensures { RepliesMade pattern.old.held (given (Unit {0}) (utf16_characters text.now) flags.now) bounds.now pattern.new.held result }
+    ensures { RepliesMade pattern.old.held (given (Unit {0}) (utf16_characters text.now) flags.now)
+        bounds.now pattern.new.held result }
 {
     compile(alloc, pattern, &Utf16Source { units: text }, flags, *bounds)
 }
@@ -131,7 +135,8 @@ pub extern "C" fn regress_c_diagnose_utf8(
     at: &mut usize,
     cause: &mut [u8],
 ) -> Reply
-    ensures { RepliesTold (given (IsUtf8 text.now) (chars text.now) flags.now) len_utf8 at.old cause.old at.new cause.new result }
+    ensures { RepliesTold (given (IsUtf8 text.now) (chars text.now) flags.now) len_utf8 at.old cause.old
+        at.new cause.new result }
 {
     answer::diagnosis(alloc, &Utf8Source { bytes: text }, flags, at, cause)
 }
@@ -145,7 +150,8 @@ pub extern "C" fn regress_c_diagnose_utf16(
     at: &mut usize,
     cause: &mut [u8],
 ) -> Reply
-    ensures { RepliesTold (given (Unit {0}) (utf16_characters text.now) flags.now) utf16_width at.old cause.old at.new cause.new result }
+    ensures { RepliesTold (given (Unit {0}) (utf16_characters text.now) flags.now) utf16_width at.old
+        cause.old at.new cause.new result }
 {
     answer::diagnosis(alloc, &Utf16Source { units: text }, flags, at, cause)
 }
@@ -201,7 +207,8 @@ pub extern "C" fn regress_c_find_utf8(
     start: usize,
     spans: &mut [Span],
 ) -> Reply
-    ensures replies { Replies pattern.old.held (IsUtf8 text.now) (can_start_utf8 text.now start) (λ re. utf8_coming text.now re start) spans.old spans.new result }
+    ensures replies { Replies pattern.old.held (IsUtf8 text.now) (can_start_utf8 text.now start)
+        (λ re. utf8_coming text.now re start) spans.old spans.new result }
     ensures kept { pattern.new.held ≡ pattern.old.held }
 {
     search(alloc, pattern, &Utf8 { bytes: text }, start, spans)
@@ -216,7 +223,8 @@ pub extern "C" fn regress_c_find_utf16(
     start: usize,
     spans: &mut [Span],
 ) -> Reply
-    ensures replies { Replies pattern.old.held (Unit {0}) (can_start_utf16 text.now start) (λ re. utf16_coming text.now re start) spans.old spans.new result }
+    ensures replies { Replies pattern.old.held (Unit {0}) (can_start_utf16 text.now start)
+        (λ re. utf16_coming text.now re start) spans.old spans.new result }
     ensures kept { pattern.new.held ≡ pattern.old.held }
 {
     search(alloc, pattern, &Utf16 { units: text }, start, spans)
@@ -231,7 +239,8 @@ pub extern "C" fn regress_c_find_ucs2(
     start: usize,
     spans: &mut [Span],
 ) -> Reply
-    ensures replies { Replies pattern.old.held (Unit {0}) (Unit {0}) (λ re. ucs2_coming text.now re start) spans.old spans.new result }
+    ensures replies { Replies pattern.old.held (Unit {0}) (Unit {0}) (λ re. ucs2_coming text.now re start)
+        spans.old spans.new result }
     ensures kept { pattern.new.held ≡ pattern.old.held }
 {
     search(alloc, pattern, &Ucs2 { units: text }, start, spans)
@@ -298,7 +307,8 @@ pub extern "C" fn regress_c_next_within(
     steps: &mut u64,
     spans: &mut [Span],
 ) -> Reply
-    ensures replies { RepliesNext pattern.old.held search.old search.new (Some steps.old) (Some steps.new) spans.old spans.new result }
+    ensures replies { RepliesNext pattern.old.held search.old search.new (Some steps.old) (Some steps.new)
+        spans.old spans.new result }
     ensures kept { pattern.new.held ≡ pattern.old.held }
 {
     let went = go_on(alloc, pattern, search, Some(*steps), spans);
@@ -327,7 +337,8 @@ pub extern "C" fn regress_c_replace_utf8(
     replacement: &[u8],
     made: &mut [u8],
 ) -> Reply
-    ensures replies { RepliesText (ReplacesBy pattern.old.held text.now replacement.now First) made.old made.new result }
+    ensures replies { RepliesText (ReplacesBy pattern.old.held text.now replacement.now First) made.old
+        made.new result }
     ensures kept { pattern.new.held ≡ pattern.old.held }
 {
     answer::replace(alloc, pattern, text, replacement, Which::First, made)

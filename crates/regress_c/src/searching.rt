@@ -18,7 +18,8 @@ pub(crate) fn search<S: Subject>(
     start: usize,
     spans: &mut [Span],
 ) -> Reply
-    ensures replies { Replies pattern.old.held (S.is_text subject.now) (S.can_start subject.now start) (λ re. S.coming subject.now re start) spans.old spans.new result }
+    ensures replies { Replies pattern.old.held (S.is_text subject.now) (S.can_start subject.now start)
+        (λ re. S.coming subject.now re start) spans.old spans.new result }
     ensures kept { pattern.new.held ≡ pattern.old.held }
 {
     reply_with(find(alloc, pattern, subject, start), spans)
@@ -31,7 +32,8 @@ fn find<S: Subject>(
     subject: &S,
     start: usize,
 ) -> Result<Option<Match>, Refusal>
-    ensures finds { FindsBy pattern.old.held (S.is_text subject.now) (S.can_start subject.now start) (λ re. S.coming subject.now re start) result }
+    ensures finds { FindsBy pattern.old.held (S.is_text subject.now) (S.can_start subject.now start)
+        (λ re. S.coming subject.now re start) result }
     ensures kept { pattern.new.held ≡ pattern.old.held }
 {
     let Some(re) = pattern.take(alloc) else {

@@ -96,7 +96,8 @@ fn character_of(high: u16, low: u16) -> u32
 
 // The first character of these units, and how many units it has.
 fn first_of(first: u16, behind: &[u16]) -> (u32, usize)
-    ensures characters { utf16_characters (first ∷ behind.now) ≡ result.0 ∷ utf16_characters (drop result.1 (first ∷ behind.now)) }
+    ensures characters { utf16_characters (first ∷ behind.now)
+        ≡ result.0 ∷ utf16_characters (drop result.1 (first ∷ behind.now)) }
     ensures there { 0 < result.1 }
     ensures few { result.1 ≤ 2 }
     ensures inside { result.1 ≤ length behind.now + 1 }

@@ -181,7 +181,8 @@ pub struct Matches<P: MatchProducer> {
 impl<P: MatchProducer> Model for Matches<P> {
     ghost Value = { ToCome };
 
-    ghost view = { λ m. coming (P.tree m.mp) (P.text m.mp) (P.budget m.mp) (option_map P.Position.offset m.position) (P.out_of_steps m.mp) };
+    ghost view = { λ m. coming (P.tree m.mp) (P.text m.mp) (P.budget m.mp)
+        (option_map P.Position.offset m.position) (P.out_of_steps m.mp) };
 
     ghost invariant = { λ m. ForSome m.position (λ p. IsBoundary (P.text m.mp) (P.Position.offset p)) };
 }

@@ -25,8 +25,10 @@ pub struct Searched<'r, Input: InputIndexer> {
     pub input: Input,
     ghost unicode: { (Input.text input).unicode ≡ (tree_of program.now).flags.unicode },
     ghost well_formed: { IsTrue (is_well_formed (tree_of program.now).root) },
-    ghost bytes: { IsTrue (reads_bytes (tree_of program.now).root) → IsInBytes (Input.text input) Input.Units.ARE_BYTES },
-    ghost predicted: { option_map (λ p. start_of p.now) start_pred ≡ option_map (λ _. (compiled (tree_of program.now)).start_pred) start_pred },
+    ghost bytes: { IsTrue (reads_bytes (tree_of program.now).root)
+        → IsInBytes (Input.text input) Input.Units.ARE_BYTES },
+    ghost predicted: { option_map (λ p. start_of p.now) start_pred
+        ≡ option_map (λ _. (compiled (tree_of program.now)).start_pred) start_pred },
     ghost scalars: { IsSome start_pred → ReadsBytes (Input.text input) },
 }
 

@@ -12,7 +12,7 @@ use Rattle.regex_meaning.specs.Units.{Encoding, utf8, utf16, ucs2, spelled_in, u
 use Rattle.regress_input.specs.Utf8.{continues}
 use Rattle.regress_input.specs.Spellings.{sized_utf8, sized_utf16}
 use Rattle.regress_input.proofs.Lists.{get-cons, get-front, get-behind}
-use Rattle.regress_input.proofs.Places.{step_right, step_left}
+use Rattle.regress_input.proofs.Places.{HasPlace, step_right, step_left}
 use Rattle.regress_input.proofs.Spelled.{offset-spelling, offset-behind}
 use Rattle.regress_input.proofs.Utf8Reads.{encode_two, encode_three, encode_four}
 use Rattle.regex_meaning.proofs.FirstBytes.{encode-1}
@@ -64,25 +64,24 @@ module _ (e : Encoding) (text : Text) (s : IsSpelledIn e text) where
       ∙ get-behind (spell (take k cs)) (spelled_in e c ++ spell (drop (suc k) cs)) i
       ∙ get-front (spelled_in e c) (spell (drop (suc k) cs)) i m
 
+  -- from a character's place its units stand, and behind them the next place
+  unit-from : (place c at to : ℕ) → HasPlace text at place → HasPlace text to (suc place) → slice_get text.characters place ≡ Some c
+      → (slice_get (units_in e text) at ≡ slice_get (spelled_in e c) 0) × (to ≡ at + length (spelled_in e c))
+  unit-from place c at to from upto there =
+      let zero_on : at ≡ offset text place + 0 = omega (arith, from.offset_is) in (
+        ap (slice_get (units_in e text)) zero_on ∙ unit-at place c 0 there from.within (has-unit e c),
+        sym upto.offset_is ∙ offset-next place c there ∙ ap (λ n. n + length (spelled_in e c)) from.offset_is,
+      )
+
   -- a read to the right begins at the first of the character's units, and ends behind them
   pub unit-right : IsText text → (at c to : ℕ) → read text rightwards at ≡ Some (c, to)
       → (slice_get (units_in e text) at ≡ slice_get (spelled_in e c) 0) × (to ≡ at + length (spelled_in e c))
-  unit-right t at c to r =
-      let step = step_right text t at c to r in
-      let zero_on : at ≡ offset text step.place + 0 = omega (arith, step.from.offset_is) in (
-        ap (slice_get (units_in e text)) zero_on ∙ unit-at step.place c 0 step.character step.from.within (has-unit e c),
-        sym step.upto.offset_is ∙ offset-next step.place c step.character ∙ ap (λ n. n + length (spelled_in e c)) step.from.offset_is,
-      )
+  unit-right t at c to r = let step = step_right text t at c to r in unit-from step.place c at to step.from step.upto step.character
 
   -- a read to the left ends where the character's units begin
   pub unit-left : IsText text → (at c to : ℕ) → read text leftwards at ≡ Some (c, to)
       → (slice_get (units_in e text) to ≡ slice_get (spelled_in e c) 0) × (at ≡ to + length (spelled_in e c))
-  unit-left t at c to r =
-      let step = step_left text t at c to r in
-      let zero_on : to ≡ offset text step.place + 0 = omega (arith, step.upto.offset_is) in (
-        ap (slice_get (units_in e text)) zero_on ∙ unit-at step.place c 0 step.character step.upto.within (has-unit e c),
-        sym step.from.offset_is ∙ offset-next step.place c step.character ∙ ap (λ n. n + length (spelled_in e c)) step.upto.offset_is,
-      )
+  unit-left t at c to r = let step = step_left text t at c to r in unit-from step.place c to at step.upto step.from step.character
 
 -- ---- In UTF-8: the bytes that continue a character stand where there is no boundary
 

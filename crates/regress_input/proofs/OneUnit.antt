@@ -61,6 +61,17 @@ module _ (us : List ℕ) (unicode : Bool) (fold : ℕ → ℕ) where
       ∙ ap (option_map (λ c. pair c (offset this (at + 1)))) (slice_get-get_or us at 0 l)
       ∙ ap (λ n. Some (pair (get_or us at 0) n)) (offset_of_place (at + 1) (omega arith))
 
+  -- a text that is not over has a unit
+  pub within : (at : ℕ) → at < units this → at < length us
+  within at l = omega (arith, l, units-length)
+
+  -- so it is read to where a function led, and there is one there
+  pub reads-on : (at to : ℕ) → at < units this → to ≡ at + 1 → read this rightwards at ≡ Some (pair (get_or us at 0) to)
+  reads-on at to l e = read-unit at (within at l) ∙ ap (λ n. Some (pair (get_or us at 0) n)) (sym e)
+
+  pub leads-on : (at to : ℕ) → at < units this → to ≡ at + 1 → option_map (λ r. r.1) (read this rightwards at) ≡ Some to
+  leads-on at to l e = ap (option_map (λ r. r.1)) (reads-on at to l e)
+
   pub read-start : (at : ℕ) → at ≡ 0 → read this leftwards at ≡ None
   read-start at e = ap (read this leftwards) e ∙ read-place this leftwards 0 0 (found_at 0 (omega arith))
 
@@ -71,6 +82,12 @@ module _ (us : List ℕ) (unicode : Bool) (fold : ℕ → ℕ) where
       read-place this leftwards (suc j) (suc j) (found_at (suc j) l)
       ∙ ap (option_map (λ c. pair c (offset this (suc j - 1)))) (slice_get-get_or us j 0 (omega arith) ∙ ap (λ k. Some (get_or us k 0)) i)
       ∙ ap (λ n. Some (pair (get_or us (suc j - 1) 0) n)) (offset_of_place (suc j - 1) (omega arith))
+
+  pub reads-back : (at to : ℕ) → IsBoundary this at → 0 < at → to ≡ at - 1 → read this leftwards at ≡ Some (pair (get_or us (at - 1) 0) to)
+  reads-back at to b l e = read-unit-left at (inside at b) (λ z. absurd (omega (arith, l, z))) ∙ ap (λ n. Some (pair (get_or us (at - 1) 0) n)) (sym e)
+
+  pub leads-back : (at to : ℕ) → IsBoundary this at → 0 < at → to ≡ at - 1 → option_map (λ r. r.1) (read this leftwards at) ≡ Some to
+  leads-back at to b l e = ap (option_map (λ r. r.1)) (reads-back at to b l e)
 
   between_is : (a b : ℕ) → IsBoundary this a → IsBoundary this b → characters_between this a b ≡ slice_range us a b
   between_is a b f g = ap₂ (slice_range us) (place_is this a a (found_at a (inside a f))) (place_is this b b (found_at b (inside b g)))

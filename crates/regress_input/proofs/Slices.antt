@@ -269,41 +269,40 @@ module _ (spell : ℕ → List ℕ) (width : ℕ → ℕ) (sized : (c : ℕ) →
 
     -- What is found just where the units of a range stand beside a boundary, up to another one, is found just where its
     -- characters stand.
-    pub found-right : IsInjective → (at a b : ℕ) → IsBoundary this at → IsBoundary this a → IsBoundary this b → a ≤ b → (found : Option ℕ)
-        → ((to : ℕ) → found ≡ Some to → StandBehind us (slice_range us a b) at to × IsBoundary this to)
-        → ((to : ℕ) → StandBehind us (slice_range us a b) at to → IsBoundary this to → found ≡ Some to)
-        → found ≡ past_spelled this nat_eq (characters_between this a b) rightwards at
-    found-right inject at a b at_b from to l found there back =
+    -- How units stand on a side: at an offset, up to another one.
+    found-beside : (d : Direction) (Stand : (ys : List ℕ) (at to : ℕ) → Type 0)
+        → ((at k p q to : ℕ) (ys : List ℕ) → HasPlace this at k → Cuts cs us at k → ys ≡ spelt (slice_range cs p q) → Stand ys at to → IsBoundary this to → Spelt this (slice_range cs p q) d k to)
+        → ((at k p q to : ℕ) (ys : List ℕ) → HasPlace this at k → Cuts cs us at k → ys ≡ spelt (slice_range cs p q) → Spelt this (slice_range cs p q) d k to → Stand ys at to)
+        → ((at k to : ℕ) (xs : List ℕ) → HasPlace this at k → Spelt this xs d k to → IsBoundary this to)
+        → (at a b : ℕ) → IsBoundary this at → IsBoundary this a → IsBoundary this b → a ≤ b → (found : Option ℕ)
+        → ((to : ℕ) → found ≡ Some to → Stand (slice_range us a b) at to × IsBoundary this to)
+        → ((to : ℕ) → Stand (slice_range us a b) at to → IsBoundary this to → found ≡ Some to)
+        → found ≡ past_spelled this nat_eq (characters_between this a b) d at
+    found-beside d Stand spelt_of stand_of ends at a b at_b from to l found there back =
         let (k, at_k, cut_k) = here at at_b in
         let (p, at_p, cut_p) = here a from in
         let (q, at_q, cut_q) = here b to in
         let units : slice_range us a b ≡ spelt (slice_range cs p q) = (between cs us a b p q (in_order a b p q at_p at_q l) cut_p cut_q).are in
         let same : characters_between this a b ≡ slice_range cs p q = ap₂ (slice_range cs) (place_is this a p at_p.found) (place_is this b q at_q.found) in
-        same_option found (past_place this (slice_range cs p q) rightwards k)
+        same_option found (past_place this (slice_range cs p q) d k)
         (λ x e. let h = there x e in
-        spelt-past_place this (slice_range cs p q) rightwards k x (right-spelt inject at k p q x (slice_range us a b) at_k cut_k units h.0 h.1))
-        (λ x e. let h = past_place-spelt this (slice_range cs p q) rightwards k x e in
-        back x (spelt-right at k p q x (slice_range us a b) at_k cut_k units h) (ends-right at k x (slice_range cs p q) at_k h))
-        ∙ ap (λ xs. past_place this xs rightwards k) (sym same)
-        ∙ sym (past_spelled-place this (characters_between this a b) rightwards at k at_k.found)
+        spelt-past_place this (slice_range cs p q) d k x (spelt_of at k p q x (slice_range us a b) at_k cut_k units h.0 h.1))
+        (λ x e. let h = past_place-spelt this (slice_range cs p q) d k x e in
+        back x (stand_of at k p q x (slice_range us a b) at_k cut_k units h) (ends at k x (slice_range cs p q) at_k h))
+        ∙ ap (λ xs. past_place this xs d k) (sym same)
+        ∙ sym (past_spelled-place this (characters_between this a b) d at k at_k.found)
+
+    pub found-right : IsInjective → (at a b : ℕ) → IsBoundary this at → IsBoundary this a → IsBoundary this b → a ≤ b → (found : Option ℕ)
+        → ((to : ℕ) → found ≡ Some to → StandBehind us (slice_range us a b) at to × IsBoundary this to)
+        → ((to : ℕ) → StandBehind us (slice_range us a b) at to → IsBoundary this to → found ≡ Some to)
+        → found ≡ past_spelled this nat_eq (characters_between this a b) rightwards at
+    found-right inject = found-beside rightwards (StandBehind us) (right-spelt inject) spelt-right ends-right
 
     pub found-left : IsInjective → (at a b : ℕ) → IsBoundary this at → IsBoundary this a → IsBoundary this b → a ≤ b → (found : Option ℕ)
         → ((to : ℕ) → found ≡ Some to → StandBefore us (slice_range us a b) at to × IsBoundary this to)
         → ((to : ℕ) → StandBefore us (slice_range us a b) at to → IsBoundary this to → found ≡ Some to)
         → found ≡ past_spelled this nat_eq (characters_between this a b) leftwards at
-    found-left inject at a b at_b from to l found there back =
-        let (k, at_k, cut_k) = here at at_b in
-        let (p, at_p, cut_p) = here a from in
-        let (q, at_q, cut_q) = here b to in
-        let units : slice_range us a b ≡ spelt (slice_range cs p q) = (between cs us a b p q (in_order a b p q at_p at_q l) cut_p cut_q).are in
-        let same : characters_between this a b ≡ slice_range cs p q = ap₂ (slice_range cs) (place_is this a p at_p.found) (place_is this b q at_q.found) in
-        same_option found (past_place this (slice_range cs p q) leftwards k)
-        (λ x e. let h = there x e in
-        spelt-past_place this (slice_range cs p q) leftwards k x (left-spelt inject at k p q x (slice_range us a b) at_k cut_k units h.0 h.1))
-        (λ x e. let h = past_place-spelt this (slice_range cs p q) leftwards k x e in
-        back x (spelt-left at k p q x (slice_range us a b) at_k cut_k units h) (ends-left at k x (slice_range cs p q) at_k h))
-        ∙ ap (λ xs. past_place this xs leftwards k) (sym same)
-        ∙ sym (past_spelled-place this (characters_between this a b) leftwards at k at_k.found)
+    found-left inject = found-beside leftwards (StandBefore us) (left-spelt inject) spelt-left ends-left
 
     -- The units of a range stand beside a boundary just where its characters do, if where they end is a boundary.
     pub literal-right : IsInjective → (at a b : ℕ) → IsBoundary this at → IsBoundary this a → IsBoundary this b → a ≤ b

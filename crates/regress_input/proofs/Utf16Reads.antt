@@ -73,20 +73,17 @@ pair_of : (u v : ℕ) → 0xD800 ≤ u → u ≤ 0xDBFF → 0xDC00 ≤ v → v �
 pair_of u v a b c d =
     and_from _ _ (and_from _ _ (le-leb 0xD800 u a) (le-leb u 0xDBFF b)) (and_from _ _ (le-leb 0xDC00 v c) (le-leb v 0xDFFF d))
 
+-- what is on neither side of a range is in it
+outside : (least most u : ℕ) → (u < least) ⊎ (most + 1 ≤ u) → least ≤ u → u ≤ most → ⊥
+outside least most u (inl l) a b = absurd (omega arith)
+outside least most u (inr l) a b = absurd (omega arith)
+
 -- what is no high surrogate begins no pair, and what is no low one ends none
 pub high_apart : (u v : ℕ) → (u < 0xD800) ⊎ (0xDC00 ≤ u) → is_pair u v ≡ false
-high_apart u v h = false_from_ne_true (is_pair u v) (λ e. let r = pair_parts u v e in by r.0 r.1 h)
-  where
-    by : 0xD800 ≤ u → u ≤ 0xDBFF → (u < 0xD800) ⊎ (0xDC00 ≤ u) → ⊥
-    by a b (inl l) = absurd (omega arith)
-    by a b (inr l) = absurd (omega arith)
+high_apart u v h = false_from_ne_true (is_pair u v) (λ e. let r = pair_parts u v e in outside 0xD800 0xDBFF u h r.0 r.1)
 
 pub low_apart : (u v : ℕ) → (v < 0xDC00) ⊎ (0xE000 ≤ v) → is_pair u v ≡ false
-low_apart u v h = false_from_ne_true (is_pair u v) (λ e. let r = pair_parts u v e in by r.2 r.3 h)
-  where
-    by : 0xDC00 ≤ v → v ≤ 0xDFFF → (v < 0xDC00) ⊎ (0xE000 ≤ v) → ⊥
-    by a b (inl l) = absurd (omega arith)
-    by a b (inr l) = absurd (omega arith)
+low_apart u v h = false_from_ne_true (is_pair u v) (λ e. let r = pair_parts u v e in outside 0xDC00 0xDFFF v h r.2 r.3)
 
 -- the units of a character of two are a pair, and spell it
 pub units_are_pair : (c : ℕ) → 0x1_0000 ≤ c → c < 0x11_0000 → is_pair (high_of c) (low_of c) ≡ true

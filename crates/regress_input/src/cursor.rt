@@ -66,7 +66,8 @@ pub fn try_match_lit<const N: usize, Input: InputIndexer, Dir: Direction>(
 ) -> bool
     requires inside { Input.Position.offset pos.old ≤ units (Input.text input.now) }
     ensures { led_to result (Input.Position.offset pos.new)
-        ≡ where_bytes Input.Units.ARE_BYTES (past_bytes (bytes_of (Input.text input.now)) bytes.now (way Dir.FORWARD) (Input.Position.offset pos.old)) }
+        ≡ where_bytes Input.Units.ARE_BYTES (past_bytes (bytes_of (Input.text input.now)) bytes.now
+        (way Dir.FORWARD) (Input.Position.offset pos.old)) }
 {
     input.match_bytes(dir, pos, bytes)
 }

@@ -42,7 +42,8 @@ pub trait PositionType: Copy
     // A position may be moved wherever the offset fits.
     ghost may_add: { (p : Self) (n : ℕ) → offset p + n < 2 ^ 64 → ⟦<Self as Add<usize>>⟧.can_add p n };
 
-    ghost may_add_assign: { (p : Self) (n : ℕ) → offset p + n < 2 ^ 64 → ⟦<Self as AddAssign<usize>>⟧.can_add_assign p n };
+    ghost may_add_assign: { (p : Self) (n : ℕ) → offset p + n < 2 ^ 64
+        → ⟦<Self as AddAssign<usize>>⟧.can_add_assign p n };
 
     ghost may_sub: { (p : Self) (n : ℕ) → n ≤ offset p → ⟦<Self as Sub<usize>>⟧.can_sub p n };
 
@@ -53,11 +54,14 @@ pub trait PositionType: Copy
     // Then the offset is the sum or the difference.
     ghost added: { (p : Self) (n : ℕ) (q : Self) → ⟦<Self as Add<usize>>⟧.add_gives p n q → offset q ≡ offset p + n };
 
-    ghost add_assigned: { (p : Self) (n : ℕ) (q : Self) → ⟦<Self as AddAssign<usize>>⟧.add_assign_gives p n q → offset q ≡ offset p + n };
+    ghost add_assigned: { (p : Self) (n : ℕ) (q : Self) → ⟦<Self as AddAssign<usize>>⟧.add_assign_gives p n q
+        → offset q ≡ offset p + n };
 
-    ghost subtracted: { (p : Self) (n : ℕ) (q : Self) → ⟦<Self as Sub<usize>>⟧.sub_gives p n q → offset q ≡ offset p - n };
+    ghost subtracted: { (p : Self) (n : ℕ) (q : Self) → ⟦<Self as Sub<usize>>⟧.sub_gives p n q
+        → offset q ≡ offset p - n };
 
-    ghost sub_assigned: { (p : Self) (n : ℕ) (q : Self) → ⟦<Self as SubAssign<usize>>⟧.sub_assign_gives p n q → offset q ≡ offset p - n };
+    ghost sub_assigned: { (p : Self) (n : ℕ) (q : Self) → ⟦<Self as SubAssign<usize>>⟧.sub_assign_gives p n q
+        → offset q ≡ offset p - n };
 
     ghost measured: { (p q : Self) (n : ℕ) → ⟦<Self as Sub<Self>>⟧.sub_gives p q n → n ≡ offset p - offset q };
 }

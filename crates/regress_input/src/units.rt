@@ -1,6 +1,6 @@
 //! Units of a text, read one by one or a range at a time.
 
-ghost use Rattle.std.specs.Prelude.{◌≡◌, ◌≤◌, ℕ, true, length, drop, option_map};
+ghost use Rattle.std.specs.Prelude.{◌≡◌, ◌≤◌, ℕ, true, length, drop, option_map, slice_range};
 ghost use Rattle.regex_meaning.specs.Text.{rightwards, leftwards};
 ghost use Rattle.regress_input.specs.Reading.{way, led_to, byte_beside, units_on, past_units as past_units_of, IsFoundFrom};
 
@@ -45,6 +45,23 @@ pub(crate) fn past_units<Unit: PartialEq>(
     } else {
         past_left(all, at, these)
     }
+}
+
+/// The offset behind the units from one offset to another, if they stand once more on the side that is read.
+#[inline(always)]
+pub(crate) fn past_range<Unit: PartialEq>(
+    all: &[Unit],
+    forward: bool,
+    at: usize,
+    start: usize,
+    end: usize,
+) -> Option<usize>
+    requires at { at ≤ length all.now }
+    requires to { end ≤ length all.now }
+    requires in_order { start ≤ end }
+    ensures { result ≡ past_units_of Unit.eq all.now (slice_range all.now start end) (way forward) at }
+{
+    past_units(all, forward, at, &all[start..end])
 }
 
 #[inline(always)]

@@ -1,7 +1,9 @@
 -- Where a match stands that is found from an offset on, or at it.
-use Rattle.std.proofs.Common.{◌≡◌, ℕ, ◌+◌, ◌≤◌, List, [], ◌∷◌, length, Bool, true, false, refl, sym, ◌∙◌, ap, subst, arith, le_refl}
+use Rattle.std.proofs.Common.{◌≡◌, ℕ, ◌+◌, ◌≤◌, List, [], ◌∷◌, length, Bool, true, false, refl, sym, ◌∙◌, ap, ap₂, subst, arith, le_refl}
 use Rattle.std.specs.Prelude.{◌==◌, Option, Some, None, IfSome, option_map, option_and_then, if◌then◌else◌, slice_get}
-use Rattle.regex_meaning.specs.Tree.{Node}
+use Rattle.regex_meaning.specs.Tree.{Node, Tree}
+use Rattle.regex_pattern_front.specs.TreeOf.{tree_of}
+use Rattle.regex_pattern_front.specs.declared.ir.Regex.{Regex}
 use Rattle.regex_meaning.specs.Text.{Text, last_place}
 use Rattle.regex_meaning.specs.Offsets.{IsBoundary, IsText, units}
 use Rattle.regex_meaning.specs.Names.{Answer, answers_from}
@@ -73,6 +75,12 @@ module _ (root : Node) (text : Text) (is : IsText text) where
       → IfSome found (λ m. FitsText bytes (answer_of m))
   at-fits_text bytes at None stand e = tt
   at-fits_text bytes at (Some m) stand e = (subst (StandFrom bytes at) (first-heads at (answer_of m) (at-first at (answer_of m) (sym e))) stand).1
+
+-- what was found at a place by an executor is what is at it, by the program and the text that it was made of
+pub at-found : (make : Bool → Text) (re program : Regex) (tree : Tree) (text : Text) (at : ℕ) (found : Option Answer) → tree ≡ tree_of program
+    → text ≡ make (tree_of program).flags.unicode → program ≡ re → found ≡ answer_at tree.root text at → found ≡ answer_at (tree_of re).root (make (tree_of re).flags.unicode) at
+at-found make re program tree text at found is_tree is_text same e =
+    e ∙ ap₂ (λ (t : Tree) (x : Text). answer_at t.root x at) is_tree is_text ∙ ap (λ re. answer_at (tree_of re).root (make (tree_of re).flags.unicode) at) same
 
 -- the head of the list is the first answer
 pub head-first : (root : Node) (text : Text) (is : IsText text) (start : ℕ) → slice_get (answers_from root text start) 0 ≡ first_answer root text start

@@ -1,11 +1,12 @@
 -- Where searches start.
 use Rattle.std.proofs.Common.{◌≡◌, ℕ, ◌<◌, ◌⊎◌, inl, inr, ◌≤◌, List, length, nat_le, Bool, true, false, IsUtf8, IsCharBoundary, IsTrue, sym, ◌∙◌, ap, subst, arith}
 use Rattle.std.proofs.lemmas.Bool.Decides.{leb_tells}
-use Rattle.regex_meaning.specs.Text.{Text, utf8_text, ascii_text, utf16_text, ucs2_text, fold_ascii, fold_code_point, is_unit_boundary}
+use Rattle.regex_meaning.specs.Text.{Text, utf8_text, ascii_text, utf16_text, ucs2_text, fold_ascii, fold_code_point, one_unit, is_unit_boundary}
 use Rattle.regex_meaning.specs.Offsets.{IsBoundary, units}
 use Rattle.regex_meaning.proofs.UnitLemmas.{AreUnits, unit_boundary-place_at, units-utf16}
 use Rattle.regex_meaning.proofs.UnitLengths.{utf8_text-units, ascii_text-units, ucs2_text-units}
 use Rattle.regress_input.proofs.OneUnit.{boundary}
+use Rattle.regress_input.proofs.Spelled.{text_of}
 use Rattle.regress_input.proofs.Utf8Slices.{boundary_of_char}
 use Rattle.regress_match.specs.Programs.{IsStart}
 
@@ -25,21 +26,24 @@ within-or-past text size start same inside = by (leb_tells start size)
     by (inl (e, l)) = inl (inside l)
     by (inr (e, l)) = inr (omega (arith, l, same))
 
+-- a text of which each unit is a character
+one-start : (text : Text) (us : List ℕ) (unicode : Bool) (fold : ℕ → ℕ) → text ≡ text_of one_unit us unicode fold → units text ≡ length us → (start : ℕ) → IsStart text start
+one-start text us unicode fold same size start =
+    within-or-past text (length us) start size (λ l. subst (λ t. IsBoundary t start) (sym same) (boundary us unicode fold start l))
+
 module _ (text : Text) (bytes : List ℕ) (unicode : Bool) (same : text ≡ ascii_text bytes unicode) where
   pub ascii_units : units text ≡ length bytes
   ascii_units = ap units same ∙ ascii_text-units bytes unicode
 
   pub ascii_start : (start : ℕ) → IsStart text start
-  ascii_start start =
-      within-or-past text (length bytes) start ascii_units (λ l. subst (λ t. IsBoundary t start) (sym same) (boundary bytes unicode (fold_ascii unicode) start l))
+  ascii_start = one-start text bytes unicode (fold_ascii unicode) same ascii_units
 
 module _ (text : Text) (us : List ℕ) (unicode : Bool) (same : text ≡ ucs2_text us unicode) where
   pub ucs2_units : units text ≡ length us
   ucs2_units = ap units same ∙ ucs2_text-units us unicode
 
   pub ucs2_start : (start : ℕ) → IsStart text start
-  ucs2_start start =
-      within-or-past text (length us) start ucs2_units (λ l. subst (λ t. IsBoundary t start) (sym same) (boundary us unicode (fold_code_point unicode) start l))
+  ucs2_start = one-start text us unicode (fold_code_point unicode) same ucs2_units
 
 module _ (text : Text) (us : List ℕ) (unicode : Bool) (same : text ≡ utf16_text us unicode) (small : AreUnits us) where
   pub utf16_units : units text ≡ length us

@@ -7,7 +7,7 @@ use Rattle.std.proofs.lemmas.Bool.{cases_lt, lt-ltb, le-ltb, eqb-true, eq-eqb, n
 use Rattle.std.proofs.lemmas.Nat.Bits.{bit_at_or, bit_at_and, bit_at_ones, bit_at_ones_above, bit_at_cat_low, bit_at_cat_high, bit_at-lt, bit_at-zero}
 use Rattle.std.proofs.lemmas.Grind.{get_or-set_at}
 use Rattle.std.proofs.lemmas.List.{get_or_past, get_or-set_other, length-set}
-use Rattle.std.proofs.lemmas.Option.{slice_get_within}
+use Rattle.std.proofs.lemmas.Option.{slice_get-get_or, slice_get_within}
 use Rattle.regex_meaning.specs.Text.{Text}
 use Rattle.regex_meaning.specs.Units.{Encoding, spelled_in}
 use Rattle.regex_meaning.specs.Layout.{Program, Insn, Char, CharSet, ByteSet, AsciiBracket, Bracket, MatchAny, MatchAnyExceptLineTerminator, StartOfLine, WordBoundary, WordBoundaryUnicodeICase, Jump, EnterLoop, Loop1CharBody, ResetCaptureGroup, BeginCaptureGroup, EndCaptureGroup, Lookahead, Lookbehind}
@@ -21,6 +21,7 @@ use Rattle.regress_serves.proofs.Fronts.{front-none, front-less, front-on, front
 use Rattle.regress_plan.specs.declared.beginnings.Beginnings.{Beginnings}
 use Rattle.regress_plan.specs.declared.class.Class.{Class}
 use Rattle.regress_plan.specs.declared.front.Front.{Front}
+use Rattle.regress_plan.specs.declared.fronts.Ahead.{Ahead}
 use Rattle.regress_plan.specs.declared.fronts.Ahead.TheVariants as ahead
 use Rattle.regress_plan.specs.declared.ops.Bounds.{Bounds}
 use Rattle.regress_plan.specs.declared.ops.Counted.{Counted}
@@ -31,7 +32,7 @@ use Rattle.regress_plan.specs.declared.ops.Op.TheVariants as op
 use Rattle.regress_plan.specs.declared.ops.Run as run
 use Rattle.regress_plan.specs.declared.plan.Plan.{Plan}
 use Rattle.regress_plan.specs.Keys.{key, is_wide, is_told, step_at, table_of}
-use Rattle.regress_plan.specs.Plans.{IsClass, reads_one, IsOpOf}
+use Rattle.regress_plan.specs.Plans.{IsClass, reads_one, IsOpOf, Runs}
 use Rattle.regress_plan.specs.Fronts.{allowed_of, FrontAt, IsFrontAt}
 use Rattle.regress_plan.specs.Leading.{joined_of, then_allowed, unit_of, units_of, leads_on, IsThen, IsOfEither, IsPath, AreOps, FrontBehind, UnitsLead, Leads, LeadsFrom, LeadsFromRun}
 use Rattle.regress_plan.proofs.KeyLemmas.{first-key-at, first-key-below, key_of_first}
@@ -330,6 +331,20 @@ module _ (plan : Plan) {wide : Bool} (program : Program) (ops : AreOps wide prog
       let same = ops.as_many in
       let insn = get-below program.insns ip (let below = slice_get_within plan.ops.items ip o there in omega (arith, below, same)) in
       (insn.0, insn.1, ops.each ip o insn.0 there insn.1)
+
+-- a row that was read stands in its table
+pub row-there : {A : Type 0} (rows seen : List A) → seen ≡ rows → (n : ℕ) (row : A) → n < length seen → row ≡ get_or seen n row → slice_get rows n ≡ Some row
+row-there rows seen same n row inside is = ap (λ l. slice_get l n) (sym same) ∙ slice_get-get_or seen n row inside ∙ ap Some (sym is)
+
+-- what is said of an operation, by what it is
+pub said-as : (plan : Plan) (ip : ℕ) (said : Ahead) (o shown : Op) → o ≡ shown → LeadsFrom plan shown ip said → LeadsFrom plan o ip said
+said-as plan ip said o shown is leads = let P : Op → Type 0 = λ x. LeadsFrom plan x ip said in subst P (sym is) leads
+
+-- what is said of a run, by what its rows say
+pub said-of-run : (plan : Plan) (ip : ℕ) (said : Ahead) (o : Op) (r : run.Run) (shown : Op) (greedy : Bool) → o ≡ shown
+    → ((program : Program) (insn : Insn) → IsOpOf program plan shown ip insn → Runs program plan greedy r ip insn) → LeadsFromRun plan r ip said → LeadsFrom plan o ip said
+said-of-run plan ip said o r shown greedy is runs leads =
+    said-as plan ip said o shown is (λ wide program ops there. let i = insn-of plan program ops shown ip there in leads wide program ops greedy i.0 i.1 (runs program i.0 i.2))
 
 -- an instruction that leads on to one other
 led-on : (wide : Bool) (program : Program) (ip to : ℕ) (insn form : Insn) → slice_get program.insns ip ≡ Some insn → insn ≡ form

@@ -191,20 +191,14 @@ room-first s a b r = record { insns = omega (arith, r.insns); loops = omega (ari
 
 pub room-rest : (u d : Bool) (s t : State) (a b : Node) → HasRoom s (cat a b) → t ≡ with_code u d a s → HasRoom t b
 unfolding size loop_count
-room-rest u d s t a b r e = record {
-  insns = omega (arith, r.insns, ap (λ x. length x.insns) e, length-with_code u d a s);
-  loops = omega (arith, r.loops, ap (λ x. x.loops) e);
-}
+room-rest u d s t a b r e = record { insns = omega (arith, r.insns, ap (λ x. length x.insns) e, length-with_code u d a s); loops = omega (arith, r.loops, ap (λ x. x.loops) e) }
 
 length-with_insn : (x : Insn) (s : State) → length (with_insn x s).insns ≡ length s.insns + 1
 length-with_insn x s = length-append s.insns (x ∷ [])
 
 pub room-left : (s t : State) (x : Insn) (a b : Node) → HasRoom s (alt a b) → t ≡ with_insn x s → HasRoom t a
 unfolding size loop_count
-room-left s t x a b r e = record {
-  insns = omega (arith, r.insns, ap (λ y. length y.insns) e, length-with_insn x s);
-  loops = omega (arith, r.loops, ap (λ y. y.loops) e);
-}
+room-left s t x a b r e = record { insns = omega (arith, r.insns, ap (λ y. length y.insns) e, length-with_insn x s); loops = omega (arith, r.loops, ap (λ y. y.loops) e) }
 
 -- the length before the right arm
 pub length-left : (u d : Bool) (a : Node) (s s1 s2 s3 : State) (x y : Insn)
@@ -252,10 +246,7 @@ room-arm s a b r = record { insns = omega (arith, r.insns); loops = omega (arith
 
 pub room-others : (u d : Bool) (a b : Node) (s t : State) → HasRoom s (alt a b) → t ≡ with_arm u d a s → HasRoom t b
 unfolding size loop_count
-room-others u d a b s t r e = record {
-  insns = omega (arith, r.insns, ap (λ w. length w.insns) e, length-with_arm u d a s);
-  loops = omega (arith, r.loops, ap (λ w. w.loops) e);
-}
+room-others u d a b s t r e = record { insns = omega (arith, r.insns, ap (λ w. length w.insns) e, length-with_arm u d a s); loops = omega (arith, r.loops, ap (λ w. w.loops) e) }
 
 -- the jump once more, where the others stand behind it
 pub with_code-arm : (u d : Bool) (a b : Node) (s : State)

@@ -565,27 +565,18 @@ pub left-seen : (at_first : ℕ → Bool) (first : Span) (all : List ℕ) (named
     → (k : ℕ) → f k ≡ (at_first k || contains all k)
 left-seen at_first first all named f s l k = sym (or-false (f k)) ∙ l.seen k
 
-leaf-ids : (n : Node) → is_leaf n ≡ true → group_ids n ≡ []
-leaf-ids (cat a b) h = cc
-leaf-ids (alt a b) h = cc
-leaf-ids (capture_group id name n) h = cc
-leaf-ids (lookaround l n) h = cc
-leaf-ids (loop q s e n) h = cc
-leaf-ids (loop_1_char_body q n) h = cc
-leaf-ids n h = refl
-
-leaf-named : (n : Node) → is_leaf n ≡ true → every names_the_groups_inside n ≡ true
-leaf-named (cat a b) h = cc
-leaf-named (alt a b) h = cc
-leaf-named (capture_group id name n) h = cc
-leaf-named (lookaround l n) h = cc
-leaf-named (loop q s e n) h = cc
-leaf-named (loop_1_char_body q n) h = cc
-leaf-named n h = refl
+leaf-ids : (n : Node) → is_leaf n ≡ true → (group_ids n ≡ []) × (every names_the_groups_inside n ≡ true)
+leaf-ids (cat a b) h = (cc, cc)
+leaf-ids (alt a b) h = (cc, cc)
+leaf-ids (capture_group id name n) h = (cc, cc)
+leaf-ids (lookaround l n) h = (cc, cc)
+leaf-ids (loop q s e n) h = (cc, cc)
+leaf-ids (loop_1_char_body q n) h = (cc, cc)
+leaf-ids n h = (refl, refl)
 
 pub left-leaf : (at_first : ℕ → Bool) (first : Span) (all : List ℕ) (named : Bool) (f : ℕ → Bool) (s : Span) (n : Node) → is_leaf n ≡ true
     → IsLeft at_first first all named f s (group_ids n) (every names_the_groups_inside n) → IsLeft at_first first all named f s [] true
-left-leaf at_first first all named f s n h l = rw (leaf-ids n h, leaf-named n h) at l
+left-leaf at_first first all named f s n h l = let none = leaf-ids n h in rw (none.0, none.1) at l
 
 -- what a walk from no id has seen is all
 pub all_ids : (s none t : spans.Span) (n : Node) → s ≡ t → as_span none ≡ span_of [] → as_span t ≡ joined (as_span none) (span_of (group_ids n)) → as_span s ≡ span_of (group_ids n)

@@ -3,7 +3,7 @@ use Rattle.std.proofs.Common.{◌≡◌, ℕ, Bool, true, false, List, [], ◌�
 use Rattle.regex_meaning.specs.Layout.{is_of_bytes}
 use Rattle.regex_pattern_front.specs.TreeOf.{node_of}
 use Rattle.regex_pattern_front.specs.declared.ir.Node.{Node}
-use Rattle.regex_pattern_front.specs.declared.ir.Node.TheVariants.{Goal, CharSet, ByteSet, ByteSequence, Cat, StringSet, CaptureGroup, BackRef, Loop, Loop1CharBody, rolls-Cat, rolls-Alt, rolls-CaptureGroup, rolls-LookaroundAssertion, rolls-Loop, rolls-Loop1CharBody}
+use Rattle.regex_pattern_front.specs.declared.ir.Node.TheVariants.{Goal, CharSet, ByteSet, ByteSequence, Cat, Alt, StringSet, CaptureGroup, LookaroundAssertion, BackRef, Loop, Loop1CharBody, rolls-Cat, rolls-Alt, rolls-CaptureGroup, rolls-LookaroundAssertion, rolls-Loop, rolls-Loop1CharBody}
 use Rattle.regex_pattern_front.specs.declared.ir.Node.TheOpen.{Node-F}
 use Rattle.regex_pattern_front.specs.declared.ir.Node.TheViews.{roll-Node}
 use Rattle.regex_pattern_front.specs.declared.ir.Node.TheFolds.{ind-Node}
@@ -31,8 +31,17 @@ leaf-rolled (Node-F.Loop l q e) h = absurd (h.not_Loop l q e (sym (rolls-Loop l 
 leaf-rolled (Node-F.Loop1CharBody l q) h = absurd (h.not_Loop1CharBody l q (sym (rolls-Loop1CharBody l q)))
 leaf-rolled _ h = refl
 
-pub leaf-of : (n : Node) → HasNone n → is_leaf (node_of n) ≡ true
+leaf-of : (n : Node) → HasNone n → is_leaf (node_of n) ≡ true
 leaf-of = ind-Node (λ n. HasNone n → is_leaf (node_of n) ≡ true) (λ x y is. leaf-rolled x)
+
+-- the last arm of a match
+pub leaf-left : (n : Node) → ((v : Vec Node Global) → n ≡ Cat v → ⊥) → ((l r : Box Node Global) → n ≡ Alt l r → ⊥)
+    → ((id : ℕ) (contents : Box Node Global) (name : Option (String Global)) → n ≡ CaptureGroup id contents name → ⊥)
+    → ((negate backwards : Bool) (s e : ℕ) (contents : Box Node Global) → n ≡ LookaroundAssertion negate backwards s e contents → ⊥)
+    → ((loopee : Box Node Global) (q : Quantifier) (groups : Range ℕ) → n ≡ Loop loopee q groups → ⊥) → ((loopee : Box Node Global) (q : Quantifier) → n ≡ Loop1CharBody loopee q → ⊥)
+    → is_leaf (node_of n) ≡ true
+leaf-left n cat alt group look loop run =
+    leaf-of n (record { not_Cat = cat; not_Alt = alt; not_CaptureGroup = group; not_LookaroundAssertion = look; not_Loop = loop; not_Loop1CharBody = run })
 
 -- ---- One of another kind
 

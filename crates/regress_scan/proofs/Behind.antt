@@ -5,7 +5,7 @@ use Rattle.std.specs.Option.{option_map_or}
 use Rattle.std.proofs.lemmas.Bool.{cases_lt}
 use mathlib.Core.Logic.{◌⊎◌, inl, inr}
 use Rattle.regex_meaning.specs.Lists.{contains}
-use Rattle.regex_meaning.specs.Text.{Text, rightwards, leftwards, last_place}
+use Rattle.regex_meaning.specs.Text.{Text, Direction, rightwards, leftwards, last_place}
 use Rattle.regex_meaning.specs.Offsets.{IsText, IsBoundary, offset, units, read, read_at, place_at}
 use Rattle.regex_meaning.specs.Outcomes.{is_some_and}
 use Rattle.regex_meaning.proofs.TextLemmas.{place-less}
@@ -24,23 +24,20 @@ use Rattle.regress_scan.proofs.Starting.{none-between}
 -- ---- There and back
 
 module _ (text : Text) (is : IsText text) where
-  back-on : (at to : ℕ) → past text leftwards at ≡ Some to → past text rightwards to ≡ Some at
-  back-on at to led = by (read text leftwards at) refl led
+  turned : (d e : Direction) (at to : ℕ) → ((c : ℕ) → read text d at ≡ Some (c, to) → read text e to ≡ Some (c, at)) → past text d at ≡ Some to → past text e to ≡ Some at
+  turned d e at to back led = by (read text d at) refl led
     where
-      by : (o : Option (ℕ × ℕ)) → read text leftwards at ≡ o → option_map {T = ℕ × ℕ} (λ r. r.1) o ≡ Some to → past text rightwards to ≡ Some at
-      by None e h = cc
-      by (Some r) e h =
+      by : (o : Option (ℕ × ℕ)) → read text d at ≡ o → option_map {T = ℕ × ℕ} (λ r. r.1) o ≡ Some to → past text e to ≡ Some at
+      by None is_none h = cc
+      by (Some r) is_some h =
           let same : r.1 ≡ to = cc in
-          ap (option_map (λ (r : ℕ × ℕ). r.1)) (left_then_right text is at r.0 to (e ∙ ap (λ n. Some (r.0, n)) same))
+          ap (option_map (λ (r : ℕ × ℕ). r.1)) (back r.0 (is_some ∙ ap (λ n. Some (r.0, n)) same))
+
+  back-on : (at to : ℕ) → past text leftwards at ≡ Some to → past text rightwards to ≡ Some at
+  back-on at to = turned leftwards rightwards at to (λ c. left_then_right text is at c to)
 
   on-back : (at to : ℕ) → past text rightwards at ≡ Some to → past text leftwards to ≡ Some at
-  on-back at to led = by (read text rightwards at) refl led
-    where
-      by : (o : Option (ℕ × ℕ)) → read text rightwards at ≡ o → option_map {T = ℕ × ℕ} (λ r. r.1) o ≡ Some to → past text leftwards to ≡ Some at
-      by None e h = cc
-      by (Some r) e h =
-          let same : r.1 ≡ to = cc in
-          ap (option_map (λ (r : ℕ × ℕ). r.1)) (right_then_left text is at r.0 to (e ∙ ap (λ n. Some (r.0, n)) same))
+  on-back at to = turned rightwards leftwards at to (λ c. right_then_left text is at c to)
 
   -- behind another boundary a character ends
   some-before : (x y : ℕ) → IsBoundary text x → IsBoundary text y → y < x → past text leftwards x ≡ None → ⊥

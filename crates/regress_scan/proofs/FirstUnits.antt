@@ -1,13 +1,13 @@
 -- Where units fit that must stand at the beginning of a match, and how they are found.
-use Rattle.std.proofs.Common.{◌≡◌, ℕ, zero, suc, ◌+◌, ◌-◌, ◌<◌, ◌≤◌, Bool, true, false, ◌&&◌, List, length, drop, take, Option, Some, None, refl, ap, sym, ◌∙◌, arith, slice_get}
-use Rattle.std.specs.Prelude.{option_map, slice_index}
+use Rattle.std.proofs.Common.{◌≡◌, ℕ, zero, suc, ◌+◌, ◌-◌, ◌*◌, ◌%◌, ◌^◌, ◌<◌, ◌≤◌, bit_or, subst, Bool, true, false, ◌&&◌, List, length, drop, take, Option, Some, None, refl, ap, sym, ◌∙◌, arith, slice_get}
+use Rattle.std.specs.Prelude.{◌==◌, option_map, slice_index}
 use Rattle.std.specs.Int.{bit_at}
 use Rattle.std.proofs.lemmas.Bool.{cases_lt, eq-eqb, eqb-true}
 use Rattle.std.proofs.lemmas.Option.{slice_get-get_or, slice_get_past}
 use Rattle.std.proofs.lemmas.List.{length-drop, length-take, get_or-drop, get_or-take}
 use mathlib.Core.Logic.{◌⊎◌, inl, inr}
 use Rattle.memchr.specs.Find.{IsFirstByte, is_byte, OccursAt, FindsNeedle}
-use Rattle.memchr.proofs.lemmas.ShiftLemmas.{Window}
+use Rattle.memchr.proofs.lemmas.ShiftLemmas.{Window, Ends, IsState, IsState-next}
 use Rattle.regex_pattern_front.specs.Searching.{IsFirst}
 use Rattle.regex_meaning.proofs.Booleans.{and-left, and-right}
 use Rattle.regress_serves.specs.Fronts.{Allowed, may_stand}
@@ -229,6 +229,30 @@ module _ (front : Front) (us : List ℕ) (at : ℕ) where
     passes = window-fits front us to (omega (arith, there, inside)) window;
     none_before = λ k less. before k (omega (arith, less, there));
   }
+
+-- what one more unit tells: the state behind it, and whether its bit says that all units fit that end there
+pub record Tells (front : Front) (us : List ℕ) (at state : ℕ) (clear : Bool) : Type 0 where
+  pub next : IsState (λ t b. bit_at (slice_index front.masks b) t ≡ 0) (slice_index us) front.len (at + 1) state
+  pub ends : clear ≡ true → Ends (λ t b. bit_at (slice_index front.masks b) t ≡ 0) (slice_index us) (at + 1) front.len
+  pub goes_on : clear ≡ false → Ends (λ t b. bit_at (slice_index front.masks b) t ≡ 0) (slice_index us) (at + 1) front.len → ⊥
+
+pub tells-more : (front : Front) (us : List ℕ) (at state key : ℕ) (clear : Bool) → 0 < front.len
+    → IsState (λ t b. bit_at (slice_index front.masks b) t ≡ 0) (slice_index us) front.len at state → key ≡ slice_index us at
+    → clear ≡ (bit_at ((bit_or state (slice_index front.masks key) * 2) % 2 ^ 16) front.len == 0)
+    → Tells front us at ((bit_or state (slice_index front.masks (slice_index us at)) * 2) % 2 ^ 16) clear
+tells-more front us at state key clear some old is test =
+    let n = front.len in
+    let mask = slice_index front.masks (slice_index us at) in
+    let now = (bit_or state mask * 2) % 2 ^ 16 in
+    let short : n < 16 = omega (arith, front.short) in
+    let next = IsState-next (λ t b. bit_at (slice_index front.masks b) t ≡ 0) (slice_index us) n at state mask short old (λ j l. (λ x. x, λ x. x)) in
+    let told : clear ≡ (bit_at now n == 0) = subst (λ k. clear ≡ (bit_at ((bit_or state (slice_index front.masks k) * 2) % 2 ^ 16) n == 0)) is test in
+    let all = next.each n some (omega (arith, short)) in
+    record {
+      next = next;
+      ends = λ yes. all.0 (eqb-true (bit_at now n) 0 (sym told ∙ yes));
+      goes_on = λ no ends. let never : true ≡ false = sym (eq-eqb (bit_at now n) 0 (all.1 ends)) ∙ sym told ∙ no in cc;
+    }
 
 -- as many stand in a row at most
 pub needle-short : (literal : Literal) → length (take literal.len literal.units) ≤ literal.len

@@ -59,7 +59,12 @@ pub struct Memory {
 impl Model for Memory {
     ghost Value = { Held };
 
-    ghost view = { λ m. record { groups = m.groups; slots = m.slots.items; log = take m.logged m.log.items; marks = take m.marked m.marks.items } };
+    ghost view = { λ m. record {
+      groups = m.groups;
+      slots = m.slots.items;
+      log = take m.logged m.log.items;
+      marks = take m.marked m.marks.items;
+    } };
 
     ghost invariant = { λ m. AreThere m.groups m.slots.items m.logged m.log.items m.marked m.marks.items };
 }

@@ -79,7 +79,8 @@ impl<'r, 't> Attempts for LimitedExecutor<'r, 't> {
 
     ghost groups = { λ e. (state_of e.executor.memory 0 0).groups };
 
-    ghost is_text = { λ e. utf8_text-IsText e.executor.search.searched.input.input.now e.executor.search.searched.input.unicode };
+    ghost is_text = { λ e. utf8_text-IsText e.executor.search.searched.input.input.now
+        e.executor.search.searched.input.unicode };
 
     fn program(&self) -> &Program {
         self.executor.program()

@@ -161,8 +161,7 @@ impl<'a> InputIndexer for Ucs2Input<'a> {
         let at = pos.offset;
         let start = start.offset;
         let end = end.offset;
-        let all = self.input;
-        let to = units::past_units(all, Dir::FORWARD, at, &all[start..end]);
+        let to = units::past_range(self.input, Dir::FORWARD, at, start, end);
         units::position_at(to)
     }
 }

@@ -126,11 +126,11 @@ impl<'a> InputIndexer for Utf16Input<'a> {
         start: DefPosition<'a>,
         end: DefPosition<'a>,
     ) -> Option<DefPosition<'a>> {
+        let all = self.input;
         let at = pos.offset;
         let start = start.offset;
         let end = end.offset;
-        let all = self.input;
-        let to = units::past_units(all, Dir::FORWARD, at, &all[start..end]);
+        let to = units::past_range(all, Dir::FORWARD, at, start, end);
         units::position_at(utf16::at_boundary(all, to))
     }
 }

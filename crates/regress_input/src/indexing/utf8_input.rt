@@ -163,8 +163,7 @@ impl<'a> InputIndexer for Utf8Input<'a> {
         let at = pos.offset;
         let start = start.offset;
         let end = end.offset;
-        let all = self.input.as_bytes();
-        let to = units::past_units(all, Dir::FORWARD, at, &all[start..end]);
+        let to = units::past_range(self.input.as_bytes(), Dir::FORWARD, at, start, end);
         units::position_at(to)
     }
 }

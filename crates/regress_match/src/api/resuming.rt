@@ -34,7 +34,8 @@ impl Regex {
         text: &'t str,
     ) -> Result<DefaultExecutor<'r, 't>, SearchError>
         ensures tree { IfOk result (λ e. ⟦<DefaultExecutor<'r, 't> as MatchProducer>⟧.tree e ≡ byte_tree self.now) }
-        ensures text { IfOk result (λ e. ⟦<DefaultExecutor<'r, 't> as MatchProducer>⟧.text e ≡ as_utf8 self.now text.now) }
+        ensures text { IfOk result (λ e. ⟦<DefaultExecutor<'r, 't> as MatchProducer>⟧.text e
+            ≡ as_utf8 self.now text.now) }
         ensures budget { IfOk result (λ e. ⟦<DefaultExecutor<'r, 't> as MatchProducer>⟧.budget e ≡ None) }
         ensures refused { IfErr result IsMemory }
     {
@@ -52,7 +53,8 @@ impl Regex {
         steps: u64,
     ) -> Result<LimitedExecutor<'r, 't>, SearchError>
         ensures tree { IfOk result (λ e. ⟦<LimitedExecutor<'r, 't> as MatchProducer>⟧.tree e ≡ byte_tree self.now) }
-        ensures text { IfOk result (λ e. ⟦<LimitedExecutor<'r, 't> as MatchProducer>⟧.text e ≡ as_utf8 self.now text.now) }
+        ensures text { IfOk result (λ e. ⟦<LimitedExecutor<'r, 't> as MatchProducer>⟧.text e
+            ≡ as_utf8 self.now text.now) }
         ensures budget { IfOk result (λ e. ⟦<LimitedExecutor<'r, 't> as MatchProducer>⟧.budget e ≡ Some steps) }
         ensures refused { IfErr result IsMemory }
     {
@@ -68,8 +70,10 @@ impl Regex {
         &'r self,
         text: &'t [u16],
     ) -> Result<DefaultUtf16Executor<'r, 't>, SearchError>
-        ensures tree { IfOk result (λ e. ⟦<DefaultUtf16Executor<'r, 't> as MatchProducer>⟧.tree e ≡ unit_tree self.now) }
-        ensures text { IfOk result (λ e. ⟦<DefaultUtf16Executor<'r, 't> as MatchProducer>⟧.text e ≡ as_utf16 self.now text.now) }
+        ensures tree { IfOk result (λ e. ⟦<DefaultUtf16Executor<'r, 't> as MatchProducer>⟧.tree e
+            ≡ unit_tree self.now) }
+        ensures text { IfOk result (λ e. ⟦<DefaultUtf16Executor<'r, 't> as MatchProducer>⟧.text e
+            ≡ as_utf16 self.now text.now) }
         ensures budget { IfOk result (λ e. ⟦<DefaultUtf16Executor<'r, 't> as MatchProducer>⟧.budget e ≡ None) }
         ensures refused { IfErr result IsMemory }
     {
@@ -86,7 +90,8 @@ impl Regex {
         text: &'t [u16],
     ) -> Result<DefaultUcs2Executor<'r, 't>, SearchError>
         ensures tree { IfOk result (λ e. ⟦<DefaultUcs2Executor<'r, 't> as MatchProducer>⟧.tree e ≡ unit_tree self.now) }
-        ensures text { IfOk result (λ e. ⟦<DefaultUcs2Executor<'r, 't> as MatchProducer>⟧.text e ≡ as_ucs2 self.now text.now) }
+        ensures text { IfOk result (λ e. ⟦<DefaultUcs2Executor<'r, 't> as MatchProducer>⟧.text e
+            ≡ as_ucs2 self.now text.now) }
         ensures budget { IfOk result (λ e. ⟦<DefaultUcs2Executor<'r, 't> as MatchProducer>⟧.budget e ≡ None) }
         ensures refused { IfErr result IsMemory }
     {
@@ -106,7 +111,8 @@ impl Regex {
 /// the search.
 pub fn next_from<E: Attempts>(search: &mut E, start: usize) -> Result<Option<Step>, SearchError>
     requires { IsStart (E.text search.old) start }
-    ensures goes { GoesFrom (E.tree search.old) (E.text search.old) (E.budget search.old) start result (E.budget search.new) }
+    ensures goes { GoesFrom (E.tree search.old) (E.text search.old) (E.budget search.old) start result
+        (E.budget search.new) }
     ensures same_tree { E.tree search.new ≡ E.tree search.old }
     ensures same_text { E.text search.new ≡ E.text search.old }
 {

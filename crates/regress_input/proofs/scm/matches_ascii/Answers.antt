@@ -12,24 +12,18 @@ next_byte-requires g c =
 
 pub returns-in-Some : goal.returns-in-Some
 returns-in-Some g c =
-    let input = c.args.input.now in
-    let laws = g.met.Input.InputIndexer in
-    let text = g.Input.InputIndexer.text input in
+    let text = g.Input.InputIndexer.text c.args.input.now in
     let d = way g.Dir.Direction.FORWARD in
-    let at = g.Input.Position.PositionType.offset c.args.pos.now in
     let are : g.Input.Units.CodeUnits.ARE_BYTES ≡ true = sym c.ARE_BYTES.ensures ∙ c.if-ARE_BYTES.true in
     ap (λ b. led_to b (g.Input.Position.PositionType.offset c.next_byte.new.pos)) c.contains.ensures
-    ∙ byte_in_set text (laws.is_text input) (laws.in_utf8 input are) (g.Bytes.ByteSet.members c.args.bytes.now) c.requires.ascii
+    ∙ byte_in_set text (g.met.Input.InputIndexer.is_text c.args.input.now) (g.met.Input.InputIndexer.in_utf8 c.args.input.now are) (g.Bytes.ByteSet.members c.args.bytes.now) c.requires.ascii
     d _ c.in-Some.byte _ c.requires.at
-    (c.in-Some.ensures.byte ∙ ap (λ (b : Bool). where_bytes b (byte_beside (bytes_of text) d at)) are) c.in-Some.ensures.moves
+    (c.in-Some.ensures.byte ∙ ap (λ (b : Bool). where_bytes b (byte_beside (bytes_of text) d (g.Input.Position.PositionType.offset c.args.pos.now))) are) c.in-Some.ensures.moves
 
 pub returns-in-None : goal.returns-in-None
 returns-in-None g c =
-    let input = c.args.input.now in
-    let laws = g.met.Input.InputIndexer in
-    let text = g.Input.InputIndexer.text input in
+    let text = g.Input.InputIndexer.text c.args.input.now in
     let d = way g.Dir.Direction.FORWARD in
-    let at = g.Input.Position.PositionType.offset c.args.pos.now in
     let are : g.Input.Units.CodeUnits.ARE_BYTES ≡ true = sym c.ARE_BYTES.ensures ∙ c.if-ARE_BYTES.true in
-    sym (no_byte text (laws.is_text input) (laws.in_utf8 input are) (contains (g.Bytes.ByteSet.members c.args.bytes.now))
-    d _ c.requires.at (sym (c.in-None.ensures.byte ∙ ap (λ (b : Bool). where_bytes b (byte_beside (bytes_of text) d at)) are)))
+    sym (no_byte text (g.met.Input.InputIndexer.is_text c.args.input.now) (g.met.Input.InputIndexer.in_utf8 c.args.input.now are) (contains (g.Bytes.ByteSet.members c.args.bytes.now))
+    d _ c.requires.at (sym (c.in-None.ensures.byte ∙ ap (λ (b : Bool). where_bytes b (byte_beside (bytes_of text) d (g.Input.Position.PositionType.offset c.args.pos.now))) are)))

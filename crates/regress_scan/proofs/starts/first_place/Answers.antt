@@ -24,12 +24,10 @@ pub returns-then-has_end : goal.returns-then-has_end
 returns-then-has_end g c =
     let w = g.W.Planned.searching c.args.planned.now in
     let end : units w.text ≤ c.units.at = omega (arith, c.units-test.false, c.text_end-end.ensures) in
-    scan-ends w (g.Set.MayStand.table c.args.set.now) c.args.from (g.met.W.Planned.has_units c.args.planned.now) c.units.at c.has_end.result c.units.invariant end
-    c.has_end.ensures c.if-has_end.true
+    scan-ends w (g.Set.MayStand.table c.args.set.now) c.args.from (g.met.W.Planned.has_units c.args.planned.now) c.units.at c.has_end.result c.units.invariant end c.has_end.ensures c.if-has_end.true
 
 pub returns-else-has_end : goal.returns-else-has_end
 returns-else-has_end g c =
     let w = g.W.Planned.searching c.args.planned.now in
     let end : units w.text ≤ c.units.at = omega (arith, c.units-test.false, c.text_end-end.ensures) in
-    scan-fails w (g.Set.MayStand.table c.args.set.now) c.args.from (g.met.W.Planned.has_units c.args.planned.now) c.units.at c.has_end.result c.units.invariant end
-    c.has_end.ensures c.if-has_end.false
+    scan-fails w (g.Set.MayStand.table c.args.set.now) c.args.from (g.met.W.Planned.has_units c.args.planned.now) c.units.at c.has_end.result c.units.invariant end c.has_end.ensures c.if-has_end.false

@@ -12,9 +12,7 @@ returns-in-Anywhere g c =
     try-as w Anywhere (sym c.start.ensures ∙ c.in-Anywhere.is) from (Some from) (try-anywhere w from c.requires)
 
 pub returns-in-Among : goal.returns-in-Among
-returns-in-Among g c =
-    let w = g.W.Planned.searching c.args.planned.now in
-    try-as w (Among c.in-Among.set) (sym c.start.ensures ∙ c.in-Among.is) c.args.from c.next_among.result c.next_among.ensures
+returns-in-Among g c = try-as (g.W.Planned.searching c.args.planned.now) (Among c.in-Among.set) (sym c.start.ensures ∙ c.in-Among.is) c.args.from c.next_among.result c.next_among.ensures
 
 pub next_of_few-requires-clause-leads : goal.next_of_few-requires-clause-leads
 next_of_few-requires-clause-leads g c =
@@ -23,9 +21,7 @@ next_of_few-requires-clause-leads g c =
     low-leads c.in-Few.units c.in-Few.len (is_wide w.encoding) few.1
 
 pub returns-in-Few : goal.returns-in-Few
-returns-in-Few g c =
-    let w = g.W.Planned.searching c.args.planned.now in
-    try-as w (Few c.in-Few.units c.in-Few.len) (sym c.start.ensures ∙ c.in-Few.is) c.args.from c.next_of_few.result c.next_of_few.ensures
+returns-in-Few g c = try-as (g.W.Planned.searching c.args.planned.now) (Few c.in-Few.units c.in-Few.len) (sym c.start.ensures ∙ c.in-Few.is) c.args.from c.next_of_few.result c.next_of_few.ensures
 
 pub next_behind-requires-clause-leads : goal.next_behind-requires-clause-leads
 next_behind-requires-clause-leads g c =
@@ -33,9 +29,7 @@ next_behind-requires-clause-leads g c =
     (front-known w (Behind c.in-Behind.before) (sym c.start.ensures ∙ c.in-Behind.is) c.is_of_program.ensures.front).leads
 
 pub returns-in-Behind : goal.returns-in-Behind
-returns-in-Behind g c =
-    let w = g.W.Planned.searching c.args.planned.now in
-    try-as w (Behind c.in-Behind.before) (sym c.start.ensures ∙ c.in-Behind.is) c.args.from c.next_behind.result c.next_behind.ensures
+returns-in-Behind g c = try-as (g.W.Planned.searching c.args.planned.now) (Behind c.in-Behind.before) (sym c.start.ensures ∙ c.in-Behind.is) c.args.from c.next_behind.result c.next_behind.ensures
 
 pub first_filtered-requires-clause-some : goal.first_filtered-requires-clause-some
 first_filtered-requires-clause-some g c =
@@ -53,6 +47,4 @@ first_filtered-requires-clause-filter g c =
     (front-known w (Front c.in-Front.front c.in-Front.prefilter) (sym c.start.ensures ∙ c.in-Front.is) c.is_of_program.ensures.front).3
 
 pub returns-in-Front : goal.returns-in-Front
-returns-in-Front g c =
-    let w = g.W.Planned.searching c.args.planned.now in
-    try-as w (Front c.in-Front.front c.in-Front.prefilter) (sym c.start.ensures ∙ c.in-Front.is) c.args.from c.first_filtered.result c.first_filtered.ensures
+returns-in-Front g c = try-as (g.W.Planned.searching c.args.planned.now) (Front c.in-Front.front c.in-Front.prefilter) (sym c.start.ensures ∙ c.in-Front.is) c.args.from c.first_filtered.result c.first_filtered.ensures

@@ -20,10 +20,7 @@ file-file_all-requires t c =
 
 pub file_all-file-requires : goal.file_all-file-requires
 file_all-file-requires t c =
-    let nodes = c.args.nodes.now in
-    let n = c.node-item.result in
-    let smaller : weight (node_of n) < weight (cat_of nodes) = weight-child nodes c.loop-node.node-index n c.loop-node-test.true c.node-item.is in
-    search rules
+    let smaller : weight (node_of c.node-item.result) < weight (cat_of c.args.nodes.now) = weight-child _ _ _ c.loop-node-test.true c.node-item.is in search rules
 
 pub file_alternatives-loop-rest-init : goal.file_alternatives-loop-rest-init
 file_alternatives-loop-rest-init t c = record {

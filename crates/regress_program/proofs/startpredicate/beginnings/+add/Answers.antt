@@ -49,7 +49,4 @@ add_arms-loop-rest-preserved t c =
 
 pub add_row-add-requires : goal.add_row-add-requires
 add_row-add-requires t c =
-    let nodes = c.args.nodes.now in
-    let n = c.node-item.result in
-    let smaller : weight (node_of n) < weight (cat_of nodes) = weight-child nodes c.loop-node.node-index n c.loop-node-test.true c.node-item.is in
-    search rules
+    let smaller : weight (node_of c.node-item.result) < weight (cat_of c.args.nodes.now) = weight-child _ _ _ c.loop-node-test.true c.node-item.is in search rules

@@ -11,11 +11,10 @@ loop-byte-init c = with_bytes-none (λ b. get_or c.args.set.now.table b false) _
 pub loop-byte-preserved : goal.loop-byte-preserved
 loop-byte-preserved c =
     let test = contains (byte_bitmap_bytes c.args.other.now) in
-    let old = byte_bitmap_bytes c.args.set.now in
     let now = byte_bitmap_bytes c.loop-byte.set in
     elim c.if-contains.branch [
-      | then-contains w ↦ with_bytes-more old now _ test c.loop-byte.byte (sym c.contains.ensures ∙ w.if-contains.true) c.loop-byte.invariant (rw w.set-is w.set.ensures)
-      | else-contains w ↦ rw w.set-is (with_bytes-same old now test c.loop-byte.byte (sym c.contains.ensures ∙ w.if-contains.false) c.loop-byte.invariant)
+      | then-contains w ↦ with_bytes-more _ now _ test c.loop-byte.byte (sym c.contains.ensures ∙ w.if-contains.true) c.loop-byte.invariant (rw w.set-is w.set.ensures)
+      | else-contains w ↦ rw w.set-is (with_bytes-same _ now test c.loop-byte.byte (sym c.contains.ensures ∙ w.if-contains.false) c.loop-byte.invariant)
     ]
 
 pub returns-after-contains : goal.returns-after-contains

@@ -1,14 +1,10 @@
-use Rattle.std.proofs.Common.{◌-◌, get_or, Some, sym, ◌∙◌, ap, arith}
+use Rattle.std.proofs.Common.{◌-◌, arith}
 use Rattle.regex_meaning.specs.Text.{fold_ascii}
-use Rattle.regress_input.proofs.Places.{pair}
-use Rattle.regress_input.proofs.OneUnit.{inside, read-unit-left}
+use Rattle.regress_input.proofs.OneUnit.{inside, reads-back}
 use Rattle.regress_input.proofs.indexing.ascii_input.AsciiInputInputIndexer.character_left.Goals as goal
 
 pub bounds-self-start : goal.bounds-self-start
 bounds-self-start c = omega (arith, c.requires.inside, inside c.args.self.now.input.now c.args.self.now.unicode (fold_ascii c.args.self.now.unicode) _ c.requires.at)
 
 pub returns : goal.returns
-returns c =
-    let it = c.args.self.now in
-    read-unit-left it.input.now it.unicode (fold_ascii it.unicode) _ (inside it.input.now it.unicode (fold_ascii it.unicode) _ c.requires.at) (λ z. absurd (omega (arith, c.requires.inside, z)))
-    ∙ ap (λ n. Some (pair (get_or it.input.now (c.args.pos.offset - 1) 0) n)) (sym c.new.ensures)
+returns c = reads-back c.args.self.now.input.now c.args.self.now.unicode (fold_ascii c.args.self.now.unicode) _ _ c.requires.at c.requires.inside c.new.ensures

@@ -1,13 +1,9 @@
-use Rattle.std.proofs.Common.{◌∙◌, ap, ap₂}
-use Rattle.regex_meaning.specs.Answers.{answer_at}
-use Rattle.regex_meaning.specs.Text.{Text, ascii_text}
-use Rattle.regex_meaning.specs.Tree.{Tree}
-use Rattle.regex_pattern_front.specs.TreeOf.{tree_of}
+use Rattle.regex_meaning.specs.Text.{ascii_text}
 use Rattle.regress_match.proofs.FlagLemmas.{IfOk-map}
 use Rattle.regex_meaning.proofs.TextLemmas.{ascii_text-IsText}
 use Rattle.regress_match.specs.Programs.{as_ascii, byte_tree}
 use Rattle.regress_match.proofs.CallerLemmas.{ascii-stand}
-use Rattle.regress_match.proofs.FoundLemmas.{at-fits_text}
+use Rattle.regress_match.proofs.FoundLemmas.{at-fits_text, at-found}
 use Rattle.regress_match.proofs.Starts.{ascii_start}
 use Rattle.regress_match.proofs.api.regex.Regex.match_at_ascii.Goals as goal
 
@@ -15,12 +11,7 @@ pub match_at-requires : goal.match_at-requires
 match_at-requires c = ascii_start _ c.args.text.now _ c.in_ok-executor.ensures.text c.args.at
 
 pub returns-clause-found : goal.returns-clause-found
-returns-clause-found c =
-    IfOk-map c.match_at.result _ _
-    (λ m e. e ∙ ap₂ (λ (t : Tree) (x : Text). answer_at t.root x c.args.at) c.in_ok-executor.ensures.tree c.in_ok-executor.ensures.text
-    ∙ ap (λ re. answer_at (tree_of re).root (ascii_text c.args.text.now (tree_of re).flags.unicode) c.args.at) c.byte_program.ensures) c.match_at.ensures.found
+returns-clause-found c = IfOk-map c.match_at.result _ _ (λ m. at-found (ascii_text c.args.text.now) _ _ _ _ c.args.at _ c.in_ok-executor.ensures.tree c.in_ok-executor.ensures.text c.byte_program.ensures) c.match_at.ensures.found
 
 pub returns-clause-fits : goal.returns-clause-fits
-returns-clause-fits c =
-    IfOk-map c.match_at.result _ _
-    (λ m e. at-fits_text (byte_tree c.args.self.now).root (as_ascii c.args.self.now c.args.text.now) (ascii_text-IsText c.args.text.now (byte_tree c.args.self.now).flags.unicode) c.args.text.now c.args.at m (ascii-stand c.args.self.now c.args.text.now c.args.at c.utf8.text c.requires) e) (returns-clause-found c)
+returns-clause-fits c = IfOk-map c.match_at.result _ _ (λ m e. at-fits_text (byte_tree c.args.self.now).root (as_ascii c.args.self.now c.args.text.now) (ascii_text-IsText c.args.text.now (byte_tree c.args.self.now).flags.unicode) c.args.text.now c.args.at m (ascii-stand c.args.self.now c.args.text.now c.args.at c.utf8.text c.requires) e) (returns-clause-found c)

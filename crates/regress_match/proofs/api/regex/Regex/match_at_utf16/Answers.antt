@@ -1,13 +1,9 @@
-use Rattle.std.proofs.Common.{◌∙◌, ap, ap₂}
-use Rattle.regex_meaning.specs.Answers.{answer_at}
-use Rattle.regex_meaning.specs.Text.{Text, utf16_text}
-use Rattle.regex_meaning.specs.Tree.{Tree}
-use Rattle.regex_pattern_front.specs.TreeOf.{tree_of}
+use Rattle.regex_meaning.specs.Text.{utf16_text}
 use Rattle.regress_match.proofs.FlagLemmas.{IfOk-map}
 use Rattle.regex_meaning.proofs.TextLemmas.{utf16_text-IsText}
 use Rattle.regex_meaning.proofs.UnitLemmas.{units-utf16}
 use Rattle.regress_match.specs.Programs.{as_utf16, unit_tree}
-use Rattle.regress_match.proofs.FoundLemmas.{at-fits_units}
+use Rattle.regress_match.proofs.FoundLemmas.{at-fits_units, at-found}
 use Rattle.regress_match.proofs.Starts.{utf16_start}
 use Rattle.regress_match.proofs.api.regex.Regex.match_at_utf16.Goals as goal
 
@@ -15,12 +11,7 @@ pub match_at-requires : goal.match_at-requires
 match_at-requires c = utf16_start _ c.args.text.now _ c.in_ok-executor.ensures.text (λ k _. (c.type_inv.text k).fits) c.args.at c.requires
 
 pub returns-clause-found : goal.returns-clause-found
-returns-clause-found c =
-    IfOk-map c.match_at.result _ _
-    (λ m e. e ∙ ap₂ (λ (t : Tree) (x : Text). answer_at t.root x c.args.at) c.in_ok-executor.ensures.tree c.in_ok-executor.ensures.text
-    ∙ ap (λ re. answer_at (tree_of re).root (utf16_text c.args.text.now (tree_of re).flags.unicode) c.args.at) c.unit_program.ensures) c.match_at.ensures.found
+returns-clause-found c = IfOk-map c.match_at.result _ _ (λ m. at-found (utf16_text c.args.text.now) _ _ _ _ c.args.at _ c.in_ok-executor.ensures.tree c.in_ok-executor.ensures.text c.unit_program.ensures) c.match_at.ensures.found
 
 pub returns-clause-fits : goal.returns-clause-fits
-returns-clause-fits c =
-    IfOk-map c.match_at.result _ _
-    (λ m e. at-fits_units (unit_tree c.args.self.now).root (as_utf16 c.args.self.now c.args.text.now) (utf16_text-IsText c.args.text.now (unit_tree c.args.self.now).flags.unicode) c.args.text.now (units-utf16 c.args.text.now (unit_tree c.args.self.now).flags.unicode (λ k _. (c.type_inv.text k).fits)) c.args.at m e) (returns-clause-found c)
+returns-clause-fits c = IfOk-map c.match_at.result _ _ (λ m e. at-fits_units (unit_tree c.args.self.now).root (as_utf16 c.args.self.now c.args.text.now) (utf16_text-IsText c.args.text.now (unit_tree c.args.self.now).flags.unicode) c.args.text.now (units-utf16 c.args.text.now (unit_tree c.args.self.now).flags.unicode (λ k _. (c.type_inv.text k).fits)) c.args.at m e) (returns-clause-found c)

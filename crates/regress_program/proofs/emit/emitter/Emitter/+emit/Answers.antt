@@ -8,7 +8,7 @@ use Rattle.regress_program.specs.Insns.{insn_of}
 use Rattle.regress_program.specs.Nodes.{cat_of}
 use Rattle.regex_meaning.specs.WellFormed.{fits_instructions}
 use Rattle.regress_program.specs.Emitting.{HasRoom, shaped, state_of, with_code, lookaround_of, with_arm, jump_behind, with_jumps}
-use Rattle.regress_program.proofs.LeafLemmas.{leaf-of}
+use Rattle.regress_program.proofs.LeafLemmas.{leaf-left}
 use Rattle.regress_program.proofs.ShapedLemmas.{shaped-leaf}
 use Rattle.regress_program.proofs.NodeLemmas.{node_of-Cat, cat_of-drop}
 use Rattle.regress_program.proofs.Weights.{weight, weight-child}
@@ -312,14 +312,7 @@ emit-emit_loop_1_char-requires-in-Loop1CharBody t c =
 pub emit-emit_leaf-requires : goal.emit-emit_leaf-requires
 emit-emit_leaf-requires t c =
     let d = c.in_default in
-    let leaf = leaf-of c.args.node.now (record {
-      not_Cat = d.not-Cat;
-      not_Alt = d.not-Alt;
-      not_CaptureGroup = d.not-CaptureGroup;
-      not_LookaroundAssertion = d.not-LookaroundAssertion;
-      not_Loop = d.not-Loop;
-      not_Loop1CharBody = d.not-Loop1CharBody;
-    }) in
+    let leaf = leaf-left c.args.node.now d.not-Cat d.not-Alt d.not-CaptureGroup d.not-LookaroundAssertion d.not-Loop d.not-Loop1CharBody in
     record {
       leaf = leaf;
       sets = c.requires.sets;
@@ -329,12 +322,5 @@ emit-emit_leaf-requires t c =
 pub emit-returns-in_default : goal.emit-returns-in_default
 emit-returns-in_default t c =
     let d = c.in_default in
-    let leaf = leaf-of c.args.node.now (record {
-      not_Cat = d.not-Cat;
-      not_Alt = d.not-Alt;
-      not_CaptureGroup = d.not-CaptureGroup;
-      not_LookaroundAssertion = d.not-LookaroundAssertion;
-      not_Loop = d.not-Loop;
-      not_Loop1CharBody = d.not-Loop1CharBody;
-    }) in
+    let leaf = leaf-left c.args.node.now d.not-Cat d.not-Alt d.not-CaptureGroup d.not-LookaroundAssertion d.not-Loop d.not-Loop1CharBody in
     rw (shaped-leaf c.args.mode.narrow (node_of c.args.node.now) leaf) c.emit_leaf.ensures

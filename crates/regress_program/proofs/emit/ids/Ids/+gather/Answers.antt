@@ -8,7 +8,7 @@ use Rattle.regress_program.specs.Nodes.{cat_of}
 use Rattle.regress_program.specs.Ids.{is_seen, ids_stand, span_of, joined}
 use Rattle.regress_program.specs.Spans.{as_span}
 use Rattle.regress_program.proofs.NodeLemmas.{node_of-Cat, cat_of-drop}
-use Rattle.regress_program.proofs.LeafLemmas.{leaf-of}
+use Rattle.regress_program.proofs.LeafLemmas.{leaf-left}
 use Rattle.regress_program.proofs.IdLemmas.{left-same, left-next, left-fails, left-leaf, left-found, left-span, left-seen, fills-encloses, joined-none, one_is_fresh, one_contained}
 use Rattle.regress_program.proofs.Weights.{weight, weight-child}
 use Rattle.regress_program.proofs.emit.ids.Ids.+gather.Goals as goal
@@ -97,14 +97,7 @@ gather-loop-rest-preserved-in-CaptureGroup t c =
 pub gather-returns-in_default : goal.gather-returns-in_default
 gather-returns-in_default t c =
     let d = c.in_default in
-    let leaf = leaf-of c.loop-rest.rest.now (record {
-      not_Cat = d.not-Cat;
-      not_Alt = d.not-Alt;
-      not_CaptureGroup = d.not-CaptureGroup;
-      not_LookaroundAssertion = d.not-LookaroundAssertion;
-      not_Loop = d.not-Loop;
-      not_Loop1CharBody = d.not-Loop1CharBody;
-    }) in
+    let leaf = leaf-left c.loop-rest.rest.now d.not-Cat d.not-Alt d.not-CaptureGroup d.not-LookaroundAssertion d.not-Loop d.not-Loop1CharBody in
     let f = is_seen c.loop-rest.self.bits in
     let s = as_span c.loop-rest.self.inside in
     let l = left-leaf _ _ _ _ f s (node_of c.loop-rest.rest.now) leaf c.loop-rest.invariant.left in
@@ -125,10 +118,7 @@ gather_enclosed-returns-clause-found t c =
 
 pub gather_row-gather-requires : goal.gather_row-gather-requires
 gather_row-gather-requires t c =
-    let nodes = c.args.nodes.now in
-    let n = c.node-item.result in
-    let smaller : weight (node_of n) < weight (cat_of nodes) = weight-child nodes c.loop-node.node-index n c.loop-node-test.true c.node-item.is in
-    search rules
+    let smaller : weight (node_of c.node-item.result) < weight (cat_of c.args.nodes.now) = weight-child _ _ _ c.loop-node-test.true c.node-item.is in search rules
 
 pub gather_row-returns-then-not-gather-clause-found : goal.gather_row-returns-then-not-gather-clause-found
 gather_row-returns-then-not-gather-clause-found t c =

@@ -11,8 +11,8 @@ cd "$(dirname "$0")/.."
 # A search stopped, and no steps were refused: then memory was.
 # A search has too few steps left, which its counter notes.
 allowed='crates/regress_tool/src/main.rt
-crates/regress_undo/src/attempts.rt
-crates/regress_turns/src/steps.rt'
+crates/regress_backtrack/src/attempts.rt
+crates/regress_backtrack/src/steps.rt'
 
 # The errors, and where one stands as a value.
 errors='(AllocError|Stop|([A-Za-z]*Error|Failure|Fault)::Memory)'

@@ -6,9 +6,9 @@ use crate::lines::{write_limited, write_one};
 use crate::starts::is_start;
 use regress_match::backends::{LimitedExecutor, emit};
 use regress_match::{Flags, Match, Regex, SearchError};
+use regress_pikevm::exec::{MatchProducer, Matches};
 use regress_program::insn::CompiledRegex;
 use regress_rows::rows::{Row, compare};
-use regress_search::exec::{MatchProducer, Matches};
 use regress_trees::tree_of;
 use std::alloc::Global;
 

@@ -8,8 +8,8 @@ use crate::fault::Fault;
 use crate::lists::{is_same, is_start};
 use regress_match::backends::{LimitedExecutor, emit, optimize, try_parse};
 use regress_match::{Error, Flags, Match, Regex, SearchError};
+use regress_pikevm::exec::{MatchProducer, Matches};
 use regress_program::insn::CompiledRegex;
-use regress_search::exec::{MatchProducer, Matches};
 use std::alloc::{AllocError, Global};
 
 /// More steps than any search here takes.

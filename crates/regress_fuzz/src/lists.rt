@@ -3,7 +3,7 @@
 ghost use Rattle.std.specs.Prelude.{◌<◌, ◌⊎◌, IsCharBoundary, IsTrue, length};
 
 use regress_match::{Match, Range, SearchError};
-use regress_search::exec::{MatchProducer, Matches};
+use regress_pikevm::exec::{MatchProducer, Matches};
 use std::alloc::{AllocError, Global};
 
 /// Whether an offset is a boundary of the text's characters.

@@ -11,8 +11,8 @@ use regress_match::Regex;
 use regress_match::backends::{
     DefaultAsciiExecutor, DefaultExecutor, PikeVMExecutor, find, find_ascii,
 };
+use regress_pikevm::exec::Searcher;
 use regress_program::insn::CompiledRegex;
-use regress_search::exec::Searcher;
 
 /// A way to search.
 #[derive(Clone, Copy)]

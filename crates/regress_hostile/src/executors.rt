@@ -6,7 +6,7 @@ use crate::fault::Fault;
 use crate::lists::is_first;
 use crate::wanted::is_none;
 use regress_match::SearchError;
-use regress_search::exec::MatchProducer;
+use regress_pikevm::exec::MatchProducer;
 
 /// Whether an executor finds the first match that is wanted from a start on. One to which memory is refused leaves where
 /// the list goes on, and answers the match when it is asked again.

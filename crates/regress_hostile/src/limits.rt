@@ -11,8 +11,8 @@ use crate::patterns::{Compiled, compile};
 use crate::wanted::LIMIT;
 use regress_match::backends::LimitedExecutor;
 use regress_match::{Match, Regex, SearchError};
+use regress_pikevm::exec::MatchProducer;
 use regress_program::insn::CompiledRegex;
-use regress_search::exec::MatchProducer;
 use std::alloc::Global;
 
 // The steps that a search may take and those that its first match needs, and what is wanted.

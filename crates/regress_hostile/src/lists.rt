@@ -3,7 +3,7 @@
 use crate::fault::Fault;
 use crate::wanted::{LIMIT, NONE, is_match, is_none, split_first};
 use regress_match::{Match, SearchError};
-use regress_search::exec::{MatchProducer, Matches};
+use regress_pikevm::exec::{MatchProducer, Matches};
 
 /// Whether a clone of this is the first match that is wanted, or none is.
 pub fn is_first(found: Option<Match>, words: &str) -> Result<bool, Fault> {

@@ -15,8 +15,8 @@ pub use crate::executors::{
 pub use regex_pattern_front::optimizer::optimize;
 pub use regex_pattern_front::parse::{diagnose, try_parse};
 use regress_exec::exec::{Executor, Matches};
+pub use regress_pikevm::pikevm::PikeVMExecutor;
 pub use regress_program::emit::{emit, emit_units};
-pub use regress_search::pikevm::PikeVMExecutor;
 
 /// The matches of a pattern in a text from an offset on, which is a boundary or past the end, as the executor `E` finds
 /// them. The text is one that `E` can search.

@@ -7,10 +7,10 @@ ghost use Rattle.regress_match.specs.Programs.{IsStart};
 ghost use Rattle.regress_match.specs.Refusals.{IsMemory};
 ghost use Rattle.regress_match.specs.Searches.{YieldsMatches};
 
+pub use regress_backtrack::classicalbacktrack::{BacktrackExecutor, LimitedExecutor};
 use regress_exec::exec::{Matches, SearchError, Searcher};
 use regress_input::indexing::{AsciiInput, Ucs2Input, Utf8Input, Utf16Input};
 use regress_program::insn::CompiledRegex;
-pub use regress_undo::classicalbacktrack::{BacktrackExecutor, LimitedExecutor};
 
 /// What searches texts in UTF-8.
 pub type DefaultExecutor<'r, 't> = BacktrackExecutor<'r, Utf8Input<'t>>;

@@ -17,8 +17,8 @@ pub use crate::api::{
     next_from,
 };
 pub use regex_pattern_front::depth::nesting;
+pub use regress_backtrack::classicalbacktrack;
 pub use regress_exec::{exec, places};
 pub use regress_input::{cursor, front, indexing, matchers, position, scm};
+pub use regress_pikevm::pikevm;
 pub use regress_program::{emit, insn, startpredicate};
-pub use regress_search::pikevm;
-pub use regress_undo::classicalbacktrack;

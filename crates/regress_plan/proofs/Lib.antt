@@ -5,6 +5,6 @@ pub mod PlanLemmas
 pub mod ClosingLemmas
 pub mod PeekLemmas
 pub mod SetLemmas
-pub mod FrontLemmas
+pub mod PrefixLemmas
 pub mod BeforeLemmas
 mod StepLemmas

@@ -8,8 +8,8 @@ use Rattle.regex_meaning.specs.Outcomes.{is_some_and}
 use Rattle.regex_meaning.specs.Text.{Text, rightwards, leftwards}
 use Rattle.regex_meaning.specs.Units.{Encoding}
 use Rattle.regress_machine.specs.Machine.{State, running}
-use Rattle.regress_serves.specs.Serves.{FindsNothing}
-use Rattle.regress_serves.specs.Tables.{HasUnits, key_at}
+use Rattle.regress_simulation.specs.Simulates.{FindsNothing}
+use Rattle.regress_simulation.specs.Tables.{HasUnits, key_at}
 use Rattle.regress_plan.specs.declared.before.Before.{Before}
 use Rattle.regress_plan.specs.Keys.{key, is_wide, is_lead}
 
@@ -32,5 +32,5 @@ HasLeadKeys wide before = wide ≡ false → (i : ℕ) → i < before.len → is
 -- no match begins where what stands before it does not let it
 pub record IsBefore (wide : Bool) (program : Program) (before : Before) : Type 0 where
   pub leads : HasLeadKeys wide before
-  pub bars : (e : Encoding) → is_wide e ≡ wide → (text : Text) → HasUnits e text → (s : State) → s.ip ≡ 0 → IsBoundary text s.pos
+  pub excludes : (e : Encoding) → is_wide e ≡ wide → (text : Text) → HasUnits e text → (s : State) → s.ip ≡ 0 → IsBoundary text s.pos
       → lets_begin e before text s.pos ≡ false → FindsNothing program text rightwards (running s)

@@ -1,17 +1,17 @@
 -- What operations say of the units that must stand where they do.
 use Rattle.std.specs.Prelude.{◌≡◌, ◌==◌, ◌≤◌, ◌<◌, ℕ, ◌+◌, ◌-◌, ◌*◌, ◌%◌, ◌^◌, min, bit_and, bit_or, Bool, true, false, Option, Some, None, length, if◌then◌else◌, nat_lt, slice_get, ⊤}
 use Rattle.regex_meaning.specs.Layout.{Program, Insn}
-use Rattle.regress_serves.specs.Fronts.{Allowed}
-use Rattle.regress_plan.specs.declared.beginnings.Beginnings.{Beginnings}
+use Rattle.regress_simulation.specs.Prefixes.{Allowed}
+use Rattle.regress_plan.specs.declared.first_set.FirstSet.{FirstSet}
 use Rattle.regress_plan.specs.declared.class.Class.{Class}
-use Rattle.regress_plan.specs.declared.front.Front.{Front}
-use Rattle.regress_plan.specs.declared.fronts.Ahead.{Ahead}
-use Rattle.regress_plan.specs.declared.fronts.Ahead.TheVariants.{Unknown, At, Either, Unit, Units}
+use Rattle.regress_plan.specs.declared.prefix.Prefix.{Prefix}
+use Rattle.regress_plan.specs.declared.prefixes.Ahead.{Ahead}
+use Rattle.regress_plan.specs.declared.prefixes.Ahead.TheVariants.{Unknown, At, Either, Unit, Units}
 use Rattle.regress_plan.specs.declared.ops.Op.{Op}
 use Rattle.regress_plan.specs.declared.ops.Op.TheVariants as op
 use Rattle.regress_plan.specs.declared.ops.Run as run
 use Rattle.regress_plan.specs.declared.plan.Plan.{Plan}
-use Rattle.regress_plan.specs.Fronts.{allowed_of, FrontAt}
+use Rattle.regress_plan.specs.Prefixes.{allowed_of, PrefixAt}
 use Rattle.regress_plan.specs.Keys.{table_of}
 use Rattle.regress_plan.specs.Plans.{IsOpOf, IsClass, Runs}
 
@@ -30,20 +30,20 @@ abbrev pub unit_of : (key : ℕ) → Allowed
 unit_of key ahead k = k == key
 
 -- units of a set
-abbrev pub units_of : Beginnings → Allowed
+abbrev pub units_of : FirstSet → Allowed
 units_of set ahead k = (table_of set).keys k
 
 -- what is said of units, and of so many behind them; of 15 units at most
-pub record IsThen (before : Front) (more : ℕ) (allowed : Allowed) (front : Front) : Type 0 where
-  pub len : front.len ≡ min (before.len + more) 15
-  pub within : (ahead k : ℕ) → ahead < front.len → then_allowed before.len (allowed_of before) allowed ahead k ≡ true → allowed_of front ahead k ≡ true
+pub record IsThen (before : Prefix) (more : ℕ) (allowed : Allowed) (prefix : Prefix) : Type 0 where
+  pub len : prefix.len ≡ min (before.len + more) 15
+  pub within : (ahead k : ℕ) → ahead < prefix.len → then_allowed before.len (allowed_of before) allowed ahead k ≡ true → allowed_of prefix ahead k ≡ true
 
 -- what is said of either
-pub record IsOfEither (a b front : Front) : Type 0 where
-  pub first : front.len ≤ a.len
-  pub second : front.len ≤ b.len
-  pub within_first : (ahead k : ℕ) → ahead < front.len → allowed_of a ahead k ≡ true → allowed_of front ahead k ≡ true
-  pub within_second : (ahead k : ℕ) → ahead < front.len → allowed_of b ahead k ≡ true → allowed_of front ahead k ≡ true
+pub record IsOfEither (a b prefix : Prefix) : Type 0 where
+  pub first : prefix.len ≤ a.len
+  pub second : prefix.len ≤ b.len
+  pub within_first : (ahead k : ℕ) → ahead < prefix.len → allowed_of a ahead k ≡ true → allowed_of prefix ahead k ≡ true
+  pub within_second : (ahead k : ℕ) → ahead < prefix.len → allowed_of b ahead k ≡ true → allowed_of prefix ahead k ≡ true
 
 -- ---- What must stand where an operation stands
 
@@ -54,29 +54,29 @@ pub record AreOps (wide : Bool) (program : Program) (plan : Plan) : Type 0 where
   pub classes : (number : ℕ) (class : Class) → slice_get plan.classes.items number ≡ Some class → IsClass wide program class
 
 -- what must stand at an instruction, or nothing where there is none
-abbrev pub FrontBehind : (wide : Bool) → Program → Option ℕ → (len : ℕ) → Allowed → Type 0
-FrontBehind wide program None len allowed = len ≡ 0
-FrontBehind wide program (Some ip) len allowed = FrontAt wide program ip len allowed
+abbrev pub PrefixBehind : (wide : Bool) → Program → Option ℕ → (len : ℕ) → Allowed → Type 0
+PrefixBehind wide program None len allowed = len ≡ 0
+PrefixBehind wide program (Some ip) len allowed = PrefixAt wide program ip len allowed
 
 -- so many of these units must stand at the instruction, and behind them what must stand at the other one
 abbrev pub UnitsLead : (wide : Bool) → Program → (ip : ℕ) → (units : Allowed) → (count : ℕ) → Option ℕ → Type 0
 UnitsLead wide program ip units count to =
-    (len : ℕ) (allowed : Allowed) → FrontBehind wide program to len allowed → FrontAt wide program ip (count + len) (then_allowed count units allowed)
+    (len : ℕ) (allowed : Allowed) → PrefixBehind wide program to len allowed → PrefixAt wide program ip (count + len) (then_allowed count units allowed)
 
 -- what must stand at the instruction follows so from what must stand at others
 abbrev pub Leads : (wide : Bool) → Program → (ip : ℕ) → Ahead → Type 0
 Leads wide program ip Unknown = ⊤
-Leads wide program ip (At to) = (len : ℕ) (allowed : Allowed) → FrontAt wide program to len allowed → FrontAt wide program ip len allowed
+Leads wide program ip (At to) = (len : ℕ) (allowed : Allowed) → PrefixAt wide program to len allowed → PrefixAt wide program ip len allowed
 Leads wide program ip (Either a b) =
-    (len : ℕ) (allowed : Allowed) → FrontAt wide program a len allowed → FrontAt wide program b len allowed → FrontAt wide program ip len allowed
+    (len : ℕ) (allowed : Allowed) → PrefixAt wide program a len allowed → PrefixAt wide program b len allowed → PrefixAt wide program ip len allowed
 Leads wide program ip (Unit key to) = UnitsLead wide program ip (unit_of key) 1 (Some to)
 Leads wide program ip (Units set count to) = UnitsLead wide program ip (units_of set) count to
 
 -- The units stand from the one instruction on. If there is room for more, what is behind them stands at the other one.
-pub record IsPath (wide : Bool) (program : Program) (from : ℕ) (front : Front) (ip : ℕ) : Type 0 where
-  pub so_far : FrontAt wide program from front.len (allowed_of front)
-  pub on : front.len < 15 → (len : ℕ) (allowed : Allowed) → FrontAt wide program ip len allowed
-      → FrontAt wide program from (front.len + len) (then_allowed front.len (allowed_of front) allowed)
+pub record IsPath (wide : Bool) (program : Program) (from : ℕ) (prefix : Prefix) (ip : ℕ) : Type 0 where
+  pub so_far : PrefixAt wide program from prefix.len (allowed_of prefix)
+  pub on : prefix.len < 15 → (len : ℕ) (allowed : Allowed) → PrefixAt wide program ip len allowed
+      → PrefixAt wide program from (prefix.len + len) (then_allowed prefix.len (allowed_of prefix) allowed)
 
 -- it reads nothing and leads on to the next one, or nowhere
 abbrev pub leads_on : Op → Bool

@@ -4,7 +4,7 @@ pub mod Plans
 pub mod Planned
 pub mod Closing
 pub mod Peeking
-pub mod Fronts
+pub mod Prefixes
 pub mod Leading
 pub mod Before
 pub mod BeforeKeys

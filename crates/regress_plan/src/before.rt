@@ -7,8 +7,8 @@ ghost use Rattle.regress_plan.specs.BeforeKeys.{HasKeysOf, HasContents, reads_ch
 ghost use Rattle.regress_plan.specs.Keys.{wide_of};
 ghost use Rattle.regress_plan.specs.Leading.{AreOps};
 
-use crate::beginnings::Beginnings;
 use crate::closing::lets_through;
+use crate::first_set::FirstSet;
 use crate::keys::Units;
 use crate::ops::{Look, Op};
 use crate::peeks::{Few, Only, few_keys};
@@ -25,7 +25,7 @@ pub struct Before {
 
 impl Before {
     // Characters that begin with keys of this set, if these are at most three.
-    fn of(set: &Beginnings, edge: bool, units: Units) -> Option<Before>
+    fn of(set: &FirstSet, edge: bool, units: Units) -> Option<Before>
         ensures { IfSome result (HasKeysOf (wide_of units) set.now edge) }
     {
         let Few { units: keys, len } = few_keys(set, Only::Leads(units))?;
@@ -41,7 +41,7 @@ impl Plan {
     {
         match self.ops.get(0) {
             Some(Op::LineStart { multiline }) if *multiline => {
-                Before::of(&Beginnings::line_end(true, units), true, units)
+                Before::of(&FirstSet::line_end(true, units), true, units)
             }
             Some(Op::Look(look)) => self.before_look(*look, units),
             _ => None,
@@ -62,7 +62,7 @@ impl Plan {
     }
 
     // What the second operation reads, if it reads one character.
-    fn contents(&self, units: Units) -> Option<Beginnings>
+    fn contents(&self, units: Units) -> Option<FirstSet>
         ensures { IfSome result (HasContents (wide_of units) self.now) }
     {
         if self.ops.len() > 1 && reads_character(self.ops[1]) {

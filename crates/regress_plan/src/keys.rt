@@ -5,7 +5,7 @@
 
 ghost use Rattle.std.specs.Prelude.{◌≡◌, ◌<◌, ◌&&◌, ◌||◌, ℕ, true, false, is_some};
 ghost use Rattle.regex_meaning.specs.Units.{Encoding};
-ghost use Rattle.regress_serves.specs.Tables.{is_character, first_key as first_key_in};
+ghost use Rattle.regress_simulation.specs.Tables.{is_character, first_key as first_key_in};
 ghost use Rattle.regress_plan.specs.Keys.{key as key_of, is_wide, is_lead, wide_of, may_begin_pair as is_high, AreBegun, lead, high};
 
 use regex_pattern_front::codepointset::Interval;

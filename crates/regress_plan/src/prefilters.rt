@@ -1,11 +1,11 @@
 //! What is looked for before each of the first units of a match is asked.
 
 ghost use Rattle.std.specs.Prelude.{◌≡◌, ◌<◌, ℕ, true, IfSome};
-ghost use Rattle.regress_plan.specs.Fronts.{allowed_of, passes as has_bits, IsRare, IsLiteral, IsProbe, AreProbes, IsPrefilter};
+ghost use Rattle.regress_plan.specs.Prefixes.{allowed_of, passes as has_bits, IsRare, IsLiteral, IsProbe, AreProbes, IsPrefilter};
 ghost use Rattle.regress_plan.specs.Keys.{wide_of};
 
-use crate::front::{Front, Literal, MOST, Rare, is_clear};
 use crate::keys::{KEYS, Units};
+use crate::prefix::{Literal, MOST, Prefix, Rare, is_clear};
 
 /// What the low eight bits of the unit so many units on must have: of these bits those, and no others, are set.
 #[derive(Clone, Copy)]
@@ -129,7 +129,7 @@ impl Common {
     }
 }
 
-impl Front {
+impl Prefix {
     /// What to look for first: in bytes units that are known, where some stand in a row; else bits of some units, if few
     /// places have them.
     pub(crate) fn prefilter(&self, units: Units) -> Option<Prefilter>

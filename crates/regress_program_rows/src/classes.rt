@@ -45,8 +45,8 @@ fn write_each(text: &mut String, plan: &Plan) -> Result<(), AllocError> {
 fn write_class(text: &mut String, class: &Class) -> Result<(), AllocError> {
     text.push_str(if class.narrow { "narrow" } else { "wide" })?;
     write_steps(text, &class.steps)?;
-    match &class.bars {
-        Some(bars) => write_bytes(text, " bars", bars.bytes.get(..bars.len).unwrap_or(&[])),
+    match &class.stops {
+        Some(stops) => write_bytes(text, " stops", stops.bytes.get(..stops.len).unwrap_or(&[])),
         None => Ok(()),
     }
 }

@@ -5,12 +5,12 @@ ghost use Rattle.std.specs.Prelude.{◌<◌};
 use regex_pattern_front::codepointset::Interval;
 use regex_pattern_front::ir::Regex;
 use regress_plan::before::Before;
-use regress_plan::beginnings::Beginnings;
-use regress_plan::front::{Front, Literal};
+use regress_plan::first_set::FirstSet;
 use regress_plan::keys::KEYS;
 use regress_plan::ops::Op;
 use regress_plan::plan::{ANYTHING, Plan, Start};
 use regress_plan::prefilters::{Known, Prefilter, Probe};
+use regress_plan::prefix::{Literal, Prefix};
 use regress_program::emit::{emit, emit_units};
 use std::alloc::{AllocError, Global};
 
@@ -41,11 +41,11 @@ fn write_sets(text: &mut String, plan: &Plan) -> Result<(), AllocError> {
         Start::Among { set } => write_set(text, plan, "among", set)?,
         Start::Few { units, len } => write!(text, "few {len} {units:?}")?,
         Start::Behind(before) => write_before(text, before)?,
-        Start::Front { front, prefilter } => write_front(text, &front, prefilter)?,
+        Start::Prefix { prefix, prefilter } => write_prefix(text, &prefix, prefilter)?,
     }
     for op in &plan.ops {
         match op {
-            Op::RunApart(run) => write_set(text, plan, ", apart", run.next)?,
+            Op::PossessiveRun(run) => write_set(text, plan, ", apart", run.next)?,
             Op::Run(run) => write_set(text, plan, ", run", run.next)?,
             Op::LazyRun(run) => write_set(text, plan, ", lazy", run.next)?,
             _ => {}
@@ -73,13 +73,17 @@ fn write_before(text: &mut String, before: Before) -> Result<(), AllocError> {
 }
 
 // Which keys may stand first, second and so on, and what is looked for first.
-fn write_front(text: &mut String, front: &Front, prefilter: Prefilter) -> Result<(), AllocError> {
-    text.push_str("front")?;
-    for ahead in 0..front.len {
+fn write_prefix(
+    text: &mut String,
+    prefix: &Prefix,
+    prefilter: Prefilter,
+) -> Result<(), AllocError> {
+    text.push_str("prefix")?;
+    for ahead in 0..prefix.len {
         if ahead > 0 {
             text.push_str(" /")?;
         }
-        write_edges(text, &keys_at(front, ahead))?;
+        write_edges(text, &keys_at(prefix, ahead))?;
     }
     match prefilter {
         Prefilter::Absent => Ok(()),
@@ -111,14 +115,14 @@ fn write_probes(text: &mut String, probes: &[Probe]) -> Result<(), AllocError> {
 }
 
 // The keys of units that may stand so many units on.
-fn keys_at(front: &Front, ahead: usize) -> Beginnings
+fn keys_at(prefix: &Prefix, ahead: usize) -> FirstSet
     requires { ahead < 16 }
 {
     let mut keys = [false; 256];
     for key in 0..KEYS {
-        keys[key] = front.may_stand(key, ahead);
+        keys[key] = prefix.may_stand(key, ahead);
     }
-    Beginnings { keys, end: false }
+    FirstSet { keys, end: false }
 }
 
 fn write_set(text: &mut String, plan: &Plan, name: &str, number: u32) -> Result<(), AllocError> {
@@ -133,7 +137,7 @@ fn write_set(text: &mut String, plan: &Plan, name: &str, number: u32) -> Result<
 }
 
 // The first key of each row of keys that are in the set, or are not; and whether the end is in it.
-fn write_edges(text: &mut String, set: &Beginnings) -> Result<(), AllocError> {
+fn write_edges(text: &mut String, set: &FirstSet) -> Result<(), AllocError> {
     let mut before = false;
     for (key, here) in set.keys.iter().enumerate() {
         if *here != before {

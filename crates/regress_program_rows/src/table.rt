@@ -149,15 +149,15 @@ plan cat:2 set:20AC,E9 goal → among 195 196 226 227
 plan cat:2 loop1:0 class:61,7A,430,44F,451,451 goal → anywhere, run anything, knows 1072 to 1103
 plan cat:2 loop1:0 not:430,44F goal → anywhere, run anything
 plan cat:2 byteset goal → few 0 [0, 0, 0]
-plan cat:3 a b goal → front 97 98 / 98 99 row 2 of [97, 98, 0, 0, 0, 0, 0, 0, 0, 0, 0, 0, 0, 0, 0] at 0 bits 98 of 255 at 1 bits 97 of 255 at 0 bits 97 of 255 at 0 bits 97 of 255 at 0
-plan cat:3 a k goal → front 97 98 / 107 108 row 2 of [97, 107, 0, 0, 0, 0, 0, 0, 0, 0, 0, 0, 0, 0, 0] at 0 rare 107 at 1 bits 107 of 255 at 1 bits 97 of 255 at 0 bits 97 of 255 at 0 bits 97 of 255 at 0
-plan cat:2 alt cat:2 a b cat:2 b b goal → front 97 99 / 98 99 bits 98 of 255 at 1 bits 96 of 252 at 0 bits 96 of 252 at 0 bits 96 of 252 at 0
+plan cat:3 a b goal → prefix 97 98 / 98 99 row 2 of [97, 98, 0, 0, 0, 0, 0, 0, 0, 0, 0, 0, 0, 0, 0] at 0 bits 98 of 255 at 1 bits 97 of 255 at 0 bits 97 of 255 at 0 bits 97 of 255 at 0
+plan cat:3 a k goal → prefix 97 98 / 107 108 row 2 of [97, 107, 0, 0, 0, 0, 0, 0, 0, 0, 0, 0, 0, 0, 0] at 0 rare 107 at 1 bits 107 of 255 at 1 bits 97 of 255 at 0 bits 97 of 255 at 0 bits 97 of 255 at 0
+plan cat:2 alt cat:2 a b cat:2 b b goal → prefix 97 99 / 98 99 bits 98 of 255 at 1 bits 96 of 252 at 0 bits 96 of 252 at 0 bits 96 of 252 at 0
 plan cat:2 alt cat:2 a b b goal → few 2 [97, 98, 0]
-plan cat:3 loop1:2,2 a b goal → front 97 98 / 97 98 / 98 99 row 3 of [97, 97, 98, 0, 0, 0, 0, 0, 0, 0, 0, 0, 0, 0, 0] at 0 bits 98 of 255 at 2 bits 97 of 255 at 0 bits 97 of 255 at 1 bits 97 of 255 at 0, apart 98 99
-plan cat:3 loop1:2,3 a b goal → front 97 98 / 97 98 row 2 of [97, 97, 0, 0, 0, 0, 0, 0, 0, 0, 0, 0, 0, 0, 0] at 0 bits 97 of 255 at 0 bits 97 of 255 at 1 bits 97 of 255 at 0 bits 97 of 255 at 0, apart 98 99
-plan cat:3 loop1:2,3 set:61,65 b goal → front 97 98 101 102 / 97 98 101 102, apart 98 99
+plan cat:3 loop1:2,2 a b goal → prefix 97 98 / 97 98 / 98 99 row 3 of [97, 97, 98, 0, 0, 0, 0, 0, 0, 0, 0, 0, 0, 0, 0] at 0 bits 98 of 255 at 2 bits 97 of 255 at 0 bits 97 of 255 at 1 bits 97 of 255 at 0, apart 98 99
+plan cat:3 loop1:2,3 a b goal → prefix 97 98 / 97 98 row 2 of [97, 97, 0, 0, 0, 0, 0, 0, 0, 0, 0, 0, 0, 0, 0] at 0 bits 97 of 255 at 0 bits 97 of 255 at 1 bits 97 of 255 at 0 bits 97 of 255 at 0, apart 98 99
+plan cat:3 loop1:2,3 set:61,65 b goal → prefix 97 98 101 102 / 97 98 101 102, apart 98 99
 plan cat:4 loop:0,0,1 a b any goal → few 1 [97, 0, 0]
-unit_plan cat:3 a b goal → front 97 98 / 98 99 bits 98 of 255 at 1 bits 97 of 255 at 0 bits 97 of 255 at 0 bits 97 of 255 at 0
+unit_plan cat:3 a b goal → prefix 97 98 / 98 99 bits 98 of 255 at 1 bits 97 of 255 at 0 bits 97 of 255 at 0 bits 97 of 255 at 0
 unit_plan cat:3 loop1:0 a b goal → few 2 [97, 98, 0], apart 98 99
 unit_plan cat:2 set:20AC,E9 goal → among 128 129 144 145
 plan cat:3 start a goal → few 1 [97, 0, 0]
@@ -165,23 +165,23 @@ plan cat:3 line a goal → behind 3 [10, 13, 226] edge
 unit_plan cat:3 line any goal → behind 3 [10, 13, 144] edge
 plan cat:3 behind:0,0 a b goal → behind 1 [97, 0, 0]
 plan cat:3 behind:0,0 set:20AC,E9 b goal → behind 2 [195, 226, 0]
-unit_plan cat:3 behind:0,0 set:20AC,E9 b goal → front 98 99 bits 98 of 255 at 0 bits 98 of 255 at 0 bits 98 of 255 at 0 bits 98 of 255 at 0
-plan cat:6 set:30,31,32,33 set:30,31,32,33 set:30,31,32,33 set:30,31,32,33 set:30,31,32,33 goal → front 48 52 / 48 52 / 48 52 / 48 52 / 48 52
-unit_plan cat:5 a b c d goal → front 97 98 / 98 99 / 99 100 / 100 101 bits 98 of 255 at 1 bits 99 of 255 at 2 bits 97 of 255 at 0 bits 100 of 255 at 3
-unit_plan cat:3 a k goal → front 97 98 / 107 108 bits 107 of 255 at 1 bits 97 of 255 at 0 bits 97 of 255 at 0 bits 97 of 255 at 0
-plan cat:5 J K L M goal → front 74 75 / 75 76 / 76 77 / 77 78 row 4 of [74, 75, 76, 77, 0, 0, 0, 0, 0, 0, 0, 0, 0, 0, 0] at 0 rare 74 at 0 bits 74 of 255 at 0 bits 75 of 255 at 1 bits 76 of 255 at 2 bits 77 of 255 at 3
+unit_plan cat:3 behind:0,0 set:20AC,E9 b goal → prefix 98 99 bits 98 of 255 at 0 bits 98 of 255 at 0 bits 98 of 255 at 0 bits 98 of 255 at 0
+plan cat:6 set:30,31,32,33 set:30,31,32,33 set:30,31,32,33 set:30,31,32,33 set:30,31,32,33 goal → prefix 48 52 / 48 52 / 48 52 / 48 52 / 48 52
+unit_plan cat:5 a b c d goal → prefix 97 98 / 98 99 / 99 100 / 100 101 bits 98 of 255 at 1 bits 99 of 255 at 2 bits 97 of 255 at 0 bits 100 of 255 at 3
+unit_plan cat:3 a k goal → prefix 97 98 / 107 108 bits 107 of 255 at 1 bits 97 of 255 at 0 bits 97 of 255 at 0 bits 97 of 255 at 0
+plan cat:5 J K L M goal → prefix 74 75 / 75 76 / 76 77 / 77 78 row 4 of [74, 75, 76, 77, 0, 0, 0, 0, 0, 0, 0, 0, 0, 0, 0] at 0 rare 74 at 0 bits 74 of 255 at 0 bits 75 of 255 at 1 bits 76 of 255 at 2 bits 77 of 255 at 3
 plan /a*?b/ → few 2 [97, 98, 0], lazy 98 99
 plan /[ab]+?c/ → few 2 [97, 98, 0], lazy 99 100
 plan /.*?x/ → among 0 10 11 13 14 128 194 245, lazy 120 121
 plan /\"(.*?)\"/ → few 1 [34, 0, 0], lazy 34 35
 unit_plan /a*?b/ → few 2 [97, 98, 0], lazy 98 99
 classes /a*/ → narrow 97:1 98:0
-classes /.*/ → wide 0:1 10:0 11:1 13:0 14:1 128:0 194:2 224:3 226:5 227:3 240:4 245:0 bars [10, 13, 226]
-classes /[^\"]*/ → wide 0:1 34:0 35:1 128:0 194:2 224:3 240:4 245:0 bars [34]
-classes /[^]*/ → wide 0:1 128:0 194:2 224:3 240:4 245:0 bars []
+classes /.*/ → wide 0:1 10:0 11:1 13:0 14:1 128:0 194:2 224:3 226:5 227:3 240:4 245:0 stops [10, 13, 226]
+classes /[^\"]*/ → wide 0:1 34:0 35:1 128:0 194:2 224:3 240:4 245:0 stops [34]
+classes /[^]*/ → wide 0:1 128:0 194:2 224:3 240:4 245:0 stops []
 classes /[^a-d]/ → wide 0:1 97:0 101:1 128:0 194:2 224:3 240:4 245:0
 classes /é*/ → wide 195:5 196:0
-classes /[а-я]*[^é]/ → wide 208:5 210:0; wide 0:1 128:0 194:2 195:5 196:2 224:3 240:4 245:0 bars [195]
+classes /[а-я]*[^é]/ → wide 208:5 210:0; wide 0:1 128:0 194:2 195:5 196:2 224:3 240:4 245:0 stops [195]
 classes /[\\u0080-\\u07ff]/ → wide 194:2 224:0
 unit_classes /a*/ → narrow 97:1 98:0
 unit_classes /.*/ → wide 0:1 10:0 11:1 13:0 14:1 144:5 145:1 236:5 238:1

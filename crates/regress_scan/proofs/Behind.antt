@@ -11,7 +11,7 @@ use Rattle.regex_meaning.specs.Outcomes.{is_some_and}
 use Rattle.regex_meaning.proofs.TextLemmas.{place-less}
 use Rattle.regress_input.specs.Reading.{past}
 use Rattle.regress_input.proofs.Places.{place_of_boundary, left_then_right, right_then_left, before_ahead, before_boundary, past_ahead, past_boundary}
-use Rattle.regress_serves.specs.Tables.{Table, HasUnits, allows, key_at}
+use Rattle.regress_simulation.specs.Tables.{Table, HasUnits, allows, key_at}
 use Rattle.regress_plan.specs.declared.before.Before.{Before}
 use Rattle.regress_plan.specs.Before.{lets_begin, has_key}
 use Rattle.regress_plan.specs.Keys.{key, is_wide}

@@ -10,12 +10,12 @@ use Rattle.memchr.specs.Find.{IsFirstByte, is_byte, OccursAt, FindsNeedle}
 use Rattle.memchr.proofs.lemmas.ShiftLemmas.{Window, Ends, IsState, IsState-next}
 use Rattle.regex_pattern_front.specs.Searching.{IsFirst}
 use Rattle.regex_meaning.proofs.Booleans.{and-left, and-right}
-use Rattle.regress_serves.specs.Fronts.{Allowed, may_stand}
-use Rattle.regress_serves.proofs.Ends.{slice_get-behind}
-use Rattle.regress_plan.specs.declared.front.Front.{Front}
-use Rattle.regress_plan.specs.declared.front.Literal.{Literal}
-use Rattle.regress_plan.specs.declared.front.Rare.{Rare}
-use Rattle.regress_plan.specs.Fronts.{allowed_of, fits, IsRare, IsLiteral}
+use Rattle.regress_simulation.specs.Prefixes.{Allowed, may_stand}
+use Rattle.regress_simulation.proofs.Ends.{slice_get-behind}
+use Rattle.regress_plan.specs.declared.prefix.Prefix.{Prefix}
+use Rattle.regress_plan.specs.declared.prefix.Literal.{Literal}
+use Rattle.regress_plan.specs.declared.prefix.Rare.{Rare}
+use Rattle.regress_plan.specs.Prefixes.{allowed_of, fits, IsRare, IsLiteral}
 use Rattle.regress_plan.specs.Keys.{key}
 
 and-last : (a b : Bool) → b ≡ false → (a && b) ≡ false
@@ -131,46 +131,46 @@ fits-behind allowed us from i (suc len) =
 
 -- ---- By bits
 
-module _ (front : Front) (us : List ℕ) (at : ℕ) where
+module _ (prefix : Prefix) (us : List ℕ) (at : ℕ) where
   -- the bits of the masks that are clear
   abbrev pub Clear : (ahead unit : ℕ) → Type 0
-  Clear ahead unit = bit_at (slice_index front.masks unit) ahead ≡ 0
+  Clear ahead unit = bit_at (slice_index prefix.masks unit) ahead ≡ 0
 
-  pub fits-window : fits (allowed_of front) us at front.len ≡ true → Window (λ t b. Clear t b) (slice_index us) front.len at
+  pub fits-window : fits (allowed_of prefix) us at prefix.len ≡ true → Window (λ t b. Clear t b) (slice_index us) prefix.len at
   fits-window all t less = by (cases_lt (at + t) (length us))
     where
       by : (at + t < length us) ⊎ (length us ≤ at + t) → Clear t (slice_index us (at + t))
       by (inl inside) =
-          eqb-true (bit_at (slice_index front.masks (slice_index us (at + t))) t) 0
-          (sym (ap (may_stand (allowed_of front) t) (slice_get-get_or us (at + t) 0 inside)) ∙ fits-each (allowed_of front) us at front.len t less all)
+          eqb-true (bit_at (slice_index prefix.masks (slice_index us (at + t))) t) 0
+          (sym (ap (may_stand (allowed_of prefix) t) (slice_get-get_or us (at + t) 0 inside)) ∙ fits-each (allowed_of prefix) us at prefix.len t less all)
       by (inr past) =
-          let never : true ≡ false = sym all ∙ fits-past (allowed_of front) us at front.len t less past in
+          let never : true ≡ false = sym all ∙ fits-past (allowed_of prefix) us at prefix.len t less past in
           cc
 
-  pub window-fits : at + front.len ≤ length us → Window (λ t b. Clear t b) (slice_index us) front.len at → fits (allowed_of front) us at front.len ≡ true
+  pub window-fits : at + prefix.len ≤ length us → Window (λ t b. Clear t b) (slice_index us) prefix.len at → fits (allowed_of prefix) us at prefix.len ≡ true
   window-fits inside window =
-      fits-all (allowed_of front) us at front.len (λ t less.
-      ap (may_stand (allowed_of front) t) (slice_get-get_or us (at + t) 0 (omega (arith, inside, less)))
-      ∙ eq-eqb (bit_at (slice_index front.masks (slice_index us (at + t))) t) 0 (window t less))
+      fits-all (allowed_of prefix) us at prefix.len (λ t less.
+      ap (may_stand (allowed_of prefix) t) (slice_get-get_or us (at + t) 0 (omega (arith, inside, less)))
+      ∙ eq-eqb (bit_at (slice_index prefix.masks (slice_index us (at + t))) t) 0 (window t less))
 
 -- ---- By the rare one
 
-module _ (front : Front) (rare : Rare) (is : IsRare front rare) (us : List ℕ) (bytes : (i : ℕ) → slice_index us i < 256) where
+module _ (prefix : Prefix) (rare : Rare) (is : IsRare prefix rare) (us : List ℕ) (bytes : (i : ℕ) → slice_index us i < 256) where
   -- they do not fit where another byte stands at its place
-  pub rare-fails : (at : ℕ) → (at + rare.ahead < length us → slice_index us (at + rare.ahead) ≡ rare.unit → ⊥) → fits (allowed_of front) us at front.len ≡ false
+  pub rare-fails : (at : ℕ) → (at + rare.ahead < length us → slice_index us (at + rare.ahead) ≡ rare.unit → ⊥) → fits (allowed_of prefix) us at prefix.len ≡ false
   rare-fails at other = by (cases_lt (at + rare.ahead) (length us))
     where
-      by : (at + rare.ahead < length us) ⊎ (length us ≤ at + rare.ahead) → fits (allowed_of front) us at front.len ≡ false
+      by : (at + rare.ahead < length us) ⊎ (length us ≤ at + rare.ahead) → fits (allowed_of prefix) us at prefix.len ≡ false
       by (inl inside) =
-          fits-fails (allowed_of front) us at front.len rare.ahead is.inside
-          (ap (may_stand (allowed_of front) rare.ahead) (slice_get-get_or us (at + rare.ahead) 0 inside)
-          ∙ not-true (allowed_of front rare.ahead (slice_index us (at + rare.ahead)))
+          fits-fails (allowed_of prefix) us at prefix.len rare.ahead is.inside
+          (ap (may_stand (allowed_of prefix) rare.ahead) (slice_get-get_or us (at + rare.ahead) 0 inside)
+          ∙ not-true (allowed_of prefix rare.ahead (slice_index us (at + rare.ahead)))
           (λ may. other inside (is.only (slice_index us (at + rare.ahead)) (bytes (at + rare.ahead)) may)))
-      by (inr past) = fits-past (allowed_of front) us at front.len rare.ahead is.inside past
+      by (inr past) = fits-past (allowed_of prefix) us at prefix.len rare.ahead is.inside past
 
   -- too few are left for it
-  pub rare-past : (at : ℕ) → length us ≤ at + rare.ahead → ((k : ℕ) → k < at → fits (allowed_of front) us k front.len ≡ false)
-      → (k : ℕ) → fits (allowed_of front) us k front.len ≡ false
+  pub rare-past : (at : ℕ) → length us ≤ at + rare.ahead → ((k : ℕ) → k < at → fits (allowed_of prefix) us k prefix.len ≡ false)
+      → (k : ℕ) → fits (allowed_of prefix) us k prefix.len ≡ false
   rare-past at past before k = elim (cases_lt k at) [
     | inl early ↦ before k early
     | inr late ↦ rare-fails k (λ inside same. absurd (omega (arith, past, inside, late)))
@@ -178,75 +178,75 @@ module _ (front : Front) (rare : Rare) (is : IsRare front rare) (us : List ℕ) 
 
 -- ---- By units in a row
 
-module _ (front : Front) (literal : Literal) (is : IsLiteral front literal) (us : List ℕ) (bytes : (i : ℕ) → slice_index us i < 256) (at : ℕ)
-    (fit : fits (allowed_of front) us at front.len ≡ true) where
+module _ (prefix : Prefix) (literal : Literal) (is : IsLiteral prefix literal) (us : List ℕ) (bytes : (i : ℕ) → slice_index us i < 256) (at : ℕ)
+    (fit : fits (allowed_of prefix) us at prefix.len ≡ true) where
   -- where all fit, each of these stands
   pub literal-reads : (i : ℕ) → i < literal.len → slice_index us (at + (literal.ahead + i)) ≡ slice_index literal.units i
   literal-reads i less = by (cases_lt (at + (literal.ahead + i)) (length us))
     where
-      within : literal.ahead + i < front.len
+      within : literal.ahead + i < prefix.len
       within = let inside = is.inside in omega (arith, inside, less)
 
       by : (at + (literal.ahead + i) < length us) ⊎ (length us ≤ at + (literal.ahead + i)) → slice_index us (at + (literal.ahead + i)) ≡ slice_index literal.units i
       by (inl there) =
           (is.alone i less).only (slice_index us (at + (literal.ahead + i))) (bytes (at + (literal.ahead + i)))
-          (sym (ap (may_stand (allowed_of front) (literal.ahead + i)) (slice_get-get_or us (at + (literal.ahead + i)) 0 there))
-          ∙ fits-each (allowed_of front) us at front.len (literal.ahead + i) within fit)
+          (sym (ap (may_stand (allowed_of prefix) (literal.ahead + i)) (slice_get-get_or us (at + (literal.ahead + i)) 0 there))
+          ∙ fits-each (allowed_of prefix) us at prefix.len (literal.ahead + i) within fit)
       by (inr past) =
-          let never : true ≡ false = sym fit ∙ fits-past (allowed_of front) us at front.len (literal.ahead + i) within past in
+          let never : true ≡ false = sym fit ∙ fits-past (allowed_of prefix) us at prefix.len (literal.ahead + i) within past in
           cc
 
 -- ---- Searches
 
-module _ (front : Front) (us : List ℕ) (at : ℕ) where
+module _ (prefix : Prefix) (us : List ℕ) (at : ℕ) where
   abbrev Fits : ℕ → Bool
-  Fits k = fits (allowed_of front) us k front.len
+  Fits k = fits (allowed_of prefix) us k prefix.len
 
   -- one unit more, of which the state says whether all fit that end there
-  pub none-more : 0 < front.len → ((k : ℕ) → k + front.len ≤ at → Fits k ≡ false)
-      → ((k : ℕ) → k + front.len ≡ at + 1 → Window (λ t b. bit_at (slice_index front.masks b) t ≡ 0) (slice_index us) front.len k → ⊥)
-      → (k : ℕ) → k + front.len ≤ at + 1 → Fits k ≡ false
-  none-more some before never k le = elim (cases_lt (k + front.len) (at + 1)) [
+  pub none-more : 0 < prefix.len → ((k : ℕ) → k + prefix.len ≤ at → Fits k ≡ false)
+      → ((k : ℕ) → k + prefix.len ≡ at + 1 → Window (λ t b. bit_at (slice_index prefix.masks b) t ≡ 0) (slice_index us) prefix.len k → ⊥)
+      → (k : ℕ) → k + prefix.len ≤ at + 1 → Fits k ≡ false
+  none-more some before never k le = elim (cases_lt (k + prefix.len) (at + 1)) [
     | inl less ↦ before k (omega (arith, less))
-    | inr last ↦ not-true (Fits k) (λ fit. never k (omega (arith, le, last)) (fits-window front us k fit))
+    | inr last ↦ not-true (Fits k) (λ fit. never k (omega (arith, le, last)) (fits-window prefix us k fit))
   ]
 
   -- all of the units were gone over
-  pub none-found : 0 < front.len → length us ≤ at → ((k : ℕ) → k + front.len ≤ at → Fits k ≡ false) → (k : ℕ) → k < length us → Fits k ≡ false
+  pub none-found : 0 < prefix.len → length us ≤ at → ((k : ℕ) → k + prefix.len ≤ at → Fits k ≡ false) → (k : ℕ) → k < length us → Fits k ≡ false
   none-found some end before k less =
       not-true (Fits k) (λ fit.
-      let inside = fits-within (allowed_of front) us k front.len some fit in
+      let inside = fits-within (allowed_of prefix) us k prefix.len some fit in
       let none = before k (omega (arith, inside, end)) in
       let never : true ≡ false = sym fit ∙ none in
       cc)
 
   -- they fit where the state says so
-  pub window-found : 0 < front.len → (to : ℕ) → to + front.len ≡ at → at ≤ length us
-      → Window (λ t b. bit_at (slice_index front.masks b) t ≡ 0) (slice_index us) front.len to → ((k : ℕ) → k + front.len ≤ at - 1 → Fits k ≡ false)
+  pub window-found : 0 < prefix.len → (to : ℕ) → to + prefix.len ≡ at → at ≤ length us
+      → Window (λ t b. bit_at (slice_index prefix.masks b) t ≡ 0) (slice_index us) prefix.len to → ((k : ℕ) → k + prefix.len ≤ at - 1 → Fits k ≡ false)
       → IsFirst Fits (length us) to
   window-found some to there inside window before = record {
     within = omega (arith, some, there, inside);
-    passes = window-fits front us to (omega (arith, there, inside)) window;
+    passes = window-fits prefix us to (omega (arith, there, inside)) window;
     none_before = λ k less. before k (omega (arith, less, there));
   }
 
 -- what one more unit tells: the state behind it, and whether its bit says that all units fit that end there
-pub record Tells (front : Front) (us : List ℕ) (at state : ℕ) (clear : Bool) : Type 0 where
-  pub next : IsState (λ t b. bit_at (slice_index front.masks b) t ≡ 0) (slice_index us) front.len (at + 1) state
-  pub ends : clear ≡ true → Ends (λ t b. bit_at (slice_index front.masks b) t ≡ 0) (slice_index us) (at + 1) front.len
-  pub goes_on : clear ≡ false → Ends (λ t b. bit_at (slice_index front.masks b) t ≡ 0) (slice_index us) (at + 1) front.len → ⊥
+pub record Tells (prefix : Prefix) (us : List ℕ) (at state : ℕ) (clear : Bool) : Type 0 where
+  pub next : IsState (λ t b. bit_at (slice_index prefix.masks b) t ≡ 0) (slice_index us) prefix.len (at + 1) state
+  pub ends : clear ≡ true → Ends (λ t b. bit_at (slice_index prefix.masks b) t ≡ 0) (slice_index us) (at + 1) prefix.len
+  pub goes_on : clear ≡ false → Ends (λ t b. bit_at (slice_index prefix.masks b) t ≡ 0) (slice_index us) (at + 1) prefix.len → ⊥
 
-pub tells-more : (front : Front) (us : List ℕ) (at state key : ℕ) (clear : Bool) → 0 < front.len
-    → IsState (λ t b. bit_at (slice_index front.masks b) t ≡ 0) (slice_index us) front.len at state → key ≡ slice_index us at
-    → clear ≡ (bit_at ((bit_or state (slice_index front.masks key) * 2) % 2 ^ 16) front.len == 0)
-    → Tells front us at ((bit_or state (slice_index front.masks (slice_index us at)) * 2) % 2 ^ 16) clear
-tells-more front us at state key clear some old is test =
-    let n = front.len in
-    let mask = slice_index front.masks (slice_index us at) in
+pub tells-more : (prefix : Prefix) (us : List ℕ) (at state key : ℕ) (clear : Bool) → 0 < prefix.len
+    → IsState (λ t b. bit_at (slice_index prefix.masks b) t ≡ 0) (slice_index us) prefix.len at state → key ≡ slice_index us at
+    → clear ≡ (bit_at ((bit_or state (slice_index prefix.masks key) * 2) % 2 ^ 16) prefix.len == 0)
+    → Tells prefix us at ((bit_or state (slice_index prefix.masks (slice_index us at)) * 2) % 2 ^ 16) clear
+tells-more prefix us at state key clear some old is test =
+    let n = prefix.len in
+    let mask = slice_index prefix.masks (slice_index us at) in
     let now = (bit_or state mask * 2) % 2 ^ 16 in
-    let short : n < 16 = omega (arith, front.short) in
-    let next = IsState-next (λ t b. bit_at (slice_index front.masks b) t ≡ 0) (slice_index us) n at state mask short old (λ j l. (λ x. x, λ x. x)) in
-    let told : clear ≡ (bit_at now n == 0) = subst (λ k. clear ≡ (bit_at ((bit_or state (slice_index front.masks k) * 2) % 2 ^ 16) n == 0)) is test in
+    let short : n < 16 = omega (arith, prefix.short) in
+    let next = IsState-next (λ t b. bit_at (slice_index prefix.masks b) t ≡ 0) (slice_index us) n at state mask short old (λ j l. (λ x. x, λ x. x)) in
+    let told : clear ≡ (bit_at now n == 0) = subst (λ k. clear ≡ (bit_at ((bit_or state (slice_index prefix.masks k) * 2) % 2 ^ 16) n == 0)) is test in
     let all = next.each n some (omega (arith, short)) in
     record {
       next = next;
@@ -258,11 +258,11 @@ tells-more front us at state key clear some old is test =
 pub needle-short : (literal : Literal) → length (take literal.len literal.units) ≤ literal.len
 needle-short literal = let n = length-take literal.len literal.units in omega (arith, n)
 
-module _ (front : Front) (literal : Literal) (is : IsLiteral front literal) (some : 0 < front.len) (us : List ℕ) (bytes : (i : ℕ) → slice_index us i < 256)
+module _ (prefix : Prefix) (literal : Literal) (is : IsLiteral prefix literal) (some : 0 < prefix.len) (us : List ℕ) (bytes : (i : ℕ) → slice_index us i < 256)
     (at : ℕ) (rest needle : List ℕ) (cut : rest ≡ drop (at + literal.ahead) us) (taken : needle ≡ take literal.len literal.units)
-    (short : length needle ≤ literal.len) (before : (k : ℕ) → k < at → fits (allowed_of front) us k front.len ≡ false) where
+    (short : length needle ≤ literal.len) (before : (k : ℕ) → k < at → fits (allowed_of prefix) us k prefix.len ≡ false) where
   abbrev FitAll : ℕ → Bool
-  FitAll k = fits (allowed_of front) us k front.len
+  FitAll k = fits (allowed_of prefix) us k prefix.len
 
   length-left : length rest ≡ length us - (at + literal.ahead)
   length-left = ap (λ (l : List ℕ). length l) cut ∙ length-drop (at + literal.ahead) us
@@ -271,14 +271,14 @@ module _ (front : Front) (literal : Literal) (is : IsLiteral front literal) (som
   literal-occurs : (k : ℕ) → at ≤ k → FitAll k ≡ true → OccursAt rest needle (k - at)
   literal-occurs k le fit = record {
     fits =
-        let within = fits-within (allowed_of front) us k front.len some fit in
+        let within = fits-within (allowed_of prefix) us k prefix.len some fit in
         let inside = is.inside in
         omega (arith, le, within, inside, length-left, short);
     reads = λ j less.
         let fewer : j < literal.len = omega (arith, less, short) in
         ap (λ (l : List ℕ). slice_index l (k - at + j)) cut ∙ get_or-drop (at + literal.ahead) us (k - at + j) 0
         ∙ ap (slice_index us) (let z : at + literal.ahead + (k - at + j) ≡ k + (literal.ahead + j) = omega (arith, le) in z)
-        ∙ literal-reads front literal is us bytes k fit j fewer
+        ∙ literal-reads prefix literal is us bytes k fit j fewer
         ∙ sym (ap (λ (l : List ℕ). slice_index l j) taken ∙ get_or-take literal.len literal.units j 0 fewer);
   }
 
@@ -295,7 +295,7 @@ module _ (front : Front) (literal : Literal) (is : IsLiteral front literal) (som
   pub literal-past : length us ≤ at + literal.ahead → (k : ℕ) → FitAll k ≡ false
   literal-past past k = elim (cases_lt k at) [
     | inl early ↦ before k early
-    | inr late ↦ fits-past (allowed_of front) us k front.len (front.len - 1) (omega (arith, some)) (let inside = is.inside in let more = is.some in omega (arith, past, late, inside, more))
+    | inr late ↦ fits-past (allowed_of prefix) us k prefix.len (prefix.len - 1) (omega (arith, some)) (let inside = is.inside in let more = is.some in omega (arith, past, late, inside, more))
   ]
 
   -- they are found so many units further on
@@ -312,7 +312,7 @@ module _ (front : Front) (literal : Literal) (is : IsLiteral front literal) (som
 
     -- and all fit there
     pub literal-within : FitAll (at + more) ≡ true → at + more < length us
-    literal-within fit = let within = fits-within (allowed_of front) us (at + more) front.len some fit in omega (arith, within, some)
+    literal-within fit = let within = fits-within (allowed_of prefix) us (at + more) prefix.len some fit in omega (arith, within, some)
 
     -- and not all fit there
     pub literal-behind : FitAll (at + more) ≡ false → (k : ℕ) → k < at + more + 1 → FitAll k ≡ false
@@ -321,18 +321,18 @@ module _ (front : Front) (literal : Literal) (is : IsLiteral front literal) (som
       | inr here ↦ let same : at + more ≡ k = omega (arith, less, here) in ap FitAll (sym same) ∙ none
     ]
 
-module _ (front : Front) (rare : Rare) (is : IsRare front rare) (us : List ℕ) (bytes : (i : ℕ) → slice_index us i < 256) (at : ℕ) (rest : List ℕ)
+module _ (prefix : Prefix) (rare : Rare) (is : IsRare prefix rare) (us : List ℕ) (bytes : (i : ℕ) → slice_index us i < 256) (at : ℕ) (rest : List ℕ)
     (cut : rest ≡ drop (at + rare.ahead) us) where
   abbrev FitsAt : ℕ → Bool
-  FitsAt k = fits (allowed_of front) us k front.len
+  FitsAt k = fits (allowed_of prefix) us k prefix.len
 
   length-rest : length rest ≡ length us - (at + rare.ahead)
   length-rest = ap (λ (l : List ℕ). length l) cut ∙ length-drop (at + rare.ahead) us
 
   -- at no place before so many units further on, if the rare one is not among these
-  rare-barred : (n : ℕ) → ((i : ℕ) → i < n → is_byte rare.unit (slice_index rest i) ≡ true → ⊥) → (k : ℕ) → at ≤ k → k < at + n → FitsAt k ≡ false
-  rare-barred n none k le less =
-      rare-fails front rare is us bytes k (λ inside same.
+  rare-excluded : (n : ℕ) → ((i : ℕ) → i < n → is_byte rare.unit (slice_index rest i) ≡ true → ⊥) → (k : ℕ) → at ≤ k → k < at + n → FitsAt k ≡ false
+  rare-excluded n none k le less =
+      rare-fails prefix rare is us bytes k (λ inside same.
       none (k - at) (omega (arith, le, less))
       (eq-eqb (slice_index rest (k - at)) rare.unit
       (ap (λ (l : List ℕ). slice_index l (k - at)) cut ∙ get_or-drop (at + rare.ahead) us (k - at) 0
@@ -343,8 +343,8 @@ module _ (front : Front) (rare : Rare) (is : IsRare front rare) (us : List ℕ) 
   rare-none none before k = elim (cases_lt k at) [
     | inl early ↦ before k early
     | inr late ↦ elim (cases_lt k (at + length rest)) [
-      | inl near ↦ rare-barred (length rest) (λ i less. none i (omega arith) less) k late near
-      | inr far ↦ rare-fails front rare is us bytes k (λ inside same. absurd (omega (arith, far, inside, length-rest)))
+      | inl near ↦ rare-excluded (length rest) (λ i less. none i (omega arith) less) k late near
+      | inr far ↦ rare-fails prefix rare is us bytes k (λ inside same. absurd (omega (arith, far, inside, length-rest)))
     ]
   ]
 
@@ -356,7 +356,7 @@ module _ (front : Front) (rare : Rare) (is : IsRare front rare) (us : List ℕ) 
     pub rare-before : (k : ℕ) → k < at + more → FitsAt k ≡ false
     rare-before k less = elim (cases_lt k at) [
       | inl early ↦ before k early
-      | inr late ↦ rare-barred more (λ i fewer. found.0.before i (omega arith) fewer) k late less
+      | inr late ↦ rare-excluded more (λ i fewer. found.0.before i (omega arith) fewer) k late less
     ]
 
     -- and they do not fit there

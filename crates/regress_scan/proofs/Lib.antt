@@ -1,6 +1,6 @@
 pub mod Advancing
 pub mod Allowing
-pub mod Barring
+pub mod StopSets
 pub mod Behind
 pub mod FurtherPlaces
 pub mod LazyClass

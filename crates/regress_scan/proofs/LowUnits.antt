@@ -12,10 +12,10 @@ use Rattle.regex_meaning.proofs.Options.{some-same}
 use Rattle.regex_meaning.proofs.TextLemmas.{offset-IsBoundary}
 use Rattle.regress_input.proofs.Boundaries.{boundary-byte, offset-units}
 use Rattle.regress_input.proofs.Lists.{get-front, get-behind}
-use Rattle.regress_serves.specs.Tables.{HasUnits}
-use Rattle.regress_serves.specs.Fronts.{may_stand}
-use Rattle.regress_plan.specs.declared.front.Front.{Front}
-use Rattle.regress_plan.specs.Fronts.{allowed_of, IsInAsciiAt, IsInAscii}
+use Rattle.regress_simulation.specs.Tables.{HasUnits}
+use Rattle.regress_simulation.specs.Prefixes.{may_stand}
+use Rattle.regress_plan.specs.declared.prefix.Prefix.{Prefix}
+use Rattle.regress_plan.specs.Prefixes.{allowed_of, IsInAsciiAt, IsInAscii}
 use Rattle.regress_plan.specs.Keys.{key, is_wide}
 use Rattle.regress_scan.specs.Searching.{Searching}
 use Rattle.regress_scan.specs.Starts.{keys_in, fits_in}
@@ -90,25 +90,25 @@ key-own true u low = elim (cases_lt u 128) [
       absurd (omega (arith, low, high))
 ]
 
-module _ (w : Searching) (has : HasUnits w.encoding w.text) (front : Front) (at : ℕ) (fit : fits_in w front at ≡ true) where
+module _ (w : Searching) (has : HasUnits w.encoding w.text) (prefix : Prefix) (at : ℕ) (fit : fits_in w prefix at ≡ true) where
   -- where the first units may stand, and only those below 128 so many units on, there is one
-  pub fit-unit : (ahead : ℕ) → ahead < front.len → IsInAsciiAt front ahead
-      → (u : ℕ) × (slice_get (units_in w.encoding w.text) (at + ahead) ≡ Some u) × (u < 128) × (allowed_of front ahead u ≡ true)
+  pub fit-unit : (ahead : ℕ) → ahead < prefix.len → IsInAsciiAt prefix ahead
+      → (u : ℕ) × (slice_get (units_in w.encoding w.text) (at + ahead) ≡ Some u) × (u < 128) × (allowed_of prefix ahead u ≡ true)
   fit-unit ahead less ascii =
       by (slice_get (units_in w.encoding w.text) (at + ahead)) refl
-      (sym (ap (may_stand (allowed_of front) ahead) (slice_get-map (key (is_wide w.encoding)) (units_in w.encoding w.text) (at + ahead)))
-      ∙ fits-each (allowed_of front) (keys_in w) at front.len ahead less fit)
+      (sym (ap (may_stand (allowed_of prefix) ahead) (slice_get-map (key (is_wide w.encoding)) (units_in w.encoding w.text) (at + ahead)))
+      ∙ fits-each (allowed_of prefix) (keys_in w) at prefix.len ahead less fit)
     where
-      by : (o : Option ℕ) → slice_get (units_in w.encoding w.text) (at + ahead) ≡ o → may_stand (allowed_of front) ahead (option_map (key (is_wide w.encoding)) o) ≡ true
-          → (u : ℕ) × (slice_get (units_in w.encoding w.text) (at + ahead) ≡ Some u) × (u < 128) × (allowed_of front ahead u ≡ true)
+      by : (o : Option ℕ) → slice_get (units_in w.encoding w.text) (at + ahead) ≡ o → may_stand (allowed_of prefix) ahead (option_map (key (is_wide w.encoding)) o) ≡ true
+          → (u : ℕ) × (slice_get (units_in w.encoding w.text) (at + ahead) ≡ Some u) × (u < 128) × (allowed_of prefix ahead u ≡ true)
       by None there may = cc
       by (Some u) there may =
           let low = ascii (key (is_wide w.encoding) u) (key-small (is_wide w.encoding) u (unit-fits w.encoding w.text has (at + ahead) u there)) may in
           let own = key-own (is_wide w.encoding) u low in
-          (u, there, subst (λ k. k < 128) (sym own) low, ap (allowed_of front ahead) own ∙ may)
+          (u, there, subst (λ k. k < 128) (sym own) low, ap (allowed_of prefix ahead) own ∙ may)
 
   -- and it is a boundary
-  pub fit-boundary : 0 < front.len → IsInAscii front → IsBoundary w.text at
+  pub fit-boundary : 0 < prefix.len → IsInAscii prefix → IsBoundary w.text at
   fit-boundary some ascii =
       let one = fit-unit 0 some ascii in
       low-boundary w.encoding w.text has at one.0 (ap (slice_get (units_in w.encoding w.text)) (let z : at ≡ at + 0 = omega arith in z) ∙ one.1) one.2

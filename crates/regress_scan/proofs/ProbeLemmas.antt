@@ -8,11 +8,11 @@ use Rattle.regex_meaning.specs.Offsets.{units}
 use Rattle.regex_meaning.specs.Units.{units_in}
 use Rattle.regex_meaning.proofs.Options.{some-same}
 use Rattle.regress_input.proofs.Boundaries.{units-length}
-use Rattle.regress_serves.specs.Tables.{HasUnits, key_at}
-use Rattle.regress_serves.specs.Fronts.{may_stand}
-use Rattle.regress_plan.specs.declared.front.Front.{Front}
+use Rattle.regress_simulation.specs.Tables.{HasUnits, key_at}
+use Rattle.regress_simulation.specs.Prefixes.{may_stand}
+use Rattle.regress_plan.specs.declared.prefix.Prefix.{Prefix}
 use Rattle.regress_plan.specs.declared.prefilters.Probe.{Probe}
-use Rattle.regress_plan.specs.Fronts.{allowed_of, fits, passes, IsProbe, IsInAscii}
+use Rattle.regress_plan.specs.Prefixes.{allowed_of, fits, passes, IsProbe, IsInAscii}
 use Rattle.regress_plan.specs.Keys.{key, is_wide}
 use Rattle.regress_scan.specs.Searching.{Searching}
 use Rattle.regress_scan.specs.Starts.{keys_in, fits_in, IsFirstWhere}
@@ -27,26 +27,26 @@ module _ (w : Searching) where
   key-got at k there = slice_get-map (key (is_wide w.encoding)) (units_in w.encoding w.text) at ∙ there
 
   -- one unit more, which may stand there
-  pub fits-goes : (front : Front) (at ahead k : ℕ) (may : Bool) → key_at w.encoding (key (is_wide w.encoding)) w.text (at + ahead) ≡ Some k
-      → may ≡ allowed_of front ahead k → may ≡ true → fits (allowed_of front) (keys_in w) at ahead ≡ true → fits (allowed_of front) (keys_in w) at (ahead + 1) ≡ true
-  fits-goes front at ahead k may there asked holds all =
-      ap (fits (allowed_of front) (keys_in w) at) (let z : ahead + 1 ≡ suc ahead = omega arith in z)
-      ∙ fits-more (allowed_of front) (keys_in w) at ahead all (ap (may_stand (allowed_of front) ahead) (key-got (at + ahead) k there) ∙ sym asked ∙ holds)
+  pub fits-goes : (prefix : Prefix) (at ahead k : ℕ) (may : Bool) → key_at w.encoding (key (is_wide w.encoding)) w.text (at + ahead) ≡ Some k
+      → may ≡ allowed_of prefix ahead k → may ≡ true → fits (allowed_of prefix) (keys_in w) at ahead ≡ true → fits (allowed_of prefix) (keys_in w) at (ahead + 1) ≡ true
+  fits-goes prefix at ahead k may there asked holds all =
+      ap (fits (allowed_of prefix) (keys_in w) at) (let z : ahead + 1 ≡ suc ahead = omega arith in z)
+      ∙ fits-more (allowed_of prefix) (keys_in w) at ahead all (ap (may_stand (allowed_of prefix) ahead) (key-got (at + ahead) k there) ∙ sym asked ∙ holds)
 
   -- one that may not
-  pub fits-stops : (front : Front) (at ahead k : ℕ) (may : Bool) → ahead < front.len → key_at w.encoding (key (is_wide w.encoding)) w.text (at + ahead) ≡ Some k
-      → may ≡ allowed_of front ahead k → may ≡ false → fits_in w front at ≡ false
-  fits-stops front at ahead k may less there asked fails =
-      fits-fails (allowed_of front) (keys_in w) at front.len ahead less
-      (ap (may_stand (allowed_of front) ahead) (key-got (at + ahead) k there) ∙ sym asked ∙ fails)
+  pub fits-stops : (prefix : Prefix) (at ahead k : ℕ) (may : Bool) → ahead < prefix.len → key_at w.encoding (key (is_wide w.encoding)) w.text (at + ahead) ≡ Some k
+      → may ≡ allowed_of prefix ahead k → may ≡ false → fits_in w prefix at ≡ false
+  fits-stops prefix at ahead k may less there asked fails =
+      fits-fails (allowed_of prefix) (keys_in w) at prefix.len ahead less
+      (ap (may_stand (allowed_of prefix) ahead) (key-got (at + ahead) k there) ∙ sym asked ∙ fails)
 
 -- ---- Bits
 
 -- where the first units may stand a probe passes
-pub probe-passes : (w : Searching) → HasUnits w.encoding w.text → (front : Front) (at : ℕ) → fits_in w front at ≡ true → (probe : Probe) → IsProbe front probe
+pub probe-passes : (w : Searching) → HasUnits w.encoding w.text → (prefix : Prefix) (at : ℕ) → fits_in w prefix at ≡ true → (probe : Probe) → IsProbe prefix probe
     → (u : ℕ) → slice_get (units_in w.encoding w.text) (at + probe.ahead) ≡ Some u → passes probe u ≡ true
-probe-passes w has front at fit probe is u there =
-    let one = fit-unit w has front at fit probe.ahead is.inside is.low in
+probe-passes w has prefix at fit probe is u there =
+    let one = fit-unit w has prefix at fit probe.ahead is.inside is.low in
     let small = one.2 in
     let same : one.0 ≡ u = some-same one.0 u (sym one.1 ∙ there) in
     ap (passes probe) (sym same) ∙ is.only one.0 (omega (arith, small)) one.3
@@ -61,44 +61,44 @@ taken-got n xs i x got =
 
 -- ---- Places in a row
 
-module _ (w : Searching) (front : Front) where
-  pub none-here : (at : ℕ) → NoneFits w front at at
+module _ (w : Searching) (prefix : Prefix) where
+  pub none-here : (at : ℕ) → NoneFits w prefix at at
   none-here at x le less = absurd (omega (arith, le, less))
 
-  pub none-one : (from to : ℕ) → NoneFits w front from to → fits_in w front to ≡ false → NoneFits w front from (to + 1)
+  pub none-one : (from to : ℕ) → NoneFits w prefix from to → fits_in w prefix to ≡ false → NoneFits w prefix from (to + 1)
   none-one from to none not x le less = elim (cases_lt x to) [
     | inl before ↦ none x le before
-    | inr after ↦ subst (λ x. fits_in w front x ≡ false) (let z : to ≡ x = omega (arith, after, less) in z) not
+    | inr after ↦ subst (λ x. fits_in w prefix x ≡ false) (let z : to ≡ x = omega (arith, after, less) in z) not
   ]
 
-  pub none-then : (from mid to : ℕ) → NoneFits w front from mid → NoneFits w front mid to → NoneFits w front from to
+  pub none-then : (from mid to : ℕ) → NoneFits w prefix from mid → NoneFits w prefix mid to → NoneFits w prefix from to
   none-then from mid to first second x le less = elim (cases_lt x mid) [
     | inl before ↦ first x le before
     | inr after ↦ second x after less
   ]
 
   -- the first one behind places at which they do not fit
-  pub first-behind : (from mid to : ℕ) (found : Option ℕ) → from ≤ mid → NoneFits w front from mid → IsFirstFit w front mid to found → IsFirstFit w front from to found
+  pub first-behind : (from mid to : ℕ) (found : Option ℕ) → from ≤ mid → NoneFits w prefix from mid → IsFirstFit w prefix mid to found → IsFirstFit w prefix from to found
   first-behind from mid to None le none first = none-then from mid to none first
   first-behind from mid to (Some at) le none first =
       let more = first.0 in (omega (arith, le, more), first.1, first.2, none-then from mid at none first.3)
 
-  pub first-wider : (from mid to at : ℕ) → mid ≤ to → IsFirstFit w front from mid (Some at) → IsFirstFit w front from to (Some at)
+  pub first-wider : (from mid to at : ℕ) → mid ≤ to → IsFirstFit w prefix from mid (Some at) → IsFirstFit w prefix from to (Some at)
   first-wider from mid to at le first = let less = first.1 in (first.0, omega (arith, le, less), first.2, first.3)
 
   -- it is a place to try
-  pub found-where : HasUnits w.encoding w.text → 0 < front.len → IsInAscii front → (from to at : ℕ) → IsFirstFit w front from to (Some at)
-      → IsFirstWhere w (fits_in w front) from (Some at)
+  pub found-where : HasUnits w.encoding w.text → 0 < prefix.len → IsInAscii prefix → (from to at : ℕ) → IsFirstFit w prefix from to (Some at)
+      → IsFirstWhere w (fits_in w prefix) from (Some at)
   found-where has some ascii from to at first =
-      (fit-boundary w has front at first.2 some ascii, first.0, first.2, λ x on le less. first.3 x le less)
+      (fit-boundary w has prefix at first.2 some ascii, first.0, first.2, λ x on le less. first.3 x le less)
 
   -- behind these places there is no room
-  pub first-where : HasUnits w.encoding w.text → 0 < front.len → IsInAscii front → (from to : ℕ) (found : Option ℕ) → units w.text + 1 ≤ to + front.len
-      → IsFirstFit w front from to found → IsFirstWhere w (fits_in w front) from found
+  pub first-where : HasUnits w.encoding w.text → 0 < prefix.len → IsInAscii prefix → (from to : ℕ) (found : Option ℕ) → units w.text + 1 ≤ to + prefix.len
+      → IsFirstFit w prefix from to found → IsFirstWhere w (fits_in w prefix) from found
   first-where has some ascii from to None all first = λ at on le less. elim (cases_lt at to) [
     | inl before ↦ first at le before
     | inr after ↦
         let count : length (keys_in w) ≡ units w.text = length-map (units_in w.encoding w.text) (key (is_wide w.encoding)) ∙ sym (units-length w.encoding w.text has.spelled) in
-        fits-past (allowed_of front) (keys_in w) at front.len (front.len - 1) (omega (arith, some)) (omega (arith, after, all, some, count))
+        fits-past (allowed_of prefix) (keys_in w) at prefix.len (prefix.len - 1) (omega (arith, some)) (omega (arith, after, all, some, count))
   ]
   first-where has some ascii from to (Some at) all first = found-where has some ascii from to at first

@@ -19,14 +19,14 @@ use Rattle.regress_input.specs.Utf8.{continues}
 use Rattle.regress_input.proofs.Boundaries.{boundary-byte, units-length}
 use Rattle.regress_input.proofs.Places.{end_boundary, past_ahead, past_boundary, boundary_inside, place_of_boundary, step_right}
 use Rattle.regress_input.proofs.UnitsIn.{utf8-units}
-use Rattle.regress_serves.specs.Tables.{Table, HasUnits, allows, key_at}
+use Rattle.regress_simulation.specs.Tables.{Table, HasUnits, allows, key_at}
 use Rattle.regress_plan.specs.Keys.{key, is_wide, is_lead}
 use Rattle.regress_scan.specs.Searching.{Searching}
 use Rattle.regress_scan.proofs.Allowing.{no-key}
 use Rattle.regress_scan.proofs.NextUnits.{unit-fits}
 use Rattle.regress_scan.proofs.FirstUnits.{own-key, fits-past, fits-behind}
-use Rattle.regress_plan.specs.declared.front.Front.{Front}
-use Rattle.regress_plan.specs.Fronts.{allowed_of, fits, IsInAscii}
+use Rattle.regress_plan.specs.declared.prefix.Prefix.{Prefix}
+use Rattle.regress_plan.specs.Prefixes.{allowed_of, fits, IsInAscii}
 use Rattle.regress_scan.proofs.LowUnits.{fit-boundary}
 use Rattle.regress_scan.specs.Starts.{allows_at, AllowsNone, IsFirstAllowed, IsFirstWhere, AllowsLeads, IsPast, IsFoundIn, few_allowed, fits_in}
 
@@ -102,12 +102,12 @@ module _ (w : Searching) (table : Table) (from : ℕ) where
     none = λ x on le less. absurd (omega (arith, le, less));
   }
 
-  bars : (at k : ℕ) → key_at w.encoding (key (is_wide w.encoding)) w.text at ≡ Some k → table.keys k ≡ false → allows_at w table at ≡ false
-  bars at k there none = ap (allows table) there ∙ none
+  excludes : (at k : ℕ) → key_at w.encoding (key (is_wide w.encoding)) w.text at ≡ Some k → table.keys k ≡ false → allows_at w table at ≡ false
+  excludes at k there none = ap (allows table) there ∙ none
 
   pub scan-goes : (at to k : ℕ) → Scans at → IsPast w.text (is_of_bytes w.encoding) at to
       → key_at w.encoding (key (is_wide w.encoding)) w.text at ≡ Some k → table.keys k ≡ false → Scans to
-  scan-goes at to k s p there barred = record {
+  scan-goes at to k s p there excluded = record {
     passed = let a = s.passed in let b = p.ahead in omega (arith, a, b);
     inside = p.inside;
     boundary = p.boundary;
@@ -115,7 +115,7 @@ module _ (w : Searching) (table : Table) (from : ℕ) where
       | inl before ↦ s.none x on le before
       | inr after ↦ elim (cases_lt at x) [
         | inl more ↦ absurd (p.alone x on more less)
-        | inr most ↦ let here : at ≡ x = omega (arith, after, most) in subst (λ x. allows_at w table x ≡ false) here (bars at k there barred)
+        | inr most ↦ let here : at ≡ x = omega (arith, after, most) in subst (λ x. allows_at w table x ≡ false) here (excludes at k there excluded)
       ]
     ];
   }
@@ -263,15 +263,15 @@ few-found w has us len from bytes leads inside found f = by f.0 f.1 found f.2
     allowed : (at : ℕ) → at < length all → allows_at w table at ≡ contains (take len us) (get_or all at 0)
     allowed at less = ap (allows table) (byte-key w.encoding w.text bytes at ∙ slice_get-get_or all at 0 less)
 
-    barred : (at : ℕ) → from ≤ at → at < length all → test (at - from) ≡ false → allows_at w table at ≡ false
-    barred at le less none =
+    excluded : (at : ℕ) → from ≤ at → at < length all → test (at - from) ≡ false → allows_at w table at ≡ false
+    excluded at le less none =
         let back : at ≡ from + (at - from) = omega (arith, le) in
         allowed at less ∙ ap (λ at. contains (take len us) (get_or all at 0)) back ∙ sym (tested (at - from)) ∙ none
 
     by : (index : Option ℕ) → FindsFirst test (length (drop from all)) index → (found : Option ℕ) → found ≡ option_map (λ i. from + i) index
         → IsFirstAllowed w table from found
     by None none None e = λ x on le less. elim (cases_lt x (units w.text)) [
-      | inl before ↦ barred x le (omega (arith, before, count)) (none (x - from) (omega (arith, le, before, count, length-rest)))
+      | inl before ↦ excluded x le (omega (arith, before, count)) (none (x - from) (omega (arith, le, before, count, length-rest)))
       | inr after ↦ ap (allows table) (no-key w.encoding w.text has x after)
     ]
     by None none (Some to) e = cc
@@ -287,46 +287,46 @@ few-found w has us len from bytes leads inside found f = by f.0 f.1 found f.2
               keyed (byte-small w.encoding w.text has bytes to (get_or all to 0) keyed) has_it (λ no. let never : true ≡ false = sym bytes ∙ no in cc),
           omega (arith, there),
           allowed to less ∙ has_it,
-          λ x on le before. barred x le (omega (arith, before, less)) (first.none_before (x - from) (omega (arith, le, before, there))),
+          λ x on le before. excluded x le (omega (arith, before, less)) (first.none_before (x - from) (omega (arith, le, before, there))),
         )
 
 -- ---- The first units of a match
 
 -- the first place at which they fit, found in bytes
-pub fitting-found : (w : Searching) → HasUnits w.encoding w.text → (front : Front) → is_wide w.encoding ≡ false → 0 < front.len → IsInAscii front → (from : ℕ)
-    → (found : Option ℕ) → IsFoundFrom true (λ bytes index. fits (allowed_of front) bytes index front.len) (bytes_of w.text) from found
-    → IsFirstWhere w (fits_in w front) from found
-fitting-found w has front narrow some ascii from found f = by f.0 f.1 found f.2
+pub fitting-found : (w : Searching) → HasUnits w.encoding w.text → (prefix : Prefix) → is_wide w.encoding ≡ false → 0 < prefix.len → IsInAscii prefix → (from : ℕ)
+    → (found : Option ℕ) → IsFoundFrom true (λ bytes index. fits (allowed_of prefix) bytes index prefix.len) (bytes_of w.text) from found
+    → IsFirstWhere w (fits_in w prefix) from found
+fitting-found w has prefix narrow some ascii from found f = by f.0 f.1 found f.2
   where
     all : List ℕ
     all = bytes_of w.text
 
     test : (at : ℕ) → Bool
-    test at = fits (allowed_of front) all at front.len
+    test at = fits (allowed_of prefix) all at prefix.len
 
     same-units : (e : Encoding) → is_wide e ≡ false → map (key (is_wide e)) (units_in e w.text) ≡ all
     same-units utf8 n = map-id (units_in utf8 w.text) ∙ utf8-units w.text.characters
     same-units utf16 n = cc
     same-units ucs2 n = cc
 
-    same : (at : ℕ) → fits_in w front at ≡ test at
-    same at = ap (λ (us : List ℕ). fits (allowed_of front) us at front.len) (same-units w.encoding narrow)
+    same : (at : ℕ) → fits_in w prefix at ≡ test at
+    same at = ap (λ (us : List ℕ). fits (allowed_of prefix) us at prefix.len) (same-units w.encoding narrow)
 
     length-rest : length (drop from all) ≡ length all - from
     length-rest = length-drop from all
 
-    barred : (at : ℕ) → from ≤ at → fits (allowed_of front) (drop from all) (at - from) front.len ≡ false → fits_in w front at ≡ false
-    barred at le none =
+    excluded : (at : ℕ) → from ≤ at → fits (allowed_of prefix) (drop from all) (at - from) prefix.len ≡ false → fits_in w prefix at ≡ false
+    excluded at le none =
         let back : at ≡ from + (at - from) = omega (arith, le) in
-        same at ∙ ap test back ∙ sym (fits-behind (allowed_of front) all from (at - from) front.len) ∙ none
+        same at ∙ ap test back ∙ sym (fits-behind (allowed_of prefix) all from (at - from) prefix.len) ∙ none
 
-    past : (at : ℕ) → length all ≤ at → fits_in w front at ≡ false
-    past at end = same at ∙ fits-past (allowed_of front) all at front.len 0 some (omega (arith, end))
+    past : (at : ℕ) → length all ≤ at → fits_in w prefix at ≡ false
+    past at end = same at ∙ fits-past (allowed_of prefix) all at prefix.len 0 some (omega (arith, end))
 
-    by : (index : Option ℕ) → FindsFirst (λ i. fits (allowed_of front) (drop from all) i front.len) (length (drop from all)) index → (found : Option ℕ)
-        → found ≡ option_map (λ i. from + i) index → IsFirstWhere w (fits_in w front) from found
+    by : (index : Option ℕ) → FindsFirst (λ i. fits (allowed_of prefix) (drop from all) i prefix.len) (length (drop from all)) index → (found : Option ℕ)
+        → found ≡ option_map (λ i. from + i) index → IsFirstWhere w (fits_in w prefix) from found
     by None none None e = λ x on le less. elim (cases_lt x (length all)) [
-      | inl before ↦ barred x le (none (x - from) (omega (arith, le, before, length-rest)))
+      | inl before ↦ excluded x le (none (x - from) (omega (arith, le, before, length-rest)))
       | inr after ↦ past x after
     ]
     by None none (Some to) e = cc
@@ -334,9 +334,9 @@ fitting-found w has front narrow some ascii from found f = by f.0 f.1 found f.2
     by (Some i) first (Some to) e =
         let there : to ≡ from + i = cc in
         let within = first.within in
-        let fit : test to ≡ true = ap test there ∙ sym (fits-behind (allowed_of front) all from i front.len) ∙ first.passes in (
-          fit-boundary w has front to (same to ∙ fit) some ascii,
+        let fit : test to ≡ true = ap test there ∙ sym (fits-behind (allowed_of prefix) all from i prefix.len) ∙ first.passes in (
+          fit-boundary w has prefix to (same to ∙ fit) some ascii,
           omega (arith, there),
           same to ∙ fit,
-          λ x on le before. barred x le (first.none_before (x - from) (omega (arith, le, before, there))),
+          λ x on le before. excluded x le (first.none_before (x - from) (omega (arith, le, before, there))),
         )

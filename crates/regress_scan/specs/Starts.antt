@@ -6,13 +6,13 @@ use Rattle.regex_meaning.specs.Offsets.{IsBoundary, units}
 use Rattle.regex_meaning.specs.Units.{units_in}
 use Rattle.regress_input.specs.Reading.{past, bytes_of, is_of_bytes, IsFoundFrom}
 use Rattle.regress_plan.specs.Before.{lets_begin}
-use Rattle.regress_plan.specs.declared.front.Front.{Front}
+use Rattle.regress_plan.specs.declared.prefix.Prefix.{Prefix}
 use Rattle.regress_plan.specs.declared.plan.Start.{Start}
 use Rattle.regress_plan.specs.declared.plan.Start.TheVariants as variant
-use Rattle.regress_plan.specs.Fronts.{allowed_of, fits}
+use Rattle.regress_plan.specs.Prefixes.{allowed_of, fits}
 use Rattle.regress_plan.specs.Keys.{key, is_wide, is_lead}
 use Rattle.regress_plan.specs.Plans.{tried}
-use Rattle.regress_serves.specs.Tables.{Table, allows, key_at}
+use Rattle.regress_simulation.specs.Tables.{Table, allows, key_at}
 use Rattle.regress_scan.specs.Searching.{Searching}
 
 -- whether the table allows what stands next at an offset
@@ -63,12 +63,12 @@ abbrev pub keys_in : Searching → List ℕ
 keys_in w = map (key (is_wide w.encoding)) (units_in w.encoding w.text)
 
 -- whether each of the first units may stand at an offset
-abbrev pub fits_in : Searching → Front → (at : ℕ) → Bool
-fits_in w front at = fits (allowed_of front) (keys_in w) at front.len
+abbrev pub fits_in : Searching → Prefix → (at : ℕ) → Bool
+fits_in w prefix at = fits (allowed_of prefix) (keys_in w) at prefix.len
 
 -- the first boundary from an offset on at which they all may
-abbrev pub IsFirstFitting : Searching → Front → (from : ℕ) → Option ℕ → Type 0
-IsFirstFitting w front from next = IsFirstWhere w (fits_in w front) from next
+abbrev pub IsFirstFitting : Searching → Prefix → (from : ℕ) → Option ℕ → Type 0
+IsFirstFitting w prefix from next = IsFirstWhere w (fits_in w prefix) from next
 
 -- past the first character that the table allows
 abbrev pub IsPastFirst : Searching → Table → (from : ℕ) → Option ℕ → Type 0
@@ -77,7 +77,7 @@ IsPastFirst w table from (Some to) = (hit : ℕ) × IsFirstAllowed w table from 
 
 -- whether a search tries at an offset, where it has to start so
 abbrev pub tries_at : Searching → Start → (at : ℕ) → Bool
-tries_at w (variant.Front front prefilter) at = fits_in w front at
+tries_at w (variant.Prefix prefix prefilter) at = fits_in w prefix at
 tries_at w (variant.Behind before) at = lets_begin w.encoding before w.text at
 tries_at w start at = allows_at w (tried w.plan start) at
 

@@ -2,37 +2,37 @@
 
 ghost use Rattle.std.specs.Prelude.{◌≡◌, ◌≤◌, ◌<◌, length, IfSome};
 ghost use Rattle.std.proofs.Props.{props};
-ghost use Rattle.regress_plan.specs.Fronts.{allowed_of, fits, IsRare, IsLiteral};
+ghost use Rattle.regress_plan.specs.Prefixes.{allowed_of, fits, IsRare, IsLiteral};
 ghost use Rattle.regress_scan.specs.Fitting.{FindsFit};
 
 use memchr::{memchr, memmem};
 use regress_input::front::ByteSearcher;
-use regress_plan::front::{Front, Literal, Rare, is_clear};
+use regress_plan::prefix::{Literal, Prefix, Rare, is_clear};
 
 /// The first units of a match, of which some in a row or one may be known.
 #[derive(Clone, Copy)]
 pub(crate) struct Fitting<'p> {
-    pub(crate) front: &'p Front,
+    pub(crate) prefix: &'p Prefix,
     pub(crate) literal: Option<&'p Literal>,
     pub(crate) rare: Option<Rare>,
-    ghost some: { 0 < front.now.len },
-    ghost is_literal: { IfSome literal (λ l. IsLiteral front.now l.now) } by { Prim.hlevel props },
-    ghost is_rare: { IfSome rare (λ r. IsRare front.now r) } by { Prim.hlevel props },
+    ghost some: { 0 < prefix.now.len },
+    ghost is_literal: { IfSome literal (λ l. IsLiteral prefix.now l.now) } by { Prim.hlevel props },
+    ghost is_rare: { IfSome rare (λ r. IsRare prefix.now r) } by { Prim.hlevel props },
 }
 
 impl ByteSearcher for Fitting<'_> {
-    ghost use Rattle.regress_plan.specs.Fronts.{allowed_of, fits};
+    ghost use Rattle.regress_plan.specs.Prefixes.{allowed_of, fits};
 
-    ghost stands_at = { λ f bytes index. fits (allowed_of f.front.now) bytes index f.front.now.len };
+    ghost stands_at = { λ f bytes index. fits (allowed_of f.prefix.now) bytes index f.prefix.now.len };
 
     #[inline(always)]
     fn find_in(&self, bytes: &[u8]) -> Option<usize> {
         if let Some(literal) = self.literal {
-            return find_literal(self.front, literal, bytes);
+            return find_literal(self.prefix, literal, bytes);
         }
         match self.rare {
-            Some(rare) => find_rare(self.front, rare, bytes),
-            None => find_fitting(self.front, bytes),
+            Some(rare) => find_rare(self.prefix, rare, bytes),
+            None => find_fitting(self.prefix, bytes),
         }
     }
 }
@@ -40,15 +40,15 @@ impl ByteSearcher for Fitting<'_> {
 // The first index at which all may stand. Of the units so far the state says how many of them may be the first ones of
 // a match: bit `j` is clear where the last `j` may.
 #[inline(always)]
-fn find_fitting(front: &Front, bytes: &[u8]) -> Option<usize>
-    requires { 0 < front.now.len }
-    ensures { FindsFit front.now bytes.now result }
+fn find_fitting(prefix: &Prefix, bytes: &[u8]) -> Option<usize>
+    requires { 0 < prefix.now.len }
+    ensures { FindsFit prefix.now bytes.now result }
 {
-    let len = front.len;
+    let len = prefix.len;
     let mut state = !1u16;
     let mut at = 0;
     'units: while at < bytes.len() {
-        state |= front.masks[usize::from(bytes[at])];
+        state |= prefix.masks[usize::from(bytes[at])];
         state <<= 1;
         at += 1;
         if is_clear(state, len) {
@@ -60,9 +60,9 @@ fn find_fitting(front: &Front, bytes: &[u8]) -> Option<usize>
 
 // The same, by the unit that alone may stand at its place.
 #[inline(always)]
-fn find_rare(front: &Front, rare: Rare, bytes: &[u8]) -> Option<usize>
-    requires { IsRare front.now rare }
-    ensures { FindsFit front.now bytes.now result }
+fn find_rare(prefix: &Prefix, rare: Rare, bytes: &[u8]) -> Option<usize>
+    requires { IsRare prefix.now rare }
+    ensures { FindsFit prefix.now bytes.now result }
 {
     let mut at = 0;
     'places: while at + rare.ahead < bytes.len() {
@@ -70,7 +70,7 @@ fn find_rare(front: &Front, rare: Rare, bytes: &[u8]) -> Option<usize>
             return None;
         };
         at += more;
-        if fits_at(front, bytes, at) {
+        if fits_at(prefix, bytes, at) {
             return Some(at);
         }
         at += 1;
@@ -80,10 +80,10 @@ fn find_rare(front: &Front, rare: Rare, bytes: &[u8]) -> Option<usize>
 
 // The same, by units in a row that alone may stand where they stand.
 #[inline(always)]
-fn find_literal(front: &Front, literal: &Literal, bytes: &[u8]) -> Option<usize>
-    requires some { 0 < front.now.len }
-    requires literal { IsLiteral front.now literal.now }
-    ensures { FindsFit front.now bytes.now result }
+fn find_literal(prefix: &Prefix, literal: &Literal, bytes: &[u8]) -> Option<usize>
+    requires some { 0 < prefix.now.len }
+    requires literal { IsLiteral prefix.now literal.now }
+    ensures { FindsFit prefix.now bytes.now result }
 {
     let needle = &literal.units[..literal.len];
     let mut at = 0;
@@ -92,7 +92,7 @@ fn find_literal(front: &Front, literal: &Literal, bytes: &[u8]) -> Option<usize>
             return None;
         };
         at += more;
-        if fits_at(front, bytes, at) {
+        if fits_at(prefix, bytes, at) {
             return Some(at);
         }
         at += 1;
@@ -102,17 +102,17 @@ fn find_literal(front: &Front, literal: &Literal, bytes: &[u8]) -> Option<usize>
 
 // Whether all may stand at an index.
 #[inline(always)]
-fn fits_at(front: &Front, bytes: &[u8], at: usize) -> bool
+fn fits_at(prefix: &Prefix, bytes: &[u8], at: usize) -> bool
     requires { at ≤ length bytes.now }
-    ensures { result ≡ fits (allowed_of front.now) bytes.now at front.now.len }
+    ensures { result ≡ fits (allowed_of prefix.now) bytes.now at prefix.now.len }
 {
     let left = bytes.len() - at;
-    if left < front.len {
+    if left < prefix.len {
         return false;
     }
     let mut ahead = 0;
-    'units: while ahead < front.len {
-        if !front.may_stand(usize::from(bytes[at + ahead]), ahead) {
+    'units: while ahead < prefix.len {
+        if !prefix.may_stand(usize::from(bytes[at + ahead]), ahead) {
             return false;
         }
         ahead += 1;

@@ -2,15 +2,15 @@
 
 ghost use Rattle.std.specs.Prelude.{◌≡◌, ◌≤◌, ◌<◌, ◌+◌, ◌-◌, ◌^◌, true, false};
 ghost use Rattle.regex_meaning.specs.Offsets.{IsBoundary, units};
-ghost use Rattle.regress_plan.specs.Fronts.{AreProbes, IsInAscii};
-ghost use Rattle.regress_plan.specs.declared.front.Front as front;
+ghost use Rattle.regress_plan.specs.Prefixes.{AreProbes, IsInAscii};
+ghost use Rattle.regress_plan.specs.declared.prefix.Prefix as prefix;
 ghost use Rattle.regress_scan.specs.Probing.{NoneFits, IsFirstFit, HasRoom};
 ghost use Rattle.regress_scan.specs.Starts.{fits_in, IsFirstFitting};
 
 use crate::characters::{key_here, unit_here};
 use crate::planned::{Planned, text_end};
-use regress_plan::front::Front;
 use regress_plan::prefilters::Probe;
+use regress_plan::prefix::Prefix;
 
 /// So many places are asked together.
 const BLOCK: usize = 32;
@@ -23,14 +23,14 @@ const SELDOM: usize = 2;
 
 // Whether each of the first units may stand at a place.
 #[inline(always)]
-fn fits_here<W: Planned>(planned: &W, front: &Front, at: usize) -> bool
-    requires { at + front.now.len ≤ units (W.searching planned.now).text }
-    ensures { result ≡ fits_in (W.searching planned.now) front.now at }
+fn fits_here<W: Planned>(planned: &W, prefix: &Prefix, at: usize) -> bool
+    requires { at + prefix.now.len ≤ units (W.searching planned.now).text }
+    ensures { result ≡ fits_in (W.searching planned.now) prefix.now at }
 {
     let mut ahead = 0;
-    'units: while ahead < front.len {
+    'units: while ahead < prefix.len {
         let key = key_here(planned, at + ahead);
-        if !front.may_stand(key, ahead) {
+        if !prefix.may_stand(key, ahead) {
             return false;
         }
         ahead += 1;
@@ -42,7 +42,7 @@ fn fits_here<W: Planned>(planned: &W, front: &Front, at: usize) -> bool
 #[inline(always)]
 fn all_pass<W: Planned>(planned: &W, probes: &[Probe], at: usize) -> bool
     requires { HasRoom probes.now (at + 1) (units (W.searching planned.now).text) }
-    ensures { (f : front.Front) → AreProbes f probes.now
+    ensures { (f : prefix.Prefix) → AreProbes f probes.now
         → fits_in (W.searching planned.now) f at ≡ true → result ≡ true }
 {
     let mut all = true;
@@ -60,7 +60,7 @@ fn all_pass<W: Planned>(planned: &W, probes: &[Probe], at: usize) -> bool
 fn some_pass<W: Planned>(planned: &W, probes: &[Probe], from: usize, count: usize) -> bool
     requires room { HasRoom probes.now (from + count) (units (W.searching planned.now).text) }
     requires inside { from + count ≤ units (W.searching planned.now).text }
-    ensures { (f : front.Front) → AreProbes f probes.now → result ≡ false
+    ensures { (f : prefix.Prefix) → AreProbes f probes.now → result ≡ false
         → NoneFits (W.searching planned.now) f from (from + count) }
 {
     let mut some = false;
@@ -74,16 +74,21 @@ fn some_pass<W: Planned>(planned: &W, probes: &[Probe], from: usize, count: usiz
 
 // The first of so many places at which the first units may stand.
 #[inline(always)]
-fn first_fitting<W: Planned>(planned: &W, front: &Front, from: usize, count: usize) -> Option<usize>
-    requires some { 0 < front.now.len }
+fn first_fitting<W: Planned>(
+    planned: &W,
+    prefix: &Prefix,
+    from: usize,
+    count: usize,
+) -> Option<usize>
+    requires some { 0 < prefix.now.len }
     requires room { 0 < count
-        → from + count + front.now.len ≤ units (W.searching planned.now).text + 1 }
-    ensures { IsFirstFit (W.searching planned.now) front.now from (from + count) result }
+        → from + count + prefix.now.len ≤ units (W.searching planned.now).text + 1 }
+    ensures { IsFirstFit (W.searching planned.now) prefix.now from (from + count) result }
 {
     let mut i = 0;
     'places: while i < count {
         let at = from + i;
-        if fits_here(planned, front, at) {
+        if fits_here(planned, prefix, at) {
             return Some(at);
         }
         i += 1;
@@ -95,17 +100,17 @@ fn first_fitting<W: Planned>(planned: &W, front: &Front, from: usize, count: usi
 #[inline(always)]
 fn first_in_part<W: Planned>(
     planned: &W,
-    front: &Front,
+    prefix: &Prefix,
     probes: &[Probe; 4],
     from: usize,
 ) -> Option<usize>
-    requires some { 0 < front.now.len }
-    requires probes { AreProbes front.now probes.now }
-    requires room { from + PART + front.now.len ≤ units (W.searching planned.now).text }
-    ensures { IsFirstFit (W.searching planned.now) front.now from (from + PART) result }
+    requires some { 0 < prefix.now.len }
+    requires probes { AreProbes prefix.now probes.now }
+    requires room { from + PART + prefix.now.len ≤ units (W.searching planned.now).text }
+    ensures { IsFirstFit (W.searching planned.now) prefix.now from (from + PART) result }
 {
     if some_pass(planned, probes, from, PART) {
-        first_fitting(planned, front, from, PART)
+        first_fitting(planned, prefix, from, PART)
     } else {
         None
     }
@@ -115,19 +120,19 @@ fn first_in_part<W: Planned>(
 #[inline(never)]
 fn first_in_parts<W: Planned>(
     planned: &W,
-    front: &Front,
+    prefix: &Prefix,
     probes: &[Probe; 4],
     from: usize,
 ) -> Option<usize>
-    requires some { 0 < front.now.len }
-    requires probes { AreProbes front.now probes.now }
-    requires room { from + BLOCK + front.now.len ≤ units (W.searching planned.now).text }
-    ensures { IsFirstFit (W.searching planned.now) front.now from (from + BLOCK) result }
+    requires some { 0 < prefix.now.len }
+    requires probes { AreProbes prefix.now probes.now }
+    requires room { from + BLOCK + prefix.now.len ≤ units (W.searching planned.now).text }
+    ensures { IsFirstFit (W.searching planned.now) prefix.now from (from + BLOCK) result }
 {
     let mut behind = 0;
     'parts: while behind < BLOCK {
         let at = from + behind;
-        if let Some(found) = first_in_part(planned, front, probes, at) {
+        if let Some(found) = first_in_part(planned, prefix, probes, at) {
             return Some(found);
         }
         behind += PART;
@@ -140,7 +145,7 @@ fn first_in_parts<W: Planned>(
 fn block_passes<W: Planned>(planned: &W, probes: &[Probe; 4], from: usize) -> bool
     requires room { HasRoom probes.now (from + BLOCK) (units (W.searching planned.now).text) }
     requires inside { from + BLOCK ≤ units (W.searching planned.now).text }
-    ensures { (f : front.Front) → AreProbes f probes.now → result ≡ false
+    ensures { (f : prefix.Prefix) → AreProbes f probes.now → result ≡ false
         → NoneFits (W.searching planned.now) f from (from + BLOCK) }
 {
     let seldom = &probes[..SELDOM];
@@ -151,17 +156,17 @@ fn block_passes<W: Planned>(planned: &W, probes: &[Probe; 4], from: usize) -> bo
 #[inline(always)]
 fn first_in_block<W: Planned>(
     planned: &W,
-    front: &Front,
+    prefix: &Prefix,
     probes: &[Probe; 4],
     from: usize,
 ) -> Option<usize>
-    requires some { 0 < front.now.len }
-    requires probes { AreProbes front.now probes.now }
-    requires room { from + BLOCK + front.now.len ≤ units (W.searching planned.now).text }
-    ensures { IsFirstFit (W.searching planned.now) front.now from (from + BLOCK) result }
+    requires some { 0 < prefix.now.len }
+    requires probes { AreProbes prefix.now probes.now }
+    requires room { from + BLOCK + prefix.now.len ≤ units (W.searching planned.now).text }
+    ensures { IsFirstFit (W.searching planned.now) prefix.now from (from + BLOCK) result }
 {
     if block_passes(planned, probes, from) {
-        first_in_parts(planned, front, probes, from)
+        first_in_parts(planned, prefix, probes, from)
     } else {
         None
     }
@@ -180,24 +185,24 @@ fn places_left(units: usize, at: usize, len: usize) -> usize
 #[inline(never)]
 pub(crate) fn next_probed<W: Planned>(
     planned: &W,
-    front: &Front,
+    prefix: &Prefix,
     probes: &[Probe; 4],
     from: usize,
 ) -> Option<usize>
     requires at { IsBoundary (W.searching planned.now).text from }
-    requires probes { AreProbes front.now probes.now }
-    requires some { 0 < front.now.len }
-    requires ascii { IsInAscii front.now }
-    ensures { IsFirstFitting (W.searching planned.now) front.now from result }
+    requires probes { AreProbes prefix.now probes.now }
+    requires some { 0 < prefix.now.len }
+    requires ascii { IsInAscii prefix.now }
+    ensures { IsFirstFitting (W.searching planned.now) prefix.now from result }
 {
-    let mut left = places_left(text_end(planned), from, front.len);
+    let mut left = places_left(text_end(planned), from, prefix.len);
     let mut at = from;
     'blocks: while left > BLOCK {
-        if let Some(found) = first_in_block(planned, front, probes, at) {
+        if let Some(found) = first_in_block(planned, prefix, probes, at) {
             return Some(found);
         }
         at += BLOCK;
         left -= BLOCK;
     }
-    first_fitting(planned, front, at, left)
+    first_fitting(planned, prefix, at, left)
 }

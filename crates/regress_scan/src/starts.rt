@@ -6,10 +6,10 @@ ghost use Rattle.regress_exec.specs.Attempts.{IsNextTry};
 ghost use Rattle.regress_input.specs.Reading.{is_of_bytes};
 ghost use Rattle.regress_machine.specs.Finds.{CanSearch};
 ghost use Rattle.regress_plan.specs.Before.{HasLeadKeys};
-ghost use Rattle.regress_plan.specs.Fronts.{IsInAscii, IsLiteral, IsRare, AreKnown, IsPrefilter};
+ghost use Rattle.regress_plan.specs.Prefixes.{IsInAscii, IsLiteral, IsRare, AreKnown, IsPrefilter};
 ghost use Rattle.regress_plan.specs.Keys.{is_wide};
 ghost use Rattle.regress_plan.specs.Plans.{numbered};
-ghost use Rattle.regress_serves.specs.Tables.{Table};
+ghost use Rattle.regress_simulation.specs.Tables.{Table};
 ghost use Rattle.regress_scan.specs.Searching.{program_of};
 ghost use Rattle.regress_scan.specs.Starts.{IsFirstAllowed, IsFirstWhere, IsFirstFitting, IsFirstTry, IsFoundIn, AllowsLeads, IsPast, IsPastFirst, few_allowed, tries_at};
 
@@ -21,10 +21,10 @@ use crate::probing::next_probed;
 use regress_input::front::ByteSearcher;
 use regress_input::indexing::{CodeUnits, HasUnits, InputIndexer};
 use regress_plan::before::Before;
-use regress_plan::beginnings::Beginnings;
-use regress_plan::front::{Front, Literal, Rare};
+use regress_plan::first_set::FirstSet;
 use regress_plan::plan::Start;
 use regress_plan::prefilters::{Known, Prefilter};
+use regress_plan::prefix::{Literal, Prefix, Rare};
 
 /// In a text of so many units, or fewer, a literal is not looked for: to make that search takes as long as to go over them.
 const LONG: usize = 1024;
@@ -43,7 +43,7 @@ pub(crate) trait MayStand {
         ensures { result ≡ (table self.now).end };
 }
 
-impl MayStand for Beginnings {
+impl MayStand for FirstSet {
     ghost use Rattle.regress_plan.specs.Keys.{table_of};
 
     ghost table = { table_of };
@@ -160,20 +160,20 @@ pub(crate) fn next_of_few<W: Planned>(planned: &W, few: Few, from: usize) -> Opt
 #[inline(never)]
 fn next_fitting<W: Planned>(
     planned: &W,
-    front: &Front,
+    prefix: &Prefix,
     literal: Option<&Literal>,
     rare: Option<Rare>,
     from: usize,
 ) -> Option<usize>
     requires at { IsBoundary (W.searching planned.now).text from }
     requires bytes { is_wide (W.searching planned.now).encoding ≡ false }
-    requires front { (0 < front.now.len) × IsInAscii front.now }
-    requires literal { IfSome literal (λ l. IsLiteral front.now l.now) }
-    requires rare { IfSome rare (λ r. IsRare front.now r) }
-    ensures { IsFirstFitting (W.searching planned.now) front.now from result }
+    requires prefix { (0 < prefix.now.len) × IsInAscii prefix.now }
+    requires literal { IfSome literal (λ l. IsLiteral prefix.now l.now) }
+    requires rare { IfSome rare (λ r. IsRare prefix.now r) }
+    ensures { IsFirstFitting (W.searching planned.now) prefix.now from result }
 {
     let fitting = Fitting {
-        front,
+        prefix,
         literal,
         rare,
     };
@@ -182,61 +182,61 @@ fn next_fitting<W: Planned>(
 
 // The same, by units that are known: in a long text by those in a row.
 #[inline(always)]
-fn next_known<W: Planned>(planned: &W, front: &Front, known: &Known, from: usize) -> Option<usize>
+fn next_known<W: Planned>(planned: &W, prefix: &Prefix, known: &Known, from: usize) -> Option<usize>
     requires at { IsBoundary (W.searching planned.now).text from }
     requires bytes { is_wide (W.searching planned.now).encoding ≡ false }
-    requires some { 0 < front.now.len }
-    requires ascii { IsInAscii front.now }
-    requires known { AreKnown front.now known.now }
-    ensures { IsFirstFitting (W.searching planned.now) front.now from result }
+    requires some { 0 < prefix.now.len }
+    requires ascii { IsInAscii prefix.now }
+    requires known { AreKnown prefix.now known.now }
+    ensures { IsFirstFitting (W.searching planned.now) prefix.now from result }
 {
     if text_end(planned).saturating_sub(from) > LONG {
-        return next_fitting(planned, front, Some(&known.literal), None, from);
+        return next_fitting(planned, prefix, Some(&known.literal), None, from);
     }
-    next_in_short(planned, front, known, from)
+    next_in_short(planned, prefix, known, from)
 }
 
 // The same in a short text: by one that is seldom, else by bits.
 #[inline(always)]
 fn next_in_short<W: Planned>(
     planned: &W,
-    front: &Front,
+    prefix: &Prefix,
     known: &Known,
     from: usize,
 ) -> Option<usize>
     requires at { IsBoundary (W.searching planned.now).text from }
     requires bytes { is_wide (W.searching planned.now).encoding ≡ false }
-    requires some { 0 < front.now.len }
-    requires ascii { IsInAscii front.now }
-    requires known { AreKnown front.now known.now }
-    ensures { IsFirstFitting (W.searching planned.now) front.now from result }
+    requires some { 0 < prefix.now.len }
+    requires ascii { IsInAscii prefix.now }
+    requires known { AreKnown prefix.now known.now }
+    ensures { IsFirstFitting (W.searching planned.now) prefix.now from result }
 {
     if known.rare.is_none() {
         if let Some(probes) = &known.probes {
-            return next_probed(planned, front, probes, from);
+            return next_probed(planned, prefix, probes, from);
         }
     }
-    next_fitting(planned, front, None, known.rare, from)
+    next_fitting(planned, prefix, None, known.rare, from)
 }
 
 // The same, by what is looked for first.
 #[inline(always)]
 fn first_filtered<W: Planned>(
     planned: &W,
-    front: &Front,
+    prefix: &Prefix,
     prefilter: &Prefilter,
     from: usize,
 ) -> Option<usize>
     requires at { IsBoundary (W.searching planned.now).text from }
-    requires some { 0 < front.now.len }
-    requires ascii { IsInAscii front.now }
-    requires filter { IsPrefilter (is_wide (W.searching planned.now).encoding) front.now prefilter.now }
-    ensures { IsFirstFitting (W.searching planned.now) front.now from result }
+    requires some { 0 < prefix.now.len }
+    requires ascii { IsInAscii prefix.now }
+    requires filter { IsPrefilter (is_wide (W.searching planned.now).encoding) prefix.now prefilter.now }
+    ensures { IsFirstFitting (W.searching planned.now) prefix.now from result }
 {
     match prefilter {
-        Prefilter::Probes(probes) => next_probed(planned, front, probes, from),
-        Prefilter::Known(known) => next_known(planned, front, known, from),
-        Prefilter::Absent => next_fitting(planned, front, None, None, from),
+        Prefilter::Probes(probes) => next_probed(planned, prefix, probes, from),
+        Prefilter::Known(known) => next_known(planned, prefix, known, from),
+        Prefilter::Absent => next_fitting(planned, prefix, None, None, from),
     }
 }
 
@@ -296,7 +296,7 @@ fn first_try<W: Planned>(planned: &W, from: usize) -> Option<usize>
             next_of_few(planned, few, from)
         }
         Start::Behind(before) => next_behind(planned, *before, from),
-        Start::Front { front, prefilter } => first_filtered(planned, front, prefilter, from),
+        Start::Prefix { prefix, prefilter } => first_filtered(planned, prefix, prefilter, from),
     }
 }
 

@@ -5,42 +5,42 @@ use Rattle.regress_scan.proofs.fitting.find_literal.Goals as goal
 
 pub returns-in_default : goal.returns-in_default
 returns-in_default c = λ k less.
-    literal-none c.args.front.now c.args.literal.now c.requires.literal c.requires.some c.args.bytes.now (λ i. (c.type_inv.bytes i).fits) c.places.at _ _
+    literal-none c.args.prefix.now c.args.literal.now c.requires.literal c.requires.some c.args.bytes.now (λ i. (c.type_inv.bytes i).fits) c.places.at _ _
     (take_rest c.args.bytes.now (c.places.at + c.args.literal.now.ahead)) refl (needle-short c.args.literal.now) c.places.invariant.1
     c.in_default.ensures k
 
 pub fits_at-requires : goal.fits_at-requires
 fits_at-requires c =
-    literal-inside c.args.front.now c.args.literal.now c.requires.literal c.requires.some c.args.bytes.now (λ i. (c.type_inv.bytes i).fits) c.places.at _ _
+    literal-inside c.args.prefix.now c.args.literal.now c.requires.literal c.requires.some c.args.bytes.now (λ i. (c.type_inv.bytes i).fits) c.places.at _ _
     (take_rest c.args.bytes.now (c.places.at + c.args.literal.now.ahead)) refl (needle-short c.args.literal.now) c.places.invariant.1
     c.in-Some.more c.in-Some.ensures c.places-test.true
 
 pub returns-then-fits_at : goal.returns-then-fits_at
 returns-then-fits_at c = record {
   within =
-      literal-within c.args.front.now c.args.literal.now c.requires.literal c.requires.some c.args.bytes.now (λ i. (c.type_inv.bytes i).fits) c.places.at _ _
+      literal-within c.args.prefix.now c.args.literal.now c.requires.literal c.requires.some c.args.bytes.now (λ i. (c.type_inv.bytes i).fits) c.places.at _ _
       (take_rest c.args.bytes.now (c.places.at + c.args.literal.now.ahead)) refl (needle-short c.args.literal.now) c.places.invariant.1
       c.in-Some.more c.in-Some.ensures (sym c.fits_at.ensures ∙ c.if-fits_at.true);
   passes = sym c.fits_at.ensures ∙ c.if-fits_at.true;
   none_before =
-      literal-before c.args.front.now c.args.literal.now c.requires.literal c.requires.some c.args.bytes.now (λ i. (c.type_inv.bytes i).fits) c.places.at _ _
+      literal-before c.args.prefix.now c.args.literal.now c.requires.literal c.requires.some c.args.bytes.now (λ i. (c.type_inv.bytes i).fits) c.places.at _ _
       (take_rest c.args.bytes.now (c.places.at + c.args.literal.now.ahead)) refl (needle-short c.args.literal.now) c.places.invariant.1
       c.in-Some.more c.in-Some.ensures;
 }
 
 pub places-preserved : goal.places-preserved
 places-preserved c =
-    let inside = literal-inside c.args.front.now c.args.literal.now c.requires.literal c.requires.some c.args.bytes.now (λ i. (c.type_inv.bytes i).fits) c.places.at _ _
+    let inside = literal-inside c.args.prefix.now c.args.literal.now c.requires.literal c.requires.some c.args.bytes.now (λ i. (c.type_inv.bytes i).fits) c.places.at _ _
     (take_rest c.args.bytes.now (c.places.at + c.args.literal.now.ahead)) refl (needle-short c.args.literal.now) c.places.invariant.1
     c.in-Some.more c.in-Some.ensures c.places-test.true in (
       omega (arith, inside),
-      literal-behind c.args.front.now c.args.literal.now c.requires.literal c.requires.some c.args.bytes.now (λ i. (c.type_inv.bytes i).fits) c.places.at _ _
+      literal-behind c.args.prefix.now c.args.literal.now c.requires.literal c.requires.some c.args.bytes.now (λ i. (c.type_inv.bytes i).fits) c.places.at _ _
           (take_rest c.args.bytes.now (c.places.at + c.args.literal.now.ahead)) refl (needle-short c.args.literal.now) c.places.invariant.1
           c.in-Some.more c.in-Some.ensures (sym c.fits_at.ensures ∙ c.if-fits_at.false),
     )
 
 pub returns : goal.returns
 returns c = λ k less.
-    literal-past c.args.front.now c.args.literal.now c.requires.literal c.requires.some c.args.bytes.now (λ i. (c.type_inv.bytes i).fits) c.places.at _ _
+    literal-past c.args.prefix.now c.args.literal.now c.requires.literal c.requires.some c.args.bytes.now (λ i. (c.type_inv.bytes i).fits) c.places.at _ _
     (take_rest c.args.bytes.now (c.places.at + c.args.literal.now.ahead)) refl (needle-short c.args.literal.now) c.places.invariant.1
     (omega (arith, c.places-test.false)) k

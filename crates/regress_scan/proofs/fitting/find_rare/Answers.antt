@@ -5,13 +5,13 @@ use Rattle.regress_scan.proofs.fitting.find_rare.Goals as goal
 
 pub returns-in_default : goal.returns-in_default
 returns-in_default c = λ k less.
-    rare-none c.args.front.now c.args.rare c.requires c.args.bytes.now (λ i. (c.type_inv.bytes i).fits) c.places.at _ (take_rest c.args.bytes.now (c.places.at + c.args.rare.ahead)) c.in_default.ensures
+    rare-none c.args.prefix.now c.args.rare c.requires c.args.bytes.now (λ i. (c.type_inv.bytes i).fits) c.places.at _ (take_rest c.args.bytes.now (c.places.at + c.args.rare.ahead)) c.in_default.ensures
     c.places.invariant.1 k
 
 pub fits_at-requires : goal.fits_at-requires
 fits_at-requires c =
     let inside =
-    rare-inside c.args.front.now c.args.rare c.requires c.args.bytes.now (λ i. (c.type_inv.bytes i).fits) c.places.at _ (take_rest c.args.bytes.now (c.places.at + c.args.rare.ahead)) c.in-Some.more c.in-Some.ensures
+    rare-inside c.args.prefix.now c.args.rare c.requires c.args.bytes.now (λ i. (c.type_inv.bytes i).fits) c.places.at _ (take_rest c.args.bytes.now (c.places.at + c.args.rare.ahead)) c.in-Some.more c.in-Some.ensures
     c.places.invariant.1 in
     omega (arith, inside)
 
@@ -20,22 +20,22 @@ returns-then-fits_at c =
     let bytes : (i : ℕ) → slice_index c.args.bytes.now i < 256 = λ i. (c.type_inv.bytes i).fits in
     let before = c.places.invariant.1 in
     record {
-      within = rare-inside c.args.front.now c.args.rare c.requires c.args.bytes.now bytes c.places.at _ (take_rest c.args.bytes.now (c.places.at + c.args.rare.ahead)) c.in-Some.more c.in-Some.ensures before;
+      within = rare-inside c.args.prefix.now c.args.rare c.requires c.args.bytes.now bytes c.places.at _ (take_rest c.args.bytes.now (c.places.at + c.args.rare.ahead)) c.in-Some.more c.in-Some.ensures before;
       passes = sym c.fits_at.ensures ∙ c.if-fits_at.true;
-      none_before = rare-before c.args.front.now c.args.rare c.requires c.args.bytes.now bytes c.places.at _ (take_rest c.args.bytes.now (c.places.at + c.args.rare.ahead)) c.in-Some.more c.in-Some.ensures before;
+      none_before = rare-before c.args.prefix.now c.args.rare c.requires c.args.bytes.now bytes c.places.at _ (take_rest c.args.bytes.now (c.places.at + c.args.rare.ahead)) c.in-Some.more c.in-Some.ensures before;
     }
 
 pub places-preserved : goal.places-preserved
 places-preserved c =
     let bytes : (i : ℕ) → slice_index c.args.bytes.now i < 256 = λ i. (c.type_inv.bytes i).fits in
     let before = c.places.invariant.1 in
-    let inside = rare-inside c.args.front.now c.args.rare c.requires c.args.bytes.now bytes c.places.at _ (take_rest c.args.bytes.now (c.places.at + c.args.rare.ahead)) c.in-Some.more c.in-Some.ensures before in (
+    let inside = rare-inside c.args.prefix.now c.args.rare c.requires c.args.bytes.now bytes c.places.at _ (take_rest c.args.bytes.now (c.places.at + c.args.rare.ahead)) c.in-Some.more c.in-Some.ensures before in (
       omega (arith, inside),
-      rare-behind c.args.front.now c.args.rare c.requires c.args.bytes.now bytes c.places.at _ (take_rest c.args.bytes.now (c.places.at + c.args.rare.ahead)) c.in-Some.more c.in-Some.ensures before
+      rare-behind c.args.prefix.now c.args.rare c.requires c.args.bytes.now bytes c.places.at _ (take_rest c.args.bytes.now (c.places.at + c.args.rare.ahead)) c.in-Some.more c.in-Some.ensures before
           (sym c.fits_at.ensures ∙ c.if-fits_at.false),
     )
 
 pub returns : goal.returns
 returns c = λ k less.
-    rare-past c.args.front.now c.args.rare c.requires c.args.bytes.now (λ i. (c.type_inv.bytes i).fits) c.places.at (omega (arith, c.places-test.false))
+    rare-past c.args.prefix.now c.args.rare c.requires c.args.bytes.now (λ i. (c.type_inv.bytes i).fits) c.places.at (omega (arith, c.places-test.false))
     c.places.invariant.1 k

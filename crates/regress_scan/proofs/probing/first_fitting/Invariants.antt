@@ -5,7 +5,7 @@ use Rattle.regress_scan.proofs.probing.first_fitting.Given as goal
 abbrev pub invariant-places : goal.invariant-places
 invariant-places g l =
     let from = l.from in
-    (l.i ≤ l.count) × NoneFits (g.W.Planned.searching l.planned) l.front from (from + l.i)
+    (l.i ≤ l.count) × NoneFits (g.W.Planned.searching l.planned) l.prefix from (from + l.i)
 
 abbrev pub decreases-places : goal.decreases-places
 decreases-places g l = l.count - l.i

@@ -1,7 +1,7 @@
 use Rattle.std.proofs.Common.{Some, sym, ◌∙◌}
 use Rattle.regress_plan.specs.Keys.{is_wide}
-use Rattle.regress_plan.specs.declared.plan.Start.TheVariants.{Anywhere, Among, Few, Behind, Front}
-use Rattle.regress_scan.proofs.Allowing.{try-as, few-known, front-known, try-anywhere}
+use Rattle.regress_plan.specs.declared.plan.Start.TheVariants.{Anywhere, Among, Few, Behind, Prefix}
+use Rattle.regress_scan.proofs.Allowing.{try-as, few-known, prefix-known, try-anywhere}
 use Rattle.regress_scan.proofs.Starting.{low-leads}
 use Rattle.regress_scan.proofs.starts.first_try.Goals as goal
 
@@ -26,7 +26,7 @@ returns-in-Few g c = try-as (g.W.Planned.searching c.args.planned.now) (Few c.in
 pub next_behind-requires-clause-leads : goal.next_behind-requires-clause-leads
 next_behind-requires-clause-leads g c =
     let w = g.W.Planned.searching c.args.planned.now in
-    (front-known w (Behind c.in-Behind.before) (sym c.start.ensures ∙ c.in-Behind.is) c.is_of_program.ensures.front).leads
+    (prefix-known w (Behind c.in-Behind.before) (sym c.start.ensures ∙ c.in-Behind.is) c.is_of_program.ensures.prefix).leads
 
 pub returns-in-Behind : goal.returns-in-Behind
 returns-in-Behind g c = try-as (g.W.Planned.searching c.args.planned.now) (Behind c.in-Behind.before) (sym c.start.ensures ∙ c.in-Behind.is) c.args.from c.next_behind.result c.next_behind.ensures
@@ -34,17 +34,17 @@ returns-in-Behind g c = try-as (g.W.Planned.searching c.args.planned.now) (Behin
 pub first_filtered-requires-clause-some : goal.first_filtered-requires-clause-some
 first_filtered-requires-clause-some g c =
     let w = g.W.Planned.searching c.args.planned.now in
-    (front-known w (Front c.in-Front.front c.in-Front.prefilter) (sym c.start.ensures ∙ c.in-Front.is) c.is_of_program.ensures.front).0
+    (prefix-known w (Prefix c.in-Prefix.prefix c.in-Prefix.prefilter) (sym c.start.ensures ∙ c.in-Prefix.is) c.is_of_program.ensures.prefix).0
 
 pub first_filtered-requires-clause-ascii : goal.first_filtered-requires-clause-ascii
 first_filtered-requires-clause-ascii g c =
     let w = g.W.Planned.searching c.args.planned.now in
-    (front-known w (Front c.in-Front.front c.in-Front.prefilter) (sym c.start.ensures ∙ c.in-Front.is) c.is_of_program.ensures.front).2
+    (prefix-known w (Prefix c.in-Prefix.prefix c.in-Prefix.prefilter) (sym c.start.ensures ∙ c.in-Prefix.is) c.is_of_program.ensures.prefix).2
 
 pub first_filtered-requires-clause-filter : goal.first_filtered-requires-clause-filter
 first_filtered-requires-clause-filter g c =
     let w = g.W.Planned.searching c.args.planned.now in
-    (front-known w (Front c.in-Front.front c.in-Front.prefilter) (sym c.start.ensures ∙ c.in-Front.is) c.is_of_program.ensures.front).3
+    (prefix-known w (Prefix c.in-Prefix.prefix c.in-Prefix.prefilter) (sym c.start.ensures ∙ c.in-Prefix.is) c.is_of_program.ensures.prefix).3
 
-pub returns-in-Front : goal.returns-in-Front
-returns-in-Front g c = try-as (g.W.Planned.searching c.args.planned.now) (Front c.in-Front.front c.in-Front.prefilter) (sym c.start.ensures ∙ c.in-Front.is) c.args.from c.first_filtered.result c.first_filtered.ensures
+pub returns-in-Prefix : goal.returns-in-Prefix
+returns-in-Prefix g c = try-as (g.W.Planned.searching c.args.planned.now) (Prefix c.in-Prefix.prefix c.in-Prefix.prefilter) (sym c.start.ensures ∙ c.in-Prefix.is) c.args.from c.first_filtered.result c.first_filtered.ensures

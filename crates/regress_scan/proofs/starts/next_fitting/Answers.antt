@@ -1,13 +1,13 @@
 use Rattle.std.proofs.Common.{subst}
 use Rattle.regress_input.specs.Reading.{bytes_of, IsFoundFrom}
-use Rattle.regress_plan.specs.Fronts.{allowed_of, fits}
+use Rattle.regress_plan.specs.Prefixes.{allowed_of, fits}
 use Rattle.regress_scan.proofs.Starting.{narrow-bytes, fitting-found}
 use Rattle.regress_scan.proofs.starts.next_fitting.Goals as goal
 
 pub returns : goal.returns
 returns g c =
     let w = g.W.Planned.searching c.args.planned.now in
-    let front = c.args.front.now in
-    fitting-found w (g.met.W.Planned.has_units c.args.planned.now) front c.requires.bytes c.requires.front.0 c.requires.front.1 c.args.from c.find.result
-    (subst (λ b. IsFoundFrom b (λ bs index. fits (allowed_of front) bs index front.len) (bytes_of w.text) c.args.from c.find.result)
+    let prefix = c.args.prefix.now in
+    fitting-found w (g.met.W.Planned.has_units c.args.planned.now) prefix c.requires.bytes c.requires.prefix.0 c.requires.prefix.1 c.args.from c.find.result
+    (subst (λ b. IsFoundFrom b (λ bs index. fits (allowed_of prefix) bs index prefix.len) (bytes_of w.text) c.args.from c.find.result)
     (narrow-bytes w.encoding c.requires.bytes) c.find.ensures)

@@ -1,0 +1,16 @@
+pub mod Memory
+pub mod Ways
+pub mod Steps
+pub mod Turns
+pub mod Marks
+pub mod Taken
+pub mod Taking
+pub mod Iterations
+pub mod Again
+pub mod Scanned
+pub mod Waiting
+pub mod Searches
+pub mod Searched
+pub mod Tried
+pub mod Going
+pub mod Attempted

@@ -1,0 +1,67 @@
+//! One attempt at a place.
+
+ghost use Rattle.std.specs.Prelude.{◌≡◌, IfOk, false, option_map};
+ghost use Rattle.regex_meaning.specs.Offsets.{IsBoundary};
+ghost use Rattle.regress_exec.specs.Spends.{cause_of, Tells};
+ghost use Rattle.regress_backtrack.specs.Attempted.{IsEndFrom, SpendsAt, TakesIfLaidOut};
+ghost use Rattle.regress_backtrack.specs.Searched.{CanBeSearched};
+
+use crate::here::Here;
+use crate::memory::Memory;
+use crate::run::run;
+use crate::steps::{Steps, Stop};
+use regress_exec::exec::SearchError;
+use regress_input::indexing::InputIndexer;
+use regress_scan::planned::{At, Planned, position_in};
+
+// Why a search stopped: steps were refused, or else memory was.
+fn cause<S: Steps>(steps: &S) -> SearchError
+    ensures { result ≡ cause_of (S.budget steps.now).out }
+{
+    if steps.is_out() {
+        SearchError::StepLimit
+    } else {
+        SearchError::Memory
+    }
+}
+
+// The position of an end, if there is one.
+#[inline(always)]
+fn end_in<W: Planned>(planned: &W, end: Option<usize>) -> Option<At<W>>
+    ensures { option_map (λ p. W.Input.Position.offset p) result ≡ end }
+{
+    match end {
+        Some(end) => Some(position_in(planned, end)),
+        None => None,
+    }
+}
+
+/// The end of the most preferred match that begins at a position, which leaves its groups in what is remembered. It
+/// takes the steps that are needed for that, of those there are.
+pub(crate) fn attempt<W: Planned, S: Steps>(
+    planned: &W,
+    pos: At<W>,
+    memory: &mut Memory,
+    steps: &mut S,
+) -> Result<Option<At<W>>, SearchError>
+    requires can { let w = W.searching planned.now in
+        CanBeSearched w.tree w.text × IsBoundary w.text (W.Input.Position.offset pos) }
+    requires fresh { (S.budget steps.old).out ≡ false }
+    ensures found { let at = W.Input.Position.offset in
+        IfOk result (IsEndFrom at (W.searching planned.now) (at pos) memory.new) }
+    ensures steps { SpendsAt (W.searching planned.now) (W.Input.Position.offset pos) S.COUNTS
+        (S.budget steps.old) result (S.budget steps.new) }
+    ensures begun { TakesIfLaidOut (W.searching planned.now) memory.new S.COUNTS
+        (S.budget steps.old) result (S.budget steps.new) }
+    ensures cause { Tells result (S.budget steps.new).out }
+{
+    let at = planned.input().pos_to_offset(pos);
+    let groups = planned.program().groups() as usize;
+    let loops = planned.loops() as usize;
+    memory.begin(groups, loops, at)?;
+    let start = Here { ip: 0, at };
+    match run(planned, true, start, memory, steps) {
+        Ok(end) => Ok(end_in(planned, end)),
+        Err(Stop) => Err(cause(steps)),
+    }
+}

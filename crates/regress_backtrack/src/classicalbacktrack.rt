@@ -1,0 +1,212 @@
+//! The executor that keeps one state and undoes its changes.
+
+ghost use Rattle.std.specs.Prelude.{◌≡◌, IsAscii, IfOk, None, option_map, ⊤, ℕ, List};
+ghost use Rattle.std.specs.Borrow.{Bor};
+ghost use Rattle.regex_meaning.specs.Offsets.{IsBoundary};
+ghost use Rattle.regex_meaning.specs.Text.{ascii_text, utf8_text, utf16_text, ucs2_text};
+ghost use Rattle.regex_pattern_front.specs.TreeOf.{tree_of};
+ghost use Rattle.regress_exec.specs.Attempts.{IsNextTry};
+ghost use Rattle.regress_machine.specs.Finds.{CanSearch};
+ghost use Rattle.regress_scan.specs.Searching.{program_of};
+ghost use Rattle.regress_backtrack.specs.Memory.{state_of};
+
+use crate::attempts::attempt;
+pub use crate::limited::LimitedExecutor;
+use crate::memory::Memory;
+use crate::steps::Free;
+use regress_exec::exec::{Executor, MatchProducer, SearchError, Searcher};
+use regress_exec::places::Attempts;
+use regress_exec::searched::Searched;
+use regress_input::indexing::{AsciiInput, InputIndexer, Ucs2Input, Utf8Input, Utf16Input};
+use regress_program::insn::{CompiledRegex, CompiledUnits, Program};
+use regress_scan::planned::{At, Planned, PlannedProgram, PlannedSearch, offset_in, position_in};
+use regress_scan::starts::next_start;
+use std::alloc::AllocError;
+
+/// Runs a program's plan over a text. It keeps one state, and undoes what it did to it when a way has failed.
+#[derive(Drop)]
+pub struct BacktrackExecutor<'r, Input: InputIndexer> {
+    pub(crate) search: PlannedSearch<'r, Input>,
+    // with the groups of the last attempt that found an end
+    pub(crate) memory: Memory,
+    // Where the last attempt began. A position shows the text's lifetime in this type, which calls that are generic in
+    // the executor need to have.
+    tried: Option<Input::Position>,
+}
+
+impl<'r, Input: InputIndexer> BacktrackExecutor<'r, Input> {
+    // The executor that has tried nothing yet. It takes no memory.
+    fn over(search: PlannedSearch<'r, Input>) -> Self
+        ensures { result.search ≡ search.entry }
+    {
+        let alloc = search.searched.program.allocator();
+        BacktrackExecutor {
+            search,
+            memory: Memory::new(alloc),
+            tried: None,
+        }
+    }
+}
+
+// The first position to try from one on, by the plan.
+#[inline(always)]
+fn next_place<W: Planned>(planned: &W, from: At<W>) -> Option<At<W>>
+    requires at { IsBoundary (W.searching planned.now).text (W.Input.Position.offset from) }
+    requires can { let w = W.searching planned.now in CanSearch (program_of w) w.tree w.text }
+    ensures { let w = W.searching planned.now in let at = W.Input.Position.offset in
+        IsNextTry w.tree w.text (at from) (option_map at result) }
+{
+    match next_start(planned, offset_in(planned, from)) {
+        Some(at) => Some(position_in(planned, at)),
+        None => None,
+    }
+}
+
+impl<'r, Input: InputIndexer> Attempts for BacktrackExecutor<'r, Input> {
+    type Input = Input;
+
+    ghost tree = { λ e. tree_of e.search.program.regex };
+
+    ghost text = { λ e. Input.text e.search.searched.input };
+
+    ghost groups = { λ e. (state_of e.memory 0 0).groups };
+
+    ghost is_text = { λ e. Input.is_text e.search.searched.input };
+
+    fn program(&self) -> &Program {
+        self.search.searched.program
+    }
+
+    fn input(&self) -> &Input {
+        &self.search.searched.input
+    }
+
+    fn attempt(&mut self, pos: Input::Position) -> Result<Option<Input::Position>, SearchError> {
+        self.tried = Some(pos);
+        attempt(&self.search, pos, &mut self.memory, &mut Free)
+    }
+
+    fn group_count(&self) -> usize {
+        self.memory.group_count()
+    }
+
+    fn group(&self, id: usize) -> Option<(Input::Position, Input::Position)> {
+        if id >= self.memory.group_count() {
+            return None;
+        }
+        let (start, end) = self.memory.range_of(id)?;
+        let left = self.search.searched.input.left_end();
+        Some((left + start, left + end))
+    }
+
+    fn place_from(&self, pos: Input::Position) -> Option<Input::Position> {
+        if self.search.searched.is_anchored() {
+            return Some(pos);
+        }
+        next_place(&self.search, pos)
+    }
+
+    fn place_behind(&self, tried: Input::Position) -> Option<Input::Position> {
+        let next = self.search.searched.next_try(tried)?;
+        next_place(&self.search, next)
+    }
+}
+
+impl<'r, 't> BacktrackExecutor<'r, Utf16Input<'t>> {
+    /// Searches 16-bit units, read as UTF-16, with the program `re`.
+    ///
+    /// # Errors
+    ///
+    /// None so far: it takes no memory.
+    pub fn new_utf16(re: &'r CompiledUnits, text: &'t [u16]) -> Result<Self, AllocError>
+        ensures tree { IfOk result (λ e. ⟦<BacktrackExecutor<'r, Utf16Input<'t>> as MatchProducer>⟧.tree e
+            ≡ tree_of re.now) }
+        ensures text { IfOk result (λ e. ⟦<BacktrackExecutor<'r, Utf16Input<'t>> as MatchProducer>⟧.text e
+            ≡ utf16_text text.now (tree_of re.now).flags.unicode) }
+        ensures unlimited { IfOk result (λ e.
+            ⟦<BacktrackExecutor<'r, Utf16Input<'t>> as MatchProducer>⟧.budget e ≡ None) }
+    {
+        let search = PlannedSearch::new(
+            PlannedProgram::for_units(re),
+            Searched::in_utf16(re, text),
+        );
+        Ok(BacktrackExecutor::over(search))
+    }
+}
+
+impl<'r, 't> BacktrackExecutor<'r, Ucs2Input<'t>> {
+    /// Searches 16-bit units, each of which is a character, with the program `re`.
+    ///
+    /// # Errors
+    ///
+    /// None so far: it takes no memory.
+    pub fn new_ucs2(re: &'r CompiledUnits, text: &'t [u16]) -> Result<Self, AllocError>
+        ensures tree { IfOk result (λ e. ⟦<BacktrackExecutor<'r, Ucs2Input<'t>> as MatchProducer>⟧.tree e
+            ≡ tree_of re.now) }
+        ensures text { IfOk result (λ e. ⟦<BacktrackExecutor<'r, Ucs2Input<'t>> as MatchProducer>⟧.text e
+            ≡ ucs2_text text.now (tree_of re.now).flags.unicode) }
+        ensures unlimited { IfOk result (λ e.
+            ⟦<BacktrackExecutor<'r, Ucs2Input<'t>> as MatchProducer>⟧.budget e ≡ None) }
+    {
+        let search = PlannedSearch::new(PlannedProgram::for_units(re), Searched::in_ucs2(re, text));
+        Ok(BacktrackExecutor::over(search))
+    }
+}
+
+impl<'r, 't> Searcher<'r> for BacktrackExecutor<'r, Utf8Input<'t>> {
+    type Text = &'t str;
+
+    ghost can_search = { λ _. ⊤ };
+
+    ghost text_of = { λ text. utf8_text text.now };
+
+    fn new(re: &'r CompiledRegex, text: &'t str) -> Result<Self, AllocError> {
+        let search = PlannedSearch::new(PlannedProgram::for_bytes(re), Searched::in_utf8(re, text));
+        Ok(BacktrackExecutor::over(search))
+    }
+}
+
+impl<'r, 't> Executor<'r, 't> for BacktrackExecutor<'r, Utf8Input<'t>> {
+    type AsAscii = BacktrackExecutor<'r, AsciiInput<'t>>;
+}
+
+impl<'r, 't> Searcher<'r> for BacktrackExecutor<'r, AsciiInput<'t>> {
+    type Text = &'t str;
+
+    // `is_ascii` is the test
+    ghost can_search = { λ text. IsAscii text.now };
+
+    ghost text_of = { λ text. ascii_text text.now };
+
+    fn new(re: &'r CompiledRegex, text: &'t str) -> Result<Self, AllocError> {
+        let search = PlannedSearch::new(
+            PlannedProgram::for_bytes(re),
+            Searched::in_ascii(re, text),
+        );
+        Ok(BacktrackExecutor::over(search))
+    }
+}
+
+impl<'r, 't> Executor<'r, 't> for BacktrackExecutor<'r, AsciiInput<'t>> {
+    type AsAscii = Self;
+}
+
+/// What `AsAscii` of the executor over UTF-8 names takes each text of ASCII, and reads each of its bytes as a character.
+pub fn ascii_is_read_in_bytes()
+    ensures takes { let ascii =
+        ⟦<<BacktrackExecutor<'static, Utf8Input<'static>> as Executor<'static, 'static>>::AsAscii as Searcher<'static>>⟧ in
+        (text : Bor (List ℕ)) → IsAscii text.now → ascii.can_search text }
+    ensures reads { let ascii =
+        ⟦<<BacktrackExecutor<'static, Utf8Input<'static>> as Executor<'static, 'static>>::AsAscii as Searcher<'static>>⟧ in
+        ascii.text_of ≡ (λ text. ascii_text text.now) }
+{}
+
+/// What `AsAscii` of the executor over ASCII names does so too.
+pub fn ascii_stays_in_bytes()
+    ensures takes { let ascii =
+        ⟦<<BacktrackExecutor<'static, AsciiInput<'static>> as Executor<'static, 'static>>::AsAscii as Searcher<'static>>⟧ in
+        (text : Bor (List ℕ)) → IsAscii text.now → ascii.can_search text }
+    ensures reads { let ascii =
+        ⟦<<BacktrackExecutor<'static, AsciiInput<'static>> as Executor<'static, 'static>>::AsAscii as Searcher<'static>>⟧ in
+        ascii.text_of ≡ (λ text. ascii_text text.now) }
+{}

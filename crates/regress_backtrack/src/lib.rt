@@ -1,0 +1,16 @@
+//! The executor that keeps one state and undoes its changes.
+#![tactic(auto)]
+
+mod attempts;
+mod back;
+pub mod classicalbacktrack;
+mod groups;
+pub mod here;
+mod limited;
+mod loops;
+pub mod memory;
+mod run;
+mod runs;
+pub mod steps;
+mod tried;
+pub mod turn;

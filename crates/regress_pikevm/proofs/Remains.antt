@@ -1,0 +1,159 @@
+-- What is left of a search after each turn.
+use Rattle.std.proofs.Common.{◌≡◌, inl, inr, ℕ, zero, suc, ◌<◌, ◌≤◌, List, [], ◌∷◌, ◌++◌, Option, Some, None, Bool, refl, ap, sym, ◌∙◌, subst, arith, map, reverse, append-nil, replicate, take, ◌-◌}
+use Rattle.std.proofs.lemmas.List.{reverse-append}
+use Rattle.std.specs.Prelude.{option_map, IsTrue, IsSome, slice_get}
+use Rattle.regex_meaning.specs.Text.{Text, Direction}
+use Rattle.regex_meaning.specs.Offsets.{IsText, units}
+use Rattle.regex_meaning.specs.Layout.{Program, Insn}
+use Rattle.regex_meaning.specs.Tree.{Tree}
+use Rattle.regress_exec.specs.Passing.{IsInBytes}
+use Rattle.regress_exec.proofs.Literals.{literal-reads}
+use Rattle.regress_program.specs.Code.{compiled}
+use Rattle.regress_machine.specs.Bytes.{ReadsBytes, reads_bytes}
+use Rattle.regress_machine.specs.Machine as machine
+use Rattle.regress_machine.specs.Machine.{Thread, running, waiting, in_turn, Next, goes, scans, ends, asks, resumed, act, search}
+use Rattle.regress_machine.specs.Finds.{initial, end_of}
+use Rattle.regress_machine.proofs.Remains.{steps_of, steps_left, Remains, Left, left-waits, remains-can, remains-inside, remains-ends, remains-none, left-goes, left-scans, left-asks}
+use Rattle.regress_pikevm.specs.declared.pikevm.states.State.{State}
+use Rattle.regress_pikevm.specs.States.{loop_of, state_of, preferred_last, waiting_of, TakesUp}
+use Rattle.regress_machine.specs.Turns.{CanTake, is_literal, end_of_search}
+
+-- ---- The stack
+
+pub waiting-push : {P : Type 0} (offset : P → ℕ) (xs : List (State P)) (s : State P) → waiting_of offset (xs ++ s ∷ []) ≡ waiting (state_of offset s) ∷ waiting_of offset xs
+waiting-push offset xs s = ap (λ l. map (λ s. waiting (state_of offset s)) l) (reverse-append xs (s ∷ []))
+
+map-append : {X Y : Type 0} (f : X → Y) (xs ys : List X) → map f (xs ++ ys) ≡ map f xs ++ map f ys
+map-append f [] ys = refl
+map-append f (x ∷ xs) ys = ap (λ l. f x ∷ l) (map-append f xs ys)
+
+map-map : {X Y Z : Type 0} (f : X → Y) (g : Y → Z) (xs : List X) → map g (map f xs) ≡ map (λ x. g (f x)) xs
+map-map f g [] = refl
+map-map f g (x ∷ xs) = ap (λ l. g (f x) ∷ l) (map-map f g xs)
+
+pub waiting-append : {P : Type 0} (offset : P → ℕ) (xs ys : List (State P)) → waiting_of offset (xs ++ ys) ≡ waiting_of offset ys ++ waiting_of offset xs
+waiting-append offset xs ys =
+    ap (λ l. map (λ s. waiting (state_of offset s)) l) (reverse-append xs ys) ∙ map-append (λ s. waiting (state_of offset s)) (reverse ys) (reverse xs)
+
+-- a stack with nothing to pop
+pub popped-none : {X : Type 0} (xs ys : List X) (n : ℕ) → xs ≡ ys ++ [] → n ≡ 0 → ys ≡ take (n - 1) xs → xs ≡ []
+popped-none xs ys n e z r = e ∙ append-nil ys ∙ r ∙ ap (λ m. take (m - 1) xs) z
+
+-- the states of a scan, of which the last one is taken up
+pub scan-threads : {P : Type 0} (offset : P → ℕ) (states rest stack : List (State P)) (s : State P) → states ≡ rest ++ s ∷ []
+    → running (state_of offset s) ∷ waiting_of offset (stack ++ rest) ≡ in_turn (preferred_last offset states) ++ waiting_of offset stack
+scan-threads offset states rest stack s e =
+    let order : preferred_last offset states ≡ state_of offset s ∷ preferred_last offset rest =
+    ap (preferred_last offset) e ∙ ap (map (λ s. state_of offset s)) (reverse-append rest (s ∷ [])) in
+    ap (λ l. running (state_of offset s) ∷ l) (waiting-append offset stack rest ∙ ap (λ l. l ++ waiting_of offset stack) (sym (map-map (λ s. state_of offset s) waiting (reverse rest))))
+    ∙ ap (λ l. in_turn l ++ waiting_of offset stack) (sym order)
+
+-- ---- The first state
+
+map-replicate : {X Y : Type 0} (f : X → Y) (n : ℕ) (x : X) → map f (replicate n x) ≡ replicate n (f x)
+map-replicate f zero x = refl
+map-replicate f (suc n) x = ap (λ l. f x ∷ l) (map-replicate f n x)
+
+copies-are : {X Y : Type 0} (f : X → Y) (xs : List X) (n m : ℕ) (x : X) → xs ≡ replicate n x → n ≡ m → map f xs ≡ replicate m (f x)
+copies-are f xs n m x e same = ap (map f) e ∙ map-replicate f n x ∙ ap (λ n. replicate n (f x)) same
+
+pub initial-is : (P : Type 0) (offset : P → ℕ) (program : Program) (s : State P) (groups loops : ℕ) → s.ip ≡ 0 → s.groups.items ≡ replicate groups None
+    → s.starts.items ≡ replicate groups s.pos → s.loops.items ≡ replicate loops (record { iters = 0; entry = s.pos }) → groups ≡ program.groups → loops ≡ program.loops
+    → state_of offset s ≡ initial program (offset s.pos)
+initial-is P offset program s groups loops i g st ls eg el =
+    let a = copies-are {X = Option (P × P)} {Y = Option (ℕ × ℕ)} (option_map (λ r. (offset r.0, offset r.1))) s.groups.items groups program.groups None g eg in
+    let b = copies-are offset s.starts.items groups program.groups s.pos st eg in
+    let c = copies-are (loop_of offset) s.loops.items loops program.loops (record { iters = 0; entry = s.pos }) ls el in
+    rw (i, a, b, c) refl
+
+-- ---- Turns of the executor
+
+-- what the code of a tree reads as bytes stands in a text of bytes
+pub reads-literals : (tree : Tree) (text : Text) {are_bytes : Bool} → (IsTrue (reads_bytes tree.root) → IsInBytes text are_bytes)
+    → (i : ℕ) (insn : Insn) → slice_get (compiled tree).insns i ≡ Some insn → IsTrue (is_literal insn) → ReadsBytes text
+reads-literals tree text bytes i insn q l = (bytes (literal-reads tree i insn q l)).reads
+
+-- The state that was taken up runs, and these wait behind it.
+pub record TakenUp {P : Type 0} (offset : P → ℕ) (program : Program) (text : Text) (turns : ℕ) (d : Direction) (top : ℕ) (end : Option machine.State) (ts : List Thread) (s : State P) (rest : List (State P)) : Type 0 where
+  is : IsText text
+  reads : (i : ℕ) (insn : Insn) → slice_get program.insns i ≡ Some insn → IsTrue (is_literal insn) → ReadsBytes text
+  few : steps_left program text turns d ts ≤ top
+  remains : Remains program text turns d top end (running (state_of offset s) ∷ waiting_of offset rest)
+  no_more : steps_left program text turns d (running (state_of offset s) ∷ waiting_of offset rest) ≤ steps_left program text turns d ts
+
+-- What these lemmas speak of is what their first premise does.
+module _ {program : Program} {text : Text} {turns : ℕ} {d : Direction} {top : ℕ} {end : Option machine.State} {ts : List Thread} where
+  pub taken-up : {P : Type 0} (offset : P → ℕ) → Remains program text turns d top end ts → IsText text
+      → ((i : ℕ) (insn : Insn) → slice_get program.insns i ≡ Some insn → IsTrue (is_literal insn) → ReadsBytes text)
+      → (s : State P) (rest : List (State P)) → TakesUp offset ts (Some s) rest → TakenUp offset program text turns d top end ts s rest
+  taken-up offset r is reads s rest (inl e) = record {
+    is = is;
+    reads = reads;
+    few = r.few;
+    remains = subst (Remains program text turns d top end) e r;
+    no_more = let same = ap (steps_left program text turns d) e in omega (arith, same);
+  }
+  taken-up offset r is reads s rest (inr e) =
+      let w = left-waits program text turns d top end (state_of offset s) (waiting_of offset rest) (subst (Remains program text turns d top end) e r) in
+      let same = ap (steps_left program text turns d) e in
+      record { is = is; reads = reads; few = r.few; remains = w.remains; no_more = omega (arith, same, w.fewer) }
+
+  pub turn-none : Remains program text turns d top end ts → ts ≡ [] → None ≡ end
+  turn-none r e = remains-none program text turns d top end (subst (Remains program text turns d top end) e r)
+
+  module _ {P : Type 0} {offset : P → ℕ} {s : State P} {rest : List (State P)} (up : TakenUp offset program text turns d top end ts s rest) where
+    abbrev taken : List Thread
+    taken = running (state_of offset s) ∷ waiting_of offset rest
+
+    then-left : (after : List Thread) → Left program text turns d top end taken after → Left program text turns d top end ts after
+    then-left after l = record { remains = l.remains; fewer = let a = l.fewer in let b = up.no_more in omega (arith, a, b) }
+
+    pub turn-can : CanTake (act program text d (state_of offset s))
+    turn-can = remains-can program text turns d top end (state_of offset s) (waiting_of offset rest) up.remains
+
+    pub turn-inside : offset s.pos ≤ units text
+    turn-inside = remains-inside program text turns d top end (state_of offset s) (waiting_of offset rest) up.remains
+
+    pub turn-goes : {n : Next} (ss : List Thread) {after : List Thread} → n ≡ act program text d (state_of offset s) → goes ss ≡ n → after ≡ ss ++ waiting_of offset rest
+        → Left program text turns d top end ts after
+    turn-goes ss {after = after} e g a =
+        then-left after (subst (Left program text turns d top end taken) (sym a)
+        (left-goes program text turns d top end up.is up.reads (state_of offset s) ss (waiting_of offset rest) up.remains (sym (g ∙ e))))
+
+    pub turn-scans : {n : Next} (tries : ℕ) (ss : List Thread) {after : List Thread} → n ≡ act program text d (state_of offset s) → scans tries ss ≡ n → after ≡ ss ++ waiting_of offset rest
+        → Left program text turns d top end ts after
+    turn-scans tries ss {after = after} e g a =
+        then-left after (subst (Left program text turns d top end taken) (sym a)
+        (left-scans program text turns d top end up.is up.reads (state_of offset s) tries ss (waiting_of offset rest) up.remains (sym (g ∙ e))))
+
+    pub turn-ends : {n : Next} (t : machine.State) → n ≡ act program text d (state_of offset s) → ends t ≡ n → Some t ≡ end
+    turn-ends t e g = remains-ends program text turns d top end (state_of offset s) t (waiting_of offset rest) up.remains (sym (g ∙ e))
+
+    -- a search that is asked for
+    pub record AskedOf (inner : Direction) (negate : Bool) (u w : machine.State) : Type 0 where
+      pub answers : IsSome (search program text turns inner (running u ∷ []))
+      pub inside : u.pos ≤ units text
+      pub fewer : steps_of (search program text turns inner (running u ∷ [])) < top
+      pub behind : Left program text turns d top end ts (resumed negate w (end_of_search (search program text turns inner (running u ∷ []))) ++ waiting_of offset rest)
+
+    pub turn-asks : {n : Next} (u w : machine.State) (inner : Direction) (negate : Bool) → n ≡ act program text d (state_of offset s) → asks inner negate u w ≡ n
+        → AskedOf inner negate u w
+    turn-asks u w inner negate e g =
+        let a = left-asks program text turns d top end up.is up.reads (state_of offset s) u w inner negate (waiting_of offset rest) up.remains (sym (g ∙ e)) in
+        record {
+          answers = a.answers;
+          inside = a.inside;
+          fewer = let f = a.fewer in let m = up.no_more in let few = up.few in omega (arith, f, m, few);
+          behind = then-left _ a.behind;
+        }
+
+    pub asked-left : {inner : Direction} {negate : Bool} {u w : machine.State} {l : List Thread} → AskedOf inner negate u w
+        → l ≡ resumed negate w (end_of_search (search program text turns inner (running u ∷ []))) → Left program text turns d top end ts (l ++ waiting_of offset rest)
+    asked-left a e = subst (λ l. Left program text turns d top end ts (l ++ waiting_of offset rest)) (sym e) a.behind
+
+pub map-end : {P : Type 0} (offset : P → ℕ) (o : Option (State P)) → option_map (λ s. end_of (state_of offset s)) o ≡ option_map end_of (option_map (λ s. state_of offset s) o)
+map-end offset None = refl
+map-end offset (Some s) = refl
+
+pub less-by : (x y n : ℕ) → x < y → y ≡ n → x < n
+less-by x y n less e = omega (arith, less, e)

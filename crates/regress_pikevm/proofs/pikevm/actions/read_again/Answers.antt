@@ -1,0 +1,41 @@
+use Rattle.std.proofs.Common.{ap, sym, subst, ◌∙◌, true, false}
+use Rattle.regress_input.specs.Reading.{led_to, way}
+use Rattle.regress_machine.specs.Machine.{read_group}
+use Rattle.regress_pikevm.specs.States.{range_of, state_of}
+use Rattle.regress_machine.specs.Turns.{CanTake}
+use Rattle.regress_exec.proofs.Readers.{nothing-read, group-read}
+use Rattle.regress_pikevm.proofs.pikevm.actions.read_again.Goals as goal
+
+pub returns-in_default : goal.returns-in_default
+returns-in_default g c =
+    let text = g.Input.InputIndexer.text c.args.searched.now.input in
+    let is = g.met.Input.InputIndexer.is_text c.args.searched.now.input in
+    let offset = g.Input.Position.PositionType.offset in
+    let d = way g.Dir.Direction.FORWARD in
+    let s = state_of offset c.args.state in
+    let can = subst (λ r. CanTake (read_group text c.args.icase d (range_of offset r) s)) c.in_default.is c.requires.can in
+    nothing-read text is c.args.icase d s can ∙ ap (λ r. read_group text c.args.icase d (range_of offset r) s) (sym c.in_default.is)
+
+pub returns-then-stands_again : goal.returns-then-stands_again
+returns-then-stands_again g c =
+    let text = g.Input.InputIndexer.text c.args.searched.now.input in
+    let is = g.met.Input.InputIndexer.is_text c.args.searched.now.input in
+    let offset = g.Input.Position.PositionType.offset in
+    let d = way g.Dir.Direction.FORWARD in
+    let s = state_of offset c.args.state in
+    let can = subst (λ r. CanTake (read_group text c.args.icase d (range_of offset r) s)) c.in-Some.is c.requires.can in
+    let to = offset c.stands_again.new.pos in
+    group-read text is c.args.icase d (offset c.in-Some.span.0) (offset c.in-Some.span.1) s true to can (ap (λ b. led_to b to) (sym c.if-stands_again.true) ∙ c.stands_again.ensures)
+    ∙ ap (λ r. read_group text c.args.icase d (range_of offset r) s) (sym c.in-Some.is)
+
+pub returns-else-stands_again : goal.returns-else-stands_again
+returns-else-stands_again g c =
+    let text = g.Input.InputIndexer.text c.args.searched.now.input in
+    let is = g.met.Input.InputIndexer.is_text c.args.searched.now.input in
+    let offset = g.Input.Position.PositionType.offset in
+    let d = way g.Dir.Direction.FORWARD in
+    let s = state_of offset c.args.state in
+    let can = subst (λ r. CanTake (read_group text c.args.icase d (range_of offset r) s)) c.in-Some.is c.requires.can in
+    let to = offset c.stands_again.new.pos in
+    group-read text is c.args.icase d (offset c.in-Some.span.0) (offset c.in-Some.span.1) s false to can (ap (λ b. led_to b to) (sym c.if-stands_again.false) ∙ c.stands_again.ensures)
+    ∙ ap (λ r. read_group text c.args.icase d (range_of offset r) s) (sym c.in-Some.is)

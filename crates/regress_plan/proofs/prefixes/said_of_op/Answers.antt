@@ -1,0 +1,35 @@
+use Rattle.std.proofs.Common.{◌+◌, true, false, sym, ◌∙◌}
+use Rattle.regress_plan.specs.declared.prefixes.Ahead.TheVariants as ahead
+use Rattle.regress_plan.proofs.PrefixLemmas.{said-as, said-of-run, said-on, said-go, said-look, said-either}
+use Rattle.regress_plan.proofs.prefixes.said_of_op.Goals as goal
+
+pub returns-then-leads_on : goal.returns-then-leads_on
+returns-then-leads_on c = said-on c.args.plan.now c.args.ip c.args.op (sym c.leads_on.ensures ∙ c.if-leads_on.true)
+
+pub returns-in-Unit : goal.returns-in-Unit
+returns-in-Unit c = said-as c.args.plan.now c.args.ip c.said_of_unit.result _ _ c.in-Unit.is (c.said_of_unit.ensures c.args.plan.now)
+
+pub returns-in-One : goal.returns-in-One
+returns-in-One c = said-as c.args.plan.now c.args.ip c.said_of_class.result _ _ c.in-One.is c.said_of_class.ensures
+
+pub returns-in-Go : goal.returns-in-Go
+returns-in-Go c = said-as c.args.plan.now c.args.ip (ahead.At c.in-Go.to) _ _ c.in-Go.is (said-go c.args.plan.now c.args.ip c.in-Go.to)
+
+pub returns-in-Look : goal.returns-in-Look
+returns-in-Look c = said-as c.args.plan.now c.args.ip (ahead.At c.in-Look.look.past) _ _ c.in-Look.is (said-look c.args.plan.now c.args.ip c.in-Look.look)
+
+pub returns-in-Either : goal.returns-in-Either
+returns-in-Either c =
+    said-as c.args.plan.now c.args.ip (ahead.Either (c.args.ip + 1) c.in-Either.other) _ _ c.in-Either.is (said-either c.args.plan.now c.args.ip c.in-Either.other)
+
+pub returns-in-Enter : goal.returns-in-Enter
+returns-in-Enter c = said-as c.args.plan.now c.args.ip c.said_of_entry.result _ _ c.in-Enter.is c.said_of_entry.ensures
+
+pub returns-in-PossessiveRun : goal.returns-in-PossessiveRun
+returns-in-PossessiveRun c = said-of-run c.args.plan.now c.args.ip c.said_of_run.result _ c.in-PossessiveRun.ran _ true c.in-PossessiveRun.is (λ program insn runs. runs) c.said_of_run.ensures
+
+pub returns-in-Run : goal.returns-in-Run
+returns-in-Run c = said-of-run c.args.plan.now c.args.ip c.said_of_run-in-Run.result _ c.in-Run.ran _ true c.in-Run.is (λ program insn runs. runs) c.said_of_run-in-Run.ensures
+
+pub returns-in-LazyRun : goal.returns-in-LazyRun
+returns-in-LazyRun c = said-of-run c.args.plan.now c.args.ip c.said_of_run-in-LazyRun.result _ c.in-LazyRun.ran _ false c.in-LazyRun.is (λ program insn runs. runs) c.said_of_run-in-LazyRun.ensures

@@ -1,5 +1,5 @@
 -- New names for old ones.
-use Rattle.std.specs.Prelude.{◌≢◌, ℕ, List, [], ◌∷◌, ◌++◌, Bool, true, not, ◌&&◌, Option, Some, None, AllPairs, map, flat_map, codes, bytes_eq, slice_get, slice_range}
+use Rattle.std.specs.Prelude.{◌≡◌, ◌≢◌, ◌⊎◌, ℕ, List, [], ◌∷◌, ◌++◌, Bool, true, not, ◌&&◌, ◌||◌, IsTrue, Option, Some, None, String, All, AllPairs, Contains, map, flat_map, filter, find, is_none, codes, bytes_eq, length, nat_eq, nat_le, slice_get, slice_range, string_bytes}
 use Rattle.std.specs.List.{list_any}
 use Rattle.std.specs.Option.{option_map_or}
 use Rattle.regex_meaning.specs.Names.{Answer, named_groups}
@@ -7,19 +7,61 @@ use Rattle.regex_meaning.specs.Replace.{replaced}
 use Rattle.regress_match.specs.Programs.{utf8_answers}
 use Rattle.regress_match.specs.Replacements.{expanded}
 use Rattle.regress_match.specs.declared.api.regex.Regex.{Regex}
+use Rattle.use_renamer.specs.declared.plan.Refusal.{Refusal}
+use Rattle.use_renamer.specs.declared.plan.Refusal.TheVariants.{Memory}
+use Rattle.use_renamer.specs.declared.plan.Rename.{Rename}
 
--- a name with the replacement in place of each match
-abbrev pub new_name : Regex → (replacement name : List ℕ) → List ℕ
-new_name re replacement name = replaced name 0 (expanded name replacement (utf8_answers re name 0))
+-- a name in its folder: of 1 to 255 bytes, neither `.` nor `..`, with neither a slash nor a NUL
+abbrev pub is_file_name : (name : List ℕ) → Bool
+is_file_name name = not (bytes_eq name []) && not (bytes_eq name (codes ".")) && not (bytes_eq name (codes ".."))
+    && nat_le (length name) 255 && not (list_any (λ b. nat_eq b 47 || nat_eq b 0) name)
+
+-- a name with the template's expansion in place of each match
+abbrev pub new_name : Regex → (template name : List ℕ) → List ℕ
+new_name re template name = replaced name 0 (expanded name template (utf8_answers re name 0))
+
+-- of names with new ones those that change
+abbrev pub changing : List (List ℕ × List ℕ) → List (List ℕ × List ℕ)
+changing moves = filter (λ m. not (bytes_eq m.0 m.1)) moves
+
+-- the names that change, each with the new one, in their order
+abbrev pub changes : Regex → (template : List ℕ) → (names : List (List ℕ)) → List (List ℕ × List ℕ)
+changes re template names = changing (map (λ name. (name, new_name re template name)) names)
 
 -- no two of these are the same
 abbrev pub AllDiffer : List (List ℕ) → Type 0
 AllDiffer names = AllPairs (λ a b. a ≢ b) names
 
--- the test of that, for what has a name
+-- one of these has the name
+abbrev pub is_among : {X : Type 0} → (name_of : X → List ℕ) → (name : List ℕ) → List X → Bool
+is_among name_of name xs = list_any (λ x. bytes_eq name (name_of x)) xs
+
+-- the test of whether what has names has different ones
 abbrev pub all_differ : {X : Type 0} → (name_of : X → List ℕ) → List X → Bool
 all_differ name_of [] = true
-all_differ name_of (x ∷ xs) = not (list_any (λ y. bytes_eq (name_of x) (name_of y)) xs) && all_differ name_of xs
+all_differ name_of (x ∷ xs) = is_none (find (λ y. bytes_eq (name_of x) (name_of y)) xs) && all_differ name_of xs
+
+-- Renamings in a folder that lose no file, in whatever order they are done, also where not all are: each new name is one in the
+-- folder, no two are the same, and nothing in the folder has one of them.
+pub record AreSafe (folder : List (List ℕ)) (moves : List (List ℕ × List ℕ)) : Type 0 where
+  pub stay : All (λ m. IsTrue (is_file_name m.1)) moves
+  pub distinct : AllDiffer (map (λ m. m.1) moves)
+  pub free : All (λ m. ¬ Contains folder m.1) moves
+
+-- why renamings are refused: there was no memory, or they are not safe
+abbrev pub CanRefuse : (folder : List (List ℕ)) → (moves : List (List ℕ × List ℕ)) → Refusal → Type 0
+CanRefuse folder moves e = (e ≡ Memory) ⊎ ¬ AreSafe folder moves
+
+-- names as bytes
+abbrev pub texts : {A : Type 0} → List (String A) → List (List ℕ)
+texts names = map string_bytes names
+
+-- renamings as the old name and the new one
+abbrev pub move_of : Rename → List ℕ × List ℕ
+move_of r = (string_bytes r.from, string_bytes r.to)
+
+abbrev pub moves_of : List Rename → List (List ℕ × List ℕ)
+moves_of renames = map move_of renames
 
 -- a group's name and what it matched; nothing of a group that did not match
 abbrev pub described : (text : List ℕ) → List ℕ × Option (ℕ × ℕ) → List ℕ

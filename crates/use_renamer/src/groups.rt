@@ -44,7 +44,8 @@ fn push_group(
     range: Option<Range<usize>>,
 ) -> Result<(), AllocError>
     requires { IfSome (option_map range_of range) (IsSlice text.now) }
-    ensures { IfOk result (λ _. string_bytes line.new ≡ string_bytes line.old ++ described text.now (name.now, option_map range_of range)) }
+    ensures { IfOk result (λ _. string_bytes line.new
+        ≡ string_bytes line.old ++ described text.now (name.now, option_map range_of range)) }
 {
     let Some(range) = range else {
         return Ok(());

@@ -1,50 +1,102 @@
-//! Says how names are to be changed: `use_renamer PATTERN REPLACEMENT NAME..`.
+//! Renames the files of a folder by what a pattern matches in their names.
 //!
-//! It ends with status 0, 1 where two new names would be the same, and 2 where it cannot tell.
+//! It ends with status 0 where all is renamed, or would be, with 1 where the renamings are refused and none is done, and
+//! with 2 where it cannot tell or a file cannot be renamed.
 #![tactic(auto)]
 
+mod command;
+mod folder;
 mod groups;
 mod names;
+mod plan;
+#[cfg(test)]
+mod tests;
 
+use crate::command::{Options, command};
+use crate::folder::{apply, list};
 use crate::groups::parts;
-use crate::names::plan;
+use crate::plan::{Refusal, Rename, plan};
 use anyhow::{Result, bail};
-use regress_match::Regex;
-use std::env;
+use regress_match::{Error, Flags, Regex};
 use std::process::ExitCode;
+use std::{env, io};
 
-// Prints a line for each name, and answers whether the new names differ.
-fn run(rt: &HostRuntime) -> Result<bool> {
+// The pattern as a program. What is wrong with one that is none stands in the error, with the place below it.
+fn compile(rt: &HostRuntime, pattern: &str, flags: Flags) -> Result<Regex> {
     let alloc = rt.alloc();
-    let words: Vec<String> = env::args(rt)?.skip(1).collect(alloc)?;
-    let [pattern, replacement, names @ ..] = words.as_slice() else {
-        bail!("usage: use_renamer PATTERN REPLACEMENT NAME..");
+    let why = match Regex::with_flags(alloc, pattern, flags) {
+        Ok(re) => return Ok(re),
+        Err(why) => why,
     };
-    let Ok(re) = Regex::new(alloc, pattern.as_str()) else {
-        bail!("the pattern is refused");
+    if let Error::Parse(_) = why {
+        if let Some(told) = Regex::diagnose(alloc, pattern, flags)? {
+            bail!("the pattern is refused\n{}", told.below_text(pattern));
+        }
+    }
+    bail!("{why}")
+}
+
+// A line for each file: its name, the new one, and the groups with names where they are asked for.
+fn show(rt: &HostRuntime, options: &Options<'_>, re: &Regex, plan: &[Rename]) -> Result<()> {
+    for Rename { from, to } in plan {
+        if options.groups {
+            let parts = parts(rt.alloc(), re, from.as_str())?;
+            println!(rt; "{from} -> {to}{parts}")?;
+        } else {
+            println!(rt; "{from} -> {to}")?;
+        }
+    }
+    Ok(())
+}
+
+// Whether the files are renamed, or would be.
+fn run(rt: &HostRuntime, options: &Options<'_>) -> Result<bool> {
+    let alloc = rt.alloc();
+    let re = compile(rt, options.pattern, options.flags)?;
+    let folder = list(rt, options.folder)?;
+    if folder.unreadable > 0 {
+        eprintln!(rt;
+            "{} names that are not UTF-8 are passed over",
+            folder.unreadable
+        )?;
+    }
+    let plan = match plan(alloc, &re, options.template, &folder.files, &folder.others) {
+        Ok(plan) => plan,
+        Err(Refusal::Memory) => bail!("out of memory"),
+        Err(refusal) => {
+            eprintln!(rt; "{refusal}; nothing is renamed")?;
+            return Ok(false);
+        }
     };
-    let Ok(plan) = plan(alloc, &re, replacement.as_str(), names) else {
-        bail!("out of memory");
-    };
-    let Some(new) = plan else {
-        println!(rt; "two new names are the same")?;
-        return Ok(false);
-    };
-    for (old, new) in names.iter().zip(new.iter()) {
-        let Ok(parts) = parts(alloc, &re, old.as_str()) else {
-            bail!("out of memory");
-        };
-        println!(rt; "{old} -> {new}{parts}")?;
+    show(rt, options, &re, &plan)?;
+    if options.apply {
+        apply(rt, options.folder, &plan)?;
+    } else {
+        eprintln!(rt;
+            "{} of {} files; nothing is renamed without --apply",
+            plan.len(),
+            folder.files.len()
+        )?;
     }
     Ok(true)
 }
 
-fn main(rt: HostRuntime) -> ExitCode {
-    match run(&rt) {
-        Ok(differ) => ExitCode::from(if differ { 0 } else { 1 }),
+fn main(rt: HostRuntime) -> Result<ExitCode> {
+    let alloc = rt.alloc();
+    let words: Vec<String> = env::args(&rt)?.collect(alloc)?;
+    let matches = match command(alloc)?.try_get_matches_from(words.as_slice()) {
+        Ok(matches) => matches,
+        Err(error) => {
+            error.print(&rt)?;
+            return Ok(ExitCode::from(if error.exit_code() == 0 { 0 } else { 2 }));
+        }
+    };
+    match run(&rt, &Options::of(&matches)) {
+        Ok(true) => Ok(ExitCode::from(0)),
+        Ok(false) => Ok(ExitCode::from(1)),
         Err(why) => {
-            let _ = eprintln!(rt; "{why}");
-            ExitCode::from(2)
+            eprintln!(rt; "{why}")?;
+            Ok(ExitCode::from(2))
         }
     }
 }

@@ -1,0 +1,192 @@
+//! Which file gets which name.
+
+ghost use Rattle.std.specs.Prelude.{◌≡◌, ◌||◌, ◌++◌, ◌∷◌, [], IfErr, IfOk, OnOk, bytes_eq, find, is_none, not, option_map, string_bytes};
+ghost use Rattle.regress_match.specs.Refusals.{IsMemory};
+ghost use Rattle.use_renamer.specs.Names.{AreSafe, CanRefuse, all_differ, changes, changing, is_among, is_file_name, moves_of, texts};
+
+use crate::names::{is_among, is_file_name};
+use regress_match::{Regex, SearchError};
+use std::alloc::{AllocError, Global};
+use thiserror::Error;
+
+/// A file's name, and the one that it is to have.
+#[derive(Debug, Drop)]
+pub struct Rename {
+    pub from: String,
+    pub to: String,
+}
+
+/// Why no file is renamed.
+#[derive(Debug, Drop, Error)]
+pub enum Refusal {
+    /// There is no memory.
+    #[error("out of memory")]
+    Memory,
+    /// The new name is none in this folder.
+    #[error("{from} would become {to:?}, which is no name in this folder")]
+    NoName {
+        from: String,
+        to: String,
+    },
+    /// Something in the folder has the new name.
+    #[error("{from} would become {to}, which is there already")]
+    Taken {
+        from: String,
+        to: String,
+    },
+    /// Two files would have one name.
+    #[error("{from} and {other} would both become {to}")]
+    Same {
+        from: String,
+        other: String,
+        to: String,
+    },
+}
+
+impl From<SearchError> for Refusal {
+    ghost use Rattle.use_renamer.specs.declared.plan.Refusal.TheVariants.{Memory};
+
+    ghost from_gives = { λ _ e. e ≡ Memory };
+
+    fn from(_: SearchError) -> Self {
+        Refusal::Memory
+    }
+}
+
+impl From<AllocError> for Refusal {
+    ghost use Rattle.use_renamer.specs.declared.plan.Refusal.TheVariants.{Memory};
+
+    ghost from_gives = { λ _ e. e ≡ Memory };
+
+    fn from(_: AllocError) -> Self {
+        Refusal::Memory
+    }
+}
+
+/// The files whose names change, each with its new name, in the order of the files: the template's expansion stands in place of
+/// each match. `others` is what else stands in the folder. The renamings are answered exactly where they are safe.
+///
+/// # Errors
+///
+/// `Memory` where there is no memory for a search or a name, and what is wrong where the renamings are not safe.
+pub fn plan(
+    alloc: Global,
+    re: &Regex,
+    template: &str,
+    files: &[String],
+    others: &[String],
+) -> Result<Vec<Rename>, Refusal>
+    ensures planned { IfOk result (λ plan. moves_of plan.items
+        ≡ changes re.now template.now (texts files.now)) }
+    ensures safe { let folder = texts files.now ++ texts others.now in
+        IfOk result (λ plan. AreSafe folder (moves_of plan.items)) }
+    ensures refused { let folder = texts files.now ++ texts others.now in
+        IfErr result (CanRefuse folder (changes re.now template.now (texts files.now))) }
+{
+    let renames = changes(alloc, re, template, files)?;
+    check(&renames, files, others)?;
+    Ok(renames)
+}
+
+// The files whose names change, whatever these become.
+fn changes(
+    alloc: Global,
+    re: &Regex,
+    template: &str,
+    files: &[String],
+) -> Result<Vec<Rename>, SearchError>
+    ensures each { IfOk result (λ renames. moves_of renames.items
+        ≡ changes re.now template.now (texts files.now)) }
+    ensures refused { IfErr result IsMemory }
+{
+    let mut renames = Vec::new(alloc);
+    for name in files {
+        let new = re.replace_all(name.as_str(), template)?;
+        push_change(&mut renames, name, new)?;
+    }
+    Ok(renames)
+}
+
+// One more, if it is a change.
+fn push_change(renames: &mut Vec<Rename>, name: &String, new: String) -> Result<(), AllocError>
+    ensures { IfOk result (λ _. moves_of renames.new.items
+        ≡ moves_of renames.old.items ++ changing ((string_bytes name.now, string_bytes new) ∷ [])) }
+{
+    if name.as_str() == new.as_str() {
+        return Ok(());
+    }
+    let from = name.clone()?;
+    Ok(renames.push(Rename { from, to: new })?)
+}
+
+// Refuses what would lose a file, or lead out of the folder.
+fn check(renames: &[Rename], files: &[String], others: &[String]) -> Result<(), Refusal>
+    ensures safe { let folder = texts files.now ++ texts others.now in
+        OnOk result (AreSafe folder (moves_of renames.now)) }
+    ensures refused { let folder = texts files.now ++ texts others.now in
+        IfErr result (CanRefuse folder (moves_of renames.now)) }
+{
+    if let Some(Rename { from, to }) = first_no_name(renames) {
+        return Err(Refusal::NoName {
+            from: from.clone()?,
+            to: to.clone()?,
+        });
+    }
+    if let Some(Rename { from, to }) = first_taken(renames, files, others) {
+        return Err(Refusal::Taken {
+            from: from.clone()?,
+            to: to.clone()?,
+        });
+    }
+    if let Some((Rename { from, to }, other)) = first_pair(renames) {
+        return Err(Refusal::Same {
+            from: from.clone()?,
+            other: other.from.clone()?,
+            to: to.clone()?,
+        });
+    }
+    Ok(())
+}
+
+// The first whose new name is none in a folder.
+fn first_no_name(renames: &[Rename]) -> Option<&Rename>
+    ensures { option_map (λ r. r.now) result
+        ≡ find (λ r. not (is_file_name (string_bytes r.to))) renames.now }
+{
+    renames
+        .iter()
+        .find(|rename| !is_file_name(rename.to.as_str()))
+}
+
+// The first whose new name something in the folder has.
+fn first_taken<'a>(renames: &'a [Rename], files: &[String], others: &[String]) -> Option<&'a Rename>
+    ensures { option_map (λ r. r.now) result
+        ≡ find (λ r. is_among string_bytes (string_bytes r.to) files.now
+        || is_among string_bytes (string_bytes r.to) others.now) renames.now }
+{
+    renames.iter().find(|rename| {
+        is_among(rename.to.as_str(), files) || is_among(rename.to.as_str(), others)
+    })
+}
+
+// Two that have the same new name.
+fn first_pair(renames: &[Rename]) -> Option<(&Rename, &Rename)>
+    ensures { is_none result ≡ all_differ (λ r. string_bytes r.to) renames.now }
+{
+    let mut left = renames;
+    while let Some((first, behind)) = left.split_first() {
+        if let Some(second) = first_to(first.to.as_str(), behind) {
+            return Some((first, second));
+        }
+        left = behind;
+    }
+    None
+}
+
+// The first that becomes this.
+fn first_to<'a>(name: &str, renames: &'a [Rename]) -> Option<&'a Rename>
+    ensures { option_map (λ r. r.now) result
+        ≡ find (λ r. bytes_eq name.now (string_bytes r.to)) renames.now }
+{
+    renames.iter().find(|rename| name == rename.to.as_str())
+}

@@ -1,1 +1,2 @@
-pub mod Validate
+pub mod Judge
+pub mod Pointer

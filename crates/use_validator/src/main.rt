@@ -1,42 +1,73 @@
-//! Says of texts whether they have a form as a whole: `use_validator PATTERN TEXT..`.
+//! Looks through the strings of a JSON document for those that the patterns of a schema refuse.
 //!
-//! It ends with status 0 where all have it, 1 where one has not, and 2 where it cannot tell.
+//! It ends with status 0 where there is none, with 1 where there is one, and with 2 where it cannot tell.
 #![tactic(auto)]
 
-mod validate;
+mod command;
+mod judge;
+mod pointer;
+mod schema;
+#[cfg(test)]
+mod tests;
+mod walk;
 
-use crate::validate::{compile, is_valid};
+use crate::command::{Options, command};
+use crate::schema::Patterns;
+use crate::walk::findings;
 use anyhow::{Result, bail};
-use std::env;
+use serde_json::Value;
 use std::process::ExitCode;
+use std::{env, fs, io};
 
-// Whether all texts have the form.
-fn run(rt: &HostRuntime) -> Result<bool> {
-    let alloc = rt.alloc();
-    let mut words = env::args(rt)?.skip(1);
-    let Some(pattern) = words.next() else {
-        bail!("usage: use_validator PATTERN TEXT..");
-    };
-    let Ok(re) = compile(alloc, pattern.as_str()) else {
-        bail!("the pattern is refused");
-    };
-    let mut all = true;
-    for text in words {
-        let Ok(valid) = is_valid(&re, text.as_str()) else {
-            bail!("out of memory");
-        };
-        println!(rt; "{}: {text}", if valid { "valid" } else { "not valid" })?;
-        all = all && valid;
+// A file's text; that of `-` is standard input.
+fn read(rt: &HostRuntime, path: &str) -> io::Result<String> {
+    if path == "-" {
+        return io::read_to_string(rt.alloc(), rt.stdin());
     }
-    Ok(all)
+    fs::read_to_string(rt, path)
 }
 
-fn main(rt: HostRuntime) -> ExitCode {
-    match run(&rt) {
-        Ok(all) => ExitCode::from(if all { 0 } else { 1 }),
+// A file as JSON.
+fn read_value(rt: &HostRuntime, path: &str) -> Result<Value> {
+    let text = match read(rt, path) {
+        Ok(text) => text,
+        Err(why) => bail!("{path}: {why}"),
+    };
+    match Value::from_str(rt.alloc(), text.as_str()) {
+        Ok(value) => Ok(value),
+        Err(why) => bail!("{path}: {why}"),
+    }
+}
+
+// Whether all strings are valid. Each that is not is told in a line.
+fn run(rt: &HostRuntime, options: &Options<'_>) -> Result<bool> {
+    let alloc = rt.alloc();
+    let schema = read_value(rt, options.schema)?;
+    let patterns = Patterns::of(alloc, &schema)?;
+    let document = read_value(rt, options.document)?;
+    let findings = findings(alloc, &patterns, options.steps, &schema, &document)?;
+    for finding in &findings {
+        println!(rt; "{finding}")?;
+    }
+    Ok(findings.is_empty())
+}
+
+fn main(rt: HostRuntime) -> Result<ExitCode> {
+    let alloc = rt.alloc();
+    let words: Vec<String> = env::args(&rt)?.collect(alloc)?;
+    let matches = match command(alloc)?.try_get_matches_from(words.as_slice()) {
+        Ok(matches) => matches,
+        Err(error) => {
+            error.print(&rt)?;
+            return Ok(ExitCode::from(if error.exit_code() == 0 { 0 } else { 2 }));
+        }
+    };
+    match run(&rt, &Options::of(&matches)) {
+        Ok(true) => Ok(ExitCode::from(0)),
+        Ok(false) => Ok(ExitCode::from(1)),
         Err(why) => {
-            let _ = eprintln!(rt; "{why}");
-            ExitCode::from(2)
+            eprintln!(rt; "{why}")?;
+            Ok(ExitCode::from(2))
         }
     }
 }

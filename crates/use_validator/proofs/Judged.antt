@@ -1,0 +1,100 @@
+-- What the first item of a search in a limit of steps tells.
+use Rattle.std.proofs.Common.{◌≡◌, ◌∙◌, ℕ, List, [], ◌∷◌, Bool, true, false, not, ap, refl, sym, subst}
+use Rattle.std.specs.Prelude.{Option, Some, None, Result, Ok, Err, nat_le}
+use Rattle.regex_meaning.specs.Tree.{Tree}
+use Rattle.regex_meaning.specs.Text.{Text}
+use Rattle.regex_meaning.specs.Offsets.{IsText}
+use Rattle.regex_meaning.specs.Names.{Answer, answers_from}
+use Rattle.regex_meaning.specs.Answers.{first_answer, next_start, answer_then_list}
+use Rattle.regex_meaning.specs.Steps.{answers_within, end_within, need_from}
+use Rattle.regex_meaning.proofs.AnswerLemmas.{answers-go_on}
+use Rattle.regex_meaning.proofs.StepLemmas.{within-some, within-none, beyond}
+use Rattle.regex_meaning.proofs.TextLemmas.{utf8_text-IsText}
+use Rattle.regress_exec.specs.Answers.{answer_of}
+use Rattle.regress_exec.specs.ToCome.{Gives, ToCome}
+use Rattle.regress_exec.specs.declared.exec.Match.{Match}
+use Rattle.regress_exec.specs.declared.exec.SearchError.{SearchError}
+use Rattle.regress_exec.specs.declared.exec.SearchError.TheVariants.{StepLimit}
+use Rattle.regress_match.specs.Programs.{as_utf8, byte_tree, utf8_answers_within, is_utf8_end_within}
+use Rattle.regress_match.specs.declared.api.regex.Regex.{Regex}
+use Rattle.use_validator.specs.Judge.{by_matches, verdict_of, within}
+use Rattle.use_validator.specs.declared.judge.Verdict.{Verdict}
+use Rattle.use_validator.specs.declared.judge.Verdict.TheVariants.{Matches, NoMatch, OutOfSteps}
+
+-- what is found within the steps, and whether they are enough for the end, where this is the verdict
+abbrev pub IsTold : (found : List Answer) → (ended : Bool) → Verdict → Type 0
+IsTold found ended Matches = (m : Answer) × (ms : List Answer) × (found ≡ m ∷ ms)
+IsTold found ended NoMatch = (found ≡ []) × (ended ≡ true)
+IsTold found ended OutOfSteps = (found ≡ []) × (ended ≡ false)
+
+module _ (tree : Tree) (text : Text) (is : IsText text) (steps : ℕ) where
+  abbrev all : List Answer
+  all = answers_from tree.root text 0
+
+  abbrev Told : Verdict → Type 0
+  Told = IsTold (answers_within tree text (Some steps) 0) (end_within tree text (Some steps) 0)
+
+  enough : (first : Option Answer) → first_answer tree.root text 0 ≡ first → nat_le (need_from tree text 0) steps ≡ true → Told (by_matches all)
+  enough None f e =
+      let none : all ≡ [] = answers-go_on tree.root text is 0 ∙ ap (λ a. answer_then_list tree.root text a (next_start tree.root text 0)) f in
+      subst (λ ms. Told (by_matches ms)) (sym none) (within-none tree text is (Some steps) 0 f e)
+  enough (Some m) f e =
+      let some = answers-go_on tree.root text is 0 ∙ ap (λ a. answer_then_list tree.root text a (next_start tree.root text 0)) f in
+      subst (λ ms. Told (by_matches ms)) (sym some) (m, _, (within-some tree text is (Some steps) 0 m f e).0)
+
+  by : (b : Bool) → nat_le (need_from tree text 0) steps ≡ b → Told (within b all)
+  by true e = enough (first_answer tree.root text 0) refl e
+  by false e = beyond tree text is (Some steps) 0 e
+
+  pub told : Told (within (nat_le (need_from tree text 0) steps) all)
+  told = by (nat_le (need_from tree text 0) steps) refl
+
+-- what an item says of what was to come
+pub came : (before behind : ToCome) (item : Result Match SearchError) (m : Match) → item ≡ Ok m → Gives before (Some item) behind
+    → before.answers ≡ answer_of m ∷ behind.answers
+came before behind item m is gives = (subst (λ r. Gives before (Some r) behind) is gives).0
+
+pub stopped : (before behind : ToCome) (item : Result Match SearchError) (e : SearchError) → item ≡ Err e → e ≡ StepLimit → Gives before (Some item) behind
+    → (before.answers ≡ []) × (before.limited ≡ true)
+stopped before behind item e is limit gives = (subst (λ e. Gives before (Some (Err e)) behind) limit (subst (λ r. Gives before (Some r) behind) is gives)).0
+
+not-false : (b : Bool) → not b ≡ false → b ≡ true
+not-false true e = refl
+not-false false e = sym e
+
+not-true : (b : Bool) → not b ≡ true → b ≡ false
+not-true true e = sym e
+not-true false e = refl
+
+is-match : (found : List Answer) (ended : Bool) (m : Answer) (ms : List Answer) (v : Verdict) → IsTold found ended v → found ≡ m ∷ ms → Matches ≡ v
+is-match found ended m ms Matches h e = refl
+is-match found ended m ms NoMatch h e = let never : [] ≡ m ∷ ms = sym h.0 ∙ e in absurd (cc)
+is-match found ended m ms OutOfSteps h e = let never : [] ≡ m ∷ ms = sym h.0 ∙ e in absurd (cc)
+
+is-none : (found : List Answer) (ended : Bool) (v : Verdict) → IsTold found ended v → found ≡ [] → ended ≡ true → NoMatch ≡ v
+is-none found ended Matches h e on = let never : [] ≡ h.0 ∷ h.1 = sym e ∙ h.2 in absurd (cc)
+is-none found ended NoMatch h e on = refl
+is-none found ended OutOfSteps h e on = let never : true ≡ false = sym on ∙ h.1 in absurd (cc)
+
+is-past : (found : List Answer) (ended : Bool) (v : Verdict) → IsTold found ended v → found ≡ [] → ended ≡ false → OutOfSteps ≡ v
+is-past found ended Matches h e on = let never : [] ≡ h.0 ∷ h.1 = sym e ∙ h.2 in absurd (cc)
+is-past found ended NoMatch h e on = let never : true ≡ false = sym h.1 ∙ on in absurd (cc)
+is-past found ended OutOfSteps h e on = refl
+
+module _ (re : Regex) (bytes : List ℕ) (steps : ℕ) where
+  told-of : IsTold (utf8_answers_within steps re bytes 0) (is_utf8_end_within steps re bytes 0) (verdict_of re bytes steps)
+  told-of = told (byte_tree re) (as_utf8 re bytes) (utf8_text-IsText bytes (byte_tree re).flags.unicode) steps
+
+  -- a match came
+  pub verdict-match : (found : List Answer) (m : Answer) (ms : List Answer) → found ≡ utf8_answers_within steps re bytes 0 → found ≡ m ∷ ms → Matches ≡ verdict_of re bytes steps
+  verdict-match found m ms same e = is-match _ _ m ms _ told-of (sym same ∙ e)
+
+  -- none came, and no limit stands behind it
+  pub verdict-none : (found : List Answer) (limited : Bool) → found ≡ utf8_answers_within steps re bytes 0 → limited ≡ not (is_utf8_end_within steps re bytes 0)
+      → found ≡ [] → limited ≡ false → NoMatch ≡ verdict_of re bytes steps
+  verdict-none found limited same limit e on = is-none _ _ _ told-of (sym same ∙ e) (not-false _ (sym limit ∙ on))
+
+  -- none came, and a limit does
+  pub verdict-past : (found : List Answer) (limited : Bool) → found ≡ utf8_answers_within steps re bytes 0 → limited ≡ not (is_utf8_end_within steps re bytes 0)
+      → found ≡ [] → limited ≡ true → OutOfSteps ≡ verdict_of re bytes steps
+  verdict-past found limited same limit e on = is-past _ _ _ told-of (sym same ∙ e) (not-true _ (sym limit ∙ on))

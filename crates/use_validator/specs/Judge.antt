@@ -1,0 +1,26 @@
+-- What is said of a text by a pattern within a limit of steps.
+use Rattle.std.specs.Prelude.{ℕ, Bool, true, false, List, [], ◌∷◌, nat_le}
+use Rattle.regex_meaning.specs.Names.{Answer}
+use Rattle.regex_meaning.specs.Steps.{need_from}
+use Rattle.regress_match.specs.Programs.{as_utf8, byte_tree, utf8_answers}
+use Rattle.regress_match.specs.declared.api.regex.Regex.{Regex}
+use Rattle.use_validator.specs.declared.judge.Verdict.{Verdict}
+use Rattle.use_validator.specs.declared.judge.Verdict.TheVariants.{Matches, NoMatch, OutOfSteps}
+
+-- the steps that the first match needs, or that there is none
+abbrev pub steps_needed : Regex → (text : List ℕ) → ℕ
+steps_needed re text = need_from (byte_tree re) (as_utf8 re text) 0
+
+-- whether there are matches
+abbrev pub by_matches : List Answer → Verdict
+by_matches [] = NoMatch
+by_matches (m ∷ ms) = Matches
+
+-- the same, where the steps are enough to tell
+abbrev pub within : (enough : Bool) → List Answer → Verdict
+within true ms = by_matches ms
+within false ms = OutOfSteps
+
+-- A text matches where the list of matches of the pattern's tree is not empty, so wherever in it a match stands.
+abbrev pub verdict_of : Regex → (text : List ℕ) → (steps : ℕ) → Verdict
+verdict_of re text steps = within (nat_le (steps_needed re text) steps) (utf8_answers re text 0)

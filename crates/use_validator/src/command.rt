@@ -1,0 +1,59 @@
+//! The command line.
+
+use clap::{Arg, ArgAction, ArgMatches, Command, value_parser};
+use std::alloc::{AllocError, Global};
+
+/// What is asked for.
+#[derive(Drop)]
+pub struct Options<'a> {
+    pub schema: &'a str,
+    pub document: &'a str,
+    /// How many steps each search may take.
+    pub steps: u64,
+}
+
+const ABOUT: &str =
+    "Looks through the strings of a JSON document for those that the patterns of a schema refuse.
+
+Of the schema `pattern` and `patternProperties` are read, within `properties`, `patternProperties` and `items`.
+A line says where in the document a string stands (JSON Pointer), and which pattern refuses it.";
+
+const STEPS: &str = "100000";
+
+impl<'a> Options<'a> {
+    /// What the words of a command line ask for.
+    pub fn of(matches: &ArgMatches<'a>) -> Self {
+        Options {
+            schema: matches.get_str("schema").unwrap_or("-"),
+            document: matches.get_str("document").unwrap_or("-"),
+            steps: matches.get_one::<u64>("steps").unwrap_or(0),
+        }
+    }
+}
+
+/// The command, with its options.
+///
+/// # Errors
+///
+/// Where there is no memory for it.
+pub fn command<'a>(alloc: Global) -> Result<Command<'a>, AllocError> {
+    let schema = Arg::new(alloc, "schema")
+        .value_name("SCHEMA")
+        .help("A file with a JSON Schema")
+        .required(true);
+    let document = Arg::new(alloc, "document")
+        .value_name("DOCUMENT")
+        .help("A file with a JSON document; - is standard input")
+        .default_value("-");
+    let steps = Arg::new(alloc, "steps")
+        .long("steps")
+        .value_name("N")
+        .help("How many steps each search may take; one that takes more refuses the string")
+        .value_parser(value_parser!(u64))
+        .default_value(STEPS);
+    Command::new(alloc, "use_validator")
+        .about(ABOUT)
+        .arg(schema)?
+        .arg(document)?
+        .arg(steps)
+}

@@ -47,8 +47,8 @@ module _ {X : Type 0} (f : X → List ℕ) (name : List ℕ) where
 
   pub not-among : (xs : List X) → is_among f name xs ≡ false → ¬ Contains (map f xs) name
   not-among [] e k = omega arith
-  not-among (x ∷ xs) e (zero, lt, same) = let h = or_parts _ _ e in let never : false ≡ true = sym h.0 ∙ (bytes_eq-Decides name (f x)).1 (sym same) in absurd (cc)
-  not-among (x ∷ xs) e (suc k, lt, same) = let h = or_parts _ _ e in not-among xs h.1 (k, omega arith, same)
+  not-among (x ∷ xs) e (zero, lt, same) = let h = or_parts (bytes_eq name (f x)) (is_among f name xs) e in let never : false ≡ true = sym h.0 ∙ (bytes_eq-Decides name (f x)).1 (sym same) in absurd (cc)
+  not-among (x ∷ xs) e (suc k, lt, same) = let h = or_parts (bytes_eq name (f x)) (is_among f name xs) e in not-among xs h.1 (k, omega arith, same)
 
   -- among two lists
   pub among-either : (xs ys : List X) → (is_among f name xs || is_among f name ys) ≡ true → Contains (map f xs ++ map f ys) name
@@ -58,7 +58,7 @@ module _ {X : Type 0} (f : X → List ℕ) (name : List ℕ) where
   ]
 
   pub among-neither : (xs ys : List X) → (is_among f name xs || is_among f name ys) ≡ false → ¬ Contains (map f xs ++ map f ys) name
-  among-neither xs ys e has = let h = or_parts _ _ e in elim (Contains-append_cases (map f xs) (map f ys) name has) [
+  among-neither xs ys e has = let h = or_parts (is_among f name xs) (is_among f name ys) e in elim (Contains-append_cases (map f xs) (map f ys) name has) [
     | inl k ↦ not-among xs h.0 k
     | inr k ↦ not-among ys h.1 k
   ]

@@ -1,26 +1,49 @@
--- The lines that pass a test, where one line more has come.
-use Rattle.std.proofs.Common.{◌≡◌, ℕ, ◌+◌, ◌<◌, List, [], ◌∷◌, ◌++◌, Bool, true, false, length, map, filter, take, get_or, refl, ap, ◌∙◌, append-nil}
+-- The numbered lines that pass a test, where one line more has come.
+use Rattle.std.proofs.Common.{◌≡◌, ℕ, ◌+◌, ◌<◌, List, [], ◌∷◌, ◌++◌, Bool, true, false, length, map, filter, take, get_or, refl, ap, sym, ◌∙◌, append-nil, arith}
 use Rattle.std.specs.Prelude.{if◌then◌else◌}
-use Rattle.std.proofs.lemmas.List.{map_more}
+use Rattle.std.proofs.lemmas.List.{length-map, length-take-le, map_more}
 use Rattle.std.proofs.lemmas.List.Elements.{filter-append}
+use Rattle.use_grep.specs.Selecting.{numbered}
 
-module _ {A : Type 0} (line : A → List ℕ) (p : List ℕ → Bool) (xs : List A) (i : ℕ) (x : A) (inside : i < length xs) where
-  abbrev before : List (List ℕ)
-  before = filter p (map line (take i xs))
+-- one numbered line more
+numbered-append : (first at : ℕ) (lines : List (List ℕ)) (line : List ℕ) → at ≡ first + length lines
+    → numbered first (lines ++ line ∷ []) ≡ numbered first lines ++ (at, line) ∷ []
+numbered-append first at [] line e = let same : first ≡ at = omega arith in ap (λ n. (n, line) ∷ []) same
+numbered-append first at (l ∷ lines) line e = ap (λ ls. (first, l) ∷ ls) (numbered-append (first + 1) at lines line (omega arith))
 
-  more : filter p (map line (take (i + 1) xs)) ≡ before ++ filter p (line (get_or xs i x) ∷ [])
-  more = ap (filter p) (map_more line xs i x inside) ∙ filter-append p (map line (take i xs)) (line (get_or xs i x) ∷ [])
+-- what a test leaves of one
+kept : (l : ℕ × List ℕ) (b : Bool) → b ≡ true → (if b then l ∷ [] else []) ≡ l ∷ []
+kept l true h = refl
+kept l false h = cc h
 
-  pub one_kept : p (line (get_or xs i x)) ≡ true → filter p (map line (take (i + 1) xs)) ≡ before ++ line (get_or xs i x) ∷ []
-  one_kept e = more ∙ ap (λ ys. before ++ ys) (kept (p (line (get_or xs i x))) e)
-    where
-      kept : (b : Bool) → b ≡ true → (if b then line (get_or xs i x) ∷ [] else []) ≡ line (get_or xs i x) ∷ []
-      kept true e = refl
-      kept false e = cc e
+left : (l : ℕ × List ℕ) (b : Bool) → b ≡ false → (if b then l ∷ [] else []) ≡ []
+left l true h = cc h
+left l false h = refl
 
-  pub one_left : p (line (get_or xs i x)) ≡ false → filter p (map line (take (i + 1) xs)) ≡ before
-  one_left e = more ∙ ap (λ ys. before ++ ys) (left (p (line (get_or xs i x))) e) ∙ append-nil before
-    where
-      left : (b : Bool) → b ≡ false → (if b then line (get_or xs i x) ∷ [] else []) ≡ []
-      left true e = cc e
-      left false e = refl
+module _ {A : Type 0} (text : A → List ℕ) (test : List ℕ → Bool) (first : ℕ) (xs : List A) (i : ℕ) (x : A) (inside : i < length xs) where
+  -- those of the first lines that pass
+  abbrev passed : ℕ → List (ℕ × List ℕ)
+  passed k = filter (λ l. test l.1) (numbered first (map text (take k xs)))
+
+  abbrev line : List ℕ
+  line = text (get_or xs i x)
+
+  length-so_far : (n : ℕ) → n ≡ first + i → n ≡ first + length (map text (take i xs))
+  length-so_far n e = e ∙ ap (λ k. first + k) (sym (length-map (take i xs) text ∙ length-take-le i xs (omega arith)))
+
+  more : (n : ℕ) → n ≡ first + i → passed (i + 1) ≡ passed i ++ filter (λ l. test l.1) ((n, line) ∷ [])
+  more n e =
+      ap (λ ls. filter (λ l. test l.1) (numbered first ls)) (map_more text xs i x inside)
+      ∙ ap (filter (λ l. test l.1)) (numbered-append first n (map text (take i xs)) line (length-so_far n e))
+      ∙ filter-append (λ l. test l.1) (numbered first (map text (take i xs))) ((n, line) ∷ [])
+
+  -- the line passes, and is taken with its number
+  pub one-kept : (n : ℕ) (done next : List (ℕ × List ℕ)) → n ≡ first + i → test line ≡ true → done ≡ passed i → next ≡ done ++ (n, line) ∷ []
+      → next ≡ passed (i + 1)
+  one-kept n done next e passes so_far is =
+      is ∙ ap (λ ls. ls ++ (n, line) ∷ []) so_far ∙ ap (λ ls. passed i ++ ls) (sym (kept (n, line) (test line) passes)) ∙ sym (more n e)
+
+  -- it does not pass
+  pub one-left : (done next : List (ℕ × List ℕ)) → test line ≡ false → done ≡ passed i → next ≡ done → next ≡ passed (i + 1)
+  one-left done next fails so_far is =
+      is ∙ so_far ∙ sym (append-nil (passed i)) ∙ ap (λ ls. passed i ++ ls) (sym (left (first + i, line) (test line) fails)) ∙ sym (more (first + i) refl)

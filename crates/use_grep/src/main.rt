@@ -1,41 +1,66 @@
-//! Prints the lines of standard input in which a pattern has a match: `use_grep PATTERN`.
+//! Prints the lines in which a pattern has a match, as `grep` does: `use_grep [OPTIONS] PATTERN [FILE]..`.
 //!
-//! It ends with status 0 where there is such a line, 1 where there is none, and 2 where it cannot tell.
+//! It ends with status 0 where a line was selected, 1 where none was, and 2 where something was wrong.
 #![tactic(auto)]
 
+ghost use Rattle.std.specs.Prelude.{◌≡◌, if◌then◌else◌, nat_eq};
+
+mod blocks;
+mod options;
+mod pattern;
 mod search;
+mod select;
 
-use crate::search::matching_lines;
-use anyhow::{Result, bail};
-use regress_match::Regex;
+use crate::options::{Options, command};
+use crate::pattern::{compile, say_refused};
+use crate::search::{Search, Tally};
+use anyhow::Result;
+use std::env;
 use std::process::ExitCode;
-use std::{env, io};
 
-// Whether a line was printed.
-fn run(rt: &HostRuntime) -> Result<bool> {
-    let alloc = rt.alloc();
-    let Some(pattern) = env::args(rt)?.nth(1) else {
-        bail!("usage: use_grep PATTERN");
-    };
-    let Ok(re) = Regex::new(alloc, pattern.as_str()) else {
-        bail!("the pattern is refused");
-    };
-    let text = io::read_to_string(alloc, rt.reader())?;
-    let Ok(found) = matching_lines(alloc, &re, text.as_str()) else {
-        bail!("out of memory");
-    };
-    for line in &found {
-        println!(rt; "{line}")?;
+const TROUBLE: u8 = 2;
+
+// The status that tells what came of a search.
+fn status(tally: &Tally) -> u8
+    ensures { result ≡ (if tally.now.has_trouble then 2 else if nat_eq tally.now.selected 0 then 1 else 0) }
+{
+    if tally.has_trouble {
+        return TROUBLE;
     }
-    Ok(!found.is_empty())
+    if tally.selected == 0 { 1 } else { 0 }
+}
+
+// Searches what the words of a command line ask for, and answers with which status the program ends.
+fn run(rt: &HostRuntime, words: &[String]) -> Result<u8> {
+    let alloc = rt.alloc();
+    let matches = match command(alloc)?.try_get_matches_from(words) {
+        Ok(matches) => matches,
+        Err(why) => {
+            why.print(rt)?;
+            return Ok(if why.use_stderr() { TROUBLE } else { 0 });
+        }
+    };
+    let options = Options::of(rt, &matches)?;
+    match compile(alloc, &options) {
+        Ok(re) => Ok(status(&Search::new(rt, &re, &options)?.all()?)),
+        Err(why) => {
+            say_refused(rt, &options, &why)?;
+            Ok(TROUBLE)
+        }
+    }
+}
+
+fn run_words(rt: &HostRuntime) -> Result<u8> {
+    let words: Vec<String> = env::args(rt)?.collect(rt.alloc())?;
+    run(rt, &words)
 }
 
 fn main(rt: HostRuntime) -> ExitCode {
-    match run(&rt) {
-        Ok(found) => ExitCode::from(if found { 0 } else { 1 }),
+    match run_words(&rt) {
+        Ok(status) => ExitCode::from(status),
         Err(why) => {
-            let _ = eprintln!(rt; "{why}");
-            ExitCode::from(2)
+            let _ = eprintln!(rt; "use_grep: {why}");
+            ExitCode::from(TROUBLE)
         }
     }
 }

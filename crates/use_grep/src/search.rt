@@ -1,58 +1,239 @@
-//! Lines with a match.
+//! Files that are searched, and what is printed of them.
 
-ghost use Rattle.std.specs.Prelude.{◌≡◌, ◌++◌, ◌∷◌, [], IfErr, IfOk, filter, map};
-ghost use Rattle.std.specs.Str.Lines.{lines};
-ghost use Rattle.regress_match.specs.Refusals.{IsMemory};
-ghost use Rattle.use_grep.specs.Search.{has_match};
+use crate::blocks::{BlockError, Blocks};
+use crate::options::Options;
+use crate::select::{Line, PLAIN, RED, colored, how_many_fit, lines_of, matched_parts, selected};
+use anyhow::{Result, bail};
+use regress_match::Regex;
+use simdutf8::compat::{Utf8Error, from_utf8};
+use std::fmt::Display;
+use std::fs::File;
+use std::io;
+use std::io::{BufWriter, Printer, Read, Write};
 
-use regress_match::{Regex, SearchError};
-use std::alloc::{AllocError, Global};
-
-/// Whether the pattern has a match in a line.
-pub fn has_match(re: &Regex, line: &str) -> Result<bool, SearchError>
-    ensures found { IfOk result (λ b. b ≡ has_match re.now line.now) }
-    ensures refused { IfErr result IsMemory }
-{
-    Ok(re.find(line)?.is_some())
+/// What came of a search.
+#[derive(Clone, Copy, Debug)]
+pub struct Tally {
+    /// How many lines were selected.
+    pub selected: u64,
+    /// Whether something could not be searched.
+    pub has_trouble: bool,
 }
 
-/// The lines of a text in which the pattern has a match, all of them and in order.
-pub fn matching_lines<'t>(
-    alloc: Global,
-    re: &Regex,
-    text: &'t str,
-) -> Result<Vec<&'t str>, SearchError>
-    ensures found { IfOk result (λ v. map (λ l. l.now) v.items ≡ filter (has_match re.now) (lines text.now)) }
-    ensures refused { IfErr result IsMemory }
-{
-    hits(alloc, re, &all_lines(alloc, text)?)
+/// A search of files, which prints what it finds.
+#[derive(Drop)]
+pub struct Search<'s, 'a> {
+    rt: &'s HostRuntime,
+    re: &'s Regex,
+    options: &'s Options<'a>,
+    out: BufWriter<Printer<'s, HostRuntime>>,
+    tally: Tally,
 }
 
-// The lines of a text.
-fn all_lines<'t>(alloc: Global, text: &'t str) -> Result<Vec<&'t str>, AllocError>
-    ensures { IfOk result (λ v. map (λ l. l.now) v.items ≡ lines text.now) }
-{
-    text.lines().collect(alloc)
+// A file that is searched: how many of its lines were read, and how many were selected.
+#[derive(Clone, Copy)]
+struct Progress<'n> {
+    name: &'n str,
+    lines: u64,
+    selected: u64,
+    // whether no more of it is searched
+    is_over: bool,
 }
 
-// Those of these lines in which the pattern has a match.
-#[tactic(auto, using(crate::proofs::Lines::one_kept, crate::proofs::Lines::one_left))]
-fn hits<'t>(alloc: Global, re: &Regex, all: &[&'t str]) -> Result<Vec<&'t str>, SearchError>
-    ensures found { IfOk result (λ v. map (λ l. l.now) v.items ≡ filter (has_match re.now) (map (λ l. l.now) all.now)) }
-    ensures refused { IfErr result IsMemory }
-{
-    let mut found = Vec::new(alloc);
-    for line in all {
-        if has_match(re, line)? {
-            keep(&mut found, line)?;
+impl<'s, 'a> Search<'s, 'a> {
+    /// A search of the files of these options.
+    ///
+    /// # Errors
+    ///
+    /// Where there is no memory for what is written.
+    pub fn new(
+        rt: &'s HostRuntime,
+        re: &'s Regex,
+        options: &'s Options<'a>,
+    ) -> io::Result<Search<'s, 'a>> {
+        Ok(Search {
+            rt,
+            re,
+            options,
+            out: BufWriter::new(rt.alloc(), io::writer(rt))?,
+            tally: Tally {
+                selected: 0,
+                has_trouble: false,
+            },
+        })
+    }
+
+    /// Searches all files, and prints what is selected. What cannot be searched is said.
+    ///
+    /// # Errors
+    ///
+    /// Where nothing can be written, or there is no memory.
+    pub fn all(mut self) -> Result<Tally> {
+        for name in &self.options.files {
+            self.file(name)?;
+        }
+        self.out.flush()?;
+        Ok(self.tally)
+    }
+
+    fn file(&mut self, name: &str) -> Result<()> {
+        if name == "-" {
+            return self.reader("(standard input)", self.rt.reader());
+        }
+        match File::open(self.rt, name) {
+            Ok(file) => self.reader(name, file),
+            Err(why) => self.trouble(name, &why),
         }
     }
-    Ok(found)
-}
 
-// One line more.
-fn keep<'t>(found: &mut Vec<&'t str>, line: &'t str) -> Result<(), AllocError>
-    ensures { IfOk result (λ _. map (λ l. l.now) found.new.items ≡ map (λ l. l.now) found.old.items ++ line.now ∷ []) }
-{
-    Ok(found.push(line)?)
+    // Says what cannot be searched.
+    fn trouble<E: Display>(&mut self, what: &str, why: &E) -> Result<()> {
+        self.out.flush()?;
+        self.tally.has_trouble = true;
+        eprintln!(self.rt; "use_grep: {what}: {why}")?;
+        Ok(())
+    }
+
+    fn reader<R: Read + Drop>(&mut self, name: &str, reader: R) -> Result<()> {
+        let mut blocks = Blocks::new(self.rt.alloc(), reader, self.options.longest)?;
+        let mut progress = Progress {
+            name,
+            lines: 0,
+            selected: 0,
+            is_over: self.options.most == 0,
+        };
+        for _ in 0..u64::MAX {
+            if progress.is_over {
+                break;
+            }
+            match blocks.advance() {
+                Ok(true) => self.block(&mut progress, blocks.lines())?,
+                Ok(false) => progress.is_over = true,
+                Err(why) => self.give_up(&mut progress, &why)?,
+            }
+        }
+        self.end(&progress)
+    }
+
+    // Says why the rest of a file is not searched.
+    fn give_up<E: Display>(&mut self, progress: &mut Progress<'_>, why: &E) -> Result<()> {
+        progress.is_over = true;
+        self.trouble_at(progress, why)
+    }
+
+    // Says what is wrong with the next line.
+    fn trouble_at<E: Display>(&mut self, progress: &Progress<'_>, why: &E) -> Result<()> {
+        let name = progress.name;
+        let number = progress.lines.saturating_add(1);
+        let what = format!(in self.rt.alloc(); "{name}:{number}")?;
+        self.trouble(what.as_str(), why)
+    }
+
+    fn block(&mut self, progress: &mut Progress<'_>, block: &[u8]) -> Result<()> {
+        if let Ok(text) = from_utf8(block) {
+            return self.text(progress, text);
+        }
+        for line in block.split(|byte| *byte == b'\n') {
+            match from_utf8(line) {
+                Ok(text) => self.text(progress, text)?,
+                Err(why) => self.no_text(progress, line, &why)?,
+            }
+        }
+        Ok(())
+    }
+
+    // A line that is no UTF-8 is said and passed over, or searched with U+FFFD in place of what is none.
+    fn no_text(&mut self, progress: &mut Progress<'_>, line: &[u8], why: &Utf8Error) -> Result<()> {
+        if self.options.lossy {
+            let text = String::from_utf8_lossy(self.rt.alloc(), line)?;
+            return self.text(progress, text.as_str());
+        }
+        if !progress.is_over {
+            self.trouble_at(progress, why)?;
+            progress.lines = progress.lines.saturating_add(1);
+        }
+        Ok(())
+    }
+
+    fn text(&mut self, progress: &mut Progress<'_>, text: &str) -> Result<()> {
+        if progress.is_over {
+            return Ok(());
+        }
+        let lines = lines_of(self.rt.alloc(), text)?;
+        let fit = how_many_fit(&lines, self.options.longest);
+        self.lines(progress, &lines[..fit])?;
+        if fit < lines.len() && !progress.is_over {
+            self.give_up(progress, &BlockError::TooLong)?;
+        }
+        Ok(())
+    }
+
+    fn lines(&mut self, progress: &mut Progress<'_>, lines: &[&str]) -> Result<()> {
+        let before = progress.lines;
+        let Some(behind) = before.checked_add(lines.len() as u64) else {
+            bail!("the file has too many lines");
+        };
+        let found = selected(self.rt.alloc(), self.re, self.options.invert, lines, before)?;
+        progress.lines = behind;
+        for line in &found {
+            if !progress.is_over {
+                self.print(progress.name, line)?;
+                progress.selected = progress.selected.saturating_add(1);
+                progress.is_over = progress.selected >= self.options.most;
+            }
+        }
+        Ok(())
+    }
+
+    fn print(&mut self, name: &str, line: &Line<'_>) -> Result<()> {
+        if self.options.count {
+            return Ok(());
+        }
+        if self.options.only_matches {
+            return self.print_matches(name, line);
+        }
+        self.print_prefix(name, Some(line.number))?;
+        if self.options.color && !self.options.invert {
+            writeln!(self.out, "{}", colored(self.re, line.text)?)?;
+        } else {
+            writeln!(self.out, "{}", line.text)?;
+        }
+        Ok(())
+    }
+
+    fn print_matches(&mut self, name: &str, line: &Line<'_>) -> Result<()> {
+        for part in &matched_parts(self.rt.alloc(), self.re, line.text)? {
+            if part.is_empty() {
+                continue;
+            }
+            self.print_prefix(name, Some(line.number))?;
+            if self.options.color {
+                writeln!(self.out, "{RED}{part}{PLAIN}")?;
+            } else {
+                writeln!(self.out, "{part}")?;
+            }
+        }
+        Ok(())
+    }
+
+    // The name of the file where there are several, and the number of a line where it is asked for.
+    fn print_prefix(&mut self, name: &str, number: Option<u64>) -> io::Result<()> {
+        if self.options.files.len() > 1 {
+            write!(self.out, "{name}:")?;
+        }
+        match number {
+            Some(number) if self.options.numbers => write!(self.out, "{number}:"),
+            _ => Ok(()),
+        }
+    }
+
+    // What is told behind the last line.
+    fn end(&mut self, progress: &Progress<'_>) -> Result<()> {
+        self.tally.selected = self.tally.selected.saturating_add(progress.selected);
+        if self.options.count {
+            self.print_prefix(progress.name, None)?;
+            writeln!(self.out, "{}", progress.selected)?;
+        }
+        Ok(())
+    }
 }

@@ -1,0 +1,43 @@
+-- Which lines a grep selects, and what it shows of them.
+use Rattle.std.specs.Prelude.{ℕ, ◌+◌, List, [], ◌∷◌, ◌++◌, Bool, eqb, codes, is_some, map, not, slice_get, slice_range, if◌then◌else◌}
+use Rattle.std.specs.List.{slice_split}
+use Rattle.regex_meaning.specs.Names.{Answer}
+use Rattle.regex_meaning.specs.Replace.{replaced}
+use Rattle.regress_match.specs.Programs.{utf8_answers}
+use Rattle.regress_match.specs.Replacements.{expanded}
+use Rattle.regress_match.specs.declared.api.regex.Regex.{Regex}
+use Rattle.use_grep.specs.declared.select.Line.{Line}
+
+-- the lines of a text, which line breaks end
+abbrev pub lines_of : (text : List ℕ) → List (List ℕ)
+lines_of text = slice_split (λ b. eqb b 10) text
+
+-- lines with their numbers
+abbrev pub numbered : (first : ℕ) → List (List ℕ) → List (ℕ × List ℕ)
+numbered first [] = []
+numbered first (line ∷ lines) = (first, line) ∷ numbered (first + 1) lines
+
+-- the pattern has a match in this line
+abbrev pub has_match : Regex → (line : List ℕ) → Bool
+has_match re line = is_some (slice_get (utf8_answers re line 0) 0)
+
+-- the lines that are shown: those with a match, or, inverted, those with none
+abbrev pub is_selected : Regex → (invert : Bool) → (line : List ℕ) → Bool
+is_selected re invert line = if invert then not (has_match re line) else has_match re line
+
+-- a line that was found
+abbrev pub shown : Line → ℕ × List ℕ
+shown line = (line.number, line.text.now)
+
+-- what each match has of a line
+abbrev pub matched_parts : (line : List ℕ) → List Answer → List (List ℕ)
+matched_parts line matches = map (λ m. slice_range line m.range.0 m.range.1) matches
+
+-- a line with its matches in red
+abbrev pub colored : Regex → (line : List ℕ) → List ℕ
+colored re line = replaced line 0 (expanded line (27 ∷ (codes "[1;31m$0" ++ 27 ∷ codes "[m")) (utf8_answers re line 0))
+
+-- a pattern between the ends of a line, or between places that are no word's
+abbrev pub framed : (whole_lines : Bool) → (pattern : List ℕ) → List ℕ
+framed whole_lines pattern =
+    if whole_lines then codes "^(?:" ++ (pattern ++ codes ")$") else codes "(?<!\\w)(?:" ++ (pattern ++ codes ")(?!\\w)")

@@ -1,0 +1,58 @@
+//! The pattern that is searched.
+
+ghost use Rattle.std.specs.Prelude.{◌≡◌, ◌++◌, IfOk, codes, if◌then◌else◌, string_bytes};
+ghost use Rattle.use_grep.specs.Selecting.{framed};
+
+use crate::options::Options;
+use regress_match::{Error, Flags, Regex};
+use std::alloc::{AllocError, Global};
+use std::io;
+
+// The flags that the pattern is read with.
+fn flags(options: &Options<'_>) -> Flags {
+    if options.ignore_case {
+        Flags::from("i")
+    } else {
+        Flags::default()
+    }
+}
+
+/// The pattern of these options.
+///
+/// # Errors
+///
+/// Those of `Regex::with_flags`: the pattern has to be one by itself, without what `-w` and `-x` put around it.
+pub fn compile(alloc: Global, options: &Options<'_>) -> Result<Regex, Error> {
+    let alone = Regex::with_flags(alloc, options.pattern, flags(options))?;
+    if !options.words && !options.whole_lines {
+        return Ok(alone);
+    }
+    let framed = framed(alloc, options.pattern, options.whole_lines)?;
+    Regex::with_flags(alloc, framed.as_str(), flags(options))
+}
+
+// The pattern between the ends of the line, or else between places that are no word's.
+fn framed(alloc: Global, pattern: &str, whole_lines: bool) -> Result<String, AllocError>
+    ensures { IfOk result (λ s. string_bytes s ≡ framed whole_lines pattern.now) }
+{
+    if whole_lines {
+        format!(in alloc; "^(?:{pattern})$")
+    } else {
+        format!(in alloc; "(?<!\\w)(?:{pattern})(?!\\w)")
+    }
+}
+
+/// Says why a pattern is refused, with a `^` below the place where it is none.
+///
+/// # Errors
+///
+/// Where there is no memory to tell, or nothing can be written.
+pub fn say_refused(rt: &HostRuntime, options: &Options<'_>, why: &Error) -> io::Result<()> {
+    match Regex::diagnose(rt.alloc(), options.pattern, flags(options))? {
+        Some(told) => {
+            let below = told.below_text(options.pattern);
+            eprintln!(rt; "use_grep: {told}\n{below}")
+        }
+        None => eprintln!(rt; "use_grep: {why}"),
+    }
+}

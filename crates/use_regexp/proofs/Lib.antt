@@ -1,0 +1,8 @@
+pub mod FlagLists
+pub mod PairLemmas
+pub mod TemplateLemmas
+pub mod FoundStands
+pub mod TurnLemmas
+pub mod Replaced
+pub mod SplitLemmas
+pub mod Answering

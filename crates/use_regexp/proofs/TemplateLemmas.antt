@@ -1,0 +1,90 @@
+-- What a template says, sign by sign, and where the groups of a match stand.
+use Rattle.std.proofs.Common.{◌≡◌, ℕ, zero, suc, ◌+◌, ◌-◌, Bool, true, false, List, [], ◌∷◌, ◌++◌, length, drop, refl, sym, ap, ◌∙◌, arith, append_assoc}
+use Rattle.std.specs.Prelude.{Option, Some, None, IfSome, if◌then◌else◌, option_map, slice_get, unwrap_or}
+use Rattle.std.specs.List.{list_all}
+use Rattle.std.specs.Option.{option_or}
+use Rattle.regex_meaning.specs.Laws.{Each}
+use Rattle.regex_meaning.specs.Names.{Answer, first_range, group, ids_named, named_group}
+use Rattle.regex_meaning.specs.Outcomes.{group_range}
+use Rattle.regress_match.specs.Replacements.{FitsUnits, IsWithin}
+use Rattle.regex_meaning.specs.Replace.{text_of}
+use Rattle.use_regexp.specs.Template.{IsWritten, Said, is_ascii, is_group, named_text, numbered, said, said_in, say, two_digits}
+
+module _ (text : List ℕ) (m : Answer) where
+  -- nothing says nothing
+  pub said-none : (count : ℕ) (rest : List ℕ) → length rest ≡ 0 → said_in text m count rest ≡ []
+  said-none zero rest none = refl
+  said-none (suc count) [] none = refl
+  said-none (suc count) (c ∷ rest) none = absurd (omega arith)
+
+  pub said-out : (count : ℕ) (rest : List ℕ) → count ≡ 0 → said_in text m count rest ≡ []
+  said-out count rest none = ap (λ n. said_in text m n rest) none
+
+  -- what its first signs say stands before what the rest says
+  pub said-more : (before after whole rest behind left : List ℕ) (first count next : ℕ) → before ++ said_in text m count rest ≡ whole
+      → rest ≡ first ∷ behind → count ≡ suc next → IsWritten before after left (said text m first behind) → after ++ said_in text m next left ≡ whole
+  said-more before after whole rest behind left first count next h r c w =
+      let s = said text m first behind in
+      rw (w.0, w.1)
+      (append_assoc before s.units (said_in text m next s.rest)
+      ∙ ap (λ n. before ++ said_in text m n (first ∷ behind)) (sym c) ∙ ap (λ t. before ++ said_in text m count t) (sym r) ∙ h)
+
+  -- ---- Its signs
+
+  -- what is written is what a sign says
+  written : (before after left units rest : List ℕ) (s : Said) → s ≡ say units rest → after ≡ before ++ units → left ≡ rest → IsWritten before after left s
+  written before after left units rest s e a l = (a ∙ ap (λ (s : Said). before ++ s.units) (sym e), l ∙ ap (λ (s : Said). s.rest) (sym e))
+
+  pub two-written : (before after left rest : List ℕ) (digit one two : ℕ) → one ≡ digit - 48 → two ≡ two_digits one rest → is_group m two ≡ true
+      → after ≡ before ++ text_of text m (group m two) → left ≡ drop 1 rest → IsWritten before after left (numbered text m digit rest)
+  two-written before after left rest digit one two o t g a l =
+      let at : two_digits (digit - 48) rest ≡ two = ap (λ n. two_digits n rest) (sym o) ∙ sym t in
+      written before after left (text_of text m (group m two)) (drop 1 rest) _ (rw (at, g) refl) a l
+
+  pub one-written : (before after left rest : List ℕ) (digit one two : ℕ) → one ≡ digit - 48 → two ≡ two_digits one rest → is_group m two ≡ false
+      → is_group m one ≡ true → after ≡ before ++ text_of text m (group m one) → left ≡ rest → IsWritten before after left (numbered text m digit rest)
+  one-written before after left rest digit one two o t n g a l =
+      let at : two_digits (digit - 48) rest ≡ two = ap (λ n. two_digits n rest) (sym o) ∙ sym t in
+      let is : is_group m (digit - 48) ≡ true = ap (is_group m) (sym o) ∙ g in
+      written before after left (text_of text m (group m (digit - 48))) rest _ (rw (at, n, is) refl) (a ∙ ap (λ k. before ++ text_of text m (group m k)) o) l
+
+  -- a name of ASCII names a group by its bytes
+  pub named-text-is : (name bytes : List ℕ) → Some bytes ≡ (if list_all is_ascii name then Some name else None) → text_of text m (named_group m bytes) ≡ named_text text m name
+  named-text-is name bytes e = by (list_all is_ascii name) e
+    where
+      by : (b : Bool) → Some bytes ≡ (if b then Some name else None) → text_of text m (named_group m bytes) ≡ (if b then text_of text m (named_group m name) else [])
+      by true e = let same : bytes ≡ name = cc in ap (λ n. text_of text m (named_group m n)) same
+      by false e = cc
+
+-- ---- Groups
+
+module _ (us : List ℕ) where
+  unwrapped : (o : Option (Option (ℕ × ℕ))) → IfSome o (λ g. IfSome g (IsWithin us)) → IfSome (unwrap_or o None) (IsWithin us)
+  unwrapped None h = tt
+  unwrapped (Some g) h = h
+
+  either : (a b : Option (ℕ × ℕ)) → IfSome a (IsWithin us) → IfSome b (IsWithin us) → IfSome (option_or a b) (IsWithin us)
+  either None b h k = k
+  either (Some x) b h k = h
+
+  get-within : (groups : List (Option (ℕ × ℕ))) (id : ℕ) → Each (λ g. IfSome g (IsWithin us)) groups → IfSome (slice_get groups id) (λ g. IfSome g (IsWithin us))
+  get-within [] id h = tt
+  get-within (g ∷ groups) zero h = h.0
+  get-within (g ∷ groups) (suc id) h = get-within groups id h.1
+
+  range-within : (m : Answer) (id : ℕ) → FitsUnits us m → IfSome (group_range m.captures id) (IsWithin us)
+  range-within m id fits = unwrapped (slice_get m.captures id) (get-within m.captures id fits.groups)
+
+  -- a group by number stands in the text
+  pub group-within : (m : Answer) (number : ℕ) → FitsUnits us m → IfSome (group m number) (IsWithin us)
+  group-within m zero fits = fits.whole
+  group-within m (suc id) fits = range-within m id fits
+
+  first-within : (m : Answer) (ids : List ℕ) → FitsUnits us m → IfSome (first_range m ids) (IsWithin us)
+  first-within m [] fits = tt
+  first-within m (id ∷ ids) fits = either (group_range m.captures id) (first_range m ids) (range-within m id fits) (first-within m ids fits)
+
+  -- so does one by name
+  pub named-within : (m : Answer) (name : List ℕ) → FitsUnits us m → IfSome (named_group m name) (IsWithin us)
+  named-within m [] fits = tt
+  named-within m (c ∷ name) fits = first-within m (ids_named m (c ∷ name)) fits

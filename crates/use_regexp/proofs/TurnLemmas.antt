@@ -1,0 +1,131 @@
+-- Matches that are found one after the other.
+use Rattle.std.proofs.Common.{◌≡◌, ℕ, ◌+◌, ◌-◌, ◌<◌, ◌≤◌, Bool, true, false, ◌||◌, List, [], ◌∷◌, ◌++◌, length, map, refl, sym, subst, ap, ◌∙◌, arith, append_assoc, append-nil}
+use Rattle.std.specs.Prelude.{Option, Some, None, IfSome, option_map, if◌then◌else◌, slice_get}
+use Rattle.std.specs.Bool.{MatchBool}
+use Rattle.std.specs.Borrow.{Bor}
+use Rattle.std.specs.Option.{option_copied, option_to_list}
+use Rattle.std.proofs.lemmas.List.{map-append}
+use Rattle.regex_meaning.specs.Names.{Answer}
+use Rattle.regex_meaning.proofs.UnitLemmas.{AreUnits}
+use Rattle.regress_exec.specs.Answers.{answer_of}
+use Rattle.regress_exec.specs.declared.exec.Match.{Match}
+use Rattle.use_regexp.specs.Exec.{StandsFrom, first_match, found, last_behind, match_here, search_index}
+use Rattle.use_regexp.specs.Loops.{AreFoundInTurn, AreTaken, last_taken, next_last}
+use Rattle.use_regexp.specs.Replace.{StandInUnits}
+use Rattle.use_regexp.specs.Units.{character_start}
+use Rattle.use_regexp.specs.declared.pattern.Pattern.{Pattern}
+use Rattle.use_regexp.proofs.FoundStands.{first-stands, here-stands}
+use Rattle.use_regexp.proofs.PairLemmas.{next-behind, next-rises, start-near}
+
+-- with `g` a search begins at `lastIndex`
+global-index : (p : Pattern) (last : ℕ) → p.flags.global ≡ true → search_index p last ≡ last
+global-index p last e = ap (λ (b : Bool). if b || p.flags.sticky then last else 0) e
+
+-- ---- A single search
+
+module _ (p : Pattern) (us : List ℕ) (index last : ℕ) (same : index ≡ search_index p last) where
+  abbrev by_flag : Bool → Option Answer
+  by_flag sticky = if sticky then match_here p us (search_index p last) else first_match p us (search_index p last)
+
+  pub found-here : (m : Option Match) → p.flags.sticky ≡ true → option_map answer_of m ≡ match_here p us index → option_map answer_of m ≡ found p us last
+  found-here m sticky e = e ∙ ap (match_here p us) same ∙ sym (ap by_flag sticky)
+
+  pub found-first : (m : Option Match) → p.flags.sticky ≡ false → option_map answer_of m ≡ first_match p us index → option_map answer_of m ≡ found p us last
+  found-first m sticky e = e ∙ ap (first_match p us) same ∙ sym (ap by_flag sticky)
+
+  pub stands-there : (m : Option Match) → IfSome m (λ f. StandsFrom p us index (answer_of f)) → IfSome m (λ f. StandsFrom p us (search_index p last) (answer_of f))
+  stands-there m h = subst (λ i. IfSome m (λ f. StandsFrom p us i (answer_of f))) same h
+
+-- the match behind a reference
+pub copied-answers : (r : Option (Bor Match)) (m : Option Match) → option_copied r ≡ m → option_map (λ x. answer_of x.now) r ≡ option_map answer_of m
+copied-answers None m e = ap (option_map answer_of) e
+copied-answers (Some x) m e = ap (option_map answer_of) e
+
+module _ (p : Pattern) (us : List ℕ) where
+  -- ---- The list
+
+  -- what is found so far stands before whatever is found from here on
+  abbrev pub GoesOn : (first last : ℕ) → (so_far : List Answer) → Type 0
+  GoesOn first last so_far = (rest : List Answer) → AreFoundInTurn p us last rest → AreFoundInTurn p us first (so_far ++ rest)
+
+  pub goes-none : (first : ℕ) (items : List Match) → items ≡ [] → GoesOn first first (map answer_of items)
+  goes-none first items none rest h = subst (λ (ms : List Match). AreFoundInTurn p us first (map answer_of ms ++ rest)) (sym none) h
+
+  pub goes-more : (first last next : ℕ) (items more : List Match) (f : Match) → GoesOn first last (map answer_of items)
+      → found p us last ≡ Some (answer_of f) → next ≡ next_last p us (answer_of f) → more ≡ items ++ f ∷ [] → GoesOn first next (map answer_of more)
+  goes-more first last next items more f on e n m rest h =
+      let m' = answer_of f in
+      let whole = on (m' ∷ rest) (e, subst (λ at. AreFoundInTurn p us at rest) n h) in
+      subst (AreFoundInTurn p us first)
+      (sym (ap (λ (ms : List Answer). ms ++ rest) (ap (map answer_of) m ∙ map-append answer_of items (f ∷ [])) ∙ append_assoc (map answer_of items) (m' ∷ []) rest)) whole
+
+  pub goes-end : (first last : ℕ) (ms : List Answer) → GoesOn first last ms → found p us last ≡ None → AreFoundInTurn p us first ms
+  goes-end first last ms on e = subst (AreFoundInTurn p us first) (append-nil ms) (on [] e)
+
+  -- the next index is nearer to the end
+  pub turn-smaller : (last next : ℕ) (m : Answer) → p.flags.global ≡ true → StandsFrom p us (search_index p last) m → next ≡ next_last p us m
+      → length us + 3 - next < length us + 3 - last
+  turn-smaller last next m global s n =
+      let behind : character_start p.flags.unicode us last ≤ m.range.0 = subst (λ i. character_start p.flags.unicode us i ≤ m.range.0) (global-index p last global) s.behind in
+      let rises = next-rises p.flags.unicode us last m.range.0 m.range.1 behind s.fits.whole.0 s.whole in
+      let near = start-near p.flags.unicode us last in
+      omega (arith, rises, near, behind, s.fits.whole, n)
+
+  -- ---- Where they stand
+
+  module _ (small : AreUnits us) where
+    pub found-stands : (last : ℕ) (m : Answer) → found p us last ≡ Some m → StandsFrom p us (search_index p last) m
+    found-stands last m e = by p.flags.sticky e
+      where
+        by : (b : Bool) → (if b then match_here p us (search_index p last) else first_match p us (search_index p last)) ≡ Some m → StandsFrom p us (search_index p last) m
+        by true e = here-stands p us (search_index p last) small m e
+        by false e = first-stands p us (search_index p last) small m e
+
+    stand-in-turn : p.flags.global ≡ true → (ms : List Answer) (last from : ℕ) → from ≤ character_start p.flags.unicode us last → from ≤ length us
+        → AreFoundInTurn p us last ms → StandInUnits us from ms
+    stand-in-turn global [] last from le inside h = inside
+    stand-in-turn global (m ∷ ms) last from le inside h =
+        let s = found-stands last m h.0 in
+        let behind : character_start p.flags.unicode us last ≤ m.range.0 = subst (λ i. character_start p.flags.unicode us i ≤ m.range.0) (global-index p last global) s.behind in (
+          omega (arith, le, behind),
+          s.fits,
+          stand-in-turn global ms (next_last p us m) m.range.1 (next-behind p.flags.unicode us m.range.0 m.range.1 s.whole) s.fits.whole.1 h.1,
+        )
+
+    -- those that are taken stand in the text, in order
+    pub taken-stand : (last : ℕ) (ms : List Answer) → AreTaken p us 0 last ms → StandInUnits us 0 ms
+    taken-stand last ms h = by p.flags.global refl h
+      where
+        one : (m : Option Answer) → found p us last ≡ m → StandInUnits us 0 (option_to_list m)
+        one None e = omega arith
+        one (Some m) e = let s = found-stands last m e in (omega arith, s.fits, s.fits.whole.1)
+
+        by : (b : Bool) → p.flags.global ≡ b → MatchBool b (AreFoundInTurn p us 0 ms) (ms ≡ option_to_list (found p us last)) → StandInUnits us 0 ms
+        by true e h = stand-in-turn e ms 0 0 (omega arith) (omega arith) h
+        by false e h = subst (StandInUnits us 0) (sym h) (one (found p us last) refl)
+
+  -- ---- By the flag
+
+  abbrev taken_by : (first last : ℕ) → List Answer → Bool → Type 0
+  taken_by first last ms b = MatchBool b (AreFoundInTurn p us first ms) (ms ≡ option_to_list (found p us last))
+
+  pub taken-all : (first last : ℕ) (ms : List Answer) → p.flags.global ≡ true → AreFoundInTurn p us first ms → AreTaken p us first last ms
+  taken-all first last ms e h = subst (taken_by first last ms) (sym e) h
+
+  pub taken-one : (first last : ℕ) (ms : List Answer) → p.flags.global ≡ false → ms ≡ option_to_list (found p us last) → AreTaken p us first last ms
+  taken-one first last ms e h = subst (taken_by first last ms) (sym e) h
+
+  -- ---- `lastIndex` behind them
+
+  pub taken-last : (last : ℕ) (ms : List Answer) → AreTaken p us 0 last ms
+      → (if p.flags.global then 0 else last_behind p last (slice_get ms 0)) ≡ last_taken p us last
+  taken-last last ms h = by p.flags.global h
+    where
+      first : (m : Option Answer) → slice_get (option_to_list m) 0 ≡ m
+      first None = refl
+      first (Some m) = refl
+
+      by : (b : Bool) → MatchBool b (AreFoundInTurn p us 0 ms) (ms ≡ option_to_list (found p us last))
+          → (if b then 0 else last_behind p last (slice_get ms 0)) ≡ (if b then 0 else last_behind p last (found p us last))
+      by true h = refl
+      by false h = ap (last_behind p last) (ap (λ ms. slice_get ms 0) h ∙ first (found p us last))

@@ -1,0 +1,14 @@
+use Rattle.std.proofs.Common.{◌∙◌, ap, map}
+use Rattle.std.specs.Prelude.{if◌then◌else◌, slice_get}
+use Rattle.regress_exec.specs.Answers.{answer_of}
+use Rattle.use_regexp.specs.Exec.{last_behind}
+use Rattle.use_regexp.proofs.TurnLemmas.{taken-last}
+use Rattle.use_regexp.proofs.regexp.RegExp.match_text.Goals as goal
+
+pub returns-clause-last : goal.returns-clause-last
+returns-clause-last c =
+    let p = c.args.self.now.pattern in
+    let last = c.args.self.now.last_index in
+    c.last_taken-last_index.ensures
+    ∙ ap (λ xs. if p.flags.global then 0 else last_behind p last (slice_get (map answer_of xs) 0)) c.as_slice.ensures.value
+    ∙ taken-last p c.args.text.now last (map answer_of c.in_ok-matches.matches.items) c.in_ok-matches.ensures.taken

@@ -1,0 +1,29 @@
+use Rattle.std.proofs.Common.{◌∙◌, ◌++◌, ap, refl, sym, subst}
+use Rattle.std.proofs.lemmas.List.{take_rest}
+use Rattle.std.specs.Prelude.{IfSome}
+use Rattle.regex_meaning.specs.Replace.{text_of}
+use Rattle.regress_exec.specs.Answers.{answer_of}
+use Rattle.regress_match.specs.Replacements.{IsWithin}
+use Rattle.use_regexp.proofs.TemplateLemmas.{group-within, one-written, two-written}
+use Rattle.use_regexp.proofs.template.push_numbered.Goals as goal
+
+pub returns-then-is_group : goal.returns-then-is_group
+returns-then-is_group c =
+    let text = c.args.text.now in
+    let m = answer_of c.args.found.now in
+    two-written text m c.args.out.now.items c.push_range.new.out.items _ c.args.rest.now c.args.digit c.from-one.result c.two_digits-two.result
+    c.from-one.ensures c.two_digits-two.ensures (sym c.is_group.ensures ∙ c.if-is_group.true)
+    (c.in_ok-push_range.ensures m ∙ ap (λ g. c.args.out.now.items ++ text_of text m g) c.group.ensures) (take_rest c.args.rest.now 1)
+
+pub push_range-requires-then-is_group-2 : goal.push_range-requires-then-is_group-2
+push_range-requires-then-is_group-2 c =
+    subst (λ g. IfSome g (IsWithin c.args.text.now)) (sym c.group-then-is_group-2.ensures)
+    (group-within c.args.text.now (answer_of c.args.found.now) c.from-one.result c.requires.fits)
+
+pub returns-then-is_group-2 : goal.returns-then-is_group-2
+returns-then-is_group-2 c =
+    let text = c.args.text.now in
+    let m = answer_of c.args.found.now in
+    one-written text m c.args.out.now.items c.push_range-then-is_group-2.new.out.items _ c.args.rest.now c.args.digit c.from-one.result c.two_digits-two.result
+    c.from-one.ensures c.two_digits-two.ensures (sym c.is_group.ensures ∙ c.if-is_group.false) (sym c.is_group-2.ensures ∙ c.if-is_group-2.true)
+    (c.in_ok-push_range-2.ensures m ∙ ap (λ g. c.args.out.now.items ++ text_of text m g) c.group-then-is_group-2.ensures) refl

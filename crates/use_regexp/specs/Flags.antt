@@ -1,0 +1,43 @@
+-- Flags of regular expressions.
+use Rattle.std.specs.Prelude.{ℕ, Bool, false, ◌||◌, List, ◌++◌, Option, Some, None, if◌then◌else◌}
+use Rattle.regex_meaning.specs.Flags.{letter_if}
+use Rattle.regex_meaning.specs.Lists.{contains}
+use Rattle.regex_meaning.specs.Tree as tree
+use Rattle.use_regexp.specs.Letters.{are_flags}
+use Rattle.use_regexp.specs.declared.flags.Flags.{Flags}
+
+-- the flags whose letters stand there
+abbrev pub flags_in : List ℕ → Flags
+flags_in letters = record {
+  global = contains letters 103;
+  ignore_case = contains letters 105;
+  multiline = contains letters 109;
+  dot_all = contains letters 115;
+  unicode = contains letters 117;
+  sticky = contains letters 121;
+}
+
+-- the flags of these letters, if they are such
+abbrev pub flags_of : List ℕ → Option Flags
+flags_of letters = if are_flags letters then Some (flags_in letters) else None
+
+-- the letters of those that are set, in the order of the standard (21.2.5.3)
+abbrev pub letters_of : Flags → List ℕ
+letters_of f =
+    letter_if f.global 103 ++ letter_if f.ignore_case 105 ++ letter_if f.multiline 109
+    ++ letter_if f.dot_all 115 ++ letter_if f.unicode 117 ++ letter_if f.sticky 121
+
+-- those that the tree of the pattern has
+abbrev pub tree_flags : Flags → tree.Flags
+tree_flags f = record {
+  icase = f.ignore_case;
+  multiline = f.multiline;
+  dot_all = f.dot_all;
+  no_opt = false;
+  unicode = f.unicode;
+  unicode_sets = false;
+}
+
+-- by these a search begins at `lastIndex`, and tells there where it ended
+abbrev pub keeps_index : Flags → Bool
+keeps_index f = f.global || f.sticky

@@ -1,0 +1,11 @@
+pub mod Letters
+pub mod Flags
+pub mod Refusals
+pub mod Units
+pub mod Source
+pub mod Compiled
+pub mod Exec
+pub mod Loops
+pub mod Template
+pub mod Replace
+pub mod Split

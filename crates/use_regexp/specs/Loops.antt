@@ -1,0 +1,27 @@
+-- The loop that takes all matches (21.2.5.6 and 21.2.5.8).
+use Rattle.std.specs.Prelude.{◌≡◌, ℕ, List, [], ◌∷◌, Option, Some, None, if◌then◌else◌, ◌==◌}
+use Rattle.std.specs.Bool.{MatchBool}
+use Rattle.std.specs.Option.{option_to_list}
+use Rattle.regex_meaning.specs.Names.{Answer}
+use Rattle.use_regexp.specs.Exec.{found, last_behind}
+use Rattle.use_regexp.specs.Units.{advanced}
+use Rattle.use_regexp.specs.declared.pattern.Pattern.{Pattern}
+
+module _ (p : Pattern) (text : List ℕ) where
+  -- from where the loop goes on behind a match: its end, or behind the character there where it is empty
+  abbrev pub next_last : Answer → ℕ
+  next_last m = if m.range.0 == m.range.1 then advanced p.flags.unicode text m.range.1 else m.range.1
+
+  -- searches one after the other, from an index on, find these, and then nothing
+  abbrev pub AreFoundInTurn : (last : ℕ) → List Answer → Type 0
+  AreFoundInTurn last [] = found p text last ≡ None
+  AreFoundInTurn last (m ∷ ms) = (found p text last ≡ Some m) × AreFoundInTurn (next_last m) ms
+
+  -- with `g` all matches from an index on, and else the one that a search finds
+  abbrev pub AreTaken : (first last : ℕ) → List Answer → Type 0
+  AreTaken first last ms =
+      MatchBool p.flags.global (AreFoundInTurn first ms) (ms ≡ option_to_list (found p text last))
+
+  -- `lastIndex` behind them: with `g` the last search has found nothing
+  abbrev pub last_taken : (last : ℕ) → ℕ
+  last_taken last = if p.flags.global then 0 else last_behind p last (found p text last)

@@ -1,0 +1,42 @@
+//! Why there is no regular expression of a pattern and flags.
+
+ghost use Rattle.std.specs.Prelude.{◌≡◌};
+ghost use Rattle.use_regexp.specs.Refusals.{of_pattern};
+
+use regress_match::Error;
+use std::alloc::AllocError;
+
+/// Why there is no regular expression of a pattern and flags.
+#[derive(Clone, Copy, Debug, PartialEq, Eq, thiserror::Error)]
+pub enum RegExpError {
+    /// A letter is no flag, or stands twice.
+    #[error("the flags are refused")]
+    Flags,
+    /// The pattern is refused.
+    #[error("{0}")]
+    Pattern(Error),
+    /// There was no memory.
+    #[error("out of memory")]
+    Memory,
+}
+
+impl From<AllocError> for RegExpError {
+    ghost use Rattle.use_regexp.specs.declared.error.RegExpError.TheVariants.{Memory};
+
+    ghost from_gives = { λ _ e. e ≡ Memory };
+
+    fn from(_: AllocError) -> Self {
+        RegExpError::Memory
+    }
+}
+
+impl From<Error> for RegExpError {
+    ghost from_gives = { λ refused e. e ≡ of_pattern refused };
+
+    fn from(error: Error) -> Self {
+        match error {
+            Error::Memory => RegExpError::Memory,
+            error => RegExpError::Pattern(error),
+        }
+    }
+}

@@ -1,0 +1,112 @@
+//! How a regular expression is written.
+
+ghost use Rattle.std.specs.Prelude.{◌≡◌, ◌++◌, ◌∷◌, IfOk, false, if◌then◌else◌, []};
+ghost use Rattle.use_regexp.specs.Source.{behind_backslash, class_behind, escaped_from, escaped_source, is_terminator as is_terminator_of, wants_backslash as wants};
+
+use std::alloc::{AllocError, Global};
+
+const BACKSLASH: u16 = 92;
+
+const SLASH: u16 = 47;
+
+/// The pattern's text that means the same and can stand between slashes (21.2.3.2.4, EscapeRegExpPattern).
+///
+/// # Errors
+///
+/// Where there is no memory for it.
+pub(crate) fn escaped(alloc: Global, source: &[u16]) -> Result<Vec<u16>, AllocError>
+    ensures { IfOk result (λ v. v.items ≡ escaped_source source.now) }
+{
+    let mut out = Vec::new(alloc);
+    if source.is_empty() {
+        push_ascii(&mut out, b"(?:)")?;
+        return Ok(out);
+    }
+    push_escaped(&mut out, source)?;
+    Ok(out)
+}
+
+// Writes the units, with a backslash where one is wanted.
+fn push_escaped(out: &mut Vec<u16>, source: &[u16]) -> Result<(), AllocError>
+    ensures { IfOk result (λ _. out.new.items ≡ out.old.items ++ escaped_from false false source.now) }
+{
+    let mut escaped = false;
+    let mut in_class = false;
+    for unit in source {
+        if escaped {
+            push_behind_backslash(out, *unit)?;
+            escaped = false;
+        } else {
+            push_plain(out, in_class, *unit)?;
+            in_class = is_in_class(in_class, *unit);
+            escaped = *unit == BACKSLASH;
+        }
+    }
+    Ok(())
+}
+
+// Writes a unit that no backslash stands before.
+fn push_plain(out: &mut Vec<u16>, in_class: bool, unit: u16) -> Result<(), AllocError>
+    ensures { IfOk result (λ _. out.new.items ≡ out.old.items
+        ++ (if wants in_class unit then 92 ∷ behind_backslash unit else unit ∷ [])) }
+{
+    if !wants_backslash(in_class, unit) {
+        return Ok(out.push(unit)?);
+    }
+    out.push(BACKSLASH)?;
+    push_behind_backslash(out, unit)
+}
+
+// Whether a unit wants a backslash: a line terminator, or a slash outside of a class.
+fn wants_backslash(in_class: bool, unit: u16) -> bool
+    ensures { result ≡ wants in_class unit }
+{
+    is_terminator(unit) || (unit == SLASH && !in_class)
+}
+
+// Whether a unit is a line terminator.
+fn is_terminator(unit: u16) -> bool
+    ensures { result ≡ is_terminator_of unit }
+{
+    unit == 0x0A || unit == 0x0D || unit == 0x2028 || unit == 0x2029
+}
+
+// Whether a class is open behind a unit that no backslash stands before.
+fn is_in_class(in_class: bool, unit: u16) -> bool
+    ensures { result ≡ class_behind in_class unit }
+{
+    if unit == 91 {
+        true
+    } else if unit == 93 {
+        false
+    } else {
+        in_class
+    }
+}
+
+// Writes what stands behind a backslash: the name of a line terminator, or the unit.
+fn push_behind_backslash(out: &mut Vec<u16>, unit: u16) -> Result<(), AllocError>
+    ensures { IfOk result (λ _. out.new.items ≡ out.old.items ++ behind_backslash unit) }
+{
+    if unit == 0x0A {
+        push_ascii(out, b"n")
+    } else if unit == 0x0D {
+        push_ascii(out, b"r")
+    } else if unit == 0x2028 {
+        push_ascii(out, b"u2028")
+    } else if unit == 0x2029 {
+        push_ascii(out, b"u2029")
+    } else {
+        Ok(out.push(unit)?)
+    }
+}
+
+// Writes a text of ASCII.
+pub(crate) fn push_ascii(out: &mut Vec<u16>, text: &[u8]) -> Result<(), AllocError>
+    ensures { IfOk result (λ _. out.new.items ≡ out.old.items ++ text.now) }
+{
+    for byte in text {
+        out.push(u16::from(*byte))?;
+    }
+    Ok(())
+}

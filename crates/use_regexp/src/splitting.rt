@@ -1,0 +1,187 @@
+//! Texts that are cut where a pattern matches.
+
+ghost use Rattle.std.specs.Prelude.{◌≡◌, ◌++◌, ◌∷◌, ◌⊎◌, ◌≤◌, [], IfErr, IfNone, IfOk, IfSome, None, Some, length, map, option_map, take};
+ghost use Rattle.regress_exec.specs.Answers.{answer_of, range_of};
+ghost use Rattle.regress_match.specs.Refusals.{IsMemory};
+ghost use Rattle.use_regexp.specs.Split.{ArePieces, IsSeparator, IsSplit, before_end as before_end_of, chosen, pieces_of_none, separator};
+
+use crate::pattern::Pattern;
+use crate::regexp::RegExp;
+use crate::units::advanced;
+use regress_match::{Match, Range, SearchError};
+use std::alloc::{AllocError, Global};
+
+impl RegExp {
+    /// The text in pieces: what stands between the matches, and behind each piece the groups of the match there, none for one
+    /// that did not match; at most so many, where one that is not limited has 2^32 - 1 (21.2.5.11, `[Symbol.split]`). A match
+    /// that is empty cuts only between characters. `lastIndex`, `g` and `y` have no say, and nothing changes.
+    ///
+    /// # Errors
+    ///
+    /// `Memory` where there is no memory for a search or the list.
+    pub fn split(
+        &self,
+        alloc: Global,
+        text: &[u16],
+        limit: u32,
+    ) -> Result<Vec<Option<Range<usize>>>, SearchError>
+        ensures split { IfOk result (λ v.
+            IsSplit self.now.pattern text.now limit (map (option_map range_of) v.items)) }
+        ensures refused { IfErr result IsMemory }
+    {
+        let limit = limit as usize;
+        if text.is_empty() {
+            return self.pattern.pieces_of_none(alloc, text, limit);
+        }
+        self.pattern.pieces(alloc, text, limit)
+    }
+}
+
+impl Pattern {
+    // The pieces of a text that is empty: none where the pattern matches it.
+    fn pieces_of_none(
+        &self,
+        alloc: Global,
+        text: &[u16],
+        limit: usize,
+    ) -> Result<Vec<Option<Range<usize>>>, SearchError>
+        ensures pieces { IfOk result (λ v. map (option_map range_of) v.items
+            ≡ take limit (pieces_of_none self.now text.now)) }
+        ensures refused { IfErr result IsMemory }
+    {
+        let mut pieces = Vec::new(alloc);
+        if self.match_here(text, 0)?.is_none() {
+            push_piece(&mut pieces, 0, 0)?;
+        }
+        pieces.truncate(limit);
+        Ok(pieces)
+    }
+
+    // The pieces of a text that is not: none more are searched where there are enough.
+    fn pieces(
+        &self,
+        alloc: Global,
+        text: &[u16],
+        limit: usize,
+    ) -> Result<Vec<Option<Range<usize>>>, SearchError>
+        ensures pieces { IfOk result (λ v. ArePieces self.now text.now limit (map (option_map range_of) v.items)) }
+        ensures refused { IfErr result IsMemory }
+    {
+        let mut pieces = Vec::new(alloc);
+        let mut from = 0;
+        'cuts: while let Some(found) = self.wanted_separator(
+            text,
+            from,
+            pieces.as_slice(),
+            limit,
+        )? {
+            push_pieces(&mut pieces, from, &found)?;
+            from = found.end();
+        }
+        push_piece(&mut pieces, from, text.len())?;
+        pieces.truncate(limit);
+        Ok(pieces)
+    }
+
+    // The next separator where a piece begins, if there are not enough pieces.
+    fn wanted_separator(
+        &self,
+        text: &[u16],
+        from: usize,
+        pieces: &[Option<Range<usize>>],
+        limit: usize,
+    ) -> Result<Option<Match>, SearchError>
+        requires { from ≤ length text.now }
+        ensures ends { IfOk result (λ m. IfNone m ((separator self.now text.now from ≡ None) ⊎ (limit ≤ length pieces.now))) }
+        ensures goes { IfOk result (λ m. IfSome m (λ f. separator self.now text.now from ≡ Some (answer_of f))) }
+        ensures stands { IfOk result (λ m. IfSome m (λ f. IsSeparator self.now text.now from (answer_of f))) }
+        ensures refused { IfErr result IsMemory }
+    {
+        if limit <= pieces.len() {
+            return Ok(None);
+        }
+        self.separator(text, from)
+    }
+
+    // The next separator where a piece begins: a match that is not empty there, and begins before the end of the text.
+    fn separator(&self, text: &[u16], from: usize) -> Result<Option<Match>, SearchError>
+        requires { from ≤ length text.now }
+        ensures found { IfOk result (λ m. option_map answer_of m ≡ separator self.now text.now from) }
+        ensures stands { IfOk result (λ m. IfSome m (λ f. IsSeparator self.now text.now from (answer_of f))) }
+        ensures refused { IfErr result IsMemory }
+    {
+        let first = self.first_match(text, from)?;
+        let chosen = self.passed(text, from, first)?;
+        Ok(before_end(text, chosen))
+    }
+
+    // The first match where a piece begins; where that is empty, the one from the next index on.
+    fn passed(
+        &self,
+        text: &[u16],
+        from: usize,
+        first: Option<Match>,
+    ) -> Result<Option<Match>, SearchError>
+        requires { from ≤ length text.now }
+        ensures chosen { IfOk result (λ m. option_map answer_of m
+            ≡ chosen self.now text.now from (option_map answer_of first)) }
+        ensures refused { IfErr result IsMemory }
+    {
+        let Some(found) = first else {
+            return Ok(None);
+        };
+        if found.end() == from {
+            let next = advanced(self.flags().unicode, text, from);
+            return self.first_match(text, next);
+        }
+        Ok(Some(found))
+    }
+}
+
+// The match, if it begins before the end of the text.
+fn before_end(text: &[u16], found: Option<Match>) -> Option<Match>
+    ensures { option_map answer_of result ≡ before_end_of text.now (option_map answer_of found) }
+{
+    match found {
+        Some(found) if found.start() < text.len() => Some(found),
+        _ => None,
+    }
+}
+
+// One piece more.
+fn push_piece(
+    pieces: &mut Vec<Option<Range<usize>>>,
+    start: usize,
+    end: usize,
+) -> Result<(), AllocError>
+    ensures { IfOk result (λ _. map (option_map range_of) pieces.new.items
+        ≡ map (option_map range_of) pieces.old.items ++ Some (start, end) ∷ []) }
+{
+    Ok(pieces.push(Some(start..end))?)
+}
+
+// A piece up to a match, and the groups of that.
+fn push_pieces(
+    pieces: &mut Vec<Option<Range<usize>>>,
+    from: usize,
+    found: &Match,
+) -> Result<(), AllocError>
+    ensures { IfOk result (λ _. map (option_map range_of) pieces.new.items ≡ map (option_map range_of) pieces.old.items
+        ++ Some (from, found.now.range.start) ∷ (answer_of found.now).captures) }
+{
+    push_piece(pieces, from, found.start())?;
+    for group in &found.captures {
+        pieces.push(copied(group))?;
+    }
+    Ok(())
+}
+
+// A range is not `Copy`, and its `clone` could fail.
+fn copied(range: &Option<Range<usize>>) -> Option<Range<usize>>
+    ensures { result ≡ range.now }
+{
+    match range {
+        Some(range) => Some(range.start..range.end),
+        None => None,
+    }
+}

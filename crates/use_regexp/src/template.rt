@@ -1,0 +1,250 @@
+//! What a template says for a match.
+
+ghost use Rattle.std.specs.Prelude.{◌≡◌, ◌++◌, ◌<◌, IfOk, IfSome, IsTrue, None, Some, if◌then◌else◌, length, option_map, position, string_bytes};
+ghost use Rattle.std.specs.Char.{is_ascii_digit};
+ghost use Rattle.std.specs.List.{list_all};
+ghost use Rattle.regex_meaning.specs.Names.{Answer};
+ghost use Rattle.regex_meaning.specs.Replace.{text_of};
+ghost use Rattle.regress_exec.specs.Answers.{answer_of, range_of};
+ghost use Rattle.regress_match.specs.Replacements.{FitsUnits, IsWithin};
+ghost use Rattle.use_regexp.specs.Template.{IsWritten, behind_dollar, is_ascii, is_greater, is_group as is_group_of, name_end as name_end_of, named, named_text, numbered, plain, said, substitution, two_digits as two_digits_of};
+
+use regress_match::{Match, Range};
+use std::alloc::{AllocError, Global};
+
+const DOLLAR: u16 = 36;
+
+const LESS: u16 = 60;
+
+const GREATER: u16 = 62;
+
+// Writes what a template says for a match (21.1.3.16.1, GetSubstitution). Each turn reads a unit at least.
+pub(crate) fn substitute(
+    alloc: Global,
+    out: &mut Vec<u16>,
+    text: &[u16],
+    found: &Match,
+    template: &[u16],
+) -> Result<(), AllocError>
+    requires { FitsUnits text.now (answer_of found.now) }
+    ensures { IfOk result (λ _. out.new.items
+        ≡ out.old.items ++ substitution text.now (answer_of found.now) template.now) }
+{
+    let mut rest = template;
+    'signs: for _turn in 0..template.len() {
+        let Some((first, behind)) = rest.split_first() else {
+            return Ok(());
+        };
+        rest = push_said(alloc, out, text, found, *first, behind)?;
+    }
+    Ok(())
+}
+
+// Writes what the first signs say, and answers what is left.
+fn push_said<'a>(
+    alloc: Global,
+    out: &mut Vec<u16>,
+    text: &[u16],
+    found: &Match,
+    first: u16,
+    behind: &'a [u16],
+) -> Result<&'a [u16], AllocError>
+    requires { FitsUnits text.now (answer_of found.now) }
+    ensures { IfOk result (λ rest. IsWritten out.old.items out.new.items rest.now
+        (said text.now (answer_of found.now) first behind.now)) }
+{
+    if first == DOLLAR {
+        return push_behind_dollar(alloc, out, text, found, behind);
+    }
+    out.push(first)?;
+    Ok(behind)
+}
+
+// Writes what stands behind `$` says.
+fn push_behind_dollar<'a>(
+    alloc: Global,
+    out: &mut Vec<u16>,
+    text: &[u16],
+    found: &Match,
+    signs: &'a [u16],
+) -> Result<&'a [u16], AllocError>
+    requires { FitsUnits text.now (answer_of found.now) }
+    ensures { IfOk result (λ rest. IsWritten out.old.items out.new.items rest.now
+        (behind_dollar text.now (answer_of found.now) signs.now)) }
+{
+    let Some((sign, rest)) = signs.split_first() else {
+        out.push(DOLLAR)?;
+        return Ok(signs);
+    };
+    if is_digit(*sign) {
+        return push_numbered(out, text, found, *sign, rest);
+    }
+    if *sign == LESS {
+        return push_named(alloc, out, text, found, rest);
+    }
+    push_plain(out, text, found, *sign)?;
+    Ok(rest)
+}
+
+// Writes what a sign behind `$` says alone: `$` itself, the match, what stands before it or behind it; and else both signs.
+fn push_plain(out: &mut Vec<u16>, text: &[u16], found: &Match, sign: u16) -> Result<(), AllocError>
+    requires { FitsUnits text.now (answer_of found.now) }
+    ensures { IfOk result (λ _. out.new.items ≡ out.old.items ++ plain text.now (answer_of found.now) sign) }
+{
+    if sign == 38 {
+        return out.extend_from_slice(&text[found.start()..found.end()]);
+    }
+    if sign == 96 {
+        return out.extend_from_slice(&text[..found.start()]);
+    }
+    if sign == 39 {
+        return out.extend_from_slice(&text[found.end()..]);
+    }
+    out.push(DOLLAR)?;
+    if sign != DOLLAR {
+        out.push(sign)?;
+    }
+    Ok(())
+}
+
+// Whether a unit is a digit.
+fn is_digit(unit: u16) -> bool
+    ensures { result ≡ is_ascii_digit unit }
+{
+    matches!(unit, 48..=57)
+}
+
+// Writes the group whose number stands there: of two digits, or else of one; or else `$` and the digit.
+fn push_numbered<'a>(
+    out: &mut Vec<u16>,
+    text: &[u16],
+    found: &Match,
+    digit: u16,
+    rest: &'a [u16],
+) -> Result<&'a [u16], AllocError>
+    requires fits { FitsUnits text.now (answer_of found.now) }
+    requires digit { IsTrue (is_ascii_digit digit) }
+    ensures { IfOk result (λ left. IsWritten out.old.items out.new.items left.now
+        (numbered text.now (answer_of found.now) digit rest.now)) }
+{
+    let one = usize::from(digit - 48);
+    let two = two_digits(one, rest);
+    if is_group(found, two) {
+        push_range(out, text, found.group(two))?;
+        return Ok(&rest[1..]);
+    }
+    if is_group(found, one) {
+        push_range(out, text, found.group(one))?;
+        return Ok(rest);
+    }
+    out.push(DOLLAR)?;
+    out.push(digit)?;
+    Ok(rest)
+}
+
+// Whether the pattern has a group with this number.
+fn is_group(found: &Match, number: usize) -> bool
+    ensures { result ≡ is_group_of (answer_of found.now) number }
+{
+    0 < number && number <= found.captures.len()
+}
+
+// The number of a digit and the one behind it; 0 where there is none.
+fn two_digits(first: usize, rest: &[u16]) -> usize
+    requires { first < 10 }
+    ensures { result ≡ two_digits_of first rest.now }
+{
+    match rest.first() {
+        Some(digit) if is_digit(*digit) => first * 10 + usize::from(*digit - 48),
+        _ => 0,
+    }
+}
+
+// Writes the group whose name stands there, up to `>`, where groups have names; or else `$<`.
+fn push_named<'a>(
+    alloc: Global,
+    out: &mut Vec<u16>,
+    text: &[u16],
+    found: &Match,
+    rest: &'a [u16],
+) -> Result<&'a [u16], AllocError>
+    requires { FitsUnits text.now (answer_of found.now) }
+    ensures { IfOk result (λ left. IsWritten out.old.items out.new.items left.now
+        (named text.now (answer_of found.now) rest.now)) }
+{
+    let Some(end) = name_end(found, rest) else {
+        out.push(DOLLAR)?;
+        out.push(LESS)?;
+        return Ok(rest);
+    };
+    push_name(alloc, out, text, found, &rest[..end])?;
+    Ok(&rest[end + 1..])
+}
+
+// Where a name ends, where groups have names.
+fn name_end(found: &Match, rest: &[u16]) -> Option<usize>
+    ensures end { result ≡ name_end_of (answer_of found.now) rest.now }
+    ensures inside { IfSome result (λ end. end < length rest.now) }
+{
+    if found.named_groups().len() == 0 {
+        return None;
+    }
+    greater_in(rest)
+}
+
+// Where the first `>` stands.
+fn greater_in(rest: &[u16]) -> Option<usize>
+    ensures found { result ≡ position is_greater rest.now }
+    ensures inside { IfSome result (λ at. at < length rest.now) }
+{
+    rest.iter().position(|unit| *unit == GREATER)
+}
+
+// Writes the group with a name, if there is one and it matched.
+fn push_name(
+    alloc: Global,
+    out: &mut Vec<u16>,
+    text: &[u16],
+    found: &Match,
+    name: &[u16],
+) -> Result<(), AllocError>
+    requires { FitsUnits text.now (answer_of found.now) }
+    ensures { IfOk result (λ _. out.new.items
+        ≡ out.old.items ++ named_text text.now (answer_of found.now) name.now) }
+{
+    match ascii(alloc, name)? {
+        Some(name) => push_range(out, text, found.named_group(&name)),
+        None => Ok(()),
+    }
+}
+
+// The text of these units; none where one is not of ASCII, of which names are.
+fn ascii(alloc: Global, units: &[u16]) -> Result<Option<String>, AllocError>
+    ensures { IfOk result (λ s. option_map string_bytes s
+        ≡ (if list_all is_ascii units.now then Some units.now else None)) }
+{
+    let mut text = String::with_capacity(alloc, units.len())?;
+    for unit in units {
+        if 128 <= *unit {
+            return Ok(None);
+        }
+        text.push(char::from(*unit as u8))?;
+    }
+    Ok(Some(text))
+}
+
+// Writes what stands in a range, if there is one.
+fn push_range(
+    out: &mut Vec<u16>,
+    text: &[u16],
+    range: Option<Range<usize>>,
+) -> Result<(), AllocError>
+    requires { IfSome (option_map range_of range) (IsWithin text.now) }
+    ensures { IfOk result (λ _. (m : Answer) → out.new.items
+        ≡ out.old.items ++ text_of text.now m (option_map range_of range)) }
+{
+    match range {
+        Some(range) => out.extend_from_slice(&text[range.start..range.end]),
+        None => Ok(()),
+    }
+}

@@ -1,0 +1,114 @@
+//! Texts of 16-bit units, which the flag `u` reads as UTF-16.
+
+ghost use Rattle.std.specs.Prelude.{◌≡◌, ◌≤◌, ◌∷◌, IfOk, length};
+ghost use Rattle.regex_meaning.specs.Laws.{is_within_pair as is_pair_at};
+ghost use Rattle.regex_meaning.specs.Text.{character_of_pair, is_high_surrogate, is_low_surrogate, utf16_characters};
+ghost use Rattle.use_regexp.specs.Units.{advanced as advanced_of, character_start as start_of, characters_of};
+
+use std::alloc::{AllocError, Global};
+
+// Whether a unit begins a pair.
+fn is_high(unit: u16) -> bool
+    ensures { result ≡ is_high_surrogate unit }
+{
+    matches!(unit, 0xD800..=0xDBFF)
+}
+
+// Whether it ends one.
+fn is_low(unit: u16) -> bool
+    ensures { result ≡ is_low_surrogate unit }
+{
+    matches!(unit, 0xDC00..=0xDFFF)
+}
+
+// Whether an index cuts a pair.
+fn is_within_pair(text: &[u16], index: usize) -> bool
+    ensures { result ≡ is_pair_at text.now index }
+{
+    if index == 0 {
+        return false;
+    }
+    if text.len() <= index {
+        return false;
+    }
+    is_high(text[index - 1]) && is_low(text[index])
+}
+
+// Where the character of an index begins: with `u`, within a pair, one unit before (21.2.2.2).
+pub(crate) fn character_start(unicode: bool, text: &[u16], index: usize) -> usize
+    ensures { result ≡ start_of unicode text.now index }
+{
+    if unicode && is_within_pair(text, index) {
+        index - 1
+    } else {
+        index
+    }
+}
+
+// The index behind the character of an index (21.2.5.2.3, AdvanceStringIndex).
+pub(crate) fn advanced(unicode: bool, text: &[u16], index: usize) -> usize
+    requires { index ≤ length text.now }
+    ensures { result ≡ advanced_of unicode text.now index }
+{
+    if unicode && is_within_pair(text, index + 1) {
+        index + 2
+    } else {
+        index + 1
+    }
+}
+
+// The first character in UTF-16, and what is left.
+fn first_character(unit: u16, behind: &[u16]) -> (u32, &[u16])
+    ensures first { utf16_characters (unit ∷ behind.now) ≡ result.0 ∷ utf16_characters result.1.now }
+    ensures shorter { length result.1.now ≤ length behind.now }
+{
+    if let Some((low, left)) = behind.split_first() {
+        if is_high(unit) && is_low(*low) {
+            return (character_of(unit, *low), left);
+        }
+    }
+    (u32::from(unit), behind)
+}
+
+// The character of a pair.
+fn character_of(high: u16, low: u16) -> u32
+    ensures { result ≡ character_of_pair high low }
+{
+    0x1_0000 + (u32::from(high) % 0x400 * 0x400 + u32::from(low) % 0x400)
+}
+
+// The characters in UTF-16.
+fn decoded(alloc: Global, units: &[u16]) -> Result<Vec<u32>, AllocError>
+    ensures { IfOk result (λ v. v.items ≡ utf16_characters units.now) }
+{
+    let mut characters = Vec::with_capacity(alloc, units.len())?;
+    let mut rest = units;
+    while let Some((unit, behind)) = rest.split_first() {
+        let (character, left) = first_character(*unit, behind);
+        characters.push(character)?;
+        rest = left;
+    }
+    Ok(characters)
+}
+
+// Each unit as a character.
+fn widened(alloc: Global, units: &[u16]) -> Result<Vec<u32>, AllocError>
+    ensures { IfOk result (λ v. v.items ≡ units.now) }
+{
+    units.iter().map(|unit| u32::from(*unit)).collect(alloc)
+}
+
+// The characters of a pattern: with `u` those in UTF-16, and else its units.
+pub(crate) fn characters(
+    alloc: Global,
+    unicode: bool,
+    units: &[u16],
+) -> Result<Vec<u32>, AllocError>
+    ensures { IfOk result (λ v. v.items ≡ characters_of unicode units.now) }
+{
+    if unicode {
+        decoded(alloc, units)
+    } else {
+        widened(alloc, units)
+    }
+}

@@ -26,7 +26,8 @@ impl Patterns {
     ///
     /// # Errors
     ///
-    /// Where a part is no schema, a pattern is refused, or there is no memory. The error says where it stands.
+    /// Where a `pattern` is no string, `properties` or `patternProperties` is no object, a pattern is refused, or there is no
+    /// memory. The error says in which part it stands. What is no object has no pattern.
     pub fn of(alloc: Global, schema: &Value) -> Result<Self> {
         let mut patterns = Patterns {
             compiled: BTreeMap::new(alloc),

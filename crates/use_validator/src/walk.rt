@@ -49,7 +49,7 @@ struct Search<'p> {
     steps: u64,
 }
 
-/// What the patterns of a schema refuse, in the order of the document. `patterns` are those of the schema.
+/// What the patterns of a schema refuse; strings come in the order of the document. `patterns` are those of the schema.
 ///
 /// # Errors
 ///

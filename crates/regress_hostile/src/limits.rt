@@ -127,24 +127,30 @@ pub fn agree(alloc: Global, line: &str) -> Result<bool, Fault> {
     Ok(agree)
 }
 
-// Whether an executor finds two matches in turn. One to which memory is refused at the second has taken so many steps for it
-// by then, at least: what the first one took serves until then.
+// Whether an executor finds two matches in turn, the second one behind this place. One to which memory is refused at the
+// second has taken so many steps for it by then, at least: what the first one took serves until then.
 fn finds_both<P: Counting>(
     executor: &mut P,
+    behind: usize,
     first: &str,
     second: &str,
     taken: u64,
 ) -> Result<bool, Fault>
-    requires { IsStart (P.text executor.old) 0 }
+    requires first { IsStart (P.text executor.old) 0 }
+    requires second { IsStart (P.text executor.old) behind }
 {
-    let Some(pos) = executor.initial_position(0) else {
+    let (Some(pos), Some(behind)) = (
+        executor.initial_position(0),
+        executor.initial_position(behind),
+    ) else {
         return Ok(false);
     };
     let mut next = Some(pos);
     let is_found = is_first(executor.next_match(pos, &mut next)?, first)?;
-    let (true, Some(behind)) = (is_found, next) else {
+    let goes_on = next == Some(behind);
+    if !is_found || !goes_on {
         return Ok(false);
-    };
+    }
     let before = executor.left();
     match executor.next_match(behind, &mut next) {
         Ok(found) => is_first(found, second),
@@ -153,15 +159,36 @@ fn finds_both<P: Counting>(
     }
 }
 
+fn is_taken(
+    re: &CompiledRegex,
+    text: &str,
+    behind: usize,
+    first: &str,
+    second: &str,
+    taken: u64,
+) -> Result<bool, Fault>
+    requires first { IsCharBoundary text.now 0 ⊎ (length text.now < 0) }
+    requires second { IsCharBoundary text.now behind ⊎ (length text.now < behind) }
+{
+    let mut executor = LimitedExecutor::new(re, text, u64::MAX)?;
+    finds_both(&mut executor, behind, first, second, taken)
+}
+
 /// Whether steps stay taken that were taken before memory was refused, of a row with a pattern, the letters of its flags, a text,
-/// its first two matches, and how many steps the second takes at least before it asks for memory.
+/// its first two matches, how many steps the second takes at least before it asks for memory, and where it is looked for.
 pub fn stay_taken(alloc: Global, line: &str) -> Result<bool, Fault> {
     let mut fields = Fields::of(line);
     let re = compile(alloc, fields.next(), fields.next(), false)?;
     let text = fields.next();
-    let mut executor = LimitedExecutor::new(&re.bytes, text, u64::MAX)?;
     let first = fields.next();
     let second = fields.next();
     let taken = fields.next().parse::<u64>().unwrap_or(0);
-    finds_both(&mut executor, first, second, taken)
+    let behind = fields.next().parse::<usize>().unwrap_or(0);
+    if !is_start(text, 0) {
+        return Ok(false);
+    }
+    if !is_start(text, behind) {
+        return Ok(false);
+    }
+    is_taken(&re.bytes, text, behind, first, second, taken)
 }

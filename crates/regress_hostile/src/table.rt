@@ -103,12 +103,12 @@ cat:2 loop:0,1,0,1 group:0 a goal~tree~a~0~13~7~0..1 0..1;1..1 -
 a~~aa~3~0~0~none
 ";
 
-/// Rows of six fields: a pattern, the letters of its flags, a text, its first two matches, and how many steps the second takes
-/// at least before it asks for more memory than the first had.
+/// Rows of seven fields: a pattern, the letters of its flags, a text, its first two matches, how many steps the second takes
+/// at least before it asks for more memory than the first had, and where it is looked for.
 pub const TAKEN: &str = "\
-(a|c)*b~~aaaaaaaabaaaaaaaaaaaaaaaaaaaaaaaaaaaaaaaaaaaaaaaaaaaaaaaaaaaaaaaaaaaaaaaaaaaaaaaaaaaaaaaaaaaaaaaaaaaaaaaaaaaab~0..9 7..8~9..110 108..109~20
-(a|c)*?b~~aaaaaaaabaaaaaaaaaaaaaaaaaaaaaaaaaaaaaaaaaaaaaaaaaaaaaaaaaaaaaaaaaaaaaaaaaaaaaaaaaaaaaaaaaaaaaaaaaaaaaaaaaaaab~0..9 7..8~9..110 108..109~20
-(?:a(?=(a|b)))*b~~aaaaaaaabaaaaaaaaaaaaaaaaaaaaaaaaaaaaaaaaaaaaaaaaaaaaaaaaaaaaaaaaaaaab~0..9 8..9~9..70 69..70~20
+(a|c)*b~~aaaaaaaabaaaaaaaaaaaaaaaaaaaaaaaaaaaaaaaaaaaaaaaaaaaaaaaaaaaaaaaaaaaaaaaaaaaaaaaaaaaaaaaaaaaaaaaaaaaaaaaaaaaab~0..9 7..8~9..110 108..109~20~9
+(a|c)*?b~~aaaaaaaabaaaaaaaaaaaaaaaaaaaaaaaaaaaaaaaaaaaaaaaaaaaaaaaaaaaaaaaaaaaaaaaaaaaaaaaaaaaaaaaaaaaaaaaaaaaaaaaaaaaab~0..9 7..8~9..110 108..109~20~9
+(?:a(?=(a|b)))*b~~aaaaaaaabaaaaaaaaaaaaaaaaaaaaaaaaaaaaaaaaaaaaaaaaaaaaaaaaaaaaaaaaaaaab~0..9 8..9~9..70 69..70~20~9
 ";
 
 /// Rows of four fields: a pattern, the letters of its flags, a text, and the first match in it, or `Syntax` for what is no

@@ -10,9 +10,11 @@ cd "$(dirname "$0")/.."
 # The program's file was refused memory as it was read.
 # A search stopped, and no steps were refused: then memory was.
 # A search has too few steps left, which its counter notes.
+# A search was refused memory, which is handed on as an error of another type.
 allowed='crates/regress_tool/src/main.rt
 crates/regress_backtrack/src/attempts.rt
-crates/regress_backtrack/src/steps.rt'
+crates/regress_backtrack/src/steps.rt
+crates/use_validator/src/judge.rt'
 
 # The errors, and where one stands as a value.
 errors='(AllocError|Stop|([A-Za-z]*Error|Failure|Fault)::Memory)'

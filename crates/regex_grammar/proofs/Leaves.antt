@@ -40,10 +40,10 @@ digits_on e d f = one_digits d (digits_at e f)
 -- ---- Quantifiers
 
 -- no number begins with a brace
-no_digit : {here there rest : Text} {n : ℕ} → Digits 10 here there n → here ≡ 125 ∷ rest → ⊥
+pub no_digit : {here there rest : Text} {n : ℕ} → Digits 10 here there n → here ≡ 125 ∷ rest → ⊥
 no_digit {rest = rest} (digits_from h) e = let k : 0 < length (digits 10 (125 ∷ rest)) = subst (λ x. 0 < length (digits 10 x)) e h in omega arith
 
-one_prefix : {here a b : Text} {n m : ℕ} {x y : Option ℕ} → QuantifierPrefix here a n x → QuantifierPrefix here b m y → (a ≡ b) × (n ≡ m) × (x ≡ y)
+pub one_prefix : {here a b : Text} {n m : ℕ} {x y : Option ℕ} → QuantifierPrefix here a n x → QuantifierPrefix here b m y → (a ≡ b) × (n ≡ m) × (x ≡ y)
 one_prefix (star e) (star f) = (behind e f, refl, refl)
 one_prefix (plus e) (plus f) = (behind e f, refl, refl)
 one_prefix (question e) (question f) = (behind e f, refl, refl)
@@ -100,7 +100,7 @@ one_quantifier here a b n m (lazy h e o) (greedy k f q) = let s = one_prefix h k
 no_end : (c : ℕ) → goes_on_name c ≡ true → c ≡ 62 → ⊥
 no_end c e f = apart goes_on_name e refl f
 
-up_to_end : (n m a b : Text) → list_all goes_on_name n ≡ true → list_all goes_on_name m ≡ true → n ++ 62 ∷ a ≡ m ++ 62 ∷ b → Same a b n m
+pub up_to_end : (n m a b : Text) → list_all goes_on_name n ≡ true → list_all goes_on_name m ≡ true → n ++ 62 ∷ a ≡ m ++ 62 ∷ b → Same a b n m
 up_to_end [] [] a b e f g = (ap rest_of g, refl)
 up_to_end [] (d ∷ m) a b e f g = absurd (no_end d (and_parts (goes_on_name d) _ f).0 (sym (ap first g)))
 up_to_end (c ∷ n) [] a b e f g = absurd (no_end c (and_parts (goes_on_name c) _ e).0 (ap first g))
@@ -108,7 +108,7 @@ up_to_end (c ∷ n) (d ∷ m) a b e f g =
     let h = up_to_end n m a b (and_parts (goes_on_name c) _ e).1 (and_parts (goes_on_name d) _ f).1 (ap rest_of g) in
     (h.0, ap₂ (λ x y. x ∷ y) (ap first g) h.1)
 
-name_letters : (n : Text) → is_name n ≡ true → list_all goes_on_name n ≡ true
+pub name_letters : (n : Text) → is_name n ≡ true → list_all goes_on_name n ≡ true
 name_letters [] e = absurd (true≢false (sym e))
 name_letters (c ∷ cs) e = let h = and_parts (begins_name c) _ e in grind arith
 
@@ -124,7 +124,7 @@ split_same (d ∷ ds) [] a b e f = absurd (omega arith)
 split_same (d ∷ ds) (c ∷ es) a b e f =
     let h = split_same ds es a b (omega arith) (ap rest_of f) in (h.0, ap₂ (λ x y. x ∷ y) (ap first f) h.1)
 
-one_hex : {count : ℕ} {here there a b : Text} {n m : ℕ} → here ≡ there → Hex count here a n → Hex count there b m → Same a b n m
+pub one_hex : {count : ℕ} {here there a b : Text} {n m : ℕ} → here ≡ there → Hex count here a n → Hex count there b m → Same a b n m
 one_hex same (hex ds e l t) (hex es f k u) = let h = split_same ds es _ _ (l ∙ sym k) (sym e ∙ same ∙ f) in (h.0, ap (number 16) h.1)
 
 one_pair : {here a b : Text} {n m : ℕ} → Pair here a n → Pair here b m → Same a b n m
@@ -133,11 +133,11 @@ one_pair (pair h l e k t) (pair h' l' e' k' t') =
     let y = one_hex (ap rest_of (behind e (x.0 ∙ e'))) k k' in
     (y.0, rw (x.1, y.1) refl)
 
-no_brace : {here a rest : Text} {n : ℕ} → Hex 4 here a n → here ≡ 123 ∷ rest → ⊥
+pub no_brace : {here a rest : Text} {n : ℕ} → Hex 4 here a n → here ≡ 123 ∷ rest → ⊥
 no_brace (hex [] e l t) f = absurd (omega arith)
 no_brace (hex (d ∷ ds) e l t) f = apart (λ c. is_digit c 16) (and_parts (is_digit d 16) _ t).0 refl (firsts e f)
 
-no_brace_pair : {here a rest : Text} {n : ℕ} → Pair here a n → here ≡ 123 ∷ rest → ⊥
+pub no_brace_pair : {here a rest : Text} {n : ℕ} → Pair here a n → here ≡ 123 ∷ rest → ⊥
 no_brace_pair (pair h l e k t) f = no_brace h f
 
 one_unicode : {unicode : Bool} {here there a b : Text} {n m : ℕ} → here ≡ there → UnicodeEscape unicode here a n → UnicodeEscape unicode there b m → Same a b n m

@@ -10,6 +10,7 @@ use Rattle.std.proofs.lemmas.List.Elements.{All-cons}
 use Rattle.std.proofs.lemmas.Bool.Decides.{nat_tests}
 use Rattle.std.proofs.lemmas.List.Recursion.{or_at, or_from_places}
 use Rattle.regex_meaning.specs.Outcomes.{in_intervals}
+use Rattle.regex_grammar.specs.Classes.{AreApart}
 use Rattle.regex_pattern_front.specs.Intervals.{interval_of, AreInOrder, holds_some, merged, gaps}
 use Rattle.regex_pattern_front.specs.declared.codepointset.Interval.{Interval}
 
@@ -112,6 +113,43 @@ Above-merged n now (next ∷ others) l h r =
     let far : now.last < next.first - 1 = false-le _ _ t in
     (l, h, Above-merged (now.last + 1) next others (omega arith) some r.2))
 
+-- each holds a number, and begins at n or past the number behind the one before
+abbrev pub Apart : ℕ → List Interval → Type 0
+Apart n [] = Unit {0}
+Apart n (i ∷ is) = (n ≤ i.first) × (i.first ≤ i.last) × Apart (i.last + 2) is
+
+pub apart-from_Apart : (n : ℕ) (xs : List Interval) → Apart n xs → AreApart (map interval_of xs)
+apart-from_Apart n [] h = tt
+apart-from_Apart n (i ∷ []) h = h.1
+apart-from_Apart n (i ∷ j ∷ xs) h =
+    let past : i.last + 2 ≤ j.first = h.2.0 in
+    (h.1, omega arith, apart-from_Apart (i.last + 2) (j ∷ xs) h.2)
+
+Apart-weaker : (m n : ℕ) (xs : List Interval) → m ≤ n → Apart n xs → Apart m xs
+Apart-weaker m n [] h a = tt
+Apart-weaker m n (i ∷ is) h a = let low : n ≤ i.first = a.0 in (omega arith, a.1, a.2)
+
+apart-merged_step : (t : Bool) (n : ℕ) (now next : Interval) (others : List Interval)
+    → (t ≡ true → Apart n (merged (record now { last = max now.last next.last }) others))
+    → (t ≡ false → Apart n (now ∷ merged next others))
+    → Apart n (if t then merged (record now { last = max now.last next.last }) others else now ∷ merged next others)
+apart-merged_step true n now next others h k = h refl
+apart-merged_step false n now next others h k = k refl
+
+-- between joined intervals a number is left out
+pub Apart-merged : (n : ℕ) (now : Interval) (others : List Interval) → n ≤ now.first → now.first ≤ now.last → Rises now.first others
+    → Apart n (merged now others)
+Apart-merged n now [] l h r = (l, h, tt)
+Apart-merged n now (next ∷ others) l h r =
+    let after : now.first ≤ next.first = r.0 in
+    let some : next.first ≤ next.last = r.1 in
+    let joined : Interval = record now { last = max now.last next.last } in
+    apart-merged_step (nat_le (next.first - 1) now.last) n now next others
+    (λ t. Apart-merged n joined others l (omega arith) (Rises-weaker now.first next.first others after r.2))
+    (λ t.
+    let far : now.last < next.first - 1 = false-le _ _ t in
+    (l, h, Apart-merged (now.last + 2) next others (omega arith) some r.2))
+
 -- ---- What stands between
 
 gap-before : (n first c : ℕ) (rest : List Interval) → n ≤ 0x10_FFFF
@@ -168,6 +206,25 @@ Above-gaps m n (i ∷ is) h k a =
       | inl below ↦ rw (lt-leb 0x10_FFFF i.last below)
           (Above-before m n i.first (gaps (i.last + 1) is) h k (Above-gaps m (i.last + 1) is (omega arith) (omega arith) a.2) (Above-gaps i.first (i.last + 1) is (omega arith) (omega arith) a.2))
       | inr past ↦ rw (le-leb 0x10_FFFF i.last past) (Above-before m n i.first [] h k tt tt)
+    ]
+
+Apart-before : (m n first : ℕ) (rest : List Interval) → m ≤ n → n ≤ 0x10_FFFF → Apart m rest → Apart (first + 1) rest
+    → Apart m ((if nat_lt n first then record { first = n; last = min 0x10_FFFF (first - 1) } ∷ [] else []) ++ rest)
+Apart-before m n first rest h k a b =
+    elim (cases_lt n first) [
+      | inl below ↦ rw (lt-ltb n first below) (h, omega arith, Apart-weaker _ (first + 1) rest (omega arith) b)
+      | inr past ↦ rw (le-ltb n first past) a
+    ]
+
+pub Apart-gaps : (m n : ℕ) (xs : List Interval) → m ≤ n → n ≤ 0x10_FFFF → Above n xs → Apart m (gaps n xs)
+Apart-gaps m n [] h k a = (h, k, tt)
+Apart-gaps m n (i ∷ is) h k a =
+    let low : n ≤ i.first = a.0 in
+    let some : i.first ≤ i.last = a.1 in
+    elim (cases_lt i.last 0x10_FFFF) [
+      | inl below ↦ rw (lt-leb 0x10_FFFF i.last below)
+          (Apart-before m n i.first (gaps (i.last + 1) is) h k (Apart-gaps m (i.last + 1) is (omega arith) (omega arith) a.2) (Apart-gaps (i.first + 1) (i.last + 1) is (omega arith) (omega arith) a.2))
+      | inr past ↦ rw (le-leb 0x10_FFFF i.last past) (Apart-before m n i.first [] h k tt tt)
     ]
 
 -- ---- By halves
@@ -309,12 +366,18 @@ module _ (xs : List Interval) (first : Interval) (others v : List Interval) (is 
   pub merged_in_order : AreInOrder (map interval_of v)
   merged_in_order = rw made (order-from_Above first.first (merged first others) (Above-merged first.first first others (omega arith) rises.1 rises.2))
 
+  pub merged_apart : AreApart (map interval_of v)
+  merged_apart = rw made (apart-from_Apart first.first (merged first others) (Apart-merged first.first first others (omega arith) rises.1 rises.2))
+
   pub merged_members : (c : ℕ) → member v c ≡ member xs c
   merged_members c = rw (made, is) (member-merged first others c rises.1 rises.2)
 
 module _ (xs v : List Interval) (order : AreInOrder (map interval_of xs)) (made : v ≡ gaps 0 xs) where
   pub gaps_in_order : AreInOrder (map interval_of v)
   gaps_in_order = rw made (order-from_Above 0 (gaps 0 xs) (Above-gaps 0 0 xs (omega arith) (omega arith) (Above-zero xs order)))
+
+  pub gaps_apart : AreApart (map interval_of v)
+  gaps_apart = rw made (apart-from_Apart 0 (gaps 0 xs) (Apart-gaps 0 0 xs (omega arith) (omega arith) (Above-zero xs order)))
 
   pub gaps_members : (c : ℕ) → member v c ≡ (nat_le c 0x10_FFFF && not (member xs c))
   gaps_members c = rw made (member-gaps 0 xs c (omega arith) (Above-zero xs order) ∙ rw (le-leb 0 c (omega arith)))

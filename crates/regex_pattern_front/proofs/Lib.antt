@@ -10,3 +10,7 @@ pub mod LevelLemmas
 pub mod LeafLemmas
 pub mod FirstByteLemmas
 pub mod PlaceLemmas
+pub mod ReadLemmas
+pub mod QuantifierLemmas
+pub mod EscapeLemmas
+pub mod NameLemmas

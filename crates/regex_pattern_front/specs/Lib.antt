@@ -6,3 +6,4 @@ pub mod Optimized
 pub mod Parts
 pub mod Levels
 pub mod Depth
+pub mod Reads

@@ -52,7 +52,8 @@ impl AsciiBitmap {
 
     /// Adds a byte. One from 128 on is none of ASCII, and leaves the set as it is.
     pub fn set(&mut self, byte: u8)
-        ensures added { byte < 128 → ascii_bitmap_bytes self.new ≡ bytes_where (λ b. b == byte || contains (ascii_bitmap_bytes self.old) b) }
+        ensures added { byte < 128 → ascii_bitmap_bytes self.new
+            ≡ bytes_where (λ b. b == byte || contains (ascii_bitmap_bytes self.old) b) }
         ensures kept { 128 ≤ byte → ascii_bitmap_bytes self.new ≡ ascii_bitmap_bytes self.old }
     {
         if byte < 128 {

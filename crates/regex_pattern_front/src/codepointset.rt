@@ -4,6 +4,7 @@ ghost use Rattle.std.specs.Prelude.{◌≡◌, ℕ, ◌+◌, ◌<◌, ◌≤◌,
 ghost use Rattle.std.specs.List.{All};
 ghost use Rattle.std.specs.List.Sorted.{IsNonDecreasingBy, IsPermutation};
 ghost use Rattle.regex_meaning.specs.Outcomes.{in_intervals};
+ghost use Rattle.regex_grammar.specs.Classes.{AreApart};
 ghost use Rattle.regex_pattern_front.specs.Intervals.{interval_of, AreInOrder, holds_some, merged, gaps};
 
 use std::alloc::{AllocError, Global};
@@ -53,7 +54,8 @@ impl CodePointSet {
     ///
     /// Where there is no memory for the set.
     pub fn from_intervals(alloc: Global, intervals: &[Interval]) -> Result<Self, AllocError>
-        ensures { IfOk result (λ s. (c : ℕ) → in_intervals s c ≡ in_intervals (map interval_of intervals.now) c) }
+        ensures members { IfOk result (λ s. (c : ℕ) → in_intervals s c ≡ in_intervals (map interval_of intervals.now) c) }
+        ensures apart { IfOk result (λ s. AreApart s) }
     {
         let sorted = sorted(alloc, intervals)?;
         match sorted.split_first() {
@@ -84,7 +86,9 @@ impl CodePointSet {
     ///
     /// Where there is no memory for them.
     pub fn inverted(&self) -> Result<Self, AllocError>
-        ensures { IfOk result (λ s. (c : ℕ) → in_intervals s c ≡ (nat_le c 0x10_FFFF && not (in_intervals self.now c))) }
+        ensures members { IfOk result (λ s. (c : ℕ) → in_intervals s c
+            ≡ (nat_le c 0x10_FFFF && not (in_intervals self.now c))) }
+        ensures apart { IfOk result (λ s. AreApart s) }
     {
         Ok(CodePointSet {
             intervals: gaps(*self.intervals.allocator(), &self.intervals)?,
@@ -109,7 +113,8 @@ impl CodePointSet {
 fn sorted(alloc: Global, intervals: &[Interval]) -> Result<Vec<Interval>, AllocError>
     ensures hold { IfOk result (λ v. All (λ i. i.first ≤ i.last) v.items) }
     ensures rise { IfOk result (λ v. IsNonDecreasingBy (λ (i : _). i.first) v.items) }
-    ensures same { IfOk result (λ v. (c : ℕ) → in_intervals (map interval_of v.items) c ≡ in_intervals (map interval_of intervals.now) c) }
+    ensures same { IfOk result (λ v. (c : ℕ) → in_intervals (map interval_of v.items) c
+        ≡ in_intervals (map interval_of intervals.now) c) }
 {
     let mut holding = holding(alloc, intervals)?;
     holding.sort_unstable_by_key(|i| i.first);

@@ -1,5 +1,8 @@
 //! Why reading stops.
 
+ghost use Rattle.std.specs.Prelude.{◌≡◌, false};
+ghost use Rattle.regex_pattern_front.specs.Reads.{is_refused};
+
 use crate::diagnosis::Cause;
 use std::alloc::{AllocError, AllocFailed};
 
@@ -13,12 +16,16 @@ pub(crate) enum Fault {
 }
 
 impl From<AllocError> for Fault {
+    ghost from_gives = { λ _ e. is_refused e ≡ false };
+
     fn from(refused: AllocError) -> Self {
         Fault::Memory(refused)
     }
 }
 
 impl<T: Drop> From<AllocFailed<T>> for Fault {
+    ghost from_gives = { λ _ e. is_refused e ≡ false };
+
     fn from(refused: AllocFailed<T>) -> Self {
         Fault::Memory(AllocError::from(refused))
     }

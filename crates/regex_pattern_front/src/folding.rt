@@ -112,7 +112,8 @@ pub fn utf8_first_byte(c: u32) -> u8
 
 /// Adds the first bytes of the interval's code points, up to U+10FFFF.
 pub fn add_utf8_first_bytes_to_bitmap(interval: Interval, bitmap: &mut ByteBitmap)
-    ensures { byte_bitmap_bytes bitmap.new ≡ bytes_where (λ b. contains (byte_bitmap_bytes bitmap.old) b || meet (begun_by b) (interval_of interval ∷ [])) }
+    ensures { byte_bitmap_bytes bitmap.new ≡ bytes_where (λ b.
+        contains (byte_bitmap_bytes bitmap.old) b || meet (begun_by b) (interval_of interval ∷ [])) }
 {
     // No other byte begins one of them, since first bytes rise with the code points.
     let least = utf8_first_byte(interval.first.min(CODE_POINT_MAX));

@@ -281,7 +281,9 @@ fn enclosed(
     contents: Node,
     groups: Range<CaptureGroupID>,
 ) -> Result<Node, AllocError>
-    ensures { IfOk result (λ n. (greatest : ℕ) → IsPart (groups.start + captures opening) groups.end greatest (node_of contents) → IsPart groups.start groups.end greatest (node_of n)) }
+    ensures { IfOk result (λ n. (greatest : ℕ)
+        → IsPart (groups.start + captures opening) groups.end greatest (node_of contents)
+        → IsPart groups.start groups.end greatest (node_of n)) }
 {
     match opening {
         Opening::Plain => Ok(contents),
@@ -309,7 +311,8 @@ fn quantified(
 ) -> Result<Node, Fault>
     ensures moves { length leaves.new.reader.rest.now ≤ length leaves.old.reader.rest.now }
     ensures references { leaves.new.references ≡ leaves.old.references }
-    ensures part { IfOk result (λ n. (greatest : ℕ) → IsPart groups.start groups.end greatest (node_of term) → IsPart groups.start groups.end greatest (node_of n)) }
+    ensures part { IfOk result (λ n. (greatest : ℕ) → IsPart groups.start groups.end greatest (node_of term)
+        → IsPart groups.start groups.end greatest (node_of n)) }
 {
     if !is_atom {
         return if leaves.reader.has_quantifier() {

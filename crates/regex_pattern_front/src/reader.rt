@@ -1,7 +1,10 @@
 //! The code points of a pattern that are still to read.
 
-ghost use Rattle.std.specs.Prelude.{◌≡◌, ◌<◌, ◌≤◌, length, IsTrue, IsSome, OnOk, IfOk};
+ghost use Rattle.std.specs.Prelude.{◌≡◌, ◌<◌, ◌≤◌, ◌∷◌, ◌↔◌, length, IsTrue, IsSome, false, OnOk, IfOk};
 ghost use Rattle.std.specs.Option.{ForSome};
+ghost use Rattle.regex_meaning.specs.WellFormed.{is_in_order};
+ghost use Rattle.regex_grammar.specs.Characters.{IsQuantified};
+ghost use Rattle.regex_pattern_front.specs.Reads.{IsNext, peeked, IsEaten, IsDigitRead, IsNumberRead, IsHexRead, AreCountsRead, IsMostRead, IsBracesRead, IsPrefixRead, IsQuantifierRead};
 
 use crate::diagnosis::Cause;
 use crate::fault::Fault;
@@ -38,6 +41,7 @@ impl Reader<'_> {
     /// The next code point, which stays unread, if it is a `char`.
     pub(crate) fn peek(&self) -> Option<char>
         ensures more { IsSome result → 0 < length self.now.rest.now }
+        ensures text { result ≡ peeked self.now.rest.now }
     {
         char::from_u32(*self.rest.first()?)
     }
@@ -47,6 +51,7 @@ impl Reader<'_> {
         ensures moves { length self.new.rest.now ≤ length self.old.rest.now }
         ensures read { IsSome result → length self.new.rest.now < length self.old.rest.now }
         ensures more { 0 < length self.old.rest.now → length self.new.rest.now < length self.old.rest.now }
+        ensures text { IsNext self.old.rest.now result self.new.rest.now }
     {
         let (first, others) = self.rest.split_first()?;
         self.rest = others;
@@ -57,6 +62,7 @@ impl Reader<'_> {
     pub(crate) fn eat(&mut self, c: char) -> bool
         ensures moves { length self.new.rest.now ≤ length self.old.rest.now }
         ensures read { IsTrue result → length self.new.rest.now < length self.old.rest.now }
+        ensures text { IsEaten c self.old.rest.now result self.new.rest.now }
     {
         let Some((first, others)) = self.rest.split_first() else {
             return false;
@@ -74,6 +80,7 @@ impl Reader<'_> {
         requires most { radix ≤ 36 }
         ensures moves { length self.new.rest.now ≤ length self.old.rest.now }
         ensures read { IsSome result → length self.new.rest.now < length self.old.rest.now }
+        ensures text { IsDigitRead radix self.old.rest.now result self.new.rest.now }
     {
         let (first, others) = self.rest.split_first()?;
         let digit = char::from_u32(*first)?.to_digit(radix)?;
@@ -85,6 +92,7 @@ impl Reader<'_> {
     pub(crate) fn number(&mut self) -> Option<usize>
         ensures moves { length self.new.rest.now ≤ length self.old.rest.now }
         ensures read { IsSome result → length self.new.rest.now < length self.old.rest.now }
+        ensures text { IsNumberRead 10 usize.MAX self.old.rest.now result self.new.rest.now }
     {
         let mut value = self.digit(10)? as usize;
         while let Some(digit) = self.digit(10) {
@@ -96,6 +104,7 @@ impl Reader<'_> {
     /// Reads so many hexadecimal digits.
     pub(crate) fn hex(&mut self, count: u32) -> Option<u32>
         ensures moves { length self.new.rest.now ≤ length self.old.rest.now }
+        ensures text { count ≤ 4 → IsHexRead count self.old.rest.now result self.new.rest.now }
     {
         let mut value = 0u32;
         for _ in 0..count {
@@ -108,6 +117,7 @@ impl Reader<'_> {
     /// there is no digit.
     pub(crate) fn hex_number(&mut self) -> Option<u32>
         ensures moves { length self.new.rest.now ≤ length self.old.rest.now }
+        ensures text { IsNumberRead 16 u32.MAX self.old.rest.now result self.new.rest.now }
     {
         let mut value = self.digit(16)?;
         while let Some(digit) = self.digit(16) {
@@ -119,6 +129,7 @@ impl Reader<'_> {
     /// Reads `{n}`, `{n,}` or `{n,m}` and gives the two counts; none where no such braces stand.
     fn braces(&mut self) -> Option<(usize, Option<usize>)>
         ensures moves { length self.new.rest.now ≤ length self.old.rest.now }
+        ensures text { IsBracesRead self.old.rest.now result self.new.rest.now }
     {
         let mut ahead = *self;
         if !ahead.eat('{') {
@@ -130,7 +141,9 @@ impl Reader<'_> {
     }
 
     /// Whether what was read last is the brace of a quantifier.
-    pub(crate) fn is_in_braces(&self) -> bool {
+    pub(crate) fn is_in_braces(&self) -> bool
+        ensures { IsTrue result ↔ IsQuantified (123 ∷ self.now.rest.now) }
+    {
         let mut ahead = *self;
         ahead.counts().is_some()
     }
@@ -138,13 +151,10 @@ impl Reader<'_> {
     // Reads what stands behind the brace of a quantifier.
     fn counts(&mut self) -> Option<(usize, Option<usize>)>
         ensures moves { length self.new.rest.now ≤ length self.old.rest.now }
+        ensures text { AreCountsRead self.old.rest.now result self.new.rest.now }
     {
         let min = self.number()?;
-        let max = if self.eat(',') {
-            self.number()
-        } else {
-            Some(min)
-        };
+        let max = self.most(min);
         if self.eat('}') {
             Some((min, max))
         } else {
@@ -152,19 +162,32 @@ impl Reader<'_> {
         }
     }
 
+    // Reads the greatest count behind the least one, which it is where no comma stands; none where no number follows.
+    fn most(&mut self, min: usize) -> Option<usize>
+        ensures moves { length self.new.rest.now ≤ length self.old.rest.now }
+        ensures text { IsMostRead min self.old.rest.now result self.new.rest.now }
+    {
+        if self.eat(',') {
+            self.number()
+        } else {
+            Some(min)
+        }
+    }
+
     /// Whether a quantifier stands here.
-    pub(crate) fn has_quantifier(&self) -> bool {
+    pub(crate) fn has_quantifier(&self) -> bool
+        ensures { IsTrue result ↔ IsQuantified self.now.rest.now }
+    {
         let mut ahead = *self;
         !matches!(ahead.quantifier(), Ok(None))
     }
 
-    /// Reads a quantifier, if one stands here. Its counts are in order.
-    pub(crate) fn quantifier(&mut self) -> Result<Option<Quantifier>, Fault>
+    // Reads how often, if a quantifier stands here, without the question mark that may follow.
+    fn prefix(&mut self) -> Option<(usize, Option<usize>)>
         ensures moves { length self.new.rest.now ≤ length self.old.rest.now }
-        ensures ordered { IfOk result (λ found. ForSome found (λ q. ForSome q.max (λ max. q.min ≤ max))) }
+        ensures text { IsPrefixRead self.old.rest.now result self.new.rest.now }
     {
-        let start = *self;
-        let counts = if self.eat('*') {
+        if self.eat('*') {
             Some((0, None))
         } else if self.eat('+') {
             Some((1, None))
@@ -172,16 +195,33 @@ impl Reader<'_> {
             Some((0, Some(1)))
         } else {
             self.braces()
-        };
-        let Some((min, max)) = counts else {
+        }
+    }
+
+    /// Reads a quantifier, if one stands here. Its counts are in order.
+    pub(crate) fn quantifier(&mut self) -> Result<Option<Quantifier>, Fault>
+        ensures moves { length self.new.rest.now ≤ length self.old.rest.now }
+        ensures ordered { IfOk result (λ found. ForSome found (λ q. ForSome q.max (λ max. q.min ≤ max))) }
+        ensures text { IsQuantifierRead self.old.rest.now result self.new.rest.now }
+    {
+        let start = *self;
+        let Some((min, max)) = self.prefix() else {
             return Ok(None);
         };
-        if let Some(max) = max {
-            if max < min {
-                return Err(start.refuse(Cause::QuantifierOutOfOrder));
-            }
+        if !are_in_order(min, max) {
+            return Err(start.refuse(Cause::QuantifierOutOfOrder));
         }
         let greedy = !self.eat('?');
         Ok(Some(Quantifier { min, max, greedy }))
+    }
+}
+
+// Whether the least count is not above the greatest, if there is one.
+fn are_in_order(min: usize, max: Option<usize>) -> bool
+    ensures { result ≡ is_in_order (record { min = min; max = max; greedy = false }) }
+{
+    match max {
+        Some(max) => min <= max,
+        None => true,
     }
 }

@@ -2,6 +2,7 @@
 
 ghost use Rattle.std.specs.Prelude.{◌≡◌, ℕ, ◌&&◌, not, map, nat_le, IfOk};
 ghost use Rattle.regex_meaning.specs.Outcomes.{in_intervals};
+ghost use Rattle.regex_grammar.specs.Classes.{AreApart};
 ghost use Rattle.regex_pattern_front.specs.Intervals.{interval_of};
 
 use crate::codepointset::{CodePointSet, Interval};
@@ -47,7 +48,9 @@ impl BracketContents {
     ///
     /// Where there is no memory for them.
     pub fn inverted(&self) -> Result<CodePointSet, AllocError>
-        ensures { IfOk result (λ s. (c : ℕ) → in_intervals s c ≡ (nat_le c 0x10_FFFF && not (in_intervals self.now.cps c))) }
+        ensures members { IfOk result (λ s. (c : ℕ) → in_intervals s c
+            ≡ (nat_le c 0x10_FFFF && not (in_intervals self.now.cps c))) }
+        ensures apart { IfOk result (λ s. AreApart s) }
     {
         self.cps.inverted()
     }

@@ -105,7 +105,8 @@ pub fn matched_parts<'t>(
     re: &Regex,
     line: &'t str,
 ) -> Result<Vec<&'t str>, SearchError>
-    ensures parts { IfOk result (λ v. map (λ l. l.now) v.items ≡ matched_parts line.now (utf8_answers re.now line.now 0)) }
+    ensures parts { IfOk result (λ v. map (λ l. l.now) v.items
+        ≡ matched_parts line.now (utf8_answers re.now line.now 0)) }
     ensures refused { IfErr result IsMemory }
 {
     let mut parts = Vec::new(alloc);

@@ -1,5 +1,5 @@
 use Rattle.std.proofs.Common.{◌∙◌, sym}
-use Rattle.regex_pattern_front.proofs.IntervalLemmas.{merged_in_order, merged_members}
+use Rattle.regex_pattern_front.proofs.IntervalLemmas.{merged_in_order, merged_apart, merged_members}
 use Rattle.regex_pattern_front.proofs.codepointset.CodePointSet.from_intervals.Goals as goal
 
 pub invariant_of-result : goal.invariant_of-result
@@ -7,8 +7,13 @@ invariant_of-result c =
     merged_in_order c.in_ok-sorted.sorted.items c.in-Some.first.now c.in-Some.others.now c.in_ok-merge-in-Some.field-0.items
     (sym c.deref.ensures.value ∙ c.in-Some.ensures.cases.0) c.in_ok-sorted.ensures.hold c.in_ok-sorted.ensures.rise c.in_ok-merge-in-Some.ensures
 
-pub returns : goal.returns
-returns c =
+pub returns-clause-members : goal.returns-clause-members
+returns-clause-members c =
     λ n. merged_members c.in_ok-sorted.sorted.items c.in-Some.first.now c.in-Some.others.now c.in_ok-merge-in-Some.field-0.items
     (sym c.deref.ensures.value ∙ c.in-Some.ensures.cases.0) c.in_ok-sorted.ensures.hold c.in_ok-sorted.ensures.rise c.in_ok-merge-in-Some.ensures n
     ∙ c.in_ok-sorted.ensures.same n
+
+pub returns-clause-apart : goal.returns-clause-apart
+returns-clause-apart c =
+    merged_apart c.in_ok-sorted.sorted.items c.in-Some.first.now c.in-Some.others.now c.in_ok-merge-in-Some.field-0.items
+    (sym c.deref.ensures.value ∙ c.in-Some.ensures.cases.0) c.in_ok-sorted.ensures.hold c.in_ok-sorted.ensures.rise c.in_ok-merge-in-Some.ensures

@@ -6,4 +6,4 @@ use Rattle.regress_program.proofs.startpredicate.bytesets.first_bytes_of_class.G
 pub returns-in_ok-outside-clause-bytes : goal.returns-in_ok-outside-clause-bytes
 returns-in_ok-outside-clause-bytes c =
     rw c.if-contents.true
-    (c.first_bytes_of_intervals.ensures ∙ ap first_bytes c.intervals.ensures ∙ first_bytes-inverted c.args.contents.now.cps _ c.in_ok-outside.ensures)
+    (c.first_bytes_of_intervals.ensures ∙ ap first_bytes c.intervals.ensures ∙ first_bytes-inverted c.args.contents.now.cps _ c.in_ok-outside.ensures.members)

@@ -1,0 +1,135 @@
+-- Numbers, read a digit at a time.
+use Rattle.std.proofs.Common.{◌≡◌, ℕ, zero, suc, ◌+◌, ◌-◌, ◌*◌, ◌<◌, ◌≤◌, Bool, true, false, [], ◌∷◌, ◌++◌, length, drop, min, true≢false, refl, sym, ap, ap₂, subst, ◌∙◌, arith, append_assoc, append-nil, Some, None, ◌^◌}
+use Rattle.std.specs.Prelude.{Option, ◌&&◌}
+use Rattle.std.specs.List.{list_all, take_while, fold}
+use Rattle.std.specs.Char.{is_digit, digit_value}
+use Rattle.std.proofs.lemmas.List.Sums.{fold-append, take_while-cons}
+use Rattle.std.proofs.lemmas.List.Folds.{list_all-append}
+use Rattle.std.proofs.lemmas.Bool.{and_parts, ltb-true}
+use Rattle.std.proofs.Math.Seq.{drop-append_seam}
+use Rattle.std.proofs.lemmas.List.{length-append}
+use Rattle.regex_grammar.specs.Reading.{Text, Digits, digits_from, digits, number}
+use Rattle.regex_grammar.specs.Characters.{Hex, hex}
+use Rattle.regex_grammar.proofs.OneTree.{rest_of}
+use Rattle.regex_pattern_front.specs.Reads.{IsDigitRead, IsNumberRead, IsHexRead}
+
+-- the text begins with these digits
+pub record HasDigits (base : ℕ) (here there ds : Text) : Type 0 where
+  pub is : here ≡ ds ++ there
+  pub all : list_all (λ c. is_digit c base) ds ≡ true
+
+no_digits : (base : ℕ) (here : Text) → HasDigits base here here []
+no_digits base here = record { is = refl; all = refl }
+
+more_digits : (base : ℕ) {here a there ds : Text} {c : ℕ} → HasDigits base here a ds → a ≡ c ∷ there → is_digit c base ≡ true
+    → HasDigits base here there (ds ++ c ∷ [])
+more_digits base {there = there} {ds = ds} {c = c} h e f = record {
+  is = h.is ∙ ap (λ x. ds ++ x) e ∙ sym (append_assoc ds (c ∷ []) there);
+  all = list_all-append (λ x. is_digit x base) ds (c ∷ []) ∙ rw (h.all, f) refl;
+}
+
+number-more : (base : ℕ) (ds : Text) (c : ℕ) → number base (ds ++ c ∷ []) ≡ base * number base ds + digit_value c
+number-more base ds c = fold-append (λ n d. base * n + digit_value d) 0 ds (c ∷ [])
+
+digits-all : (base : ℕ) (ds there : Text) → list_all (λ c. is_digit c base) ds ≡ true → digits base there ≡ [] → digits base (ds ++ there) ≡ ds
+digits-all base [] there e f = f
+digits-all base (c ∷ ds) there e f =
+    let h = and_parts (is_digit c base) _ e in
+    take_while-cons (λ c. is_digit c base) c (ds ++ there) ∙ rw h.0 (ap (λ x. c ∷ x) (digits-all base ds there h.1 f))
+
+digits-here : (base : ℕ) {here there ds : Text} → HasDigits base here there ds → digits base there ≡ [] → 0 < length ds → Digits base here there (number base ds)
+digits-here base {here} {there} {ds} h f some =
+    let same : digits base here ≡ ds = ap (digits base) h.is ∙ digits-all base ds there h.all f in
+    let rest : drop (length (digits base here)) here ≡ there = ap₂ (λ x y. drop (length x) y) same h.is ∙ drop-append_seam ds there in
+    subst (λ x. Digits base here there (number base x)) same
+    (subst (λ x. Digits base here x (number base (digits base here))) rest
+    (digits_from (let long : length (digits base here) ≡ length ds = ap length same in omega arith)))
+
+-- ---- A number that may be past what can be told
+
+pub record NumberSoFar (base most : ℕ) (here : Text) (value : ℕ) (there : Text) : Type 0 where
+  pub ds : Text
+  pub digits : HasDigits base here there ds
+  pub some : 0 < length ds
+  pub value_is : value ≡ min (number base ds) most
+
+module _ (base most : ℕ) (step : (n d : ℕ) → min (min (min n most * base) most + d) most ≡ min (base * n + d) most) (fits : base ≤ most) where
+  pub number-first : (here there : Text) (d : ℕ) → IsDigitRead base here (Some d) there → NumberSoFar base most here d there
+  number-first here there d r =
+      let c : ℕ = r.0 in
+      let small : digit_value c < base = ltb-true _ _ r.2 in
+      let zero_times : base * 0 ≡ 0 = omega arith in
+      record {
+        ds = c ∷ [];
+        digits = more_digits base {ds = []} (no_digits base here) r.1 r.2;
+        some = omega arith;
+        value_is = omega (arith, r.3);
+      }
+
+  pub number-next : (here middle there : Text) (value d : ℕ) → NumberSoFar base most here value middle → IsDigitRead base middle (Some d) there
+      → NumberSoFar base most here (min (min (value * base) most + d) most) there
+  number-next here middle there value d s r = record {
+    ds = s.ds ++ r.0 ∷ [];
+    digits = more_digits base s.digits r.1 r.2;
+    some = let long : length (s.ds ++ r.0 ∷ []) ≡ length s.ds + 1 = simp length-append in omega arith;
+    value_is = rw (s.value_is, r.3, number-more base s.ds r.0) (step (number base s.ds) (digit_value r.0));
+  }
+
+  pub number-end : (here middle there : Text) (value : ℕ) → NumberSoFar base most here value middle → IsDigitRead base middle None there → IsNumberRead base most here (Some value) there
+  number-end here middle there value s r =
+      rw r.0 (number base s.ds, digits-here base s.digits r.1 s.some, s.value_is)
+
+pub step10 : (most n d : ℕ) → min (min (min n most * 10) most + d) most ≡ min (10 * n + d) most
+step10 most n d = omega arith
+
+pub step16 : (most n d : ℕ) → min (min (min n most * 16) most + d) most ≡ min (16 * n + d) most
+step16 most n d = omega arith
+
+-- ---- So many digits
+
+pub record HexSoFar (count : ℕ) (here : Text) (value : ℕ) (there : Text) : Type 0 where
+  pub ds : Text
+  pub digits : HasDigits 16 here there ds
+  pub long : length ds ≡ count
+  pub value_is : value ≡ number 16 ds
+  pub small : (count ≤ 0 → value < 1) × (count ≤ 1 → value < 16) × (count ≤ 2 → value < 256) × (count ≤ 3 → value < 4096)
+
+pub hex-none : (here : Text) → HexSoFar 0 here 0 here
+hex-none here = record { ds = []; digits = no_digits 16 here; long = refl; value_is = refl; small = (λ h. omega arith, λ h. omega arith, λ h. omega arith, λ h. omega arith) }
+
+pub hex-end : (count : ℕ) (here there : Text) (value : ℕ) → HexSoFar count here value there → Hex count here there value
+hex-end count here there value s = subst (λ x. Hex count here there x) (sym s.value_is) (hex s.ds s.digits.is s.long s.digits.all)
+
+pub hex-next : (count : ℕ) (here middle there : Text) (value d : ℕ) → count < 4 → HexSoFar count here value middle → IsDigitRead 16 middle (Some d) there
+    → HexSoFar (count + 1) here (min (min (value * 16) (2 ^ 32 - 1) + d) (2 ^ 32 - 1)) there
+hex-next count here middle there value d few s r =
+    let digit : digit_value r.0 < 16 = ltb-true _ _ r.2 in
+    let small : d < 16 = rw r.3 digit in
+    let bound : value < 4096 = s.small.3 (omega arith) in
+    let exact : min (min (value * 16) (2 ^ 32 - 1) + d) (2 ^ 32 - 1) ≡ 16 * value + d = omega arith in
+    record {
+      ds = s.ds ++ r.0 ∷ [];
+      digits = more_digits 16 s.digits r.1 r.2;
+      long = let e : length s.ds ≡ count = s.long in let long : length (s.ds ++ r.0 ∷ []) ≡ length s.ds + 1 = simp length-append in omega arith;
+      value_is = exact ∙ rw (s.value_is, r.3) (sym (number-more 16 s.ds r.0));
+      small = rw exact (
+        λ h. absurd (omega arith),
+        λ h. let k : value < 1 = s.small.0 (omega arith) in omega arith,
+        λ h. let k : value < 16 = s.small.1 (omega arith) in omega arith,
+        λ h. let k : value < 256 = s.small.2 (omega arith) in omega arith,
+      );
+    }
+
+-- where digits end too early there is no such number
+pub hex-short : (count all : ℕ) (here there : Text) (value : ℕ) → count < all → HexSoFar count here value there → digits 16 there ≡ []
+    → (end : Text) (c : ℕ) → Hex all here end c → ⊥
+hex-short count all here there value less s none end c (hex ds e l t) = by s.ds ds (omega arith) (sym s.digits.is ∙ e) t
+  where
+    by : (es ds : Text) → length es < length ds → es ++ there ≡ ds ++ end → list_all (λ c. is_digit c 16) ds ≡ true → ⊥
+    by [] [] k f t = omega arith
+    by [] (d ∷ ds) k f t =
+        let h = and_parts (is_digit d 16) _ t in
+        let some : digits 16 there ≡ d ∷ digits 16 (ds ++ end) = ap (digits 16) f ∙ take_while-cons (λ c. is_digit c 16) d (ds ++ end) ∙ rw h.0 refl in
+        cc
+    by (c ∷ es) [] k f t = absurd (omega arith)
+    by (c ∷ es) (d ∷ ds) k f t = by es ds (omega arith) (ap rest_of f) (and_parts (is_digit d 16) _ t).1

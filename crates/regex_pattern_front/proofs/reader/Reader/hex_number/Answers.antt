@@ -1,0 +1,20 @@
+use Rattle.std.proofs.Common.{◌^◌, ◌-◌, ◌≤◌, arith, refl}
+use Rattle.regex_pattern_front.proofs.ReadLemmas.{number-first, number-next, number-end, step16}
+use Rattle.regex_pattern_front.proofs.reader.Reader.hex_number.Goals as goal
+
+pub loop-digit-init : goal.loop-digit-init
+loop-digit-init c = record {
+  moves = c.in_ok-value.ensures.read refl;
+  number = number-first 16 (2 ^ 32 - 1) (step16 (2 ^ 32 - 1)) (omega arith) _ _ _ c.in_ok-value.ensures.text;
+}
+
+pub loop-digit-preserved : goal.loop-digit-preserved
+loop-digit-preserved c = record {
+  moves = omega arith;
+  number = rw (c.saturating_add-value.ensures, c.saturating_mul.ensures)
+      (number-next 16 (2 ^ 32 - 1) (step16 (2 ^ 32 - 1)) (omega arith) _ _ _ _ _ c.loop-digit.invariant.number c.in-Some.ensures.text);
+}
+
+pub returns-clause-text : goal.returns-clause-text
+returns-clause-text c =
+    number-end 16 (2 ^ 32 - 1) (step16 (2 ^ 32 - 1)) (omega arith) _ _ _ _ c.loop-digit.invariant.number c.in_default.ensures.text

@@ -1,5 +1,6 @@
 -- Pieces in a row, and those of a text that is cut at the matches so far.
-use Rattle.std.proofs.Common.{◌≡◌, ℕ, ◌≤◌, Bool, true, false, List, [], ◌∷◌, ◌++◌, length, map, drop, filter, flat_map, refl, ap, sym, ◌∙◌, append_assoc, append-nil, subst}
+use Rattle.std.proofs.Common.{◌≡◌, ℕ, ◌≤◌, List, [], ◌∷◌, ◌++◌, length, map, drop, filter, flat_map, refl, ap, sym, ◌∙◌, append_assoc, append-nil, subst}
+use Rattle.std.specs.Prelude.{Option, Some, None, is_some}
 use Rattle.std.proofs.Math.Seq.{drop-length}
 use Rattle.std.proofs.lemmas.List.{map-append}
 use Rattle.std.proofs.lemmas.List.Elements.{filter-append}
@@ -8,16 +9,21 @@ use Rattle.regex_meaning.specs.Laws.{Each}
 use Rattle.regex_meaning.specs.Names.{Answer}
 use Rattle.regex_meaning.proofs.Each.{Each-append}
 use Rattle.regress_match.specs.Replacements.{IsSlice}
-use Rattle.use_highlighter.specs.Pieces.{range_of, part_of, IsSliceOf, StandInRow, marked_ranges, IsCutAt}
+use Rattle.use_highlighter.specs.Tokens.{token_of}
+use Rattle.use_highlighter.specs.Pieces.{range_of, part_of, IsSliceOf, StandInRow, marked, marks_of, IsCutAt}
 use Rattle.use_highlighter.specs.declared.pieces.Piece.{Piece}
 
-abbrev pub piece : (start end : ℕ) → (is_match : Bool) → Piece
-piece start end is_match = record { start = start; end = end; is_match = is_match }
+abbrev pub piece : (start end : ℕ) → (token : Option ℕ) → Piece
+piece start end token = record { start = start; end = end; token = token }
+
+-- a piece with the token that it is
+abbrev mark_of : Piece → (ℕ × ℕ) × Option ℕ
+mark_of p = (range_of p, p.token)
 
 -- one piece more
-row-more : (from at to : ℕ) (is_match : Bool) (ps : List Piece) → StandInRow from ps at → at ≤ to → StandInRow from (ps ++ piece at to is_match ∷ []) to
-row-more from at to is_match [] row le = (sym row, le, refl)
-row-more from at to is_match (p ∷ ps) row le = (row.0, row.1, row-more p.end at to is_match ps row.2 le)
+row-more : (from at to : ℕ) (token : Option ℕ) (ps : List Piece) → StandInRow from ps at → at ≤ to → StandInRow from (ps ++ piece at to token ∷ []) to
+row-more from at to token [] row le = (sym row, le, refl)
+row-more from at to token (p ∷ ps) row le = (row.0, row.1, row-more p.end at to token ps row.2 le)
 
 -- put together they are the text between the ends of the row
 row-together : (text : List ℕ) (from to : ℕ) (ps : List Piece) → StandInRow from ps to → flat_map (part_of text) ps ++ drop to text ≡ drop from text
@@ -28,51 +34,50 @@ row-together text from to (p ∷ ps) row =
     ∙ sym (drop_split text p.start p.end row.1)
     ∙ ap (λ n. drop n text) row.0
 
-marked-more : (ps : List Piece) (start end : ℕ) → marked_ranges (ps ++ piece start end true ∷ []) ≡ marked_ranges ps ++ (start, end) ∷ []
-marked-more ps start end = ap (map range_of) (filter-append (λ p. p.is_match) ps _) ∙ map-append range_of (filter (λ p. p.is_match) ps) _
+marked-more : (ps : List Piece) (start end token : ℕ) → marked (ps ++ piece start end (Some token) ∷ []) ≡ marked ps ++ ((start, end), Some token) ∷ []
+marked-more ps start end token = ap (map mark_of) (filter-append (λ p. is_some p.token) ps _) ∙ map-append mark_of (filter (λ p. is_some p.token) ps) _
 
-unmarked-more : (ps : List Piece) (start end : ℕ) → marked_ranges (ps ++ piece start end false ∷ []) ≡ marked_ranges ps
-unmarked-more ps start end = ap (map range_of) (filter-append (λ p. p.is_match) ps _ ∙ append-nil _)
+unmarked-more : (ps : List Piece) (start end : ℕ) → marked (ps ++ piece start end None ∷ []) ≡ marked ps
+unmarked-more ps start end = ap (map mark_of) (filter-append (λ p. is_some p.token) ps _ ∙ append-nil _)
 
 -- The pieces so far reach from the left end to an offset; what is marked in them and the matches that are left are all matches.
-pub record IsCutTo (text : List ℕ) (matches left : List Answer) (to : ℕ) (pieces : List Piece) : Type 0 where
+pub record IsCutTo (text : List ℕ) (names : List (List ℕ)) (matches left : List Answer) (to : ℕ) (pieces : List Piece) : Type 0 where
   pub row : StandInRow 0 pieces to
-  pub marked : marked_ranges pieces ++ map (λ m. m.range) left ≡ map (λ m. m.range) matches
+  pub tokens : marked pieces ++ marks_of names left ≡ marks_of names matches
   pub slices : Each (IsSliceOf text) pieces
 
-module _ (text : List ℕ) (matches : List Answer) where
-  abbrev ranges : List Answer → List (ℕ × ℕ)
-  ranges ms = map (λ m. m.range) ms
-
+module _ (text : List ℕ) (names : List (List ℕ)) (matches : List Answer) where
   -- no piece yet
-  pub cut-none : (left : List Answer) (pieces : List Piece) → left ≡ matches → pieces ≡ [] → IsCutTo text matches left 0 pieces
-  cut-none left pieces e none = subst (IsCutTo text matches left 0) (sym none) record { row = refl; marked = ap ranges e; slices = tt }
+  pub cut-none : (left : List Answer) (pieces : List Piece) → left ≡ matches → pieces ≡ [] → IsCutTo text names matches left 0 pieces
+  cut-none left pieces e none = subst (IsCutTo text names matches left 0) (sym none) record { row = refl; tokens = ap (marks_of names) e; slices = tt }
 
   -- what stands in front of a match, and the match
-  pub cut-more : (left rest : List Answer) (m : Answer) (from to : ℕ) (pieces first both : List Piece) → IsCutTo text matches left from pieces
-      → left ≡ m ∷ rest → IsSlice text (from, m.range.0) → IsSlice text m.range → to ≡ m.range.1
-      → first ≡ pieces ++ piece from m.range.0 false ∷ [] → both ≡ first ++ piece m.range.0 m.range.1 true ∷ []
-      → IsCutTo text matches rest to both
-  cut-more left rest m from to pieces first both cut l before whole t f b =
-      let gap = piece from m.range.0 false in
-      let here = piece m.range.0 m.range.1 true in
-      subst (λ n. IsCutTo text matches rest n both) (sym t) (subst (IsCutTo text matches rest m.range.1) (sym (b ∙ ap (λ (ps : List Piece). ps ++ here ∷ []) f)) record {
-        row = row-more 0 m.range.0 m.range.1 true _ (row-more 0 from m.range.0 false pieces cut.row before.0) whole.0;
-        marked =
-            ap (λ (rs : List (ℕ × ℕ)). rs ++ ranges rest) (marked-more (pieces ++ gap ∷ []) m.range.0 m.range.1 ∙ ap (λ (rs : List (ℕ × ℕ)). rs ++ m.range ∷ []) (unmarked-more pieces from m.range.0))
-            ∙ append_assoc (marked_ranges pieces) (m.range ∷ []) (ranges rest)
-            ∙ ap (λ (ms : List Answer). marked_ranges pieces ++ ranges ms) (sym l) ∙ cut.marked;
+  pub cut-more : (left rest : List Answer) (m : Answer) (from to token : ℕ) (pieces first both : List Piece) → IsCutTo text names matches left from pieces
+      → left ≡ m ∷ rest → IsSlice text (from, m.range.0) → IsSlice text m.range → to ≡ m.range.1 → token ≡ token_of names m
+      → first ≡ pieces ++ piece from m.range.0 None ∷ [] → both ≡ first ++ piece m.range.0 m.range.1 (Some token) ∷ []
+      → IsCutTo text names matches rest to both
+  cut-more left rest m from to token pieces first both cut l before whole t n f b =
+      let gap = piece from m.range.0 None in
+      let here = piece m.range.0 m.range.1 (Some token) in
+      subst (λ n. IsCutTo text names matches rest n both) (sym t) (subst (IsCutTo text names matches rest m.range.1) (sym (b ∙ ap (λ (ps : List Piece). ps ++ here ∷ []) f)) record {
+        row = row-more 0 m.range.0 m.range.1 (Some token) _ (row-more 0 from m.range.0 None pieces cut.row before.0) whole.0;
+        tokens =
+            ap (λ (rs : List ((ℕ × ℕ) × Option ℕ)). rs ++ marks_of names rest)
+            (marked-more (pieces ++ gap ∷ []) m.range.0 m.range.1 token ∙ ap (λ (rs : List ((ℕ × ℕ) × Option ℕ)). rs ++ (m.range, Some token) ∷ []) (unmarked-more pieces from m.range.0))
+            ∙ append_assoc (marked pieces) ((m.range, Some token) ∷ []) (marks_of names rest)
+            ∙ ap (λ k. marked pieces ++ (m.range, Some k) ∷ marks_of names rest) n
+            ∙ ap (λ (ms : List Answer). marked pieces ++ marks_of names ms) (sym l) ∙ cut.tokens;
         slices = Each-append (IsSliceOf text) (pieces ++ gap ∷ []) _ (Each-append (IsSliceOf text) pieces _ cut.slices (before, tt)) (whole, tt);
       })
 
   -- the rest of the text
-  pub cut-rest : (left : List Answer) (from : ℕ) (pieces all : List Piece) → IsCutTo text matches left from pieces
-      → left ≡ [] → IsSlice text (from, length text) → all ≡ pieces ++ piece from (length text) false ∷ [] → IsCutAt text matches all
+  pub cut-rest : (left : List Answer) (from : ℕ) (pieces all : List Piece) → IsCutTo text names matches left from pieces
+      → left ≡ [] → IsSlice text (from, length text) → all ≡ pieces ++ piece from (length text) None ∷ [] → IsCutAt text names matches all
   cut-rest left from pieces all cut l rest a =
-      let row = row-more 0 from (length text) false pieces cut.row rest.0 in
-      subst (IsCutAt text matches) (sym a) record {
+      let row = row-more 0 from (length text) None pieces cut.row rest.0 in
+      subst (IsCutAt text names matches) (sym a) record {
         covered = row;
-        together = sym (append-nil _) ∙ ap (λ bs. flat_map (part_of text) (pieces ++ piece from (length text) false ∷ []) ++ bs) (sym (drop-length text)) ∙ row-together text 0 (length text) _ row;
-        marked = unmarked-more pieces from (length text) ∙ sym (append-nil _) ∙ ap (λ (ms : List Answer). marked_ranges pieces ++ ranges ms) (sym l) ∙ cut.marked;
+        together = sym (append-nil _) ∙ ap (λ bs. flat_map (part_of text) (pieces ++ piece from (length text) None ∷ []) ++ bs) (sym (drop-length text)) ∙ row-together text 0 (length text) _ row;
+        tokens = unmarked-more pieces from (length text) ∙ sym (append-nil _) ∙ ap (λ (ms : List Answer). marked pieces ++ marks_of names ms) (sym l) ∙ cut.tokens;
         slices = Each-append (IsSliceOf text) pieces _ cut.slices (rest, tt);
       }

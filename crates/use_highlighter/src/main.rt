@@ -1,32 +1,71 @@
-//! Prints a text with its matches from an offset on in brackets: `use_highlighter PATTERN OFFSET TEXT`.
+//! Colours the tokens of a text: `use_highlighter [--html] -t NAME=PATTERN.. [FILE]`.
+//!
+//! It ends with status 0, or 2 where something is wrong.
 #![tactic(auto)]
 
+mod options;
 mod pieces;
+mod show;
+mod tokens;
 
-use crate::pieces::highlighted;
-use anyhow::{Result, bail};
-use regress_match::Regex;
-use std::env;
+use crate::options::{Options, command};
+use crate::pieces::cut;
+use crate::show::show;
+use crate::tokens::{compile, tokens};
+use anyhow::{Context, Result};
+use std::process::ExitCode;
+use std::{env, fs, io};
 
-fn main(rt: HostRuntime) -> Result<()> {
+const TROUBLE: u8 = 2;
+
+// The text of a file, or of standard input where its name is `-`.
+fn text_of(rt: &HostRuntime, name: &str) -> Result<String> {
+    let text = if name == "-" {
+        io::read_to_string(rt.alloc(), rt.reader())
+    } else {
+        fs::read_to_string(rt, name)
+    };
+    text.context(format_args!("reading {name}"))
+}
+
+// Prints the file of these options with its tokens in colour.
+fn print(rt: &HostRuntime, options: &Options<'_>) -> Result<()> {
     let alloc = rt.alloc();
-    let mut words = env::args(&rt)?.skip(1);
-    let (Some(pattern), Some(offset), Some(text)) = (words.next(), words.next(), words.next())
-    else {
-        bail!("usage: use_highlighter PATTERN OFFSET TEXT");
-    };
-    let Ok(start) = offset.parse::<usize>() else {
-        bail!("the offset is no number");
-    };
-    if !text.is_char_boundary(start) {
-        bail!("no character begins at the offset");
-    }
-    let Ok(re) = Regex::new(alloc, pattern.as_str()) else {
-        bail!("the pattern is refused");
-    };
-    let Ok(line) = highlighted(alloc, &re, text.as_str(), start) else {
-        bail!("out of memory");
-    };
-    println!(rt; "{line}")?;
+    let tokens = tokens(alloc, &options.tokens)?;
+    let re = compile(alloc, &tokens)?;
+    let text = text_of(rt, options.file)?;
+    let pieces = cut(alloc, &re, &tokens, text.as_str())?;
+    let shown = show(alloc, options.style, &tokens, text.as_str(), &pieces)?;
+    print!(rt; "{shown}")?;
     Ok(())
+}
+
+// Does what the words of a command line ask for, and answers with which status the program ends.
+fn run(rt: &HostRuntime, words: &[String]) -> Result<u8> {
+    let alloc = rt.alloc();
+    match command(alloc)?.try_get_matches_from(words) {
+        Ok(matches) => {
+            print(rt, &Options::of(alloc, &matches)?)?;
+            Ok(0)
+        }
+        Err(why) => {
+            why.print(rt)?;
+            Ok(if why.use_stderr() { TROUBLE } else { 0 })
+        }
+    }
+}
+
+fn run_words(rt: &HostRuntime) -> Result<u8> {
+    let words: Vec<String> = env::args(rt)?.collect(rt.alloc())?;
+    run(rt, &words)
+}
+
+fn main(rt: HostRuntime) -> ExitCode {
+    match run_words(&rt) {
+        Ok(status) => ExitCode::from(status),
+        Err(why) => {
+            let _ = eprintln!(rt; "use_highlighter: {why:#}");
+            ExitCode::from(TROUBLE)
+        }
+    }
 }

@@ -1,8 +1,10 @@
-use Rattle.std.proofs.Common.{◌≡◌, ◌∙◌, ◌++◌, ◌∷◌, [], true, false, ap, ap₂, subst}
+use Rattle.std.proofs.Common.{◌≡◌, ◌∙◌, ◌++◌, ◌∷◌, [], false, ap, ap₂, subst}
+use Rattle.std.specs.Prelude.{Some, None}
 use Rattle.std.proofs.lemmas.Str.{IsCharBoundary-end}
 use Rattle.regress_exec.specs.Answers.{answer_of}
 use Rattle.regress_exec.specs.ToCome.{ToCome}
 use Rattle.regress_match.proofs.CallerLemmas.{IsReached, reached-none, takes-next}
+use Rattle.use_highlighter.specs.Tokens.{names_of}
 use Rattle.use_highlighter.proofs.Rows.{cut-more, cut-none, cut-rest, piece}
 use Rattle.use_highlighter.proofs.pieces.cut.Goals as goal
 
@@ -15,8 +17,8 @@ loop-item-init c =
     record {
       can = tt;
       finite = tt;
-      reached = subst (λ b. IsReached text b 0 left) c.in_ok-item-items.ensures.answers.unlimited (reached-none text c.args.start matches left c.utf8.text c.in_ok-item-items.ensures.stand into);
-      cut = cut-none text _ left.answers c.new-pieces.result.items (ap (λ (it : ToCome). it.answers) into ∙ c.in_ok-item-items.ensures.answers.answers) c.new-pieces.ensures.items;
+      reached = subst (λ b. IsReached text b 0 left) c.in_ok-item-items.ensures.answers.unlimited (reached-none text 0 matches left c.utf8.text c.in_ok-item-items.ensures.stand into);
+      cut = cut-none text (names_of c.args.tokens.now) _ left.answers c.new-pieces.result.items (ap (λ (it : ToCome). it.answers) into ∙ c.in_ok-item-items.ensures.answers.answers) c.new-pieces.ensures.items;
     }
 
 pub loop-item-preserved : goal.loop-item-preserved
@@ -30,10 +32,10 @@ loop-item-preserved c =
       finite = tt;
       reached = takes.reached c.end-from.result c.end-from.ensures;
       cut =
-          cut-more text _ c.loop-item.item-iterator.answers c.next.new.self.answers (answer_of found) c.loop-item.from c.end-from.result
-          so_far c.push.new.pieces.items c.push-in-loop-item.new.pieces.items c.loop-item.invariant.cut takes.next takes.before takes.fits.whole c.end-from.ensures
-          (c.in_ok-push.ensures ∙ ap (λ start. so_far ++ piece c.loop-item.from start false ∷ []) c.start.ensures)
-          (c.in_ok-push-2.ensures ∙ ap₂ (λ start end. c.push.new.pieces.items ++ piece start end true ∷ []) c.start-in-loop-item.ensures c.end.ensures);
+          cut-more text (names_of c.args.tokens.now) _ c.loop-item.item-iterator.answers c.next.new.self.answers (answer_of found) c.loop-item.from c.end-from.result c.token_of-token.result
+          so_far c.push.new.pieces.items c.push-in-loop-item.new.pieces.items c.loop-item.invariant.cut takes.next takes.before takes.fits.whole c.end-from.ensures c.token_of-token.ensures
+          (c.in_ok-push.ensures ∙ ap (λ start. so_far ++ piece c.loop-item.from start None ∷ []) c.start.ensures)
+          (c.in_ok-push-2.ensures ∙ ap₂ (λ start end. c.push.new.pieces.items ++ piece start end (Some c.token_of-token.result) ∷ []) c.start-in-loop-item.ensures c.end.ensures);
     }
 
 pub loop-item-preserved-in_ok-push-2 : goal.loop-item-preserved-in_ok-push-2
@@ -47,13 +49,13 @@ loop-item-preserved-in_ok-push-2 c =
       finite = tt;
       reached = takes.reached c.end-from.result c.end-from.ensures;
       cut =
-          cut-more text _ c.loop-item.item-iterator.answers c.next.new.self.answers (answer_of found) c.loop-item.from c.end-from.result
-          so_far c.push.new.pieces.items c.push-in-loop-item.new.pieces.items c.loop-item.invariant.cut takes.next takes.before takes.fits.whole c.end-from.ensures
-          (c.in_ok-push.ensures ∙ ap (λ start. so_far ++ piece c.loop-item.from start false ∷ []) c.start.ensures)
-          (c.in_ok-push-2.ensures ∙ ap₂ (λ start end. c.push.new.pieces.items ++ piece start end true ∷ []) c.start-in-loop-item.ensures c.end.ensures);
+          cut-more text (names_of c.args.tokens.now) _ c.loop-item.item-iterator.answers c.next.new.self.answers (answer_of found) c.loop-item.from c.end-from.result c.token_of-token.result
+          so_far c.push.new.pieces.items c.push-in-loop-item.new.pieces.items c.loop-item.invariant.cut takes.next takes.before takes.fits.whole c.end-from.ensures c.token_of-token.ensures
+          (c.in_ok-push.ensures ∙ ap (λ start. so_far ++ piece c.loop-item.from start None ∷ []) c.start.ensures)
+          (c.in_ok-push-2.ensures ∙ ap₂ (λ start end. c.push.new.pieces.items ++ piece start end (Some c.token_of-token.result) ∷ []) c.start-in-loop-item.ensures c.end.ensures);
     }
 
 pub returns-clause-cut : goal.returns-clause-cut
 returns-clause-cut c =
-    cut-rest c.args.text.now _ c.loop-item.item-iterator.answers c.loop-item.from c.loop-item.pieces.items c.push-2.new.pieces.items c.loop-item.invariant.cut
+    cut-rest c.args.text.now (names_of c.args.tokens.now) _ c.loop-item.item-iterator.answers c.loop-item.from c.loop-item.pieces.items c.push-2.new.pieces.items c.loop-item.invariant.cut
     c.in-None.ensures.steps.0 (c.loop-item.invariant.reached.boundary.0, c.loop-item.invariant.reached.boundary, IsCharBoundary-end c.args.text.now) c.in_ok-push-3.ensures

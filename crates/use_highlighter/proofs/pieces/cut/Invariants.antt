@@ -1,6 +1,7 @@
 use Rattle.std.proofs.Common.{false}
 use Rattle.regress_match.specs.Programs.{utf8_answers}
 use Rattle.regress_match.proofs.CallerLemmas.{IsReached}
+use Rattle.use_highlighter.specs.Tokens.{names_of}
 use Rattle.use_highlighter.proofs.Rows.{IsCutTo}
 use Rattle.use_highlighter.proofs.pieces.cut.Given as goal
 
@@ -9,5 +10,5 @@ invariant-loop-item l = record {
   can : (goal.iterator-loop-item).can_next l.item-iterator;
   finite : (goal.iterator-loop-item).is_finite l.item-iterator;
   reached : IsReached l.text false l.from l.item-iterator;
-  cut : IsCutTo l.text (utf8_answers l.re l.text l.start) l.item-iterator.answers l.from l.pieces.items;
+  cut : IsCutTo l.text (names_of l.tokens) (utf8_answers l.re l.text 0) l.item-iterator.answers l.from l.pieces.items;
 }

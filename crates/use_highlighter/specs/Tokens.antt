@@ -1,0 +1,20 @@
+-- Tokens, and which of them a match is.
+use Rattle.std.specs.Prelude.{ℕ, List, ◌++◌, codes, flat_map, is_some, map}
+use Rattle.std.specs.List.{position_or_len}
+use Rattle.regex_meaning.specs.Names.{Answer, named_group}
+use Rattle.use_highlighter.specs.declared.tokens.Token.{Token}
+
+abbrev pub names_of : List Token → List (List ℕ)
+names_of tokens = map (λ t. t.name.now) tokens
+
+-- a token as an alternative of a pattern: a group by its name
+abbrev pub arm_of : Token → List ℕ
+arm_of t = codes "|(?<" ++ (t.name.now ++ (codes ">" ++ (t.pattern.now ++ codes ")")))
+
+-- the pattern of which each token is an alternative, in order
+abbrev pub any_of : List Token → List ℕ
+any_of tokens = codes "[]" ++ flat_map arm_of tokens
+
+-- the first of these names whose group matched, by its place among them
+abbrev pub token_of : (names : List (List ℕ)) → Answer → ℕ
+token_of names m = position_or_len (λ name. is_some (named_group m name)) names

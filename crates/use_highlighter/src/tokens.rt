@@ -1,0 +1,106 @@
+//! The tokens that are looked for.
+
+ghost use Rattle.std.specs.Prelude.{◌≡◌, ◌++◌, IfOk, is_some, string_bytes};
+ghost use Rattle.regex_meaning.specs.Names.{named_group};
+ghost use Rattle.use_highlighter.specs.Tokens.{any_of, arm_of, names_of, token_of};
+ghost use Rattle.regress_exec.specs.Answers.{answer_of};
+
+use anyhow::{Result, bail};
+use regress_match::{Error, Flags, Match, Regex};
+use std::alloc::{AllocError, Global};
+
+/// A token: its name, and the pattern that matches it.
+#[derive(Clone, Copy, Debug)]
+pub struct Token<'a> {
+    pub name: &'a str,
+    pub pattern: &'a str,
+}
+
+/// The tokens of these words, each `NAME=PATTERN`.
+///
+/// # Errors
+///
+/// Where there is no `=` in a word, and where there is no memory.
+pub fn tokens<'a>(alloc: Global, words: &[&'a str]) -> Result<Vec<Token<'a>>> {
+    let mut tokens = Vec::new(alloc);
+    for word in words {
+        let Some((name, pattern)) = word.split_once('=') else {
+            bail!("{word} is no NAME=PATTERN");
+        };
+        tokens.push(Token { name, pattern })?;
+    }
+    Ok(tokens)
+}
+
+/// The pattern that matches each of these tokens.
+///
+/// # Errors
+///
+/// Where the pattern of a token is none by itself, or a name is none of a group, and where there is no memory.
+pub fn compile(alloc: Global, tokens: &[Token<'_>]) -> Result<Regex> {
+    for token in tokens {
+        refuse_wrong(alloc, token)?;
+    }
+    match Regex::new(alloc, any_of(alloc, tokens)?.as_str()) {
+        Ok(re) => Ok(re),
+        Err(why) => bail!("the names of the tokens: {why}"),
+    }
+}
+
+// Refuses a token whose pattern is none.
+fn refuse_wrong(alloc: Global, token: &Token<'_>) -> Result<()> {
+    let name = token.name;
+    if let Some(told) = Regex::diagnose(alloc, token.pattern, Flags::default())? {
+        bail!("{name}: {told}\n{}", told.below_text(token.pattern));
+    }
+    Ok(())
+}
+
+// A pattern that matches what one of the tokens matches, in a group by its name. `[]` matches nothing, so that each token
+// stands behind a bar.
+fn any_of(alloc: Global, tokens: &[Token<'_>]) -> Result<String, AllocError>
+    ensures { IfOk result (λ s. string_bytes s ≡ any_of tokens.now) }
+{
+    let mut any = String::from_str(alloc, "[]")?;
+    for token in tokens {
+        push_token(&mut any, token)?;
+    }
+    Ok(any)
+}
+
+// One token more.
+fn push_token(any: &mut String, token: &Token<'_>) -> Result<(), AllocError>
+    ensures { IfOk result (λ _. string_bytes any.new ≡ string_bytes any.old ++ arm_of token.now) }
+{
+    any.push_str("|(?<")?;
+    any.push_str(token.name)?;
+    any.push_str(">")?;
+    any.push_str(token.pattern)?;
+    any.push_str(")")
+}
+
+/// Which of the tokens a match is: the first whose group matched, by its place among them.
+pub fn token_of(tokens: &[Token<'_>], found: &Match) -> usize
+    ensures { result ≡ token_of (names_of tokens.now) (answer_of found.now) }
+{
+    let mut place = 0;
+    let mut left = tokens;
+    while let [token, behind @ ..] = left {
+        if has_matched(found, token.name) {
+            return place;
+        }
+        place += 1;
+        left = behind;
+    }
+    place
+}
+
+// Whether the group with this name matched.
+fn has_matched(found: &Match, name: &str) -> bool
+    ensures { result ≡ is_some (named_group (answer_of found.now) name.now) }
+{
+    match found.named_group(name) {
+        Some(_) => true,
+        None => false,
+    }
+}

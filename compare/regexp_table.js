@@ -1,0 +1,168 @@
+// Makes the table of `crates/use_regexp_tool`: `node compare/regexp_table.js FOLDER` writes FOLDER/stdin, scripted lines, and
+// FOLDER/stdout, what V8 answers to each of their calls, as that program writes it.
+//
+// Most lines are a product: each pattern with each set of flags, on each text, where `lastIndex` takes its places in turn.
+// A line calls one object several times, so that a call also begins where the one before left `lastIndex`. Behind these
+// stand lines on what a product has not: templates, limits, sources, flags and names. Where docs/PROFILE.md says that V8 is
+// not the standard, or that a pattern means something else here, there is no line.
+const fs = require("fs");
+
+const lines = [];
+const answers = [];
+
+const unitsOf = (text) => [...Array(text.length).keys()].map((i) => text.charCodeAt(i));
+
+const quotedUnit = (unit) => {
+  if (unit === 34 || unit === 92) return `\\${String.fromCharCode(unit)}`;
+  return unit >= 32 && unit < 127 ? String.fromCharCode(unit) : `\\u${unit.toString(16).padStart(4, "0")}`;
+};
+
+const quoted = (text) => `"${unitsOf(text).map(quotedUnit).join("")}"`;
+
+const json = (value) => {
+  if (typeof value === "string") return quoted(value);
+  if (Array.isArray(value)) return `[${value.map(json).join(",")}]`;
+  if (value === undefined || value === null) return "null";
+  if (typeof value !== "object") return String(value);
+  return `{${Object.entries(value).map(([name, of]) => `${quoted(name)}:${json(of)}`).join(",")}}`;
+};
+
+const matched = (m) => m && { index: m.index, match: [...m], groups: m.groups ? { ...m.groups } : null };
+
+// What `replaceWith` puts in place of a match: where it begins, its text and those of its groups.
+const told = (...words) => {
+  const at = words.findIndex((word) => typeof word === "number");
+  return `<${words[at]}:${words.slice(0, at).map((word) => word ?? "-").join("|")}>`;
+};
+
+const methods = {
+  exec: (re, text) => matched(re.exec(text)),
+  test: (re, text) => re.test(text),
+  search: (re, text) => re[Symbol.search](text),
+  match: (re, text) => (re.global ? re[Symbol.match](text) : matched(re[Symbol.match](text))),
+  matchAll: (re, text) => [...re[Symbol.matchAll](text)].map(matched),
+  replace: (re, text, template) => re[Symbol.replace](text, template),
+  replaceWith: (re, text) => re[Symbol.replace](text, told),
+  split: (re, text, limit) => re[Symbol.split](text, limit),
+  toString: (re) => re.toString(),
+  source: (re) => re.source,
+  flags: (re) => re.flags,
+  lastIndex: (re) => re.lastIndex,
+};
+
+// Whether the pattern can stand between slashes in a line.
+const isLiteral = (source) => source !== "" && /^(?:[ -.0-Z^-~]|\\[ -~]|\[(?:[ -Z^-~]|\\[ -~])*\])*$/.test(source);
+
+function add(source, flags, lastIndex, ...calls) {
+  const pattern = isLiteral(source) && /^[a-z]*$/.test(flags) ? `/${source}/${flags}` : `${quoted(source)} ${quoted(flags)}`;
+  const words = calls.map(([method, ...given]) => [method, ...given.map(json)].join(" "));
+  lines.push([pattern, ...(lastIndex ? [`@${lastIndex}`] : []), ...words].join(" "));
+  let re;
+  try {
+    re = new RegExp(source, flags);
+  } catch {
+    answers.push('{"error":"SyntaxError"}');
+    return;
+  }
+  re.lastIndex = lastIndex;
+  for (const [method, ...given] of calls) {
+    const value = methods[method](re, ...given);
+    answers.push(`{"value":${json(value)},"lastIndex":${re.lastIndex}}`);
+  }
+}
+
+// ---- Each method with each set of flags
+
+const FLAGS = ["", "g", "y", "gy", "u", "gu", "uy", "guy"];
+const TEXTS = ["abcab", "", "\u{1F600}a\u{1F600}\u{1F601}", "\ude00a\ud83d\ude00\ud83d", "b\nab"];
+const PATTERNS = ["a", "", "a*", ".", "(b)|(c)|a", "(?<x>a)(?<y>b)?", "\\ude00", "[^a]", "\u{1F600}", "a$|^", "(?=a)", "(?<=a)b|\u{1F600}"];
+const LASTS = [0, 1, 2, 0, 4, 9];
+const TEMPLATE = "[$1|$&|$<x>|$`|$']";
+
+let turn = 0;
+for (const source of PATTERNS) {
+  for (const flags of FLAGS) {
+    for (const text of TEXTS) {
+      const last = LASTS[turn % LASTS.length];
+      const scripts = [
+        [["exec", text], ["exec", text], ["test", text]],
+        [["test", text], ["match", text], ["exec", text]],
+        [["matchAll", text], ["search", text]],
+        [["replace", text, TEMPLATE], ["exec", text]],
+        [["replaceWith", text], ["lastIndex"]],
+        [["split", text], ["split", text, 2]],
+        [["match", text], ["match", text]],
+      ];
+      add(source, flags, last, ...scripts[turn % scripts.length]);
+      turn += 1;
+    }
+  }
+}
+
+// ---- An index within a pair, at the end, and past it
+
+for (const source of [".", "", "a", "\\ude00", "\ud83d", "(?=a)", "$", "^"]) {
+  for (const flags of ["g", "y", "gu", "uy"]) {
+    for (const last of [1, 3, 4, 40]) {
+      add(source, flags, last, ["exec", "\u{1F600}a"], ["exec", "\u{1F600}a"]);
+    }
+    add(source, flags, 1, ["matchAll", "\u{1F600}a"], ["replace", "\u{1F600}a", "-"], ["split", "\u{1F600}a"]);
+  }
+}
+
+// ---- Templates
+
+const TEMPLATES = [
+  "$$", "$&$&", "$`", "$'", "$1", "$2", "$3", "$0", "$00", "$01", "$02", "$10", "$11", "$12", "$20", "$99", "$001", "$1a", "$",
+  "a$", "$x", "$$1", "$$$1", "$<a>", "$<b>", "$<c>", "$<a", "$<>", "$<a>>", "$<\u00e9>", "\u{1F600}$&", "$<$1>",
+];
+for (const template of TEMPLATES) {
+  add("(b)(x)?", "", 0, ["replace", "abcb", template]);
+  add("(?<a>b)(?<b>x)?", "g", 0, ["replace", "abcb", template]);
+  add("b", "y", 1, ["replace", "abcb", template]);
+}
+add("(a)(b)(c)(d)(e)(f)(g)(h)(i)(j)(k)", "", 0, ["replace", "abcdefghijk", "$11-$10-$1-$12-$011"]);
+
+// ---- Splits
+
+for (const flags of ["", "g", "y", "u", "iu"]) {
+  for (const [source, text] of [
+    ["", "ab\u{1F600}"], [",", "a,b,,c,"], ["(,)|(;)", "a,b;c"], ["a*", "baac"], ["$", "ab"], ["^", "ab"], ["(?=b)", "abab"], ["X", "axbxc"],
+    ["(a)|b", "b"], ["\\b", "to be"], ["(?:)|\u{1F600}", "\u{1F600}\u{1F601}"], ["a", "a"], ["()", "ab"],
+  ]) {
+    add(source, flags, 1, ["split", text], ["split", text, 0], ["split", text, 1], ["split", text, 3], ["lastIndex"]);
+  }
+  add("a?", flags, 0, ["split", ""]);
+  add("a", flags, 0, ["split", ""], ["split", "", 0]);
+}
+
+// ---- Sources and flags
+
+for (const source of ["", "/", "a/b", "[/]", "\\/", "\n", "\\\n", "\r", "\u2028", "\u2029", "[\n]", "\\\u2028", "[\\]/]", "]/", "[[]/", "\\\\/", "\\\r", "[\\\n]", "\u00e9\u{1F600}"]) {
+  add(source, "g", 0, ["source"], ["toString"], ["flags"]);
+}
+for (const flags of ["yusmig", "ig", "gg", "uu", "x", "G", "v ", "gi m", "smy", "\u00e9", "giuG"]) {
+  add("A.$", flags, 0, ["flags"], ["toString"], ["match", "a\nb\na\n"]);
+}
+
+// ---- Lines, case and dots, patterns that are refused, and those that are read by units
+
+for (const flags of ["", "i", "m", "s", "im", "is", "ms", "ims", "g", "gims", "gimsuy", "my", "gm"]) {
+  add("^b.?$", flags, 0, ["match", "B\nb\n\nb"], ["replaceWith", "B\nb\n\nb"], ["search", "a\nb"]);
+}
+for (const source of ["[\u{1F337}-\u{1F338}]", "\u{1F600}+", "^.$", "[^\u{1F600}]", "\u{1F600}{2}", "(", "a**", "[b-a]", "(?<n>a)(?<n>b)", "(?<n>a)\\k<n>", "\\ud83d\\ude00", "\\u{1F600}", "{", "a{2,1}"]) {
+  for (const flags of ["", "u", "gu"]) {
+    if (source === "\\u{1F600}" && flags === "") continue;
+    add(source, flags, 0, ["exec", "\u{1F600}\ude00aa"], ["match", "\u{1F337}\u{1F600}\u{1F600}"]);
+  }
+}
+
+// ---- What the README shows
+
+add("(?<y>\\d{4})", "y", 3, ["exec", "on 2018"], ["exec", "on 2018"]);
+add("(?<year>\\d{4})-(?<month>\\d\\d)", "g", 0, ["replace", "2018-06 or 2019-01", "$<month>/$<year>"]);
+
+const folder = process.argv[2];
+fs.writeFileSync(`${folder}/stdin`, lines.map((line) => `${line}\n`).join(""));
+fs.writeFileSync(`${folder}/stdout`, answers.map((answer) => `${answer}\n`).join(""));
+console.log(`${lines.length} lines, ${answers.length} answers`);

@@ -13,4 +13,10 @@ pub mod PlaceLemmas
 pub mod ReadLemmas
 pub mod QuantifierLemmas
 pub mod EscapeLemmas
+pub mod ClosingLemmas
 pub mod NameLemmas
+pub mod ClassLemmas
+pub mod ModelLemmas
+pub mod ScanLemmas
+pub mod TermLemmas
+pub mod ReferenceLemmas

@@ -7,3 +7,7 @@ pub mod Parts
 pub mod Levels
 pub mod Depth
 pub mod Reads
+pub mod ClassReads
+pub mod Model
+pub mod GroupReads
+pub mod LeafReads

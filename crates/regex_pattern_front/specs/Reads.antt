@@ -1,5 +1,5 @@
 -- What reading gives, in the words of the grammar: `here` is the text before it, `there` the text behind.
-use Rattle.std.specs.Prelude.{◌≡◌, IsTrue, ℕ, ◌+◌, ◌-◌, ◌*◌, ◌^◌, ◌⊎◌, ◌≤◌, Bool, true, false, [], ◌∷◌, ◌++◌, codes, min, Option, Some, None, Result, Ok, Err, if◌then◌else◌}
+use Rattle.std.specs.Prelude.{◌≡◌, ◌≢◌, IsTrue, ℕ, ◌+◌, ◌-◌, ◌*◌, ◌^◌, ◌⊎◌, ◌≤◌, Bool, true, false, [], ◌∷◌, ◌++◌, codes, min, Option, Some, None, Result, Ok, Err, if◌then◌else◌}
 use Rattle.std.specs.Char.{is_digit, digit_value}
 use Rattle.regex_meaning.specs.Text.{is_scalar}
 use Rattle.regex_meaning.specs.Tree as tree
@@ -108,3 +108,14 @@ IsReadOr {B = B} of reads (Err e) there = IsTrue (is_refused e) → (end : Text)
 abbrev pub IsLetter : (is_first : Bool) (c : ℕ) → Option ℕ → Type 0
 IsLetter is_first c None = (if is_first then begins_name c else goes_on_name c) ≡ false
 IsLetter is_first c (Some letter) = (letter ≡ c) × ((if is_first then begins_name c else goes_on_name c) ≡ true)
+
+-- what is read here up to there, or there is nothing to read, and memory does not matter
+abbrev pub IsReadBy : {A B E : Type 0} (of : A → B) (reads : Text → B → Type 0) → Result A E → (there : Text) → Type 0
+IsReadBy of reads (Ok a) there = reads there (of a)
+IsReadBy {B = B} of reads (Err e) there = (end : Text) (b : B) → reads end b → ⊥
+
+-- what stands next, and of an escape what it escapes too
+abbrev pub IsUnescapedRead : (here : Text) → Option ℕ → (there : Text) → Type 0
+IsUnescapedRead here None there = here ≡ []
+IsUnescapedRead here (Some c) there =
+    ((c ≡ 92) × ((here ≡ 92 ∷ []) × (there ≡ []))) ⊎ (((c ≡ 92) × (d : ℕ) × (here ≡ 92 ∷ d ∷ there)) ⊎ ((c ≢ 92) × (here ≡ c ∷ there)))

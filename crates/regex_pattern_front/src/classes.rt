@@ -1,6 +1,13 @@
 //! Character classes: `[a-z]`, `\d` and the like.
 
-ghost use Rattle.std.specs.Prelude.{◌≤◌, length};
+ghost use Rattle.std.specs.Prelude.{◌≡◌, ◌≢◌, ◌≤◌, ◌∷◌, ◌++◌, [], Bool, false, ℕ, length, map, option_map, IfOk, OnOk};
+ghost use Rattle.regex_meaning.specs.Outcomes.{in_intervals};
+ghost use Rattle.regex_grammar.specs.Classes.{class as class_of, one, CharacterClass, ClassAtom, IsSetOf, is_of};
+ghost use Rattle.std.specs.List.{list_any};
+ghost use Rattle.regex_pattern_front.specs.Intervals.{interval_of};
+ghost use Rattle.regex_pattern_front.specs.TreeOf.{contents_of, flags_of};
+ghost use Rattle.regex_pattern_front.specs.Reads.{IsReadBy, IsReadOr};
+ghost use Rattle.regex_pattern_front.specs.ClassReads.{base_class, escape_member, atom_member, escape_of, held, IsClosure, Adds, IsEndRead, IsMemberRead, AreRangesRead, AreSetsTold, IsRangeOf, is_operation, with_same_fold, closing};
 
 use crate::codepointset::{CodePointSet, Interval};
 use crate::diagnosis::Cause;
@@ -96,7 +103,9 @@ enum Base {
 
 impl ClassEscape {
     /// The class escape of this letter, if there is one.
-    pub(crate) fn of(letter: Option<char>) -> Option<ClassEscape> {
+    pub(crate) fn of(letter: Option<char>) -> Option<ClassEscape>
+        ensures { option_map escape_member result ≡ escape_of letter }
+    {
         let (base, invert) = match letter? {
             'd' => (Base::Digits, false),
             'D' => (Base::Digits, true),
@@ -110,35 +119,58 @@ impl ClassEscape {
     }
 
     /// Its class.
-    pub(crate) fn contents(
-        self,
-        alloc: Global,
-        flags: Flags,
-    ) -> Result<BracketContents, AllocError> {
-        let intervals = match self.base {
-            Base::Digits => DIGITS.to_vec(alloc)?,
-            Base::WordCharacters => WORD_CHARACTERS.to_vec(alloc)?,
-            Base::Spaces => SPACES.to_vec(alloc)?,
-        };
+    pub(crate) fn contents(self, alloc: Global, flags: Flags) -> Result<BracketContents, AllocError>
+        ensures set { IfOk result (λ b. IsSetOf (flags_of flags) (class_of (base_class self.base) false ∷ []) b.cps) }
+        ensures invert { IfOk result (λ b. b.invert ≡ self.invert) }
+    {
         Ok(BracketContents {
             invert: self.invert,
-            cps: closed(intervals, flags)?,
+            cps: closed(self.base.intervals(alloc)?, flags)?,
         })
     }
 
-    // Adds its code points.
-    fn add_to(self, intervals: &mut Vec<Interval>, flags: Flags) -> Result<(), AllocError> {
-        let contents = self.contents(*intervals.allocator(), flags)?;
-        let set = if contents.invert {
-            contents.cps.inverted()?
+    // Its code points.
+    fn set(self, alloc: Global, flags: Flags) -> Result<CodePointSet, AllocError>
+        ensures { IfOk result (λ s. (c : ℕ) → in_intervals s c ≡ is_of (flags_of flags) c (escape_member self)) }
+    {
+        let contents = self.contents(alloc, flags)?;
+        if contents.invert {
+            contents.cps.inverted()
         } else {
-            contents.cps
-        };
-        for interval in set.intervals() {
-            intervals.push(*interval)?;
+            Ok(contents.cps)
         }
-        Ok(())
     }
+
+    // Adds its code points.
+    fn add_to(self, intervals: &mut Vec<Interval>, flags: Flags) -> Result<(), AllocError>
+        ensures { let old = intervals.old.items in let new = intervals.new.items in
+            OnOk result (Adds (flags_of flags) old new (escape_member self ∷ [])) }
+    {
+        let set = self.set(*intervals.allocator(), flags)?;
+        add_all(intervals, set.intervals())
+    }
+}
+
+impl Base {
+    fn intervals(self, alloc: Global) -> Result<Vec<Interval>, AllocError>
+        ensures { IfOk result (λ v. map interval_of v.items ≡ base_class self) }
+    {
+        match self {
+            Base::Digits => DIGITS.to_vec(alloc),
+            Base::WordCharacters => WORD_CHARACTERS.to_vec(alloc),
+            Base::Spaces => SPACES.to_vec(alloc),
+        }
+    }
+}
+
+// Adds these intervals.
+fn add_all(intervals: &mut Vec<Interval>, others: &[Interval]) -> Result<(), AllocError>
+    ensures { OnOk result (intervals.new.items ≡ intervals.old.items ++ others.now) }
+{
+    for interval in others {
+        intervals.push(*interval)?;
+    }
+    Ok(())
 }
 
 /// Reads the rest of `[`..`]` (ECMA-262, 21.2.1 `ClassRanges`).
@@ -148,19 +180,34 @@ pub(crate) fn class(
     flags: Flags,
 ) -> Result<BracketContents, Fault>
     ensures moves { length reader.new.rest.now ≤ length reader.old.rest.now }
+    ensures text { let here = reader.old.rest.now in
+        IsReadOr contents_of (CharacterClass (flags_of flags) here) result reader.new.rest.now }
 {
-    let start = *reader;
     if flags.unicode_sets {
         no_set_operation(*reader)?;
     }
+    let start = *reader;
     let invert = reader.eat('^');
+    Ok(BracketContents {
+        invert,
+        cps: ranges(alloc, reader, start, flags)?,
+    })
+}
+
+// Reads the rest of a class that began before `start`, up to its end.
+fn ranges(
+    alloc: Global,
+    reader: &mut Reader,
+    start: Reader,
+    flags: Flags,
+) -> Result<CodePointSet, Fault>
+    ensures moves { length reader.new.rest.now ≤ length reader.old.rest.now }
+    ensures text { AreRangesRead (flags_of flags) reader.old.rest.now result reader.new.rest.now }
+{
     let mut intervals = Vec::new(alloc);
     while let Some(c) = reader.next() {
         if c == ']' as u32 {
-            return Ok(BracketContents {
-                invert,
-                cps: closed(intervals, flags)?,
-            });
+            return Ok(closed(intervals, flags)?);
         }
         read_member(&mut intervals, reader, c, flags)?;
     }
@@ -168,25 +215,31 @@ pub(crate) fn class(
 }
 
 // Refuses a nested class, `&&` or `--` in the class that begins here.
-fn no_set_operation(reader: Reader) -> Result<(), Fault> {
+fn no_set_operation(reader: Reader) -> Result<(), Fault>
+    ensures { AreSetsTold reader.entry.rest.now result }
+{
     let mut ahead = reader;
-    while let Some(c) = ahead.next() {
-        let is_operation = match char::from_u32(c) {
-            Some('\\') => {
-                let _ = ahead.next();
-                false
-            }
-            Some(']') => return Ok(()),
-            Some('[') => true,
-            Some('&') => ahead.peek() == Some('&'),
-            Some('-') => ahead.peek() == Some('-'),
-            _ => false,
-        };
-        if is_operation {
+    while let Some(c) = ahead.next_unescaped() {
+        if c == ']' as u32 {
+            return Ok(());
+        }
+        if is_operation(c, ahead.peek()) {
             return Err(ahead.refuse_last(Cause::SetOperation));
         }
     }
     Ok(())
+}
+
+// Whether a class or a set operation begins with this code point, where this stands behind it.
+fn is_operation(c: u32, next: Option<char>) -> bool
+    ensures { result ≡ is_operation c next }
+{
+    match char::from_u32(c) {
+        Some('[') => true,
+        Some('&') => next == Some('&'),
+        Some('-') => next == Some('-'),
+        _ => false,
+    }
 }
 
 // One end of a range, or what stands for itself.
@@ -203,7 +256,10 @@ fn read_member(
     c: u32,
     flags: Flags,
 ) -> Result<(), Fault>
+    requires { c ≢ 93 }
     ensures moves { length reader.new.rest.now ≤ length reader.old.rest.now }
+    ensures text { let here = c ∷ reader.old.rest.now in let there = reader.new.rest.now in
+        IsMemberRead (flags_of flags) here intervals.old.items result intervals.new.items there }
 {
     let start = *reader;
     let first = read_atom(reader, c, flags)?;
@@ -213,7 +269,7 @@ fn read_member(
         return Ok(());
     };
     *reader = ahead;
-    if let (Atom::Character(first), Atom::Character(last)) = (first, second) {
+    if let Some((first, last)) = range_of(first, second) {
         if last < first {
             return Err(start.refuse_last(Cause::RangeOutOfOrder));
         }
@@ -226,9 +282,23 @@ fn read_member(
     Ok(())
 }
 
+// The ends of a range from one atom to another, where both are characters.
+fn range_of(first: Atom, second: Atom) -> Option<(u32, u32)>
+    ensures { IsRangeOf first second result }
+{
+    let Atom::Character(first) = first else {
+        return None;
+    };
+    let Atom::Character(last) = second else {
+        return None;
+    };
+    Some((first, last))
+}
+
 // Reads a `-` and what the range ends with; none where no `-` stands here, or one before the class's end.
 fn range_end(reader: &mut Reader, flags: Flags) -> Result<Option<Atom>, Fault>
     ensures moves { length reader.new.rest.now ≤ length reader.old.rest.now }
+    ensures text { IsEndRead (flags_of flags) reader.old.rest.now result reader.new.rest.now }
 {
     if !reader.eat('-') {
         return Ok(None);
@@ -241,7 +311,10 @@ fn range_end(reader: &mut Reader, flags: Flags) -> Result<Option<Atom>, Fault>
 
 // Reads the character or class escape that begins with this code point.
 fn read_atom(reader: &mut Reader, c: u32, flags: Flags) -> Result<Atom, Fault>
+    requires { c ≢ 93 }
     ensures moves { length reader.new.rest.now ≤ length reader.old.rest.now }
+    ensures text { let here = c ∷ reader.old.rest.now in
+        IsReadBy atom_member (ClassAtom (flags_of flags) here) result reader.new.rest.now }
 {
     if c != '\\' as u32 {
         return Ok(Atom::Character(c));
@@ -256,7 +329,10 @@ fn read_atom(reader: &mut Reader, c: u32, flags: Flags) -> Result<Atom, Fault>
     Ok(Atom::Character(character_escape(reader, flags.unicode)?))
 }
 
-fn add(intervals: &mut Vec<Interval>, atom: Atom, flags: Flags) -> Result<(), AllocError> {
+fn add(intervals: &mut Vec<Interval>, atom: Atom, flags: Flags) -> Result<(), AllocError>
+    ensures { let old = intervals.old.items in let new = intervals.new.items in
+        OnOk result (Adds (flags_of flags) old new (atom_member atom ∷ [])) }
+{
     match atom {
         Atom::Character(c) => intervals.push(Interval { first: c, last: c })?,
         Atom::Escape(escape) => escape.add_to(intervals, flags)?,
@@ -265,22 +341,61 @@ fn add(intervals: &mut Vec<Interval>, atom: Atom, flags: Flags) -> Result<(), Al
 }
 
 // The set of these intervals; with `icase` also whatever has the fold of a member.
-fn closed(mut intervals: Vec<Interval>, flags: Flags) -> Result<CodePointSet, AllocError> {
+fn closed(mut intervals: Vec<Interval>, flags: Flags) -> Result<CodePointSet, AllocError>
+    ensures { IfOk result (λ s. IsClosure (flags_of flags) (held intervals.items) s) }
+{
     let alloc = *intervals.allocator();
     let set = CodePointSet::from_intervals(alloc, &intervals)?;
     if !flags.icase {
         return Ok(set);
     }
-    for upper in 0x41..=0x5A {
-        let letters = expand_code_point(alloc, upper, true, flags.unicode)?;
-        if letters.iter().any(|c| set.contains(*c)) {
-            for c in &letters {
-                intervals.push(Interval {
-                    first: *c,
-                    last: *c,
-                })?;
-            }
-        }
-    }
+    close(&mut intervals, &set, flags.unicode)?;
     CodePointSet::from_intervals(alloc, &intervals)
+}
+
+// Adds whatever has the fold of a member of the set, which has what the intervals have.
+fn close(intervals: &mut Vec<Interval>, set: &CodePointSet, unicode: bool) -> Result<(), AllocError>
+    ensures { OnOk result (((c : ℕ) → in_intervals set.now c ≡ held intervals.old.items c)
+        → (c : ℕ) → held intervals.new.items c ≡ with_same_fold unicode (in_intervals set.now) c) }
+{
+    for upper in 'A' as u32..'Z' as u32 + 1 {
+        close_over(intervals, set, upper, unicode)?;
+    }
+    Ok(())
+}
+
+// Adds all that have the fold of this letter, where the set has one of them.
+fn close_over(
+    intervals: &mut Vec<Interval>,
+    set: &CodePointSet,
+    upper: u32,
+    unicode: bool,
+) -> Result<(), AllocError>
+    ensures { OnOk result (map interval_of intervals.new.items
+        ≡ map interval_of intervals.old.items ++ closing (in_intervals set.now) upper unicode) }
+{
+    let letters = expand_code_point(*intervals.allocator(), upper, true, unicode)?;
+    if !has_any(set, &letters) {
+        return Ok(());
+    }
+    add_each(intervals, &letters)
+}
+
+fn has_any(set: &CodePointSet, members: &[u32]) -> bool
+    ensures { result ≡ list_any (in_intervals set.now) members.now }
+{
+    members.iter().any(|c| set.contains(*c))
+}
+
+fn add_each(intervals: &mut Vec<Interval>, members: &[u32]) -> Result<(), AllocError>
+    ensures { OnOk result (map interval_of intervals.new.items
+        ≡ map interval_of intervals.old.items ++ map one members.now) }
+{
+    for c in members {
+        intervals.push(Interval {
+            first: *c,
+            last: *c,
+        })?;
+    }
+    Ok(())
 }

@@ -1,6 +1,10 @@
 //! Groups: how one opens, and the names of all of them.
 
-ghost use Rattle.std.specs.Prelude.{◌≡◌, ◌<◌, ◌≤◌, length, IsSome};
+ghost use Rattle.std.specs.Prelude.{◌≡◌, ◌≤◌, ◌∷◌, ◌==◌, ◌&&◌, not, [], false, length, string_bytes, IfOk, OnOk};
+ghost use Rattle.regex_grammar.specs.Ahead.{name_at, opened_name, names_ahead};
+ghost use Rattle.regex_pattern_front.specs.GroupReads.{IsSignRead, IsOpeningRead, AreNumbers, Notes, Scans, numbered};
+ghost use Rattle.std.specs.BTreeMap.{get_by_text};
+ghost use Rattle.regex_grammar.specs.Reading.{Text};
 
 use crate::diagnosis::Cause;
 use crate::escapes::name;
@@ -24,6 +28,7 @@ pub(crate) enum Opening {
 }
 
 impl Opening {
+    ghost use Rattle.regex_pattern_front.specs.GroupReads.{behind_of, takes_quantifier};
     ghost use Rattle.regex_pattern_front.specs.Levels.{captures};
 
     /// How many capturing groups open with it: one or none.
@@ -37,7 +42,9 @@ impl Opening {
     }
 
     /// Whether terms stand in reverse order inside it, where outside they do so or not.
-    pub(crate) fn is_behind(self, outside: bool) -> bool {
+    pub(crate) fn is_behind(self, outside: bool) -> bool
+        ensures { result ≡ behind_of self outside }
+    {
         match self {
             Opening::Look { backwards, .. } => backwards,
             _ => outside,
@@ -45,7 +52,9 @@ impl Opening {
     }
 
     /// Whether a quantifier may follow what it opens.
-    pub(crate) fn is_atom(self) -> bool {
+    pub(crate) fn is_atom(self) -> bool
+        ensures { result ≡ takes_quantifier self }
+    {
         !matches!(self, Opening::Look { .. })
     }
 }
@@ -53,6 +62,7 @@ impl Opening {
 /// Reads what stands behind an opening parenthesis and belongs to it.
 pub(crate) fn opened(reader: &mut Reader) -> Result<Opening, Fault>
     ensures moves { length reader.new.rest.now ≤ length reader.old.rest.now }
+    ensures text { IsOpeningRead reader.old.rest.now result reader.new.rest.now }
 {
     let start = *reader;
     if !reader.eat('?') {
@@ -62,14 +72,25 @@ pub(crate) fn opened(reader: &mut Reader) -> Result<Opening, Fault>
         return Ok(Opening::Plain);
     }
     let backwards = reader.eat('<');
-    let negate = reader.eat('!');
-    if negate || reader.eat('=') {
-        Ok(Opening::Look { negate, backwards })
-    } else if backwards {
+    if let Some(negate) = sign(reader) {
+        return Ok(Opening::Look { negate, backwards });
+    }
+    if backwards {
         Ok(Opening::Named)
     } else {
         Err(start.refuse_last(Cause::InvalidGroup))
     }
+}
+
+// Reads the sign of a lookaround, and tells whether it negates.
+fn sign(reader: &mut Reader) -> Option<bool>
+    ensures moves { length reader.new.rest.now ≤ length reader.old.rest.now }
+    ensures text { IsSignRead reader.old.rest.now result reader.new.rest.now }
+{
+    if reader.eat('!') {
+        return Some(true);
+    }
+    if reader.eat('=') { Some(false) } else { None }
 }
 
 /// The numbers of the groups that have a name, by it. Groups count from 1.
@@ -77,76 +98,94 @@ pub(crate) type GroupNumbers = BTreeMap<String, u32>;
 
 /// Finds the names of a whole pattern, since a reference may stand before its group. A name that stands twice is that of
 /// the first group. What is no pattern here is passed over: it is refused where it is read in its turn.
-pub(crate) fn group_numbers(alloc: Global, pattern: &[u32]) -> Result<GroupNumbers, AllocError> {
-    let mut numbers = BTreeMap::new(alloc);
+pub(crate) fn group_numbers(alloc: Global, pattern: &[u32]) -> Result<GroupNumbers, AllocError>
+    ensures { let names = names_ahead false pattern.now in
+        IfOk result (λ numbers. length names ≤ 65535 → AreNumbers numbers names) }
+{
+    let mut scan = Scan {
+        numbers: BTreeMap::new(alloc),
+        groups: 0,
+        in_class: false,
+    };
     let mut reader = Reader { rest: pattern };
-    let mut groups = 0u32;
-    let mut in_class = false;
-    while let Some(c) = next_unescaped(&mut reader) {
-        match char::from_u32(c) {
-            Some('[') => in_class = true,
-            Some(']') => in_class = false,
-            Some('(') if !in_class => groups = note_group(
-                alloc,
-                &mut numbers,
-                &mut reader,
-                groups,
-            )?,
-            _ => {}
-        }
+    while let Some(c) = reader.next_unescaped() {
+        scan.step(alloc, c, reader)?;
     }
-    Ok(numbers)
+    Ok(scan.numbers)
 }
 
-// The next code point; of an escape, the backslash.
-fn next_unescaped(reader: &mut Reader) -> Option<u32>
-    ensures moves { length reader.new.rest.now ≤ length reader.old.rest.now }
-    ensures read { IsSome result → length reader.new.rest.now < length reader.old.rest.now }
-{
-    let c = reader.next()?;
-    if c == '\\' as u32 {
-        let _ = reader.next();
-    }
-    Some(c)
-}
-
-// Notes the name of a group that has one, behind its parenthesis, and gives how many groups there are then.
-fn note_group(
-    alloc: Global,
-    numbers: &mut GroupNumbers,
-    reader: &mut Reader,
+// What is found of a pattern so far: the numbers of the names, how many groups there are, and whether a class is open.
+#[derive(Drop)]
+struct Scan {
+    numbers: GroupNumbers,
     groups: u32,
-) -> Result<u32, AllocError>
-    ensures moves { length reader.new.rest.now ≤ length reader.old.rest.now }
-{
-    match opened(reader) {
-        Ok(Opening::Capture) => Ok(groups.saturating_add(1)),
-        Ok(Opening::Named) => {
-            let group = groups.saturating_add(1);
-            note_name(alloc, numbers, reader, group)?;
-            Ok(group)
-        }
-        _ => Ok(groups),
-    }
+    in_class: bool,
 }
 
-// Notes the name that stands here for a group, unless another has it.
-fn note_name(
-    alloc: Global,
-    numbers: &mut GroupNumbers,
-    reader: &mut Reader,
-    group: u32,
-) -> Result<(), AllocError>
-    ensures moves { length reader.new.rest.now ≤ length reader.old.rest.now }
-{
-    match name(alloc, reader) {
-        Ok(name) => {
-            if !numbers.contains_key(name.as_str()) {
-                numbers.insert(name, group)?;
-            }
-            Ok(())
+impl Scan {
+    // Looks at a code point, behind which the reader stands.
+    fn step(&mut self, alloc: Global, c: u32, reader: Reader) -> Result<(), AllocError>
+        ensures { OnOk result (Scans self.old self.new c reader.entry.rest.now) }
+    {
+        if c == '[' as u32 {
+            self.in_class = true;
+            return Ok(());
         }
-        Err(Fault::Refused { .. }) => Ok(()),
-        Err(Fault::Memory(refused)) => Err(refused),
+        if c == ']' as u32 {
+            self.in_class = false;
+            return Ok(());
+        }
+        if !self.may_open(c) {
+            return Ok(());
+        }
+        self.note_group(alloc, reader)
+    }
+
+    // Whether the code point may open a group.
+    fn may_open(&self, c: u32) -> bool
+        ensures { result ≡ (c == 40 && not self.now.in_class) }
+    {
+        c == '(' as u32 && !self.in_class
+    }
+
+    // Notes a group that opens here, behind its parenthesis.
+    fn note_group(&mut self, alloc: Global, mut reader: Reader) -> Result<(), AllocError>
+        ensures { OnOk result (Notes self.old self.new (opened_name reader.entry.rest.now)) }
+    {
+        match opened(&mut reader) {
+            Ok(Opening::Capture) => {
+                self.groups = self.groups.saturating_add(1);
+                Ok(())
+            }
+            Ok(Opening::Named) => self.note_name(alloc, reader),
+            Ok(Opening::Plain) => Ok(()),
+            Ok(Opening::Look { .. }) => Ok(()),
+            Err(_) => Ok(()),
+        }
+    }
+
+    // Notes a group, and the name that stands here for it, unless another has it.
+    fn note_name(&mut self, alloc: Global, mut reader: Reader) -> Result<(), AllocError>
+        ensures { OnOk result (Notes self.old self.new (name_at reader.entry.rest.now ∷ [])) }
+    {
+        self.groups = self.groups.saturating_add(1);
+        match name(alloc, &mut reader) {
+            Ok(name) => self.number(name),
+            Err(Fault::Refused { .. }) => Ok(()),
+            Err(Fault::Memory(refused)) => Err(refused),
+        }
+    }
+
+    // Gives the last group this name, unless another has it.
+    fn number(&mut self, name: String) -> Result<(), AllocError>
+        ensures same { OnOk result ((self.new.groups ≡ self.old.groups) × (self.new.in_class ≡ self.old.in_class)) }
+        ensures numbers { OnOk result ((other : Text) → get_by_text self.new.numbers other
+            ≡ numbered (string_bytes name) self.old.groups (λ x. get_by_text self.old.numbers x) other) }
+    {
+        if self.numbers.contains_key(name.as_str()) {
+            return Ok(());
+        }
+        self.numbers.insert(name, self.groups)?;
+        Ok(())
     }
 }

@@ -1,9 +1,12 @@
 //! What is read of a pattern and not closed yet: the level in hand, and the parentheses round it.
 
-ghost use Rattle.std.specs.Prelude.{◌≡◌, IfOk, OnOk, [], ◌∷◌, ◌++◌};
+ghost use Rattle.std.specs.Prelude.{◌≡◌, IfOk, OnOk, [], ◌∷◌, ◌++◌, map};
 ghost use Rattle.regex_pattern_front.specs.TreeOf.{node_of};
 ghost use Rattle.regex_pattern_front.specs.Parts.{IsMadeOf, JoinsParts, KeepsParts};
+ghost use Rattle.regex_grammar.specs.Open.{nothing_read, push, end_arm, join};
+ghost use Rattle.regex_grammar.specs.Reading.{arm};
 ghost use Rattle.regex_pattern_front.specs.Levels.{nodes_at};
+ghost use Rattle.regex_pattern_front.specs.Model.{level_of, join_all};
 
 use crate::groups::Opening;
 use crate::ir::Node;
@@ -37,7 +40,8 @@ pub(crate) struct Open {
 impl Level {
     /// A level in which nothing is read.
     pub(crate) fn new(alloc: Global, behind: bool) -> Level
-        ensures { nodes_at result ≡ [] }
+        ensures parts { nodes_at result ≡ [] }
+        ensures level { level_of result ≡ nothing_read behind }
     {
         Level {
             arms: Vec::new(alloc),
@@ -47,13 +51,16 @@ impl Level {
     }
 
     /// Whether its terms stand in reverse order.
-    pub(crate) fn behind(&self) -> bool {
+    pub(crate) fn behind(&self) -> bool
+        ensures { result ≡ self.now.behind }
+    {
         self.behind
     }
 
     /// Adds a term.
     pub(crate) fn push(&mut self, term: Node) -> Result<(), AllocError>
-        ensures { OnOk result (nodes_at self.new ≡ nodes_at self.old ++ term ∷ []) }
+        ensures parts { OnOk result (nodes_at self.new ≡ nodes_at self.old ++ term ∷ []) }
+        ensures level { OnOk result (level_of self.new ≡ push (node_of term) (level_of self.old)) }
     {
         self.terms.push(term)?;
         Ok(())
@@ -63,6 +70,7 @@ impl Level {
     pub(crate) fn end_arm(&mut self) -> Result<(), AllocError>
         ensures parts { OnOk result (KeepsParts (nodes_at self.old) (nodes_at self.new)) }
         ensures ended { OnOk result (self.new.terms.items ≡ []) }
+        ensures level { OnOk result (level_of self.new ≡ end_arm (level_of self.old)) }
     {
         let alloc = *self.terms.allocator();
         let terms = mem::replace(&mut self.terms, Vec::new(alloc));
@@ -72,7 +80,8 @@ impl Level {
 
     /// The node of the level: its alternatives, nested to the right.
     pub(crate) fn joined(mut self) -> Result<Node, AllocError>
-        ensures { IfOk result (λ n. JoinsParts (nodes_at self) (node_of n)) }
+        ensures parts { IfOk result (λ n. JoinsParts (nodes_at self) (node_of n)) }
+        ensures node { let l = level_of self in IfOk result (λ n. node_of n ≡ join l.arms (arm l.behind l.terms)) }
     {
         self.end_arm()?;
         join(self.arms)
@@ -81,7 +90,8 @@ impl Level {
 
 // The terms one after another.
 fn cat(mut terms: Vec<Node>, behind: bool) -> Node
-    ensures { IsMadeOf terms.items (node_of result) }
+    ensures parts { IsMadeOf terms.items (node_of result) }
+    ensures arm { node_of result ≡ arm behind (map node_of terms.items) }
 {
     if behind {
         terms.reverse();
@@ -91,7 +101,8 @@ fn cat(mut terms: Vec<Node>, behind: bool) -> Node
 
 // The alternatives, nested to the right; an empty list is the empty pattern.
 fn join(mut alternatives: Vec<Node>) -> Result<Node, AllocError>
-    ensures { IfOk result (λ n. JoinsParts alternatives.items (node_of n)) }
+    ensures parts { IfOk result (λ n. JoinsParts alternatives.items (node_of n)) }
+    ensures node { IfOk result (λ n. node_of n ≡ join_all (map node_of alternatives.items)) }
 {
     let alloc = *alternatives.allocator();
     let Some(mut joined) = alternatives.pop() else {

@@ -4,7 +4,7 @@ ghost use Rattle.std.specs.Prelude.{◌≡◌, ◌<◌, ◌≤◌, ◌∷◌, �
 ghost use Rattle.std.specs.Option.{ForSome};
 ghost use Rattle.regex_meaning.specs.WellFormed.{is_in_order};
 ghost use Rattle.regex_grammar.specs.Characters.{IsQuantified};
-ghost use Rattle.regex_pattern_front.specs.Reads.{IsNext, peeked, IsEaten, IsDigitRead, IsNumberRead, IsHexRead, AreCountsRead, IsMostRead, IsBracesRead, IsPrefixRead, IsQuantifierRead};
+ghost use Rattle.regex_pattern_front.specs.Reads.{IsUnescapedRead, IsNext, peeked, IsEaten, IsDigitRead, IsNumberRead, IsHexRead, AreCountsRead, IsMostRead, IsBracesRead, IsPrefixRead, IsQuantifierRead};
 
 use crate::diagnosis::Cause;
 use crate::fault::Fault;
@@ -56,6 +56,19 @@ impl Reader<'_> {
         let (first, others) = self.rest.split_first()?;
         self.rest = others;
         Some(*first)
+    }
+
+    /// The next code point; of an escape, the backslash.
+    pub(crate) fn next_unescaped(&mut self) -> Option<u32>
+        ensures moves { length self.new.rest.now ≤ length self.old.rest.now }
+        ensures read { IsSome result → length self.new.rest.now < length self.old.rest.now }
+        ensures text { IsUnescapedRead self.old.rest.now result self.new.rest.now }
+    {
+        let c = self.next()?;
+        if c == '\\' as u32 {
+            let _ = self.next();
+        }
+        Some(c)
     }
 
     /// Reads the next code point if it is this one.

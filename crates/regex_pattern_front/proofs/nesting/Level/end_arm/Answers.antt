@@ -7,6 +7,6 @@ use Rattle.regex_pattern_front.proofs.nesting.Level.end_arm.Goals as goal
 pub returns-clause-parts : goal.returns-clause-parts
 returns-clause-parts c =
     λ first end greatest parts.
-    let made : IsMadeOf c.args.self.now.terms.items (node_of c.cat.result) = rw c.replace-terms.ensures.value at c.cat.ensures in
+    let made : IsMadeOf c.args.self.now.terms.items (node_of c.cat.result) = rw c.replace-terms.ensures.value at c.cat.ensures.parts in
     rw (c.replace-terms.ensures.after, c.new.ensures.items, c.in_ok-push.ensures.items, append-nil (c.args.self.now.arms.items ++ c.cat.result ∷ []))
     (parts-made c.args.self.now.arms.items c.args.self.now.terms.items c.cat.result made first end greatest parts)

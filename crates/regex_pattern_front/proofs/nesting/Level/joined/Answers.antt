@@ -1,4 +1,8 @@
-use Rattle.std.proofs.Common.{List, Ok, Err, append-nil}
+use Rattle.std.proofs.Common.{◌≡◌, ◌∙◌, ◌++◌, ◌∷◌, [], List, map, Ok, Err, ap, append-nil}
+use Rattle.regex_meaning.specs.Tree as tree
+use Rattle.regex_grammar.specs.Open.{join}
+use Rattle.regex_pattern_front.specs.Model.{join_all}
+use Rattle.regex_pattern_front.proofs.ModelLemmas.{join-is}
 use Rattle.std.specs.Prelude.{Result, IfOk}
 use Rattle.regex_pattern_front.specs.TreeOf.{node_of}
 use Rattle.regex_pattern_front.specs.Parts.{JoinsParts, KeepsParts}
@@ -9,6 +13,14 @@ joins : {E : Type 0} (r : Result Node E) (xs ys : List Node) → KeepsParts xs y
 joins (Ok n) xs ys keeps h = λ first end greatest parts. h first end greatest (keeps first end greatest parts)
 joins (Err e) xs ys keeps h = tt
 
-pub returns : goal.returns
-returns c =
-    joins c.join.result _ _ (rw (c.in_ok-end_arm.ensures.ended, append-nil c.end_arm.new.self.arms.items) at c.in_ok-end_arm.ensures.parts) c.join.ensures
+pub returns-clause-parts : goal.returns-clause-parts
+returns-clause-parts c =
+    joins c.join.result _ _ (rw (c.in_ok-end_arm.ensures.ended, append-nil c.end_arm.new.self.arms.items) at c.in_ok-end_arm.ensures.parts) c.join.ensures.parts
+
+joins-node : {E : Type 0} (r : Result Node E) (xs : List Node) (ns : List tree.Node) (last : tree.Node) → map node_of xs ≡ ns ++ last ∷ []
+    → IfOk r (λ n. node_of n ≡ join_all (map node_of xs)) → IfOk r (λ n. node_of n ≡ join ns last)
+joins-node (Ok n) xs ns last e h = h ∙ ap join_all e ∙ join-is ns last
+joins-node (Err e) xs ns last f h = tt
+
+pub returns-clause-node : goal.returns-clause-node
+returns-clause-node c = joins-node c.join.result _ _ _ (ap (λ l. l.arms) c.in_ok-end_arm.ensures.level) c.join.ensures.node

@@ -17,5 +17,5 @@ returns-clause-reading c =
           (open-push references 0 r.inner c.args.self.now.around.items
           (record { outer = c.replace.result; opening = opening; name = c.in_ok-name.name; start = groups; left = c.left_from_last.result })
           r.around (rw c.replace.ensures.value r.level));
-      level = rw (c.replace.ensures.after, c.new-inner.ensures, c.captures-more.ensures) (parts-none (groups + captures opening) references);
+      level = rw (c.replace.ensures.after, c.new-inner.ensures.parts, c.captures-more.ensures) (parts-none (groups + captures opening) references);
     })

@@ -25,7 +25,7 @@ returns-clause-well_formed c =
     let from_none : 0 ≡ r.inner = open-none references 0 r.inner c.args.self.around.items closed r.around in
     let parts : AreParts 0 groups references (nodes_at c.args.self.level) = rw from_none r.level in
     rw (node_of-Cat c.in_ok-vec.field-0, c.in_ok-vec.ensures.items, node_of-Goal)
-    (whole groups references (node_of c.in_ok-node.node) within (c.in_ok-node.ensures 0 groups references parts))
+    (whole groups references (node_of c.in_ok-node.node) within (c.in_ok-node.ensures.parts 0 groups references parts))
 
 pub returns-clause-characters : goal.returns-clause-characters
 returns-clause-characters c =
@@ -37,7 +37,7 @@ returns-clause-characters c =
     let from_none : 0 ≡ r.inner = open-none references 0 r.inner c.args.self.around.items closed r.around in
     let parts : AreParts 0 groups references (nodes_at c.args.self.level) = rw from_none r.level in
     rw (node_of-Cat c.in_ok-vec.field-0, c.in_ok-vec.ensures.items, node_of-Goal)
-    (whole-reads_none references (node_of c.in_ok-node.node) (c.in_ok-node.ensures 0 groups references parts).sound)
+    (whole-reads_none references (node_of c.in_ok-node.node) (c.in_ok-node.ensures.parts 0 groups references parts).sound)
 
 pub returns-clause-plain : goal.returns-clause-plain
 returns-clause-plain c =
@@ -49,4 +49,4 @@ returns-clause-plain c =
     let from_none : 0 ≡ r.inner = open-none references 0 r.inner c.args.self.around.items closed r.around in
     let parts : AreParts 0 groups references (nodes_at c.args.self.level) = rw from_none r.level in
     rw (node_of-Cat c.in_ok-vec.field-0, c.in_ok-vec.ensures.items, node_of-Goal)
-    (whole-plain references (node_of c.in_ok-node.node) (c.in_ok-node.ensures 0 groups references parts).sound)
+    (whole-plain references (node_of c.in_ok-node.node) (c.in_ok-node.ensures.parts 0 groups references parts).sound)

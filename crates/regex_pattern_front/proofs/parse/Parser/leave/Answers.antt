@@ -15,13 +15,13 @@ returns-clause-reading c =
     let last : IsLast references 0 r.inner c.pop.new.self.items o =
     open-pop references 0 r.inner c.pop.new.self.items o (rw c.in-Some.ensures.items at r.around) in
     let contents : IsPart r.inner groups references (node_of c.in_ok-contents.contents) =
-    (rw c.replace.ensures.value at c.in_ok-contents.ensures) r.inner groups references r.level in
+    (rw c.replace.ensures.value at c.in_ok-contents.ensures.parts) r.inner groups references r.level in
     let node : IsPart o.start groups references (node_of c.in_ok-node.node) = c.in_ok-node.ensures references (rw last.within contents) in
     rw c.in_ok-node-2.ensures.references
     (record {
       inner = last.middle;
       around = last.around;
-      level = rw (c.in_ok-push.ensures, c.replace.ensures.after)
+      level = rw (c.in_ok-push.ensures.parts, c.replace.ensures.after)
           (parts-push last.middle o.start groups references references (nodes_at o.outer) c.in_ok-node-2.node (omega arith) last.level
           (c.in_ok-node-2.ensures.part references node));
     })

@@ -16,7 +16,7 @@ returns-clause-reading c =
     (record {
       inner = r.inner;
       around = open-more old new 0 r.inner c.args.self.now.around.items more r.around;
-      level = rw c.in_ok-push.ensures
+      level = rw c.in_ok-push.ensures.parts
           (parts-push r.inner groups groups old new (nodes_at c.args.self.now.level) c.in_ok-node-2.node more r.level
           (c.in_ok-node-2.ensures.part new (part-leaf groups new (node_of c.in_ok-node.field-0.node) c.in_ok-node.ensures.leaf)));
     })

@@ -1,0 +1,286 @@
+-- Where no term begins, and what terms without groups are.
+use Rattle.std.proofs.Common.{◌≡◌, ℕ, ◌+◌, ◌*◌, ◌<◌, ◌≤◌, ◌^◌, ◌⊎◌, inl, inr, Bool, true, false, not, List, [], ◌∷◌, ◌++◌, length, true≢false, ⊎_elim, nat_eq, nat_lt, refl, sym, ap, ap₂, subst, ◌∙◌, arith, Some, None, Vec, Global}
+use Rattle.std.specs.Prelude.{if◌then◌else◌, codes, Option, ◌||◌, ◌&&◌, ◌==◌, Result, Ok, Err, IfOk, IfErr, IsTrue}
+use Rattle.std.specs.List.{list_all}
+use Rattle.std.specs.Result.{IsErrAnd}
+use Rattle.std.specs.Char.{is_digit}
+use Rattle.std.specs.Int.{is_in_range}
+use Rattle.std.proofs.lemmas.Bool.{or_left, or_right, or_cases, false_from_ne_true, eqb-true, eq-eqb, lt-ltb}
+use Rattle.regex_meaning.specs.Lists.{contains}
+use Rattle.regex_meaning.specs.Text.{expand_code_point, is_scalar}
+use Rattle.regex_meaning.specs.Tree.{Node, BracketContents, match_any, match_any_except_line_terminator, back_ref, bracket}
+use Rattle.regex_grammar.specs.Reading.{Text, Place, Whole, ◌∈◌, begins, Digits, number_of}
+use Rattle.regex_grammar.specs.Characters.{CharacterEscape, GroupName, IsQuantified}
+use Rattle.regex_grammar.specs.Classes.{Member, class, class_escape, CharacterClass, IsSetOf}
+use Rattle.regex_grammar.specs.Grammar.{character_node, Leaf, pattern_character, extended_character, any_character, decimal_escape, named_reference, character_escape, character_class_escape, character_class, Term, assertion, atom, quantified, Assertion, start, end, boundary, look, opener, Atom, leaf, group, named_group, plain_group}
+use Rattle.regex_grammar.proofs.OneTree.{first, rest_of, second, unlike}
+use Rattle.regex_grammar.proofs.Leaves.{inside, firsts, behind}
+use Rattle.regex_grammar.specs.Ahead.{names_ahead}
+use Rattle.regex_grammar.proofs.Members.{leaf_apart}
+use Rattle.regex_grammar.proofs.Found.{past_leaf}
+use Rattle.regex_pattern_front.specs.declared.fault.Fault.{Fault}
+use Rattle.regex_pattern_front.specs.Reads.{is_refused}
+use Rattle.regex_pattern_front.specs.declared.flags.Flags.{Flags}
+use Rattle.regex_pattern_front.specs.declared.ir.AnchorType.{AnchorType}
+use Rattle.regex_pattern_front.specs.declared.ir.AnchorType.TheVariants.{StartOfLine, EndOfLine}
+use Rattle.regex_pattern_front.specs.declared.ir.Node.{Node as TheNode}
+use Rattle.regex_pattern_front.specs.declared.ir.Node.TheVariants.{Char, CharSet, Bracket, MatchAny, MatchAnyExceptLineTerminator, Anchor, WordBoundary, BackRef}
+use Rattle.regex_pattern_front.specs.declared.leaves.Leaf.{Leaf as TheLeaf}
+use Rattle.regex_pattern_front.specs.declared.types.BracketContents.{BracketContents as TheContents}
+use Rattle.regex_pattern_front.specs.TreeOf.{node_of, flags_of, contents_of}
+use Rattle.regex_pattern_front.specs.LeafReads.{NoLeaf, NoTerm, place, whole, IsLeafOf, IsAtomOr, IsReadOrNot, IsAtomRead, IsLeafRead, IsPassed, IsAssertion, sign_of, boundary_letter, divides, repeats, closes}
+
+-- another character stands first
+other : (test : ℕ → Bool) {c d : ℕ} {cs ds : Text} → test c ≡ false → test d ≡ true → c ∷ cs ≡ d ∷ ds → ⊥
+other test e f g = true≢false (sym f ∙ sym (ap test (ap first g)) ∙ e)
+
+abbrev begins_otherwise : ℕ → Bool
+begins_otherwise c = c ∈ "^$\\("
+
+-- only anchors, escapes and parentheses begin what is no atom
+pub no_term-plain : (w : Whole) (c : ℕ) (rest : Text) → c ∈ "^$\\(" ≡ false → NoLeaf w (c ∷ rest) → NoTerm w (c ∷ rest)
+no_term-plain w c rest e none behind opened q n t = by t
+  where
+    in_atom : {b : Bool} {q : Place} {n : Node} → Atom w b (place (c ∷ rest) opened) q n → ⊥
+    in_atom (leaf a) = none _ _ a
+    in_atom (group f g d close) = other begins_otherwise e refl (ap (λ x. x.text) f)
+    in_atom (named_group f g d close) = other begins_otherwise e refl (ap (λ x. x.text) f)
+    in_atom (plain_group f d close) = other begins_otherwise e refl (ap (λ x. x.text) f)
+
+    by : {b : Bool} {q : Place} {n : Node} → Term w b (place (c ∷ rest) opened) q n → ⊥
+    by (assertion (start f)) = other begins_otherwise e refl (ap (λ x. x.text) f)
+    by (assertion (end f)) = other begins_otherwise e refl (ap (λ x. x.text) f)
+    by (assertion (boundary true f)) = other begins_otherwise e refl (ap (λ x. x.text) f)
+    by (assertion (boundary false f)) = other begins_otherwise e refl (ap (λ x. x.text) f)
+    by (assertion (look false false f d g)) = other begins_otherwise e refl (ap (λ x. x.text) f)
+    by (assertion (look true false f d g)) = other begins_otherwise e refl (ap (λ x. x.text) f)
+    by (assertion (look false true f d g)) = other begins_otherwise e refl (ap (λ x. x.text) f)
+    by (assertion (look true true f d g)) = other begins_otherwise e refl (ap (λ x. x.text) f)
+    by (atom a k) = in_atom a
+    by (quantified a k) = in_atom a
+
+abbrev is_slash : ℕ → Bool
+is_slash c = c ∈ "\\"
+
+-- behind a backslash no word boundary stands
+pub no_term-escape : (w : Whole) (rest : Text) → ((there : Text) → rest ≡ 98 ∷ there → ⊥) → ((there : Text) → rest ≡ 66 ∷ there → ⊥)
+    → NoLeaf w (92 ∷ rest) → NoTerm w (92 ∷ rest)
+no_term-escape w rest no_b no_B none behind opened q n t = by t
+  where
+    wrong : {d : ℕ} {ds : Text} → is_slash d ≡ false → 92 ∷ rest ≡ d ∷ ds → ⊥
+    wrong e g = true≢false (ap is_slash (ap first g) ∙ e)
+
+    in_atom : {b : Bool} {q : Place} {n : Node} → Atom w b (place (92 ∷ rest) opened) q n → ⊥
+    in_atom (leaf a) = none _ _ a
+    in_atom (group f g d close) = wrong refl (ap (λ x. x.text) f)
+    in_atom (named_group f g d close) = wrong refl (ap (λ x. x.text) f)
+    in_atom (plain_group f d close) = wrong refl (ap (λ x. x.text) f)
+
+    by : {b : Bool} {q : Place} {n : Node} → Term w b (place (92 ∷ rest) opened) q n → ⊥
+    by (assertion (start f)) = wrong refl (ap (λ x. x.text) f)
+    by (assertion (end f)) = wrong refl (ap (λ x. x.text) f)
+    by (assertion (boundary true f)) = no_B _ (ap (λ x. rest_of x.text) f)
+    by (assertion (boundary false f)) = no_b _ (ap (λ x. rest_of x.text) f)
+    by (assertion (look false false f d g)) = wrong refl (ap (λ x. x.text) f)
+    by (assertion (look true false f d g)) = wrong refl (ap (λ x. x.text) f)
+    by (assertion (look false true f d g)) = wrong refl (ap (λ x. x.text) f)
+    by (assertion (look true true f d g)) = wrong refl (ap (λ x. x.text) f)
+    by (atom a k) = in_atom a
+    by (quantified a k) = in_atom a
+
+-- ---- Where no atom begins
+
+pub no_leaf-sign : (w : Whole) (c : ℕ) (rest : Text) → c ∈ "^$*+?()|" ≡ true → NoLeaf w (c ∷ rest)
+no_leaf-sign w c rest e _ n a = true≢false (sym (leaf_apart w _ _ _ a) ∙ ap not e)
+
+abbrev is_bracket : ℕ → Bool
+is_bracket d = d ∈ "{}]"
+
+abbrev is_open : ℕ → Bool
+is_open d = d ∈ "["
+
+abbrev special : ℕ → Bool
+special c = c ∈ "^$\\.*+?()[]{}|"
+
+-- a bracket or a brace is a character without `u` alone, and where no quantifier stands
+pub no_leaf-bracket : (w : Whole) (c : ℕ) (rest : Text) → c ∈ "{}]" ≡ true → (w.flags.unicode ≡ true) ⊎ IsQuantified (c ∷ rest) → NoLeaf w (c ∷ rest)
+no_leaf-bracket w c rest e why _ n a = by refl a why
+  where
+    wrong : {here ds : Text} {d : ℕ} → here ≡ c ∷ rest → is_bracket d ≡ false → here ≡ d ∷ ds → ⊥
+    wrong s f g = true≢false (sym e ∙ ap is_bracket (firsts s g) ∙ f)
+
+    by : {here there : Text} {n : Node} → here ≡ c ∷ rest → Leaf w here there n → (w.flags.unicode ≡ true) ⊎ IsQuantified (c ∷ rest) → ⊥
+    by s (pattern_character {c = d} f g) why =
+        true≢false (sym (inside special (codes "{}]") d refl (sym (ap is_bracket (firsts s f)) ∙ e)) ∙ g)
+    by s (extended_character f g h k) (inl u) = true≢false (sym u ∙ h)
+    by s (extended_character f g h k) (inr q) = k (subst IsQuantified (sym s) q)
+    by s (any_character f) why = wrong s refl f
+    by s (decimal_escape f g d l) why = wrong s refl f
+    by s (named_reference f d g) why = wrong s refl f
+    by s (character_escape f d) why = wrong s refl f
+    by s (character_class_escape f g d) why = wrong s refl f
+    by s (character_class f d) why = wrong s refl f
+
+pub no_leaf-class : (w : Whole) (rest : Text) → ((there : Text) (x : BracketContents) → CharacterClass w.flags rest there x → ⊥) → NoLeaf w (91 ∷ rest)
+no_leaf-class w rest none _ n a = by refl a
+  where
+    wrong : {here ds : Text} {d : ℕ} → here ≡ 91 ∷ rest → is_open d ≡ false → here ≡ d ∷ ds → ⊥
+    wrong s f g = true≢false (ap is_open (firsts s g) ∙ f)
+
+    by : {here there : Text} {n : Node} → here ≡ 91 ∷ rest → Leaf w here there n → ⊥
+    by s (pattern_character f g) = true≢false (ap special (firsts s f) ∙ g)
+    by s (extended_character f g h k) = true≢false (sym g ∙ sym (ap (λ d. d ∈ "{}]") (firsts s f)))
+    by s (any_character f) = wrong s refl f
+    by s (decimal_escape f g d l) = wrong s refl f
+    by s (named_reference f d g) = wrong s refl f
+    by s (character_escape f d) = wrong s refl f
+    by s (character_class_escape f g d) = wrong s refl f
+    by {there = there} s (character_class {contents = x} f d) = none there x (subst (λ y. CharacterClass w.flags y there x) (behind f s) d)
+
+-- ---- What was read
+
+pub leaf-of : (w : Whole) (here there : Text) (l : TheLeaf) (m : Node) → l.is_atom ≡ true → node_of l.node ≡ m → Leaf w here there m → IsLeafOf w here l there
+leaf-of w here there l m e f d = subst (λ b. IsAtomOr b w here there (node_of l.node)) (sym e) (subst (λ x. Leaf w here there x) (sym f) d)
+
+-- with no reference more
+pub read-leaf : (none : Type 0) (w : Whole) (here there : Text) (l : TheLeaf) (references : ℕ) → IsLeafOf w here l there
+    → IsReadOrNot none w here (Ok l) references references there
+read-leaf none w here there l references d = (λ h. d, λ h. inl h)
+
+pub anchored : (flags : Flags) (groups : List Text) (there : Text) (t : AnchorType) → IsAssertion (whole flags groups) (sign_of t ∷ there) there (node_of (Anchor t flags.multiline))
+unfolding node_of
+anchored flags groups there StartOfLine = λ opened. start refl
+anchored flags groups there EndOfLine = λ opened. end refl
+
+pub bounded : (flags : Flags) (groups : List Text) (there : Text) (invert unicode_icase : Bool) → unicode_icase ≡ (flags.icase && flags.unicode)
+    → IsAssertion (whole flags groups) (92 ∷ boundary_letter invert ∷ there) there (node_of (WordBoundary invert unicode_icase))
+unfolding node_of
+bounded flags groups there true unicode_icase e = λ opened. rw e (boundary true refl)
+bounded flags groups there false unicode_icase e = λ opened. rw e (boundary false refl)
+
+pub dot-all : (flags : Flags) (groups : List Text) (there : Text) (l : TheLeaf) → flags.dot_all ≡ true → l.is_atom ≡ true → l.node ≡ MatchAny
+    → IsLeafOf (whole flags groups) (46 ∷ there) l there
+unfolding node_of
+dot-all flags groups there l e f g = leaf-of _ _ _ l _ f (rw (g, e) refl) (any_character refl)
+
+pub dot-other : (flags : Flags) (groups : List Text) (there : Text) (l : TheLeaf) → flags.dot_all ≡ false → l.is_atom ≡ true → l.node ≡ MatchAnyExceptLineTerminator
+    → IsLeafOf (whole flags groups) (46 ∷ there) l there
+unfolding node_of
+dot-other flags groups there l e f g = leaf-of _ _ _ l _ f (rw (g, e) refl) (any_character refl)
+
+pub node-set : (flags : Flags) (c : ℕ) (members : Vec ℕ Global) (n : TheNode) → members.items ≡ expand_code_point c flags.icase flags.unicode → 1 < length members.items
+    → n ≡ CharSet members → node_of n ≡ character_node (flags_of flags) c
+unfolding node_of
+node-set flags c members n e f g = let many : nat_lt 1 (length members.items) ≡ true = lt-ltb 1 _ f in rw (g, sym e, many) refl
+
+pub node-one : (flags : Flags) (c : ℕ) (members : Vec ℕ Global) (n : TheNode) → members.items ≡ expand_code_point c flags.icase flags.unicode → length members.items ≤ 1
+    → n ≡ Char c → node_of n ≡ character_node (flags_of flags) c
+unfolding node_of
+node-one flags c members n e f g = let one : nat_lt 1 (length members.items) ≡ false = grind arith in rw (g, sym e, one) refl
+
+pub node-BackRef : (n : ℕ) (icase : Bool) → node_of (BackRef n icase) ≡ back_ref n icase
+unfolding node_of
+node-BackRef n icase = refl
+
+pub node-Bracket : (contents : TheContents) → node_of (Bracket contents) ≡ bracket (contents_of contents)
+unfolding node_of
+node-Bracket contents = refl
+
+pub read-err : {P : Fault → Type 0} (none : Type 0) (w : Whole) (here there : Text) (r : Result TheLeaf Fault) (e : Fault) (old new : ℕ) → IsErrAnd r P → ((x : Fault) → P x → x ≡ e)
+    → (IsTrue (is_refused e) → none) → IsReadOrNot none w here r old new there
+read-err N w here there (Ok l) e old new h same none = absurd h
+read-err N w here there (Err x) e old new h same none = λ r. none (sym (ap is_refused (same x h)) ∙ r)
+
+pub character-read : (none : Type 0) (w : Whole) (here there : Text) (m : Node) (r : Result TheLeaf Fault) (references : ℕ) → IfOk r (λ l. l.is_atom ≡ true)
+    → IfOk r (λ l. node_of l.node ≡ m) → IfErr r (λ e. is_refused e ≡ false) → Leaf w here there m → IsReadOrNot none w here r references references there
+character-read none w here there m (Ok l) references a n e d = read-leaf none w here there l references (leaf-of w here there l m a n d)
+character-read none w here there m (Err x) references a n e d = λ r. absurd (true≢false (sym r ∙ e))
+
+pub in-all : (r : Result TheLeaf Fault) {P : Type 0} → P → IfOk r (λ l. P)
+in-all (Ok l) p = p
+in-all (Err e) p = tt
+
+-- ---- Behind a backslash
+
+weaken : (none other : Type 0) (w : Whole) (here there : Text) (r : Result TheLeaf Fault) (old new : ℕ) → (none → other) → IsReadOrNot none w here r old new there → IsReadOrNot other w here r old new there
+weaken N O w here there (Ok l) old new f h = (h.0, λ k. ⊎_elim (λ x. inl x) (λ x. inr (f x)) (h.1 k))
+weaken N O w here there (Err e) old new f h = λ r. f (h r)
+
+pub escape-read : (w : Whole) (rest middle last there : Text) (r : Result TheLeaf Fault) (old new : ℕ) → (middle ≡ rest) × ((a : Text) → rest ≡ 98 ∷ a → ⊥)
+    → (last ≡ middle) × ((a : Text) → middle ≡ 66 ∷ a → ⊥) → IsAtomRead w (92 ∷ last) r old new there → IsLeafRead w (92 ∷ rest) r old new there
+escape-read w rest middle last there r old new b c d =
+    weaken (NoLeaf w (92 ∷ rest)) (NoTerm w (92 ∷ rest)) w (92 ∷ rest) there r old new (no_term-escape w rest b.1 (λ a e. c.1 a (b.0 ∙ e))) (subst (λ x. IsAtomRead w (92 ∷ x) r old new there) (c.0 ∙ b.0) d)
+
+past-start : (t : Text) → IsPassed (94 ∷ t) t
+unfolding names_ahead
+past-start [] = refl
+past-start (d ∷ ds) = refl
+
+past-end : (t : Text) → IsPassed (36 ∷ t) t
+unfolding names_ahead
+past-end [] = refl
+past-end (d ∷ ds) = refl
+
+past-escape : (c : ℕ) (t : Text) → IsPassed (92 ∷ c ∷ t) t
+unfolding names_ahead
+past-escape c t = refl
+
+pub escape-passed : (c : ℕ) (rest there : Text) → rest ≡ c ∷ there → IsPassed (92 ∷ rest) there
+escape-passed c rest there e = ap (λ x. names_ahead false (92 ∷ x)) e ∙ past-escape c there
+
+pub passed-of : (w : Whole) (c : ℕ) (rest there : Text) (l : TheLeaf) → divides c ≡ false → IsLeafOf w (c ∷ rest) l there → IsPassed (c ∷ rest) there
+passed-of w c rest there l e h = by l.is_atom h
+  where
+    opens : {ds : Text} → c ∷ rest ≡ 40 ∷ ds → ⊥
+    opens f = let g : divides c ≡ true = ap (λ x. divides (first x)) f in true≢false (sym g ∙ e)
+
+    in_assertion : {q : Place} {n : Node} → Assertion w (place (c ∷ rest) []) q n → IsPassed (c ∷ rest) q.text
+    in_assertion {q} (start f) = ap (λ x. names_ahead false x.text) f ∙ past-start q.text
+    in_assertion {q} (end f) = ap (λ x. names_ahead false x.text) f ∙ past-end q.text
+    in_assertion {q} (boundary true f) = ap (λ x. names_ahead false x.text) f ∙ past-escape 66 q.text
+    in_assertion {q} (boundary false f) = ap (λ x. names_ahead false x.text) f ∙ past-escape 98 q.text
+    in_assertion (look false false f d g) = absurd (opens (ap (λ x. x.text) f))
+    in_assertion (look true false f d g) = absurd (opens (ap (λ x. x.text) f))
+    in_assertion (look false true f d g) = absurd (opens (ap (λ x. x.text) f))
+    in_assertion (look true true f d g) = absurd (opens (ap (λ x. x.text) f))
+
+    by : (b : Bool) → IsAtomOr b w (c ∷ rest) there (node_of l.node) → IsPassed (c ∷ rest) there
+    by true d = past_leaf w d
+    by false d = in_assertion (d [])
+
+-- ---- A character of its own
+
+abbrev any_part : ℕ → Bool
+any_part d = (d ∈ "^$." || repeats d) || ((closes d || divides d) || (nat_eq d 92 || nat_eq d 91))
+
+none_of : (c : ℕ) → nat_eq c 92 ≡ false → nat_eq c 91 ≡ false → c ∈ "^$." ≡ false → repeats c ≡ false → closes c ≡ false → divides c ≡ false → special c ≡ false
+none_of c a b d e f g =
+    false_from_ne_true (special c) (λ k. true≢false (sym (inside any_part (codes "^$\\.*+?()[]{}|") c refl k) ∙ ap₂ (λ x y. x || y) (ap₂ (λ x y. x || y) d e) (ap₂ (λ x y. x || y) (ap₂ (λ x y. x || y) f g) (ap₂ (λ x y. x || y) a b))))
+
+pub alone : (flags : Flags) (groups : List Text) (c : ℕ) (rest : Text) → nat_eq c 92 ≡ false → nat_eq c 91 ≡ false → c ∈ "^$." ≡ false
+    → (repeats c ≡ false) × (closes c ≡ true → (flags.unicode ≡ false) × ¬ (IsQuantified (c ∷ rest))) → divides c ≡ false
+    → Leaf (whole flags groups) (c ∷ rest) rest (character_node (flags_of flags) c)
+alone flags groups c rest a b d e g = by (closes c) refl
+  where
+    by : (x : Bool) → closes c ≡ x → Leaf (whole flags groups) (c ∷ rest) rest (character_node (flags_of flags) c)
+    by true f = let u = e.1 f in extended_character refl f u.0 u.1
+    by false f = pattern_character refl (none_of c a b d e.0 f g)
+
+no_plain : (c : ℕ) (word : Text) → list_all (λ d. not (d ∈ "^$\\(")) word ≡ true → contains word c ≡ true → c ∈ "^$\\(" ≡ false
+no_plain c word h e = by (c ∈ "^$\\(") (inside (λ d. not (d ∈ "^$\\(")) word c h e)
+  where
+    by : (b : Bool) → not b ≡ true → b ≡ false
+    by false k = refl
+    by true k = sym k
+
+pub alone-none : (w : Whole) (c : ℕ) (rest : Text) → (repeats c ≡ true) ⊎ ((closes c ≡ true) × ((w.flags.unicode ≡ true) ⊎ IsQuantified (c ∷ rest))) → NoTerm w (c ∷ rest)
+alone-none w c rest (inl e) =
+    no_term-plain w c rest (no_plain c (codes "*+?") refl e) (no_leaf-sign w c rest (inside (λ d. d ∈ "^$*+?()|") (codes "*+?") c refl e))
+alone-none w c rest (inr e) = no_term-plain w c rest (no_plain c (codes "{}]") refl e.0) (no_leaf-bracket w c rest e.0 e.1)
+
+pub bracket-none : (w : Whole) (c : ℕ) (rest : Text) → c ≡ 91 → ((there : Text) (x : BracketContents) → CharacterClass w.flags rest there x → ⊥) → NoTerm w (c ∷ rest)
+bracket-none w c rest e none = subst (λ x. NoTerm w (x ∷ rest)) (sym e) (no_term-plain w 91 rest refl (no_leaf-class w rest none))
+
+pub bracket-read : (flags : Flags) (groups : List Text) (c : ℕ) (rest there : Text) (l : TheLeaf) (b : BracketContents) → c ≡ 91 → CharacterClass (flags_of flags) rest there b → l.is_atom ≡ true
+    → node_of l.node ≡ bracket b → IsLeafOf (whole flags groups) (c ∷ rest) l there
+bracket-read flags groups c rest there l b e d f g = leaf-of _ _ _ l _ f g (character_class (ap (λ (x : ℕ). x ∷ rest) e) d)

@@ -1,0 +1,41 @@
+use Rattle.std.proofs.Common.{[], ◌∷◌, ◌≤◌, arith}
+use Rattle.regex_grammar.specs.Classes.{character, range, alone, from_to, no_range}
+use Rattle.regex_pattern_front.specs.ClassReads.{atom_member}
+use Rattle.regex_pattern_front.specs.TreeOf.{flags_of}
+use Rattle.regex_pattern_front.proofs.ClassLemmas.{member-no_end, member-not_in_order, adds-range, adds-more, err-member}
+use Rattle.regex_pattern_front.proofs.classes.read_member.Goals as goal
+
+pub returns-in_err-second-clause-text : goal.returns-in_err-second-clause-text
+returns-in_err-second-clause-text c =
+    let t = c.in_err-second.ensures.text in
+    err-member _ _ _ c.from_residual-in_err-second.result c.from_residual-in_err-second.ensures.0 (member-no_end c.in_ok-first.ensures.text t.1 t.2 t.3)
+
+pub returns-in_default-clause-text : goal.returns-in_default-clause-text
+returns-in_default-clause-text c = (
+  atom_member c.in_ok-first.first ∷ [],
+  alone c.in_ok-first.ensures.text (rw c.in_default.is at c.in_ok-second.ensures.text),
+  c.in_ok-add.ensures,
+)
+
+pub returns-then-last-first-clause-text : goal.returns-then-last-first-clause-text
+returns-then-last-first-clause-text c =
+    let t = rw c.in-Some.is at c.in_ok-second.ensures.text in
+    λ r. member-not_in_order (rw c.in-Some-range_of.ensures.0 at c.in_ok-first.ensures.text) t.1 (rw c.in-Some-range_of.ensures.1 at t.2) c.if-last-first.true
+
+pub returns-in-Some-range_of-clause-text : goal.returns-in-Some-range_of-clause-text
+returns-in-Some-range_of-clause-text c =
+    let t = rw c.in-Some.is at c.in_ok-second.ensures.text in
+    let in_order : c.in-Some-range_of.first ≤ c.in-Some-range_of.last = omega arith in (
+      range c.in-Some-range_of.first c.in-Some-range_of.last ∷ [],
+      from_to (rw c.in-Some-range_of.ensures.0 at c.in_ok-first.ensures.text) t.1 (rw c.in-Some-range_of.ensures.1 at t.2) in_order,
+      rw c.in_ok-push.ensures.items (adds-range (flags_of c.args.flags) c.args.intervals.now.items _ _),
+    )
+
+pub returns-clause-text : goal.returns-clause-text
+returns-clause-text c =
+    let t = rw c.in-Some.is at c.in_ok-second.ensures.text in (
+      atom_member c.in_ok-first.first ∷ character 45 ∷ atom_member c.in-Some.second ∷ [],
+      no_range c.in_ok-first.ensures.text t.1 t.2 c.in_default-range_of.ensures,
+      adds-more (flags_of c.args.flags) _ _ _ (atom_member c.in_ok-first.first ∷ []) (character 45 ∷ atom_member c.in-Some.second ∷ []) c.in_ok-add-2.ensures
+          (adds-more (flags_of c.args.flags) _ _ _ (character 45 ∷ []) (atom_member c.in-Some.second ∷ []) c.in_ok-add-3.ensures c.in_ok-add-4.ensures),
+    )

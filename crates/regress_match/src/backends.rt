@@ -18,8 +18,8 @@ use regress_exec::exec::{Executor, Matches};
 pub use regress_pikevm::pikevm::PikeVMExecutor;
 pub use regress_program::emit::{emit, emit_units};
 
-/// The matches of a pattern in a text from an offset on, which is a boundary or past the end, as the executor `E` finds
-/// them. The text is one that `E` can search.
+/// The matches of a pattern in a text, as the executor `E` finds them, from an offset on that is a boundary or past the
+/// end. The text is one that `E` can search.
 ///
 /// # Errors
 ///
@@ -40,11 +40,11 @@ pub fn find<'a, E: Executor<'a, 'a>>(
     search_from::<E>(re.byte_program(), text, start)
 }
 
-/// What `find` answers by the executor over texts of ASCII that is of the same kind as `E`.
+/// As `find`, by the executor over texts of ASCII that is of the same kind as `E`.
 ///
 /// # Errors
 ///
-/// Those of `find`.
+/// `Memory` where there is no memory for the search.
 pub fn find_ascii<'a, E: Executor<'a, 'a>>(
     re: &'a Regex,
     text: &'a str,

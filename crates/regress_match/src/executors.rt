@@ -12,16 +12,16 @@ use regress_exec::exec::{Matches, SearchError, Searcher};
 use regress_input::indexing::{AsciiInput, Ucs2Input, Utf8Input, Utf16Input};
 use regress_program::insn::CompiledRegex;
 
-/// What searches texts in UTF-8.
+/// The executor that searches texts in UTF-8.
 pub type DefaultExecutor<'r, 't> = BacktrackExecutor<'r, Utf8Input<'t>>;
 
-/// What searches texts of ASCII.
+/// The executor that searches texts of ASCII.
 pub type DefaultAsciiExecutor<'r, 't> = BacktrackExecutor<'r, AsciiInput<'t>>;
 
-/// What searches texts in UTF-16.
+/// The executor that searches texts in UTF-16.
 pub type DefaultUtf16Executor<'r, 't> = BacktrackExecutor<'r, Utf16Input<'t>>;
 
-/// What searches texts in UCS-2.
+/// The executor that searches texts in UCS-2.
 pub type DefaultUcs2Executor<'r, 't> = BacktrackExecutor<'r, Ucs2Input<'t>>;
 
 // The matches from an offset on, as `S` finds them with this program.

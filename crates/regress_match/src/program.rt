@@ -18,7 +18,7 @@ const REFUSED: u8 = 2;
 
 /// Searches a text, and answers the status to end with: 0 with a match, 1 without, 2 on a refusal.
 ///
-/// `words` are the pattern, the flags and the text; `None` stands for a word that is not UTF-8. For each match
+/// `words` are the pattern, the flags and the text; a word that is not UTF-8 is `None`. For each match
 /// a line goes to `out`, before the next match is looked for: the range in bytes and those of the groups, `-`
 /// for a group that did not match. A refusal is a line on `err`. Where a line cannot be written the program
 /// ends, and writes nothing more.

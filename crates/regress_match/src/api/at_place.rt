@@ -17,7 +17,7 @@ use regress_exec::places::match_at;
 impl Regex {
     /// The most preferred match in `text` that begins at an offset in bytes, which is a boundary of its characters
     /// (`is_char_boundary`) or past the end; none exactly where none begins there. No other place is tried, so the cost is
-    /// that of one attempt. What stands before the offset is part of the text, as in `find_from`.
+    /// that of one attempt. What is before the offset is part of the text, as in `find_from`.
     ///
     /// In `xab` the match of `a|ab` at 1 is `1..2`, and at 0 there is none (rows of `regress_checks`).
     ///
@@ -34,7 +34,7 @@ impl Regex {
         match_at(&mut executor, at)
     }
 
-    /// The same in a text of ASCII (`is_ascii`).
+    /// As `match_at`, in a text of ASCII (`is_ascii`).
     ///
     /// # Errors
     ///
@@ -65,7 +65,8 @@ impl Regex {
         match_at(&mut executor, at)
     }
 
-    /// The same in a text in UCS-2, where each unit is a character. None where the offset is past the end.
+    /// The most preferred match in a text in UCS-2 that begins at an offset in units; none exactly where none begins there,
+    /// as past the end. Each unit is a character. No other place is tried.
     ///
     /// # Errors
     ///

@@ -21,7 +21,7 @@ impl Regex {
     ///
     /// # Errors
     ///
-    /// Where there is no memory to read the pattern.
+    /// `AllocError` where there is no memory to read the pattern.
     pub fn diagnose(
         alloc: Global,
         pattern: &str,

@@ -12,10 +12,10 @@ use std::fmt;
 /// Why a pattern is not compiled.
 #[derive(Clone, Copy, Debug, PartialEq, Eq, thiserror::Error)]
 pub enum Error {
-    /// It is no pattern.
+    /// The text is no pattern.
     #[error("{0}")]
     Parse(ParseError),
-    /// Its tree has no program.
+    /// The pattern's tree has no program.
     #[error("{0}")]
     Emit(EmitError),
     /// There was no memory.

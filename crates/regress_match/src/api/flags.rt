@@ -67,7 +67,7 @@ impl From<&str> for Flags {
 
     ghost from_gives = { λ s f. flags_of f ≡ flags_of_text s.now };
 
-    /// The flags whose letters, of `m`, `i`, `s`, `u` and `v`, stand in the text; other characters are ignored,
+    /// The flags whose letters, of `m`, `i`, `s`, `u` and `v`, are in the text; other characters are ignored,
     /// and `no_opt` is never set.
     fn from(letters: &str) -> Self {
         let letters = letters.as_bytes();

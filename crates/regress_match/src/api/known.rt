@@ -8,7 +8,7 @@ ghost use Rattle.regress_match.specs.Programs.{byte_tree, unit_tree};
 use crate::api::Regex;
 
 impl Regex {
-    /// How many capturing groups it has, so that each match in bytes has as many `captures`.
+    /// The number of capturing groups, which is the number of `captures` of each match in bytes.
     pub fn group_count(&self) -> usize
         ensures count { result ≡ length (group_ids (byte_tree self.now).root) }
         ensures few { result < 2 ^ 32 }
@@ -16,7 +16,7 @@ impl Regex {
         self.byte_program().groups() as usize
     }
 
-    /// The same of matches in 16-bit units, which have as many unless the pattern was made of two trees.
+    /// The number of `captures` of each match in 16-bit units. It is `group_count` unless the pattern was made of two trees.
     pub fn unit_group_count(&self) -> usize
         ensures count { result ≡ length (group_ids (unit_tree self.now).root) }
         ensures few { result < 2 ^ 32 }
@@ -24,7 +24,7 @@ impl Regex {
         self.unit_program().program().groups() as usize
     }
 
-    /// The names of its groups in order, empty where a group has none; no list where no group has a name.
+    /// The names of the groups in order, empty where a group has none. The list is empty where no group has a name.
     pub fn group_names(&self) -> &[String]
         ensures { map string_bytes result.now ≡ names_by_id (byte_tree self.now).root }
     {

@@ -3,12 +3,12 @@
 ghost use Rattle.regress_match.specs.Laws.{MatchesStandInText};
 ghost use Rattle.regress_match.specs.Searches.{SearchesAnswerInTurn};
 
-/// A search answers the list's matches one after another, then `None` for good; want of memory alone ends it before.
+/// A search answers the list's matches one after another, then `None` for good; it ends before only where memory is refused.
 pub fn searches_answer_in_turn()
     ensures { SearchesAnswerInTurn }
 {}
 
-/// The matches of a search stand in the text, in order and none over another.
+/// The matches of a search lie in the text, in order, and no two overlap.
 pub fn matches_stand_in_text()
     ensures { MatchesStandInText }
 {}

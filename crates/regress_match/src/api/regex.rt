@@ -28,7 +28,7 @@ pub type Matches<'r, 't> = exec::Matches<DefaultExecutor<'r, 't>>;
 pub type AsciiMatches<'r, 't> = exec::Matches<DefaultAsciiExecutor<'r, 't>>;
 
 /// The matches of a pattern in a text in UTF-8, found in a limited number of steps. Contracts see the answers still to
-/// come, and whether the limit stands behind them in place of the end.
+/// come, and whether the limit comes after them in place of the end.
 pub type LimitedMatches<'r, 't> = exec::Matches<LimitedExecutor<'r, 't>>;
 
 // The tree that is run in place of a parsed one.
@@ -67,7 +67,7 @@ impl Regex {
         Regex::with_flags(alloc, pattern, Flags::default())
     }
 
-    /// The same as `new`.
+    /// Compiles a pattern with the default flags, as `new` does.
     ///
     /// # Errors
     ///
@@ -84,8 +84,8 @@ impl Regex {
     ///
     /// # Errors
     ///
-    /// `Parse` where the text is no pattern (`diagnose` tells what is wrong with it), `Emit` where its tree has too many groups, loops or instructions, and
-    /// `Memory` where there is no memory for one of the steps.
+    /// `Parse` where the text is no pattern (`diagnose` tells what is wrong with it), `Emit` where its tree has too many
+    /// groups, loops or instructions, and `Memory` where there is no memory for one of these stages.
     pub fn with_flags(alloc: Global, pattern: &str, flags: Flags) -> Result<Regex, Error>
         ensures compiled { IfOk result (IsCompiledWith (flags_of flags)) }
         ensures refused { IfErr result CanRefuse }
@@ -185,7 +185,7 @@ impl Regex {
     /// The matches in `text` from an offset in bytes on, which is a boundary of its characters
     /// (`is_char_boundary`) or past the end. From past the end there are none.
     ///
-    /// What stands before the start is part of the text: `^` does not hold there, and a lookbehind reads it. So `(?<=x)y` in
+    /// What is before the start is part of the text: `^` does not hold there, and a lookbehind reads it. So `(?<=x)y` in
     /// `xyxy` from 1 on has the matches `1..2` and `3..4` (a row of `regress_checks`).
     ///
     /// # Errors
@@ -206,7 +206,7 @@ impl Regex {
         search_from::<DefaultExecutor<'r, 't>>(&self.cr, text, start)
     }
 
-    /// What `find_from` yields, in at most so many steps for all of it together.
+    /// As `find_from`, in at most `steps` steps for all items together.
     ///
     /// A match comes exactly where the steps are enough for it and for those before it, and `None` where they are enough
     /// for the end of the list, too. Else an item is `StepLimit`, and none follows. How many steps are needed is said by

@@ -55,7 +55,7 @@ pub fn whole_matches_give_back()
     ensures { WholeMatchesGiveBack }
 {}
 
-// Writes what stands before a match, and answers where the text goes on behind it.
+// Writes the text before a match, and answers where the text goes on behind it.
 fn reach(made: &mut String, text: &str, from: usize, found: &Match) -> Result<usize, AllocError>
     requires rising { from ≤ found.now.range.start }
     requires boundary { IsCharBoundary text.now from }

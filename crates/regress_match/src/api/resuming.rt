@@ -24,7 +24,7 @@ pub struct Step {
 }
 
 impl Regex {
-    /// What finds the matches in a text in UTF-8, one after another, by `next_from`.
+    /// A search for the matches in a text in UTF-8, which `next_from` finds one after another.
     ///
     /// # Errors
     ///
@@ -42,7 +42,7 @@ impl Regex {
         Ok(DefaultExecutor::new(self.byte_program(), text)?)
     }
 
-    /// The same in at most so many steps for all of it together. How many are left it says itself (`steps_left`).
+    /// As `utf8_search`, in at most `steps` steps for all calls together. The search says how many are left (`steps_left`).
     ///
     /// # Errors
     ///
@@ -61,7 +61,7 @@ impl Regex {
         Ok(LimitedExecutor::new(self.byte_program(), text, steps)?)
     }
 
-    /// What finds the matches in a text in UTF-16.
+    /// A search for the matches in a text in UTF-16, which `next_from` finds one after another.
     ///
     /// # Errors
     ///
@@ -80,7 +80,7 @@ impl Regex {
         Ok(DefaultUtf16Executor::new_utf16(self.unit_program(), text)?)
     }
 
-    /// What finds the matches in a text in UCS-2.
+    /// A search for the matches in a text in UCS-2, which `next_from` finds one after another.
     ///
     /// # Errors
     ///
@@ -101,9 +101,9 @@ impl Regex {
 
 /// The first match from an offset in units on, which is a boundary or past the end, and from where the list goes on.
 ///
-/// What is to come from there in the steps that are left is the match, and what is to come from `next` in those that
-/// are left then. `None` comes exactly where nothing is to come. So calls that begin where the one before says answer what
-/// an iterator yields, and nobody has to hold one in between.
+/// The answers to come from `start` in the steps that are left are the match, and then those to come from `next` in the
+/// steps that are left then. `None` comes exactly where nothing is to come. So calls that each begin where the one before
+/// says answer what an iterator yields, and nobody has to hold one in between.
 ///
 /// # Errors
 ///

@@ -114,7 +114,7 @@ fn write_part(out: &mut String, found: &Match, text: &str, part: Part<'_>) -> Re
     }
 }
 
-// Writes what stands in a range, if there is one.
+// Writes the text of a range, if there is one.
 fn write_range(out: &mut String, text: &str, range: Option<Range<usize>>) -> Result<(), AllocError>
     requires { IfSome (option_map range_of range) (IsSlice text.now) }
     ensures { IfOk result (λ _. (m : Answer) → string_bytes out.new

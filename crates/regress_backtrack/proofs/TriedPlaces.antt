@@ -39,7 +39,7 @@ begins-first : (members bytes : List ℕ) → begins_with_one_of members bytes �
 begins-first members [] = refl
 begins-first members (b ∷ bytes) = refl
 
--- ways that go on alike go on where the same holds
+-- threads that go on alike go on where the same holds
 same-go : (a b : Bool) (x y : State) → go_if a x ≡ go_if b y → a ≡ b
 same-go true true x y e = refl
 same-go false false x y e = refl

@@ -1,5 +1,5 @@
 pub mod Memory
-pub mod Ways
+pub mod Branches
 pub mod Steps
 pub mod Turns
 pub mod Marks

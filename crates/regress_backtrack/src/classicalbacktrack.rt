@@ -23,7 +23,7 @@ use regress_scan::planned::{At, Planned, PlannedProgram, PlannedSearch, offset_i
 use regress_scan::starts::next_start;
 use std::alloc::AllocError;
 
-/// Runs a program's plan over a text. It keeps one state, and undoes what it did to it when a way has failed.
+/// Runs a program's plan over a text. It keeps one state, and undoes what it did to it when a thread has failed.
 #[derive(Drop)]
 pub struct BacktrackExecutor<'r, Input: InputIndexer> {
     pub(crate) search: PlannedSearch<'r, Input>,

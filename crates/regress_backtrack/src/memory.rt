@@ -1,4 +1,4 @@
-//! What a search remembers: a row of slots, a log of the values that they had, and the ways still to try.
+//! What a search remembers: a row of slots, a log of the values that they had, and the threads still to try.
 
 ghost use Rattle.std.specs.Prelude.{◌≡◌, ◌≢◌, ◌<◌, ◌≤◌, ◌+◌, ◌-◌, ◌^◌, ◌++◌, ℕ, [], ◌∷◌, length, take, slice_get, slice_set, Some, OnOk, OnErr, IfOk};
 ghost use Rattle.regress_backtrack.specs.Memory.{Held, undone, AreThere, first_slots, slot_before, laid_out, state_of, loop_in, with_marks, IsUndone, IsSet, Becomes, with_open, without_range, with_range, with_iteration};
@@ -34,7 +34,7 @@ pub enum Kind {
     Lazy,
 }
 
-/// A way still to try: an instruction and offsets from which to go on, and how long the log of changes was.
+/// A thread still to try: an instruction and offsets from which to go on, and how long the log of changes was.
 #[derive(Clone, Copy)]
 pub struct Mark {
     pub ip: u32,
@@ -232,7 +232,7 @@ impl Memory {
 
     // ---- Marks
 
-    /// How many ways are still to try.
+    /// How many threads are still to try.
     #[inline(always)]
     pub fn marked(&self) -> usize
         ensures { result ≡ length self.now.marks }
@@ -240,7 +240,7 @@ impl Memory {
         self.marked
     }
 
-    /// One way more, behind the others. Without memory nothing is changed.
+    /// One thread more, behind the others. Without memory nothing is changed.
     #[inline(always)]
     pub fn mark(&mut self, mark: Mark) -> Result<(), AllocError>
         ensures marked { OnOk result (self.new ≡ with_marks (self.old.marks ++ mark ∷ []) self.old) }

@@ -7,7 +7,7 @@ use Rattle.std.proofs.lemmas.Option.{slice_get_within}
 use Rattle.regex_meaning.specs.Text.{Text, Direction, rightwards, leftwards, next_character, moved, characters_left, characters_beside}
 use Rattle.regex_meaning.specs.Offsets.{IsText, IsBoundary, offset, read}
 use Rattle.regex_meaning.proofs.TextLemmas.{offset-injective, offset-less, offset-le, place-le}
-use Rattle.regress_input.specs.Reading.{way, place, characters_between, past_spelled}
+use Rattle.regress_input.specs.Reading.{heading, place, characters_between, past_spelled}
 use Rattle.regress_input.proofs.Places.{HasPlace, place_of_boundary, pair, step_right, step_left, read-place}
 use Rattle.regress_input.proofs.Slices.{place_is}
 use Rattle.regress_input.proofs.Lists.{slice-first, slice-last, pointwise-snoc, le_same}
@@ -364,14 +364,14 @@ module _ (text : Text) (same : ℕ → ℕ → Bool) where
     -- where a loop in either direction begins
     pub starts : (forward : Bool) (at from to a stop : ℕ) → IsBoundary text at → IsBoundary text from → IsBoundary text to → from ≤ to
         → ((a ≡ from) × (stop ≡ to) × (forward ≡ true)) ⊎ ((a ≡ to) × (stop ≡ from) × (forward ≡ false))
-        → Comparing (way forward) a stop at (past_spelled text same (characters_between text from to) (way forward) at)
+        → Comparing (heading forward) a stop at (past_spelled text same (characters_between text from to) (heading forward) at)
     starts forward at from to a stop b f t l (inl (x, y, z)) =
-        subst (λ d. Comparing (way d) a stop at (past_spelled text same (characters_between text from to) (way d) at)) (sym z)
+        subst (λ d. Comparing (heading d) a stop at (past_spelled text same (characters_between text from to) (heading d) at)) (sym z)
         (subst (λ m. Comparing rightwards m stop at (past_spelled text same (characters_between text from to) rightwards at)) (sym x)
         (subst (λ m. Comparing rightwards from m at (past_spelled text same (characters_between text from to) rightwards at)) (sym y)
         (start_right at from to b f t l)))
     starts forward at from to a stop b f t l (inr (x, y, z)) =
-        subst (λ d. Comparing (way d) a stop at (past_spelled text same (characters_between text from to) (way d) at)) (sym z)
+        subst (λ d. Comparing (heading d) a stop at (past_spelled text same (characters_between text from to) (heading d) at)) (sym z)
         (subst (λ m. Comparing leftwards m stop at (past_spelled text same (characters_between text from to) leftwards at)) (sym x)
         (subst (λ m. Comparing leftwards to m at (past_spelled text same (characters_between text from to) leftwards at)) (sym y)
         (start_left at from to b f t l)))

@@ -9,9 +9,9 @@ use Rattle.regex_meaning.specs.Offsets.{offset, place_at, read}
 use Rattle.regex_meaning.specs.Units.{Encoding, utf8, utf16, ucs2}
 
 -- the way of a direction
-abbrev pub way : (forward : Bool) → Direction
-way true = rightwards
-way false = leftwards
+abbrev pub heading : (forward : Bool) → Direction
+heading true = rightwards
+heading false = leftwards
 
 -- what a matcher answers, and the position that it leaves, as one value
 abbrev pub led_to : (matches : Bool) → (at : ℕ) → Option ℕ

@@ -2,7 +2,7 @@
 
 ghost use Rattle.std.specs.Prelude.{◌≡◌, ◌≤◌, ℕ, IfSome, IfNone, option_map};
 ghost use Rattle.regex_meaning.specs.Offsets.{IsBoundary, units, read};
-ghost use Rattle.regress_input.specs.Reading.{way, led_to, bytes_of, byte_beside, past_bytes, where_bytes, one_on};
+ghost use Rattle.regress_input.specs.Reading.{heading, led_to, bytes_of, byte_beside, past_bytes, where_bytes, one_on};
 
 use crate::indexing::InputIndexer;
 pub use crate::position::{Backward, Direction, Forward};
@@ -17,7 +17,7 @@ pub fn next<Input: InputIndexer, Dir: Direction>(
     requires { IsBoundary (Input.text input.now) (Input.Position.offset pos.old) }
     ensures read { let at = Input.Position.offset in
         option_map (λ e. (Input.Element.number e, at pos.new)) result
-        ≡ read (Input.text input.now) (way Dir.FORWARD) (at pos.old) }
+        ≡ read (Input.text input.now) (heading Dir.FORWARD) (at pos.old) }
     ensures stays { IfNone result (pos.new ≡ pos.old) }
     ensures boundary { IsBoundary (Input.text input.now) (Input.Position.offset pos.new) }
     ensures inside { Input.Position.offset pos.new ≤ units (Input.text input.now) }
@@ -39,9 +39,9 @@ pub fn next_byte<Input: InputIndexer, Dir: Direction>(
 ) -> Option<u8>
     requires inside { Input.Position.offset pos.old ≤ units (Input.text input.now) }
     ensures byte { result ≡ where_bytes Input.Units.ARE_BYTES (byte_beside
-        (bytes_of (Input.text input.now)) (way Dir.FORWARD) (Input.Position.offset pos.old)) }
+        (bytes_of (Input.text input.now)) (heading Dir.FORWARD) (Input.Position.offset pos.old)) }
     ensures moves { let at = Input.Position.offset in
-        IfSome result (λ _. at pos.new ≡ one_on (way Dir.FORWARD) (at pos.old)) }
+        IfSome result (λ _. at pos.new ≡ one_on (heading Dir.FORWARD) (at pos.old)) }
     ensures stays { IfNone result (pos.new ≡ pos.old) }
 {
     if Dir::FORWARD {
@@ -67,7 +67,7 @@ pub fn try_match_lit<const N: usize, Input: InputIndexer, Dir: Direction>(
     requires inside { Input.Position.offset pos.old ≤ units (Input.text input.now) }
     ensures { led_to result (Input.Position.offset pos.new)
         ≡ where_bytes Input.Units.ARE_BYTES (past_bytes (bytes_of (Input.text input.now)) bytes.now
-        (way Dir.FORWARD) (Input.Position.offset pos.old)) }
+        (heading Dir.FORWARD) (Input.Position.offset pos.old)) }
 {
     input.match_bytes(dir, pos, bytes)
 }

@@ -5,7 +5,7 @@ ghost use Rattle.std.specs.List.{list_all};
 ghost use Rattle.regex_meaning.specs.Text.{Text, rightwards, leftwards};
 ghost use Rattle.regex_meaning.specs.Offsets.{IsText, IsBoundary, units, read};
 ghost use Rattle.regex_meaning.specs.Units.{units_in, IsSpelledIn, is_character};
-ghost use Rattle.regress_input.specs.Reading.{way, led_to, same_fold, character, past as past_character, past_range, part, IsReadBack, units_on};
+ghost use Rattle.regress_input.specs.Reading.{heading, led_to, same_fold, character, past as past_character, past_range, part, IsReadBack, units_on};
 ghost use Rattle.regress_input.specs.Reading.{bytes_of, bytes_if, IsInUtf8, byte_beside, past_bytes, where_bytes, IsFoundFrom};
 
 mod ascii_input;
@@ -110,7 +110,7 @@ pub trait InputIndexer: Copy + Debug + UnitsAre {
         requires to { IsBoundary (text self.now) (Self.Position.offset end) }
         requires in_order { Self.Position.offset start ≤ Self.Position.offset end }
         ensures { let at = Self.Position.offset in option_map at result
-            ≡ past_range (text self.now) (at start) (at end) (way Dir.FORWARD) (at pos) };
+            ≡ past_range (text self.now) (at start) (at end) (heading Dir.FORWARD) (at pos) };
 
     ghost is_text: { (it : Self) → IsText (text it) };
 
@@ -357,7 +357,7 @@ pub trait InputIndexer: Copy + Debug + UnitsAre {
         requires to { IsBoundary (text self.now) (Self.Position.offset range.end) }
         requires in_order { Self.Position.offset range.start ≤ Self.Position.offset range.end }
         ensures { let at = Self.Position.offset in led_to result (at pos.new)
-            ≡ past_range (text self.now) (at range.start) (at range.end) (way Dir.FORWARD) (at pos.old) }
+            ≡ past_range (text self.now) (at range.start) (at range.end) (heading Dir.FORWARD) (at pos.old) }
     {
         let to = self.past_again(dir, *pos, range.start, range.end);
         units::leave_at(pos, to)
@@ -375,7 +375,7 @@ pub trait InputIndexer: Copy + Debug + UnitsAre {
         requires inside { Self.Position.offset pos.old ≤ units (text self.now) }
         ensures { let at = Self.Position.offset in
             led_to result (at pos.new) ≡ where_bytes Self.Units.ARE_BYTES
-            (past_bytes (bytes_of (text self.now)) bytes.now (way Dir.FORWARD) (at pos.old)) }
+            (past_bytes (bytes_of (text self.now)) bytes.now (heading Dir.FORWARD) (at pos.old)) }
     {
         let Some(all) = self.as_bytes() else {
             return false;

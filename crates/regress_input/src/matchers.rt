@@ -2,7 +2,7 @@
 
 ghost use Rattle.std.specs.Prelude.{◌≡◌, ◌≤◌};
 ghost use Rattle.regex_meaning.specs.Offsets.{IsBoundary};
-ghost use Rattle.regress_input.specs.Reading.{way, led_to, past_range, past_range_icase};
+ghost use Rattle.regress_input.specs.Reading.{heading, led_to, past_range, past_range_icase};
 
 use crate::cursor::{self, Direction};
 use crate::indexing::InputIndexer;
@@ -26,7 +26,7 @@ pub fn backref<Input: InputIndexer, Dir: Direction>(
     requires in_order { Input.Position.offset orig_range.start ≤ Input.Position.offset orig_range.end }
     ensures { let at = Input.Position.offset in
         led_to result (at pos.new) ≡ past_range (Input.text input.now)
-        (at orig_range.start) (at orig_range.end) (way Dir.FORWARD) (at pos.old) }
+        (at orig_range.start) (at orig_range.end) (heading Dir.FORWARD) (at pos.old) }
 {
     input.subrange_eq(dir, pos, orig_range)
 }
@@ -46,7 +46,7 @@ pub fn backref_icase<Input: InputIndexer, Dir: Direction>(
     requires in_order { Input.Position.offset orig_range.start ≤ Input.Position.offset orig_range.end }
     ensures { let at = Input.Position.offset in
         led_to result (at pos.new) ≡ past_range_icase (Input.text input.now)
-        (at orig_range.start) (at orig_range.end) (way Dir.FORWARD) (at pos.old) }
+        (at orig_range.start) (at orig_range.end) (heading Dir.FORWARD) (at pos.old) }
 {
     let start = orig_range.start;
     let end = orig_range.end;

@@ -8,7 +8,7 @@ ghost use Rattle.regex_meaning.specs.Text.{is_line_terminator};
 ghost use Rattle.regex_meaning.specs.Outcomes.{accepts};
 ghost use Rattle.regex_meaning.specs.Offsets.{IsBoundary};
 ghost use Rattle.regex_pattern_front.specs.TreeOf.{contents_of};
-ghost use Rattle.regress_input.specs.Reading.{way, led_to, past_if};
+ghost use Rattle.regress_input.specs.Reading.{heading, led_to, past_if};
 
 use crate::cursor::{self, Direction};
 use crate::front::{BracketContents, ByteArraySet, ByteSet, MAX_CHAR_SET_LENGTH, SmallArraySet};
@@ -27,7 +27,7 @@ pub trait SingleCharMatcher<Input: InputIndexer, Dir: Direction> {
         requires can { can_match self.now }
         requires at { IsBoundary (Input.text input.now) (Input.Position.offset pos.old) }
         ensures { let at = Input.Position.offset in led_to result (at pos.new)
-            ≡ past_if (Input.text input.now) (accepted self.now) (way Dir.FORWARD) (at pos.old) };
+            ≡ past_if (Input.text input.now) (accepted self.now) (heading Dir.FORWARD) (at pos.old) };
 }
 
 /// One character.
@@ -183,7 +183,7 @@ fn matches_ascii<Bytes: ByteSet, Input: InputIndexer, Dir: Direction>(
     requires at { IsBoundary (Input.text input.now) (Input.Position.offset pos.old) }
     ensures { let at = Input.Position.offset in
         led_to result (at pos.new) ≡ past_if (Input.text input.now)
-        (contains (Bytes.members bytes.now)) (way Dir.FORWARD) (at pos.old) }
+        (contains (Bytes.members bytes.now)) (heading Dir.FORWARD) (at pos.old) }
 {
     if Input::Units::ARE_BYTES {
         match cursor::next_byte(input, dir, pos) {

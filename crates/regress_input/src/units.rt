@@ -2,7 +2,7 @@
 
 ghost use Rattle.std.specs.Prelude.{◌≡◌, ◌≤◌, ℕ, true, length, drop, option_map, slice_range};
 ghost use Rattle.regex_meaning.specs.Text.{rightwards, leftwards};
-ghost use Rattle.regress_input.specs.Reading.{way, led_to, byte_beside, units_on, past_units as past_units_of, IsFoundFrom};
+ghost use Rattle.regress_input.specs.Reading.{heading, led_to, byte_beside, units_on, past_units as past_units_of, IsFoundFrom};
 
 use crate::front::ByteSearcher;
 use crate::position::PositionType;
@@ -38,7 +38,7 @@ pub(crate) fn past_units<Unit: PartialEq>(
     these: &[Unit],
 ) -> Option<usize>
     requires { at ≤ length all.now }
-    ensures { result ≡ past_units_of Unit.eq all.now these.now (way forward) at }
+    ensures { result ≡ past_units_of Unit.eq all.now these.now (heading forward) at }
 {
     if forward {
         past_right(all, at, these)
@@ -59,7 +59,7 @@ pub(crate) fn past_range<Unit: PartialEq>(
     requires at { at ≤ length all.now }
     requires to { end ≤ length all.now }
     requires in_order { start ≤ end }
-    ensures { result ≡ past_units_of Unit.eq all.now (slice_range all.now start end) (way forward) at }
+    ensures { result ≡ past_units_of Unit.eq all.now (slice_range all.now start end) (heading forward) at }
 {
     past_units(all, forward, at, &all[start..end])
 }

@@ -1,4 +1,4 @@
-//! The executor that copies its states: as plain as can be, each way still to try a state of its own.
+//! The executor that copies its states: as plain as can be, each thread still to try a state of its own.
 
 ghost use Rattle.std.specs.Prelude.{◌≡◌, ◌<◌, ◌≤◌, ◌++◌, map, IsTrue, IsAscii, IsSome, IfOk, None, option_map, ⊤, ℕ, List};
 ghost use Rattle.std.specs.Borrow.{Bor};
@@ -11,7 +11,7 @@ ghost use Rattle.regress_machine.specs.Machine.{in_turn};
 ghost use Rattle.regress_exec.specs.Attempts.{end_from};
 ghost use Rattle.regress_machine.specs.Turns.{CanTake};
 ghost use Rattle.regress_pikevm.specs.Acting.{end_with, search_at, turn_at, HasRun};
-ghost use Rattle.regress_pikevm.specs.States.{groups_of, next_of, waiting_of, in_hand, preferred_last, TakesUp};
+ghost use Rattle.regress_pikevm.specs.States.{groups_of, next_of, waiting_of, to_try, preferred_last, TakesUp};
 
 mod actions;
 mod runs;
@@ -32,7 +32,7 @@ use std::alloc::{AllocError, Global};
 #[derive(Drop)]
 pub struct PikeVMExecutor<'r, Input: InputIndexer> {
     searched: Searched<'r, Input>,
-    // the ways still to try, the next one last
+    // the threads still to try, the next one last
     stack: Vec<State<Input::Position>>,
     // those of the last attempt that found an end
     groups: Vec<Option<(Input::Position, Input::Position)>>,
@@ -74,10 +74,10 @@ fn turn_in<Input: InputIndexer>(
     }
 }
 
-// The state in hand, or else the last one of the stack.
+// The current state, or else the last one of the stack.
 #[inline(always)]
 fn take_up<P: PositionType>(next: Option<State<P>>, stack: &mut Vec<State<P>>) -> Option<State<P>>
-    ensures { TakesUp P.offset (in_hand P.offset next stack.old.items) result stack.new.items }
+    ensures { TakesUp P.offset (to_try P.offset next stack.old.items) result stack.new.items }
 {
     match next {
         Some(state) => Some(state),
@@ -90,7 +90,7 @@ fn take_scanned<P: PositionType>(
     mut states: Vec<State<P>>,
     stack: &mut Vec<State<P>>,
 ) -> Result<Option<State<P>>, AllocError>
-    ensures { IfOk result (λ next. in_hand P.offset next stack.new.items
+    ensures { IfOk result (λ next. to_try P.offset next stack.new.items
         ≡ in_turn (preferred_last P.offset states.items) ++ waiting_of P.offset stack.old.items) }
 {
     let Some(next) = states.pop() else {
@@ -144,7 +144,7 @@ fn run<Input: InputIndexer>(
     }
 }
 
-// The preferred way from a position to an end, if there is one.
+// The preferred thread from a position to an end, if there is one.
 fn preferred_end<Input: InputIndexer>(
     searched: &Searched<'_, Input>,
     stack: &mut Vec<State<Input::Position>>,

@@ -3,7 +3,7 @@ pub mod ShareLemmas
 pub mod RowLemmas
 pub mod PlanLemmas
 pub mod ClosingLemmas
-pub mod PeekLemmas
+pub mod LookAheadLemmas
 pub mod SetLemmas
 pub mod PrefixLemmas
 pub mod BeforeLemmas

@@ -472,12 +472,12 @@ said-unit plan ip c low wide program ops there =
       single = λ d is accepted. ap (λ (d : ℕ). length (spelled_in e d)) (sym (eqb-true c d accepted)) ∙ one-unit e c low;
     }))
 
--- the characters of a narrow class
-class-units : (wide : Bool) (program : Program) (class : Class) (set : FirstSet) (insn : Insn) → IsClass wide program class → class.narrow ≡ true
+-- the characters of a class of single units
+class-units : (wide : Bool) (program : Program) (class : Class) (set : FirstSet) (insn : Insn) → IsClass wide program class → class.single_unit ≡ true
     → insn ≡ insn_of class.insn
     → ((k : ℕ) → k < 256 → (table_of set).keys k ≡ not (slice_index_or class.steps k 0 == 0)) → (test : ℕ → Bool) → test_of program (Some insn) ≡ Some test
     → (count : ℕ) (allowed : Allowed) → UnitsOf wide test count (then_allowed count (units_of set) allowed)
-class-units wide program class set insn is narrow same keys test t count allowed e units = record {
+class-units wide program class set insn is single_unit same keys test t count allowed e units = record {
   keys = λ c character accepted ahead less.
       ap (may_stand (then_allowed count (units_of set) allowed) ahead) (first-key-at e wide units c character)
       ∙ then-early count (units_of set) allowed ahead (key_of_first wide c) less
@@ -485,7 +485,7 @@ class-units wide program class set insn is narrow same keys test t count allowed
       ∙ ap not (ne_eqb (slice_index_or class.steps (key_of_first wide c) 0) 0 (some c character accepted));
   single = λ c character accepted.
       let step = slice_index_or class.steps (key_of_first wide c) 0 in
-      let one : step ≡ 1 = let most = is.narrow narrow (key_of_first wide c) in least step (some c character accepted) most in
+      let one : step ≡ 1 = let most = is.single_unit single_unit (key_of_first wide c) in least step (some c character accepted) most in
       let h : is_told 1 true (length (spelled_in e c)) ≡ true = ap (λ s. is_told s true (length (spelled_in e c))) (sym one) ∙ ap (λ a. is_told step a (length (spelled_in e c))) (sym accepted) ∙ told c character in
       sym (eqb-true 1 (length (spelled_in e c)) h);
 }
@@ -511,20 +511,20 @@ reads-as wide program MatchAny r = λ e text s. refl
 reads-as wide program MatchAnyExceptLineTerminator r = λ e text s. refl
 reads-as wide program _ r = cc
 
-pub said-class : (plan : Plan) (ip number : ℕ) (class : Class) (set : FirstSet) → slice_get plan.classes.items number ≡ Some class → class.narrow ≡ true
+pub said-class : (plan : Plan) (ip number : ℕ) (class : Class) (set : FirstSet) → slice_get plan.classes.items number ≡ Some class → class.single_unit ≡ true
     → ((k : ℕ) → k < 256 → (table_of set).keys k ≡ not (slice_index_or class.steps k 0 == 0)) → LeadsFrom plan (op.One number) ip (ahead.Units set 1 (Some (ip + 1)))
-said-class plan ip number class set here narrow keys wide program ops there =
+said-class plan ip number class set here single_unit keys wide program ops there =
     let i = insn-of plan program ops (op.One number) ip there in
     let h = i.2.0 in
     let same = some-same h.class class (sym h.is_there ∙ here) in
     reads-prefix wide program ip i.0 (units_of set) i.1 (reads-as wide program i.0 i.2.1)
-    (class-units wide program class set i.0 (ops.classes number class here) narrow (h.is_class ∙ ap (λ (c : Class). insn_of c.insn) same) keys)
+    (class-units wide program class set i.0 (ops.classes number class here) single_unit (h.is_class ∙ ap (λ (c : Class). insn_of c.insn) same) keys)
 
 pub said-run : (plan : Plan) (ip : ℕ) (r : run.Run) (class : Class) (bounds : Bounds) (set : FirstSet) (to : Option ℕ) → slice_get plan.classes.items r.class ≡ Some class
-    → slice_get plan.bounds.items r.bounds ≡ Some bounds → class.narrow ≡ true
+    → slice_get plan.bounds.items r.bounds ≡ Some bounds → class.single_unit ≡ true
     → ((k : ℕ) → k < 256 → (table_of set).keys k ≡ not (slice_index_or class.steps k 0 == 0))
     → ((to ≡ Some (ip + 2)) × (bounds.min ≡ bounds.max)) ⊎ (to ≡ None) → LeadsFromRun plan r ip (ahead.Units set bounds.min to)
-said-run plan ip r class bounds set to here bounded narrow keys way wide program ops greedy insn there runs len allowed behind =
+said-run plan ip r class bounds set to here bounded single_unit keys way wide program ops greedy insn there runs len allowed behind =
     λ e same. prefix-run e (key wide) program ip len bounds.min bounds.max greedy (then_allowed bounds.min (units_of set) allowed) allowed
     (there ∙ ap Some (runs.insn_is ∙ ap (λ (b : Bounds). Loop1CharBody b.min b.max greedy) same_bounds)) (λ test t. are test t e same)
     (λ ahead k.
@@ -545,7 +545,7 @@ said-run plan ip r class bounds set to here bounded narrow keys way wide program
         by (Some read) at t =
             let h = runs.body read at in
             let same = some-same h.class class (sym h.is_there ∙ here) in
-            class-units wide program class set read (ops.classes r.class class here) narrow (h.is_class ∙ ap (λ (c : Class). insn_of c.insn) same) keys test t bounds.min allowed
+            class-units wide program class set read (ops.classes r.class class here) single_unit (h.is_class ∙ ap (λ (c : Class). insn_of c.insn) same) keys test t bounds.min allowed
 
     exactly : ((to ≡ Some (ip + 2)) × (bounds.min ≡ bounds.max)) ⊎ (to ≡ None) → (bounds.min ≡ bounds.max) ⊎ (len ≡ 0)
     exactly (inl more) = inl more.1

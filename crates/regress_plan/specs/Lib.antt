@@ -3,7 +3,7 @@ pub mod Classes
 pub mod Plans
 pub mod Planned
 pub mod Closing
-pub mod Peeking
+pub mod LookingAhead
 pub mod Prefixes
 pub mod Leading
 pub mod Before

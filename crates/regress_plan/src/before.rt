@@ -10,8 +10,8 @@ ghost use Rattle.regress_plan.specs.Leading.{AreOps};
 use crate::closing::lets_through;
 use crate::first_set::FirstSet;
 use crate::keys::Units;
+use crate::looks_ahead::{Few, Only, few_keys};
 use crate::ops::{Look, Op};
-use crate::peeks::{Few, Only, few_keys};
 use crate::plan::Plan;
 
 /// The character before a match begins with one of the first so many of these keys of units. With `edge` a match may

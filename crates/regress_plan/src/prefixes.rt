@@ -243,7 +243,7 @@ fn said_of_class(plan: &Plan, number: u32, ip: usize) -> Ahead
     ensures { LeadsFrom plan.now (One number) ip result }
 {
     match plan.classes.get(number as usize) {
-        Some(class) if class.narrow => Ahead::Units {
+        Some(class) if class.single_unit => Ahead::Units {
             set: FirstSet::of_class(class),
             count: 1,
             to: Some(ip + 1),
@@ -261,7 +261,7 @@ fn said_of_run(plan: &Plan, run: Run, ip: usize) -> Ahead
         plan.classes.get(run.class as usize),
         plan.bounds.get(run.bounds as usize),
     ) {
-        (Some(class), Some(bounds)) if class.narrow => Ahead::Units {
+        (Some(class), Some(bounds)) if class.single_unit => Ahead::Units {
             set: FirstSet::of_class(class),
             count: bounds.min,
             to: if bounds.min == bounds.max {

@@ -41,9 +41,9 @@ fn write_each(text: &mut String, plan: &Plan) -> Result<(), AllocError> {
     Ok(())
 }
 
-// Whether the class is narrow, the steps, and the bytes at which a run may end.
+// Whether the class is of single units, the steps, and the bytes at which a run may end.
 fn write_class(text: &mut String, class: &Class) -> Result<(), AllocError> {
-    text.push_str(if class.narrow { "narrow" } else { "wide" })?;
+    text.push_str(if class.single_unit { "single" } else { "wide" })?;
     write_steps(text, &class.steps)?;
     match &class.stops {
         Some(stops) => write_bytes(text, " stops", stops.bytes.get(..stops.len).unwrap_or(&[])),

@@ -175,7 +175,7 @@ plan /[ab]+?c/ → few 2 [97, 98, 0], lazy 99 100
 plan /.*?x/ → among 0 10 11 13 14 128 194 245, lazy 120 121
 plan /\"(.*?)\"/ → few 1 [34, 0, 0], lazy 34 35
 unit_plan /a*?b/ → few 2 [97, 98, 0], lazy 98 99
-classes /a*/ → narrow 97:1 98:0
+classes /a*/ → single 97:1 98:0
 classes /.*/ → wide 0:1 10:0 11:1 13:0 14:1 128:0 194:2 224:3 226:5 227:3 240:4 245:0 stops [10, 13, 226]
 classes /[^\"]*/ → wide 0:1 34:0 35:1 128:0 194:2 224:3 240:4 245:0 stops [34]
 classes /[^]*/ → wide 0:1 128:0 194:2 224:3 240:4 245:0 stops []
@@ -183,9 +183,9 @@ classes /[^a-d]/ → wide 0:1 97:0 101:1 128:0 194:2 224:3 240:4 245:0
 classes /é*/ → wide 195:5 196:0
 classes /[а-я]*[^é]/ → wide 208:5 210:0; wide 0:1 128:0 194:2 195:5 196:2 224:3 240:4 245:0 stops [195]
 classes /[\\u0080-\\u07ff]/ → wide 194:2 224:0
-unit_classes /a*/ → narrow 97:1 98:0
+unit_classes /a*/ → single 97:1 98:0
 unit_classes /.*/ → wide 0:1 10:0 11:1 13:0 14:1 144:5 145:1 236:5 238:1
-unit_classes /[\\u0400-\\u05ff]é*/ → narrow 130:1 131:0; wide 128:5 129:0
+unit_classes /[\\u0400-\\u05ff]é*/ → single 130:1 131:0; wide 128:5 129:0
 unit_classes /[^]*/ → wide 0:1 236:5 238:1
 units cat:2 loop:0,0,0 a goal → EnterLoop 0 0 18446744073709551615 true 3, Char 97, LoopAgain 0, Goal
 optimized cat:2 loop:0,0,0 a goal → Loop1CharBody 0 18446744073709551615 true, Char 97, Goal

@@ -5,10 +5,10 @@ pub mod Behind
 pub mod FurtherPlaces
 pub mod LazyClass
 pub mod LeavingOut
-pub mod Narrow
+pub mod SingleUnits
 pub mod Nearer
 pub mod NextUnits
-pub mod Peeking
+pub mod LookingAhead
 pub mod Ranges
 pub mod RunPlaces
 pub mod Scanning

@@ -192,7 +192,7 @@ few-pass p (x ∷ us) (suc len) u each h = by (nat_eq u x) refl (λ rest. few-pa
     by false e rest h = rest h
 
 pub few-leads : (us : List ℕ) (len : ℕ) (wide : Bool) → ((k : ℕ) → k < len → is_lead (get_or us k 0) ≡ true) → AllowsLeads wide (few_allowed us len)
-few-leads us len wide each narrow k small allowed = few-pass is_lead us len k each allowed
+few-leads us len wide each single_unit k small allowed = few-pass is_lead us len k each allowed
 
 -- units below 128 are bytes that begin characters
 low-lead : (k : ℕ) → k < 128 → is_lead k ≡ true
@@ -216,10 +216,10 @@ byte-count utf8 text bytes spelled = units-length utf8 text spelled ∙ ap lengt
 byte-count utf16 text bytes spelled = cc
 byte-count ucs2 text bytes spelled = cc
 
-pub narrow-bytes : (e : Encoding) → is_wide e ≡ false → is_of_bytes e ≡ true
-narrow-bytes utf8 narrow = refl
-narrow-bytes utf16 narrow = cc
-narrow-bytes ucs2 narrow = cc
+pub single_unit-bytes : (e : Encoding) → is_wide e ≡ false → is_of_bytes e ≡ true
+single_unit-bytes utf8 single_unit = refl
+single_unit-bytes utf16 single_unit = cc
+single_unit-bytes ucs2 single_unit = cc
 
 -- where bytes are read, units are bytes
 pub bytes-there : (are_bytes : Bool) (text : Text) (all : List ℕ) → Some all ≡ bytes_if are_bytes text → are_bytes ≡ true
@@ -296,7 +296,7 @@ few-found w has us len from bytes leads inside found f = by f.0 f.1 found f.2
 pub fitting-found : (w : Searching) → HasUnits w.encoding w.text → (prefix : Prefix) → is_wide w.encoding ≡ false → 0 < prefix.len → IsInAscii prefix → (from : ℕ)
     → (found : Option ℕ) → IsFoundFrom true (λ bytes index. fits (allowed_of prefix) bytes index prefix.len) (bytes_of w.text) from found
     → IsFirstWhere w (fits_in w prefix) from found
-fitting-found w has prefix narrow some ascii from found f = by f.0 f.1 found f.2
+fitting-found w has prefix single_unit some ascii from found f = by f.0 f.1 found f.2
   where
     all : List ℕ
     all = bytes_of w.text
@@ -310,7 +310,7 @@ fitting-found w has prefix narrow some ascii from found f = by f.0 f.1 found f.2
     same-units ucs2 n = cc
 
     same : (at : ℕ) → fits_in w prefix at ≡ test at
-    same at = ap (λ (us : List ℕ). fits (allowed_of prefix) us at prefix.len) (same-units w.encoding narrow)
+    same at = ap (λ (us : List ℕ). fits (allowed_of prefix) us at prefix.len) (same-units w.encoding single_unit)
 
     length-rest : length (drop from all) ≡ length all - from
     length-rest = length-drop from all

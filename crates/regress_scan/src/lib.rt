@@ -5,7 +5,7 @@ pub mod characters;
 mod few;
 mod fitting;
 pub mod further;
-pub mod peeks;
+pub mod looks_ahead;
 pub mod planned;
 mod probing;
 pub mod reads;

@@ -1,7 +1,7 @@
 //! Threads of the machine that simulate others, and what may stand next where a thread is to find something.
 //!
 //! An executor that takes several of the machine's turns at once, and drops threads which find nothing, has other
-//! threads in hand than the machine. What it finds is the same as long as its threads simulate those of the machine.
+//! threads at hand than the machine. What it finds is the same as long as its threads simulate those of the machine.
 #![tactic(auto)]
 
 ghost use Rattle.regress_simulation.specs.Excluded.{ClosedSetsExclude};

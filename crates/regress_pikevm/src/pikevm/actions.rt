@@ -3,7 +3,7 @@
 ghost use Rattle.std.specs.Prelude.{◌≡◌, ◌<◌, ◌≤◌, ◌^◌, ◌+◌, IfOk, IsTrue, Some, map, [], ◌∷◌, length};
 ghost use Rattle.regex_meaning.specs.Offsets.{units};
 ghost use Rattle.regex_pattern_front.specs.TreeOf.{tree_of};
-ghost use Rattle.regress_input.specs.Reading.{way};
+ghost use Rattle.regress_input.specs.Reading.{heading};
 ghost use Rattle.regress_program.specs.Code.{compiled};
 ghost use Rattle.regress_program.specs.Insns.{insn_of, loop_fields_of};
 ghost use Rattle.regress_machine.specs.Machine.{running, waiting, goes, asks, at_ip, next_ip, span, loop_turn, again_with, again_at};
@@ -99,7 +99,7 @@ fn perform<Input: InputIndexer, Dir: Direction>(
     }
 }
 
-// What an instruction does that only reads or looks: it leads on, or the way has failed.
+// What an instruction does that only reads or looks: it leads on, or the thread has failed.
 #[inline(always)]
 fn read<Input: InputIndexer, Dir: Direction>(
     insn: Insn,
@@ -145,7 +145,7 @@ fn ask<P: PositionType>(
 ) -> Result<Turn<P>, AllocError>
     requires { state.ip + 1 < 2 ^ 64 }
     ensures { let s = state_of P.offset state in IfOk result (λ t. next_of P.offset t
-        ≡ asks (way forward) negate (next_ip s) (at_ip continuation s)) }
+        ≡ asks (heading forward) negate (next_ip s) (at_ip continuation s)) }
 {
     let mut inner = copy_of(&state)?;
     inner.ip += 1;
@@ -177,9 +177,9 @@ fn close_group<P: PositionType, Dir: Direction>(
     dir: Dir,
     mut state: State<P>,
 ) -> Turn<P>
-    requires can { CanTake (closed id (way Dir.FORWARD) (state_of P.offset state)) }
+    requires can { CanTake (closed id (heading Dir.FORWARD) (state_of P.offset state)) }
     requires within { state.ip + 1 < 2 ^ 64 }
-    ensures { next_of P.offset result ≡ closed id (way Dir.FORWARD) (state_of P.offset state) }
+    ensures { next_of P.offset result ≡ closed id (heading Dir.FORWARD) (state_of P.offset state) }
 {
     let id = id as usize;
     let start = state.starts[id];
@@ -192,7 +192,7 @@ fn close_group<P: PositionType, Dir: Direction>(
 #[inline(always)]
 fn span_of<P: PositionType, Dir: Direction>(_dir: Dir, from: P, to: P) -> (P, P)
     ensures { (P.offset result.0, P.offset result.1)
-        ≡ span (way Dir.FORWARD) (P.offset from) (P.offset to) }
+        ≡ span (heading Dir.FORWARD) (P.offset from) (P.offset to) }
 {
     if Dir::FORWARD { (from, to) } else { (to, from) }
 }

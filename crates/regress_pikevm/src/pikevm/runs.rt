@@ -1,4 +1,4 @@
-//! Loops over one character: one character after another, and the ways behind so many of them to so many.
+//! Loops over one character: one character after another, and the threads behind so many of them to so many.
 
 ghost use Rattle.std.specs.Prelude.{◌≡◌, ◌<◌, ◌^◌, ◌+◌, ℕ, IfOk, OnOk, IsTrue, IsSome, if◌then◌else◌, reverse};
 ghost use Rattle.regex_meaning.specs.Offsets.{IsBoundary};
@@ -25,7 +25,7 @@ pub(crate) struct Run {
     pub greedy: bool,
 }
 
-/// The ways behind the characters that an instruction reads.
+/// The threads behind the characters that an instruction reads.
 pub(crate) fn scan<Input: InputIndexer, Dir: Direction>(
     run: Run,
     body: Insn,

@@ -19,7 +19,7 @@ pub(crate) struct LoopData<P> {
     pub(crate) entry: P,
 }
 
-/// Where a way stands: an instruction and a position, the groups, where each open group began, and the loops.
+/// Where a thread stands: an instruction and a position, the groups, where each open group began, and the loops.
 #[derive(Drop)]
 pub(crate) struct State<P> {
     pub(crate) ip: usize,
@@ -32,11 +32,11 @@ pub(crate) struct State<P> {
 /// What comes next, the preferred state first.
 #[derive(Drop)]
 pub(crate) enum Turn<P> {
-    /// The way has failed.
+    /// The thread has failed.
     Dead,
     Go(State<P>),
     Fork(State<P>, State<P>),
-    /// So many characters were tried, and these are the ways behind them, the preferred one last.
+    /// So many characters were tried, and these are the threads behind them, the preferred one last.
     Scan(usize, Vec<State<P>>),
     /// It depends on a search from `inner` whether `after` goes on.
     Ask {

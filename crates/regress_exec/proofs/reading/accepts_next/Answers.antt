@@ -1,5 +1,5 @@
 use Rattle.std.proofs.Common.{ap, sym, ◌∙◌, option_map}
-use Rattle.regress_input.specs.Reading.{way}
+use Rattle.regress_input.specs.Reading.{heading}
 use Rattle.regress_exec.proofs.Readers.{read-scalar}
 use Rattle.regress_exec.proofs.reading.accepts_next.Goals as goal
 
@@ -8,5 +8,5 @@ accepts-requires-clause-scalar g c = λ literal.
     let text = g.Input.InputIndexer.text c.args.searched.now.input in
     let offset = g.Input.Position.PositionType.offset in
     let number = g.Input.Element.ElementType.number in
-    read-scalar text (g.met.Input.InputIndexer.is_text c.args.searched.now.input) (c.requires.bytes literal).reads (way g.Dir.Direction.FORWARD) (offset c.args.pos.now) (number c.in-Some.c) (offset c.next.new.pos)
+    read-scalar text (g.met.Input.InputIndexer.is_text c.args.searched.now.input) (c.requires.bytes literal).reads (heading g.Dir.Direction.FORWARD) (offset c.args.pos.now) (number c.in-Some.c) (offset c.next.new.pos)
     c.requires.at (ap (option_map (λ e. (number e, offset c.next.new.pos))) (sym c.in-Some.is) ∙ c.next.ensures.read)

@@ -1,6 +1,6 @@
 use Rattle.std.proofs.Common.{◌≡◌, Bool, true, sym, ◌∙◌, ap}
 use Rattle.regex_meaning.specs.Lists.{contains}
-use Rattle.regress_input.specs.Reading.{way, led_to, where_bytes, byte_beside, bytes_of}
+use Rattle.regress_input.specs.Reading.{heading, led_to, where_bytes, byte_beside, bytes_of}
 use Rattle.regress_input.proofs.Places.{boundary_inside}
 use Rattle.regress_input.proofs.ByteTests.{byte_in_set, no_byte}
 use Rattle.regress_input.proofs.scm.matches_ascii.Goals as goal
@@ -13,7 +13,7 @@ next_byte-requires g c =
 pub returns-in-Some : goal.returns-in-Some
 returns-in-Some g c =
     let text = g.Input.InputIndexer.text c.args.input.now in
-    let d = way g.Dir.Direction.FORWARD in
+    let d = heading g.Dir.Direction.FORWARD in
     let are : g.Input.Units.CodeUnits.ARE_BYTES ≡ true = sym c.ARE_BYTES.ensures ∙ c.if-ARE_BYTES.true in
     ap (λ b. led_to b (g.Input.Position.PositionType.offset c.next_byte.new.pos)) c.contains.ensures
     ∙ byte_in_set text (g.met.Input.InputIndexer.is_text c.args.input.now) (g.met.Input.InputIndexer.in_utf8 c.args.input.now are) (g.Bytes.ByteSet.members c.args.bytes.now) c.requires.ascii
@@ -23,7 +23,7 @@ returns-in-Some g c =
 pub returns-in-None : goal.returns-in-None
 returns-in-None g c =
     let text = g.Input.InputIndexer.text c.args.input.now in
-    let d = way g.Dir.Direction.FORWARD in
+    let d = heading g.Dir.Direction.FORWARD in
     let are : g.Input.Units.CodeUnits.ARE_BYTES ≡ true = sym c.ARE_BYTES.ensures ∙ c.if-ARE_BYTES.true in
     sym (no_byte text (g.met.Input.InputIndexer.is_text c.args.input.now) (g.met.Input.InputIndexer.in_utf8 c.args.input.now are) (contains (g.Bytes.ByteSet.members c.args.bytes.now))
     d _ c.requires.at (sym (c.in-None.ensures.byte ∙ ap (λ (b : Bool). where_bytes b (byte_beside (bytes_of text) d (g.Input.Position.PositionType.offset c.args.pos.now))) are)))

@@ -1,6 +1,6 @@
 use Rattle.std.proofs.Common.{ℕ, ap, sym, subst, refl, ◌∙◌, ◌++◌, ◌∷◌, []}
 use Rattle.regex_pattern_front.specs.TreeOf.{tree_of}
-use Rattle.regress_input.specs.Reading.{way}
+use Rattle.regress_input.specs.Reading.{heading}
 use Rattle.regress_program.specs.Code.{compiled}
 use Rattle.regress_machine.specs.Machine.{running, waiting, in_turn, resumed}
 use Rattle.regress_pikevm.specs.States.{state_of, next_of, running_of, waiting_of, preferred_last}
@@ -18,8 +18,8 @@ IsTaken g n c =
     let tree = tree_of c.args.searched.now.program.now in
     let text = g.Input.InputIndexer.text c.args.searched.now.input in
     let offset = g.Input.Position.PositionType.offset in
-    let found = search_from tree text (offset c.args.at) (way c.args.forward) (state_of offset c.args.start) in
-    TakenUp offset (compiled tree) text (turns_from tree text (offset c.args.at)) (way c.args.forward) (steps_of found) (end_of_search found)
+    let found = search_from tree text (offset c.args.at) (heading c.args.forward) (state_of offset c.args.start) in
+    TakenUp offset (compiled tree) text (turns_from tree text (offset c.args.at)) (heading c.args.forward) (steps_of found) (end_of_search found)
     (running_of offset c.search.next ++ waiting_of offset c.search.stack.items) c.in-Some.state c.take_up.new.stack.items
 
 taken : (g : Over) (n : ℕ) (c : In-Some g n) → IsTaken g n c
@@ -35,7 +35,7 @@ search-init g n c =
     let text = g.Input.InputIndexer.text searched.input in
     let offset = g.Input.Position.PositionType.offset in
     let turns = turns_from tree text (offset c.args.at) in
-    let d = way c.args.forward in
+    let d = heading c.args.forward in
     let top = steps_of (search_from tree text (offset c.args.at) d (state_of offset c.args.start)) in
     let end = end_of_search (search_from tree text (offset c.args.at) d (state_of offset c.args.start)) in
     subst (λ l. Remains program text turns d top end (running (state_of offset c.args.start) ∷ waiting_of offset l)) (sym c.clear.ensures.items)
@@ -99,21 +99,21 @@ pub run-requires : goal.run-requires
 run-requires g n c =
     let offset = g.Input.Position.PositionType.offset in
     let up = taken g n (goal.at.run-requires g n c).In-Some in
-    let asked = turn-asks up (state_of offset c.in-Ask.inner) (state_of offset c.in-Ask.after) (way c.in-Ask.forward) c.in-Ask.negate c.in_ok-turn_in.ensures (ap (next_of offset) (sym c.in-Ask.is)) in
+    let asked = turn-asks up (state_of offset c.in-Ask.inner) (state_of offset c.in-Ask.after) (heading c.in-Ask.forward) c.in-Ask.negate c.in_ok-turn_in.ensures (ap (next_of offset) (sym c.in-Ask.is)) in
     λ κs h. (less-by _ _ n asked.fewer c.decreases, (h.0, (h.1.0, (h.1.1.0, (h.1.1.1.0, (h.1.1.1.1, (asked.inside, asked.answers)))))))
 
 pub search-preserved : goal.search-preserved
 search-preserved g n c =
     let offset = g.Input.Position.PositionType.offset in
     let up = taken g n (goal.at.search-preserved g n c).In-Some in
-    let asked = turn-asks up (state_of offset c.in-Ask.inner) (state_of offset c.in-Ask.after) (way c.in-Ask.forward) c.in-Ask.negate c.in_ok-turn_in.ensures (ap (next_of offset) (sym c.in-Ask.is)) in
+    let asked = turn-asks up (state_of offset c.in-Ask.inner) (state_of offset c.in-Ask.after) (heading c.in-Ask.forward) c.in-Ask.negate c.in_ok-turn_in.ensures (ap (next_of offset) (sym c.in-Ask.is)) in
     (asked-left up asked (c.resume-next.ensures ∙ ap (resumed c.in-Ask.negate (state_of offset c.in-Ask.after)) c.in_ok-found-in-Ask.ensures)).remains
 
 pub search-smaller : goal.search-smaller
 search-smaller g n c =
     let offset = g.Input.Position.PositionType.offset in
     let up = taken g n (goal.at.search-smaller g n c).In-Some in
-    let asked = turn-asks up (state_of offset c.in-Ask.inner) (state_of offset c.in-Ask.after) (way c.in-Ask.forward) c.in-Ask.negate c.in_ok-turn_in.ensures (ap (next_of offset) (sym c.in-Ask.is)) in
+    let asked = turn-asks up (state_of offset c.in-Ask.inner) (state_of offset c.in-Ask.after) (heading c.in-Ask.forward) c.in-Ask.negate c.in_ok-turn_in.ensures (ap (next_of offset) (sym c.in-Ask.is)) in
     (asked-left up asked (c.resume-next.ensures ∙ ap (resumed c.in-Ask.negate (state_of offset c.in-Ask.after)) c.in_ok-found-in-Ask.ensures)).fewer
 
 pub returns-in-Done : goal.returns-in-Done

@@ -5,12 +5,12 @@ use Rattle.regress_scan.proofs.Starting.{few-leads}
 use Rattle.regress_scan.proofs.starts.next_behind.Goals as goal
 
 pub next_past-requires-clause-leads : goal.next_past-requires-clause-leads
-next_past-requires-clause-leads g c = λ narrow.
-    few-leads c.args.before.keys c.args.before.len (is_wide (g.W.Planned.searching c.args.planned.now).encoding) (c.requires.leads narrow) narrow
+next_past-requires-clause-leads g c = λ single_unit.
+    few-leads c.args.before.keys c.args.before.len (is_wide (g.W.Planned.searching c.args.planned.now).encoding) (c.requires.leads single_unit) single_unit
 
 pub next_past-requires-else-edge-clause-leads : goal.next_past-requires-else-edge-clause-leads
-next_past-requires-else-edge-clause-leads g c = λ narrow.
-    few-leads c.args.before.keys c.args.before.len (is_wide (g.W.Planned.searching c.args.planned.now).encoding) (c.requires.leads narrow) narrow
+next_past-requires-else-edge-clause-leads g c = λ single_unit.
+    few-leads c.args.before.keys c.args.before.len (is_wide (g.W.Planned.searching c.args.planned.now).encoding) (c.requires.leads single_unit) single_unit
 
 pub returns-in-Some : goal.returns-in-Some
 returns-in-Some g c =

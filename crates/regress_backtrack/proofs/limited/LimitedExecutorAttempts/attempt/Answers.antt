@@ -4,7 +4,7 @@ use Rattle.regex_meaning.specs.Text.{utf8_text}
 use Rattle.regex_pattern_front.specs.TreeOf.{tree_of}
 use Rattle.regress_exec.specs.Attempts.{end_from, ticks_from}
 use Rattle.regress_exec.specs.Spends.{Spends}
-use Rattle.regress_backtrack.proofs.InPlace.{can-be, can-planned, planned-narrow}
+use Rattle.regress_backtrack.proofs.InPlace.{can-be, can-planned, planned-single_unit}
 use Rattle.regress_backtrack.proofs.limited.LimitedExecutorAttempts.attempt.Goals as goal
 
 pub attempt-end-requires-clause-can : goal.attempt-end-requires-clause-can
@@ -16,12 +16,12 @@ pub returns-clause-found : goal.returns-clause-found
 returns-clause-found c =
     let search = c.args.self.now.executor.search in
     let text = utf8_text search.searched.input.input.now search.searched.input.unicode in
-    let is = planned-narrow search.program.wide (tree_of search.program.regex) search.wide in
+    let is = planned-single_unit search.program.wide (tree_of search.program.regex) search.wide in
     IfOk-weaker c.attempt-end.result _ _ (λ end found. found ∙ ap (λ t. end_from t text c.args.pos.offset) is) c.attempt-end.ensures.found
 
 pub returns-clause-steps : goal.returns-clause-steps
 returns-clause-steps c =
     let search = c.args.self.now.executor.search in
     let text = utf8_text search.searched.input.input.now search.searched.input.unicode in
-    let is = planned-narrow search.program.wide (tree_of search.program.regex) search.wide in
+    let is = planned-single_unit search.program.wide (tree_of search.program.regex) search.wide in
     subst (λ t. Spends (ticks_from t text c.args.pos.offset) (Some c.args.self.now.steps.left) c.attempt-end.result (Some c.attempt-end.new.steps.left)) is c.attempt-end.ensures.steps

@@ -1,5 +1,5 @@
 use Rattle.std.proofs.Common.{◌≡◌, Bool, true, sym, ◌∙◌, ap, arith}
-use Rattle.regress_input.specs.Reading.{way, past_bytes, bytes_of, where_bytes}
+use Rattle.regress_input.specs.Reading.{heading, past_bytes, bytes_of, where_bytes}
 use Rattle.regress_input.proofs.Places.{boundary_inside}
 use Rattle.regress_input.proofs.ByteTests.{literal_accepts}
 use Rattle.regress_input.proofs.scm.MatchByteSeqSingleCharMatcher.matches.Goals as goal
@@ -15,7 +15,7 @@ returns-then-ARE_BYTES g c =
     let laws = g.met.Input.InputIndexer in
     let text = g.Input.InputIndexer.text input in
     let literal = c.args.self.now.0.now in
-    let d = way g.Dir.Direction.FORWARD in
+    let d = heading g.Dir.Direction.FORWARD in
     let at = g.Input.Position.PositionType.offset c.args.pos.now in
     let one = c.requires.can.1 in
     let are : g.Input.Units.CodeUnits.ARE_BYTES ≡ true = sym c.ARE_BYTES.ensures ∙ c.if-ARE_BYTES.true in

@@ -2,7 +2,7 @@ use Rattle.std.proofs.Common.{◌≡◌, ◌+◌, ◌<◌, ◌^◌, Some, sym, s
 use Rattle.std.specs.Prelude.{IfOk}
 use Rattle.regex_meaning.specs.Offsets.{place_at}
 use Rattle.regex_pattern_front.specs.TreeOf.{tree_of}
-use Rattle.regress_input.specs.Reading.{way}
+use Rattle.regress_input.specs.Reading.{heading}
 use Rattle.regress_program.specs.Code.{compiled}
 use Rattle.regress_program.specs.Insns.{insn_of}
 use Rattle.regress_machine.specs.Machine.{act_on, again_at, with_some, test_of, scan}
@@ -30,7 +30,7 @@ returns-in-LoopAgain g c =
     let program = compiled (tree_of c.args.searched.now.program.now) in
     let text = g.Input.InputIndexer.text c.args.searched.now.input in
     let offset = g.Input.Position.PositionType.offset in
-    let d = way g.Dir.Direction.FORWARD in
+    let d = heading g.Dir.Direction.FORWARD in
     let s = state_of offset c.args.state in
     let begin = c.in-LoopAgain.begin in
     let can = subst (λ i. CanTake (act_on program text d (Some (insn_of i)) s)) c.in-LoopAgain.is c.requires.can in
@@ -43,7 +43,7 @@ pub scan-requires-clause-bytes : goal.scan-requires-clause-bytes
 scan-requires-clause-bytes g c = λ literal.
     let re = c.args.searched.now.program.now in
     let s = state_of g.Input.Position.PositionType.offset c.args.state in
-    let can = subst (λ i. CanTake (act_on (compiled (tree_of re)) (g.Input.InputIndexer.text c.args.searched.now.input) (way g.Dir.Direction.FORWARD) (Some (insn_of i)) s)) c.in-Loop1CharBody.is c.requires.can in
+    let can = subst (λ i. CanTake (act_on (compiled (tree_of re)) (g.Input.InputIndexer.text c.args.searched.now.input) (heading g.Dir.Direction.FORWARD) (Some (insn_of i)) s)) c.in-Loop1CharBody.is c.requires.can in
     let is = insn-behind re c.args.insns.now c.requires.code (s.ip + 1) _ can c.index-insns-state.result c.index-insns-state.is in
     c.args.searched.now.bytes (literal-reads (tree_of re) (s.ip + 1) (insn_of c.index-insns-state.result) is literal)
 
@@ -52,7 +52,7 @@ scan-requires-clause-within g c =
     let short : length c.args.insns.now < 2 ^ 64 = search rules in
     let s = state_of g.Input.Position.PositionType.offset c.args.state in
     let re = c.args.searched.now.program.now in
-    let can = subst (λ i. CanTake (act_on (compiled (tree_of re)) (g.Input.InputIndexer.text c.args.searched.now.input) (way g.Dir.Direction.FORWARD) (Some (insn_of i)) s)) c.in-Loop1CharBody.is c.requires.can in
+    let can = subst (λ i. CanTake (act_on (compiled (tree_of re)) (g.Input.InputIndexer.text c.args.searched.now.input) (heading g.Dir.Direction.FORWARD) (Some (insn_of i)) s)) c.in-Loop1CharBody.is c.requires.can in
     let below = fits-behind re c.args.insns.now c.requires.code (s.ip + 1) _ can short in
     omega (arith, below)
 
@@ -61,7 +61,7 @@ returns-in-Loop1CharBody g c =
     let re = c.args.searched.now.program.now in
     let program = compiled (tree_of re) in
     let text = g.Input.InputIndexer.text c.args.searched.now.input in
-    let d = way g.Dir.Direction.FORWARD in
+    let d = heading g.Dir.Direction.FORWARD in
     let offset = g.Input.Position.PositionType.offset in
     let s = state_of offset c.args.state in
     let can = subst (λ i. CanTake (act_on program text d (Some (insn_of i)) s)) c.in-Loop1CharBody.is c.requires.can in

@@ -1,5 +1,5 @@
 use Rattle.std.proofs.Common.{ap, sym, subst, ◌∙◌, true, false}
-use Rattle.regress_input.specs.Reading.{led_to, way}
+use Rattle.regress_input.specs.Reading.{led_to, heading}
 use Rattle.regress_machine.specs.Machine.{read_group}
 use Rattle.regress_pikevm.specs.States.{range_of, state_of}
 use Rattle.regress_machine.specs.Turns.{CanTake}
@@ -11,7 +11,7 @@ returns-in_default g c =
     let text = g.Input.InputIndexer.text c.args.searched.now.input in
     let is = g.met.Input.InputIndexer.is_text c.args.searched.now.input in
     let offset = g.Input.Position.PositionType.offset in
-    let d = way g.Dir.Direction.FORWARD in
+    let d = heading g.Dir.Direction.FORWARD in
     let s = state_of offset c.args.state in
     let can = subst (λ r. CanTake (read_group text c.args.icase d (range_of offset r) s)) c.in_default.is c.requires.can in
     nothing-read text is c.args.icase d s can ∙ ap (λ r. read_group text c.args.icase d (range_of offset r) s) (sym c.in_default.is)
@@ -21,7 +21,7 @@ returns-then-stands_again g c =
     let text = g.Input.InputIndexer.text c.args.searched.now.input in
     let is = g.met.Input.InputIndexer.is_text c.args.searched.now.input in
     let offset = g.Input.Position.PositionType.offset in
-    let d = way g.Dir.Direction.FORWARD in
+    let d = heading g.Dir.Direction.FORWARD in
     let s = state_of offset c.args.state in
     let can = subst (λ r. CanTake (read_group text c.args.icase d (range_of offset r) s)) c.in-Some.is c.requires.can in
     let to = offset c.stands_again.new.pos in
@@ -33,7 +33,7 @@ returns-else-stands_again g c =
     let text = g.Input.InputIndexer.text c.args.searched.now.input in
     let is = g.met.Input.InputIndexer.is_text c.args.searched.now.input in
     let offset = g.Input.Position.PositionType.offset in
-    let d = way g.Dir.Direction.FORWARD in
+    let d = heading g.Dir.Direction.FORWARD in
     let s = state_of offset c.args.state in
     let can = subst (λ r. CanTake (read_group text c.args.icase d (range_of offset r) s)) c.in-Some.is c.requires.can in
     let to = offset c.stands_again.new.pos in

@@ -1,4 +1,4 @@
-use Rattle.regress_input.specs.Reading.{way}
+use Rattle.regress_input.specs.Reading.{heading}
 use Rattle.regress_machine.specs.Machine.{read_group}
 use Rattle.regress_pikevm.specs.States.{range_of, state_of}
 use Rattle.regress_pikevm.proofs.Turns.{by-index}
@@ -9,4 +9,4 @@ returns g c =
     let text = g.Input.InputIndexer.text c.args.searched.now.input in
     let offset = g.Input.Position.PositionType.offset in
     by-index (range_of offset) c.args.state.groups.items c.args.group c.index-range.result.now
-    (λ range. read_group text c.args.icase (way g.Dir.Direction.FORWARD) range (state_of offset c.args.state)) _ c.index-range.ensures c.requires.can c.read_again.ensures
+    (λ range. read_group text c.args.icase (heading g.Dir.Direction.FORWARD) range (state_of offset c.args.state)) _ c.index-range.ensures c.requires.can c.read_again.ensures

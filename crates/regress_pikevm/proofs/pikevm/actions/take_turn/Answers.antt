@@ -1,7 +1,7 @@
 use Rattle.std.proofs.Common.{◌≡◌, ◌<◌, ◌^◌, sym, subst, rules, length}
 use Rattle.std.specs.Prelude.{IfOk}
 use Rattle.regex_pattern_front.specs.TreeOf.{tree_of}
-use Rattle.regress_input.specs.Reading.{way}
+use Rattle.regress_input.specs.Reading.{heading}
 use Rattle.regress_program.specs.Code.{compiled}
 use Rattle.regress_program.specs.Insns.{insn_of}
 use Rattle.regress_machine.specs.Machine.{act_on}
@@ -15,7 +15,7 @@ pub perform-requires-clause-can : goal.perform-requires-clause-can
 perform-requires-clause-can g c =
     let re = c.args.searched.now.program.now in
     let text = g.Input.InputIndexer.text c.args.searched.now.input in
-    let d = way g.Dir.Direction.FORWARD in
+    let d = heading g.Dir.Direction.FORWARD in
     let s = state_of g.Input.Position.PositionType.offset c.args.state in
     subst (λ o. CanTake (act_on (compiled (tree_of re)) text d o s))
     (insn-here re c.args.insns.now c.requires.code text d s c.requires.can c.index-insns-state.result c.index-insns-state.is) c.requires.can
@@ -24,13 +24,13 @@ pub perform-requires-clause-bytes : goal.perform-requires-clause-bytes
 perform-requires-clause-bytes g c = λ literal.
     let s = state_of g.Input.Position.PositionType.offset c.args.state in
     c.args.searched.now.bytes (literal-reads (tree_of c.args.searched.now.program.now) s.ip (insn_of c.index-insns-state.result)
-    (insn-here c.args.searched.now.program.now c.args.insns.now c.requires.code (g.Input.InputIndexer.text c.args.searched.now.input) (way g.Dir.Direction.FORWARD) s c.requires.can c.index-insns-state.result c.index-insns-state.is) literal)
+    (insn-here c.args.searched.now.program.now c.args.insns.now c.requires.code (g.Input.InputIndexer.text c.args.searched.now.input) (heading g.Dir.Direction.FORWARD) s c.requires.can c.index-insns-state.result c.index-insns-state.is) literal)
 
 pub perform-requires-clause-within : goal.perform-requires-clause-within
 perform-requires-clause-within g c =
     let text = g.Input.InputIndexer.text c.args.searched.now.input in
     let short : length c.args.insns.now < 2 ^ 64 = search rules in
-    fits-here c.args.searched.now.program.now c.args.insns.now c.requires.code text (way g.Dir.Direction.FORWARD)
+    fits-here c.args.searched.now.program.now c.args.insns.now c.requires.code text (heading g.Dir.Direction.FORWARD)
     (state_of g.Input.Position.PositionType.offset c.args.state) c.requires.can short
 
 pub returns : goal.returns
@@ -39,5 +39,5 @@ returns g c =
     let text = g.Input.InputIndexer.text c.args.searched.now.input in
     let offset = g.Input.Position.PositionType.offset in
     let s = state_of offset c.args.state in
-    let is = insn-here re c.args.insns.now c.requires.code text (way g.Dir.Direction.FORWARD) s c.requires.can c.index-insns-state.result c.index-insns-state.is in
-    subst (λ o. IfOk c.perform.result (λ t. next_of offset t ≡ act_on (compiled (tree_of re)) text (way g.Dir.Direction.FORWARD) o s)) (sym is) c.perform.ensures
+    let is = insn-here re c.args.insns.now c.requires.code text (heading g.Dir.Direction.FORWARD) s c.requires.can c.index-insns-state.result c.index-insns-state.is in
+    subst (λ o. IfOk c.perform.result (λ t. next_of offset t ≡ act_on (compiled (tree_of re)) text (heading g.Dir.Direction.FORWARD) o s)) (sym is) c.perform.ensures

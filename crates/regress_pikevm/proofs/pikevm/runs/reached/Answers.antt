@@ -1,7 +1,7 @@
 use Rattle.std.proofs.Common.{sym, subst, arith, map, Some, ◌+◌}
 use Rattle.regex_meaning.proofs.TextLemmas.{IsBoundary-place}
 use Rattle.regex_pattern_front.specs.TreeOf.{tree_of}
-use Rattle.regress_input.specs.Reading.{way}
+use Rattle.regress_input.specs.Reading.{heading}
 use Rattle.regress_program.specs.Code.{compiled}
 use Rattle.regress_program.specs.Insns.{insn_of}
 use Rattle.regress_machine.specs.Machine.{test_of}
@@ -14,7 +14,7 @@ characters-init g c =
     let text = g.Input.InputIndexer.text c.args.searched.now.input in
     let is = g.met.Input.InputIndexer.is_text c.args.searched.now.input in
     let offset = g.Input.Position.PositionType.offset in
-    let d = way g.Dir.Direction.FORWARD in
+    let d = heading g.Dir.Direction.FORWARD in
     let s = state_of offset c.args.state.now in
     record {
       boundary = c.requires.boundary;
@@ -29,7 +29,7 @@ returns-then-count-run g c = λ test p e f.
     let text = g.Input.InputIndexer.text c.args.searched.now.input in
     let is = g.met.Input.InputIndexer.is_text c.args.searched.now.input in
     let offset = g.Input.Position.PositionType.offset in
-    reach-most text is test (way g.Dir.Direction.FORWARD) c.args.run.min_iters c.args.run.max_iters p (state_of offset c.args.state.now)
+    reach-most text is test (heading g.Dir.Direction.FORWARD) c.args.run.min_iters c.args.run.max_iters p (state_of offset c.args.state.now)
     c.characters.count (offset c.characters.at) _ _ (c.characters.invariant.reaching test p e f) c.in_ok-keep.ensures c.if-count-run.true
 
 pub accepts_next-requires-clause-at : goal.accepts_next-requires-clause-at
@@ -40,7 +40,7 @@ returns-then-not-accepts_next g c = λ test p e f.
     let text = g.Input.InputIndexer.text c.args.searched.now.input in
     let is = g.met.Input.InputIndexer.is_text c.args.searched.now.input in
     let offset = g.Input.Position.PositionType.offset in
-    reach-end text is test (way g.Dir.Direction.FORWARD) c.args.run.min_iters c.args.run.max_iters p (state_of offset c.args.state.now)
+    reach-end text is test (heading g.Dir.Direction.FORWARD) c.args.run.min_iters c.args.run.max_iters p (state_of offset c.args.state.now)
     c.characters.count (offset c.characters.at) (offset c.accepts_next.new.pos) _ _ c.accepts_next.result (c.characters.invariant.reaching test p e f) c.in_ok-keep.ensures
     (omega (arith, c.characters.invariant.fits, c.if-count-run.false)) c.if-not-accepts_next.true (c.accepts_next.ensures test e)
 
@@ -49,7 +49,7 @@ characters-preserved g c =
     let text = g.Input.InputIndexer.text c.args.searched.now.input in
     let is = g.met.Input.InputIndexer.is_text c.args.searched.now.input in
     let offset = g.Input.Position.PositionType.offset in
-    let d = way g.Dir.Direction.FORWARD in
+    let d = heading g.Dir.Direction.FORWARD in
     let s = state_of offset c.args.state.now in
     let t = some-of (test_of (compiled (tree_of c.args.searched.now.program.now)) (Some (insn_of c.args.body))) c.requires.test in
     let p = IsBoundary-place text (offset c.args.state.now.pos) is c.requires.boundary in

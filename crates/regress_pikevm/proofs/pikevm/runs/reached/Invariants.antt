@@ -1,7 +1,7 @@
 use Rattle.std.proofs.Common.{◌≡◌, ℕ, ◌-◌, ◌≤◌, Bool, Some, map}
 use Rattle.regex_meaning.specs.Offsets.{IsBoundary, place_at}
 use Rattle.regex_pattern_front.specs.TreeOf.{tree_of}
-use Rattle.regress_input.specs.Reading.{way}
+use Rattle.regress_input.specs.Reading.{heading}
 use Rattle.regress_program.specs.Code.{compiled}
 use Rattle.regress_program.specs.Insns.{insn_of}
 use Rattle.regress_machine.specs.Machine.{test_of}
@@ -18,7 +18,7 @@ invariant-characters g l =
       fits : l.count ≤ l.run.max_iters;
       reaching :
           (test : ℕ → Bool) (p : ℕ) → test_of (compiled (tree_of l.searched.program.now)) (Some (insn_of l.body)) ≡ Some test → place_at text (offset l.state.pos) ≡ Some p
-          → IsReaching text test (way g.Dir.Direction.FORWARD) l.run.min_iters l.run.max_iters p (state_of offset l.state) l.count (offset l.at) (map (λ s. state_of offset s) l.states.items);
+          → IsReaching text test (heading g.Dir.Direction.FORWARD) l.run.min_iters l.run.max_iters p (state_of offset l.state) l.count (offset l.at) (map (λ s. state_of offset s) l.states.items);
     }
 
 abbrev pub decreases-characters : goal.decreases-characters

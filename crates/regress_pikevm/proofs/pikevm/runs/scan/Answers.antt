@@ -1,6 +1,6 @@
 use Rattle.std.proofs.Common.{Some}
 use Rattle.regex_pattern_front.specs.TreeOf.{tree_of}
-use Rattle.regress_input.specs.Reading.{way}
+use Rattle.regress_input.specs.Reading.{heading}
 use Rattle.regress_program.specs.Code.{compiled}
 use Rattle.regress_program.specs.Insns.{insn_of}
 use Rattle.regress_machine.specs.Machine.{test_of}
@@ -12,5 +12,5 @@ pub returns : goal.returns
 returns g c =
     let text = g.Input.InputIndexer.text c.args.searched.now.input in
     let offset = g.Input.Position.PositionType.offset in
-    scanned offset text (test_of (compiled (tree_of c.args.searched.now.program.now)) (Some (insn_of c.args.body))) (way g.Dir.Direction.FORWARD) (state_of offset c.args.state)
+    scanned offset text (test_of (compiled (tree_of c.args.searched.now.program.now)) (Some (insn_of c.args.body))) (heading g.Dir.Direction.FORWARD) (state_of offset c.args.state)
     c.args.run.min_iters c.args.run.max_iters c.args.run.greedy c.in_ok-tries.tries c.in_ok-tries.states.items _ c.requires.can c.in_ok-tries.ensures c.preferred_last.ensures

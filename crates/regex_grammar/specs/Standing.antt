@@ -39,7 +39,9 @@ AreNumbered opened names =
 
 -- The rest completes what is read to what the whole pattern is; but if a reference is past all groups, the pattern is
 -- nothing.
-pub record Stands (flags : Flags) (pattern : Text) (references groups : ℕ) (around : List Open) (level : Level) (here : Text) : Type 0 where
+pub record Stands
+    (flags : Flags) (pattern : Text) (references groups : ℕ) (around : List Open) (level : Level) (here : Text)
+    : Type 0 where
   pub opened : List Text
   pub count : length opened ≡ groups
   pub found : names_of pattern ≡ opened ++ names_of here

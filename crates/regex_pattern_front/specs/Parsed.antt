@@ -44,9 +44,11 @@ node_around (Look negate backwards) name start end contents =
 -- ---- What functions read
 
 -- The term, or a loop over it, where it is an atom; a quantifier is refused that is out of order or repeats no atom.
-abbrev pub IsRepeated : (is_atom : Bool) → (here : Text) → (start end : ℕ) → tree.Node → Result Node Fault → (there : Text) → Type 0
+abbrev pub IsRepeated :
+    (is_atom : Bool) → (here : Text) → (start end : ℕ) → tree.Node → Result Node Fault → (there : Text) → Type 0
 IsRepeated true here start end term (Ok n) there =
-    (opened : List Text) → length opened ≡ end → grammar.IsTerm start term (spot here opened) (spot there opened) (node_of n)
+    (opened : List Text) → length opened ≡ end
+    → grammar.IsTerm start term (spot here opened) (spot there opened) (node_of n)
 IsRepeated false here start end term (Ok n) there = (there ≡ here) × (node_of n ≡ term)
 IsRepeated true here start end term (Err e) there =
     IsTrue (is_refused e) → IsQuantified here × ((rest : Text) (q : tree.Quantifier) → Quantified here rest q → ⊥)
@@ -59,8 +61,11 @@ is_named Plain = false
 is_named (Look negate backwards) = false
 
 -- the name of a group that has one, unless its number is another
-abbrev pub IsNameRead : {R : Type 0} → (numbers : Text → Option ℕ) → (groups : ℕ) → (named : Bool) → (here : Text) → Result (Option (String R)) Fault → (there : Text) → Type 0
-IsNameRead numbers groups true here (Ok name) there = GroupName here there (name_of name) × (numbers (name_of name) ≡ Some (groups + 1))
+abbrev pub IsNameRead :
+    {R : Type 0} → (numbers : Text → Option ℕ) → (groups : ℕ) → (named : Bool) → (here : Text)
+    → Result (Option (String R)) Fault → (there : Text) → Type 0
+IsNameRead numbers groups true here (Ok name) there =
+    GroupName here there (name_of name) × (numbers (name_of name) ≡ Some (groups + 1))
 IsNameRead numbers groups false here (Ok name) there = (there ≡ here) × (name_of name ≡ [])
 IsNameRead numbers groups true here (Err e) there =
     IsTrue (is_refused e) → (rest name : Text) → GroupName here rest name → numbers name ≡ Some (groups + 1) → ⊥
@@ -72,12 +77,16 @@ IsNameRead numbers groups false here (Err e) there = IsTrue (is_refused e) → �
 pub record HasRead (pattern here : Text) (p : Parser) : Type 0 where
   pub numbers : AreFew (names_of pattern) → AreNumbers p.leaves.numbers (names_of pattern)
   pub few : p.groups ≤ 65535
-  pub stands : Stands (flags_of p.leaves.flags) pattern p.leaves.references p.groups (around_from [] p.around.items) (level_of p.level) here
+  pub stands :
+      let around = around_from [] p.around.items in
+      Stands (flags_of p.leaves.flags) pattern p.leaves.references p.groups around (level_of p.level) here
 
 -- It reads on from here, or the pattern has no tree, or there is no memory.
 abbrev pub ReadsOn : (here : Text) → (old : Parser) → {A : Type 0} → Result A Fault → (new : Parser) → Type 0
-ReadsOn here old (Ok u) new = (pattern : Text) → HasRead pattern here old → HasRead pattern new.leaves.reader.rest.now new
-ReadsOn here old (Err e) new = IsTrue (is_refused e) → (pattern : Text) → HasRead pattern here old → NoTree (flags_of old.leaves.flags) pattern
+ReadsOn here old (Ok u) new =
+    (pattern : Text) → HasRead pattern here old → HasRead pattern new.leaves.reader.rest.now new
+ReadsOn here old (Err e) new =
+    IsTrue (is_refused e) → (pattern : Text) → HasRead pattern here old → NoTree (flags_of old.leaves.flags) pattern
 
 -- the tree of a pattern, or it has none, or there is no memory
 abbrev pub IsParsed : {A : Type 0} → (of : A → tree.Tree) → tree.Flags → (pattern : Text) → Result A Fault → Type 0

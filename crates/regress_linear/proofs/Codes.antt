@@ -24,7 +24,7 @@ less-apart r a b x y p q e less =
     let le : r * (x + 1) ≤ r * y = mul-le-mul_left r (omega (arith, less)) in
     omega (arith, p, e, le)
 
-digits-same : (r a b x y : ℕ) → a < r → b < r → a + r * x ≡ b + r * y → (a ≡ b) × (x ≡ y)
+pub digits-same : (r a b x y : ℕ) → a < r → b < r → a + r * x ≡ b + r * y → (a ≡ b) × (x ≡ y)
 digits-same r a b x y p q e = elim (cases_lt x y) [
   | inl less ↦ absurd (less-apart r a b x y p q e less)
   | inr ge ↦ elim (cases_lt y x) [
@@ -44,7 +44,7 @@ number-below : (o : Option LoopData) (number : LoopData → ℕ) (n : ℕ) → 0
 number-below None number n some below = some
 number-below (Some x) number n some below = below x
 
-answer-below : (q : Question) (s : State) → answer q s < answers q
+pub answer-below : (q : Question) (s : State) → answer q s < answers q
 answer-below (is_empty l) s = number-below (slice_get s.loops l) _ 2 (omega arith) (λ x. bit (x.entry == s.pos))
   where
     bit : (b : Bool) → digit b < 2
@@ -52,7 +52,7 @@ answer-below (is_empty l) s = number-below (slice_get s.loops l) _ 2 (omega arit
     bit false = omega arith
 answer-below (how_many l most) s = number-below (slice_get s.loops l) _ (most + 1) (omega arith) (λ x. omega arith)
 
-code-below : (qs : List Question) (s : State) → code_of qs s < codes_of qs
+pub code-below : (qs : List Question) (s : State) → code_of qs s < codes_of qs
 code-below [] s = omega arith
 code-below (q ∷ qs) s = digit-below (answers q) (answer q s) (codes_of qs) (code_of qs s) (answer-below q s) (code-below qs s)
 
@@ -67,7 +67,7 @@ answers-same (r ∷ qs) s t e q h =
     by same later (inr there) = later there
 
 -- an answer of a loop that is there
-answer-is : (o : Option LoopData) (x : LoopData) (number : LoopData → ℕ) → o ≡ Some x → unwrap_or (option_map number o) 0 ≡ number x
+pub answer-is : (o : Option LoopData) (x : LoopData) (number : LoopData → ℕ) → o ≡ Some x → unwrap_or (option_map number o) 0 ≡ number x
 answer-is o x number e = ap (λ o. unwrap_or (option_map number o) 0) e
 
 bit-same : (b c : Bool) → digit b ≡ digit c → b ≡ c
@@ -100,10 +100,10 @@ module _ (questions : ℕ → List Question) (a : Account) (asks : AsksAll quest
 
 -- ---- Keys
 
-and-both : (b c : Bool) → b ≡ true → c ≡ true → (b && c) ≡ true
+pub and-both : (b c : Bool) → b ≡ true → c ≡ true → (b && c) ≡ true
 and-both b c e f = ap (λ b. b && c) e ∙ f
 
-way-same : (w d : Direction) → w ≡ d → is_way w d ≡ true
+pub way-same : (w d : Direction) → w ≡ d → is_way w d ≡ true
 way-same rightwards rightwards e = refl
 way-same leftwards leftwards e = refl
 way-same rightwards leftwards e = cc

@@ -76,20 +76,24 @@ pub record IsStateOf (program : Program) (s : State) : Type 0 where
   pub starts : length s.starts ≡ program.groups
   pub loops : length s.loops ≡ program.loops
 
-module _ (program : Program) (text : Text) (a : Account) (questions : ℕ → List Question) (way : ℕ → Direction) (ips : List ℕ) where
+module _ (program : Program) (text : Text) (a : Account) where
   -- A sound thread at an instruction that records has its key.
-  abbrev pub ThreadHasKey : (rows : Key → List Shape) (taken : Key → ℕ) → Type 0
-  ThreadHasKey rows taken = (d : Direction) (s : State) → is_one_of ips s.ip ≡ true → way s.ip ≡ d → IsStateOf program s
-      → Agree a (units text) outermost d s s → rows (key_of (plan_code questions) s) ≡ own_row (key_of (plan_code questions) s)
-      → IsOf program text a (place_keys program (plan_code questions) way ips (units text) (plan_codes questions) rows taken) d
+  abbrev pub ThreadHasKey : (questions : ℕ → List Question) (way : ℕ → Direction) (ips : List ℕ)
+      (rows : Key → List Shape) (taken : Key → ℕ) → Type 0
+  ThreadHasKey questions way ips rows taken = (d : Direction) (s : State)
+      → is_one_of ips s.ip ≡ true → way s.ip ≡ d → IsStateOf program s → Agree a (units text) outermost d s s
+      → rows (key_of (plan_code questions) s) ≡ own_row (key_of (plan_code questions) s)
+      → IsOf program text a
+      (place_keys program (plan_code questions) way ips (units text) (plan_codes questions) rows taken) d
       (key_of (plan_code questions) s) (running s ∷ [])
 
 -- ---- Laws
 
--- The code of a plan that asks all that an account does tells it, and it is one of as many numbers as there are answers to
--- all questions of the instruction together.
+-- The code of a plan that asks all that an account does tells it, and it is one of as many numbers as there are answers
+-- to all questions of the instruction together.
 pub record PlansTell : Type 0 where
-  pub tells : (questions : ℕ → List Question) (a : Account) (top : ℕ) → AsksAll questions a → Tells a top (plan_code questions)
+  pub tells : (questions : ℕ → List Question) (a : Account) (top : ℕ) → AsksAll questions a
+      → Tells a top (plan_code questions)
   pub below : (questions : ℕ → List Question) (s : State) → plan_code questions s < plan_codes questions s.ip
-  pub has_key : (program : Program) (text : Text) (a : Account) (questions : ℕ → List Question) (way : ℕ → Direction) (ips : List ℕ)
-      (rows : Key → List Shape) (taken : Key → ℕ) → ThreadHasKey program text a questions way ips rows taken
+  pub has_key : (program : Program) (text : Text) (a : Account) (questions : ℕ → List Question) (way : ℕ → Direction)
+      (ips : List ℕ) (rows : Key → List Shape) (taken : Key → ℕ) → ThreadHasKey program text a questions way ips rows taken

@@ -96,4 +96,5 @@ pub record PlansTell : Type 0 where
       → Tells a top (plan_code questions)
   pub below : (questions : ℕ → List Question) (s : State) → plan_code questions s < plan_codes questions s.ip
   pub has_key : (program : Program) (text : Text) (a : Account) (questions : ℕ → List Question) (way : ℕ → Direction)
-      (ips : List ℕ) (rows : Key → List Shape) (taken : Key → ℕ) → ThreadHasKey program text a questions way ips rows taken
+      (ips : List ℕ) (rows : Key → List Shape) (taken : Key → ℕ)
+      → ThreadHasKey program text a questions way ips rows taken

@@ -4,6 +4,8 @@ use Rattle.regex_meaning.specs.Tree.{Node, Tree, Flags, goal, char, cat, end_of_
 use Rattle.regex_grammar.specs.Reading.{Text, Whole}
 use Rattle.regex_grammar.specs.Grammar.{Disjunction, Parses}
 use Rattle.regex_grammar.specs.Ahead.{names_ahead}
+use Rattle.std.specs.Prelude.{ℕ, ◌≤◌, length, count_by, nat_eq, nat_lt, if◌then◌else◌}
+use Rattle.regex_meaning.specs.Tree.{group_ids}
 
 abbrev pub no_flags : Flags
 no_flags =
@@ -28,3 +30,11 @@ GroupsAreFound =
     (w : Whole) (pattern : Text) (groups : List Text) (n : Node)
     → Disjunction w false (record { text = pattern; opened = [] }) (record { text = []; opened = groups }) n
     → groups ≡ names_ahead false pattern
+
+-- a pattern has as many groups as are found ahead, at most 65,535, and each number below theirs is the id of exactly one
+abbrev pub GroupsAreCounted : Type 0
+GroupsAreCounted =
+    (flags : Flags) (pattern : Text) (t : Tree) → Parses flags pattern t →
+    let groups = length (names_ahead false pattern) in
+    (length (group_ids t.root) ≡ groups) × (groups ≤ 65535)
+    × ((id : ℕ) → count_by (nat_eq id) (group_ids t.root) ≡ (if nat_lt id groups then 1 else 0))

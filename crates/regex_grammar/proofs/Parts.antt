@@ -1,14 +1,17 @@
--- The trees of the parts of a pattern.
-use Rattle.std.proofs.Common.{◌≡◌, ℕ, zero, suc, ◌+◌, ◌-◌, ◌<◌, ◌≤◌, Bool, true, false, ◌&&◌, ◌||◌, List, [], ◌∷◌, ◌++◌, length, count_by, sum_by, refl, ap, ◌∙◌, arith, inl, inr, length-append}
-use Rattle.std.specs.Prelude.{if◌then◌else◌, IsTrue, nat_eq, nat_le}
+-- The trees of the parts of a pattern, and the well-formed tree that the whole has.
+use Rattle.std.proofs.Common.{◌≡◌, ℕ, zero, suc, ◌+◌, ◌-◌, ◌<◌, ◌≤◌, Bool, true, false, ◌&&◌, ◌||◌, List, [], ◌∷◌, ◌++◌, length, count_by, sum_by, refl, ap, ◌∙◌, arith, inl, inr, length-append, append-nil}
+use Rattle.std.specs.Prelude.{if◌then◌else◌, IsTrue, nat_eq, nat_le, ◌==◌}
 use Rattle.std.proofs.lemmas.Bool.{cases_lt, cases_eq, lt-ltb, le-ltb, lt-leb, le-leb, leb-true, eq-eqb, ne_eqb, and_parts, and_from}
 use Rattle.std.proofs.lemmas.List.Sums.{sum_by-append}
 use Rattle.regex_meaning.specs.Lists.{contains, numbers_from}
 use Rattle.regex_meaning.specs.Tree.{Node, group_ids, every, empty, goal, char, char_set, byte_set, byte_sequence, cat, end_of_cat, alt, bracket, string_set, match_any, match_any_except_line_terminator, anchor, word_boundary, capture_group, back_ref, lookaround, loop, loop_1_char_body, Quantifier}
-use Rattle.regex_meaning.specs.WellFormed.{goal_count, encloses, is_in_order, names_the_groups_inside, refers_to_a_group, has_order_in_quantifier, has_one_character_body, fits_instructions}
+use Rattle.regex_meaning.specs.WellFormed.{goal_count, encloses, is_in_order, names_the_groups_inside, refers_to_a_group, has_order_in_quantifier, has_one_character_body, has_text_in_sequence, fits_instructions, is_well_formed}
+use Rattle.regex_meaning.specs.Layout.{reads_bytes}
+use Rattle.regex_meaning.proofs.WellFormedLemmas.{by_clauses}
 use Rattle.regex_meaning.proofs.Booleans.{and-left, and-right}
 use Rattle.regex_meaning.proofs.Lists.{list_all-members}
 use Rattle.regex_grammar.specs.Parts.{is_of_pattern, is_sound, times, once_within, IsPart, IsLeaf}
+use Rattle.regex_grammar.specs.Loops.{is_plain, has_plain_loops}
 
 -- ---- Tests
 
@@ -263,3 +266,62 @@ part-loop first end greatest q n order p = record {
   ids = p.ids;
   sound = and_from _ _ (sound-from greatest (loop q first end n) (record { names = part-encloses first end greatest n p; refers = refl; order = order; body = refl; characters = refl; fits = refl })) p.sound;
 }
+
+-- ---- Characters
+
+text-from : (n : Node) → is_of_pattern n ≡ true → has_text_in_sequence n ≡ true
+text-from (byte_sequence bytes) h = grind arith
+text-from _ h = refl
+
+neither : (a b : Bool) → a ≡ false → b ≡ false → (a || b) ≡ false
+neither a b h k = rw (h, k) refl
+
+reads-none : (n : Node) → every is_of_pattern n ≡ true → reads_bytes n ≡ false
+reads-none (byte_set members) h = grind arith
+reads-none (byte_sequence bytes) h = grind arith
+reads-none (cat first rest) h = neither _ _ (reads-none first (and-left _ (every is_of_pattern rest) h)) (reads-none rest (and-right (every is_of_pattern first) _ h))
+reads-none (alt first rest) h = neither _ _ (reads-none first (and-left _ (every is_of_pattern rest) h)) (reads-none rest (and-right (every is_of_pattern first) _ h))
+reads-none (capture_group id name contents) h = reads-none contents h
+reads-none (lookaround l contents) h = reads-none contents h
+reads-none (loop q s e loopee) h = reads-none loopee h
+reads-none (loop_1_char_body q loopee) h = grind arith
+reads-none _ h = refl
+
+-- ---- The whole pattern
+
+whole-goals : (n : Node) → goal_count n ≡ 0 → (goal_count (cat n (cat goal end_of_cat)) == 1) ≡ true
+whole-goals n h = rw h
+
+whole-every : (greatest : ℕ) (n : Node) (test : Node → Bool) → ((m : Node) → is_sound greatest m ≡ true → test m ≡ true)
+    → every (is_sound greatest) n ≡ true → every test (cat n (cat goal end_of_cat)) ≡ true
+whole-every greatest n test weaker h =
+    every-weaker (is_sound greatest) test weaker (cat n (cat goal end_of_cat)) (and_from _ _ (and_from _ _ refl h) refl)
+
+pub whole-reads_none : (greatest : ℕ) (n : Node) → every (is_sound greatest) n ≡ true → reads_bytes (cat n (cat goal end_of_cat)) ≡ false
+whole-reads_none greatest n h = reads-none (cat n (cat goal end_of_cat)) (whole-every greatest n is_of_pattern (λ m k. (Sound-from greatest m k).characters) h)
+
+plain-node : (n : Node) → is_of_pattern n ≡ true → is_plain n ≡ true
+plain-node (loop_1_char_body q loopee) h = h
+plain-node _ h = refl
+
+pub whole-plain : (greatest : ℕ) (n : Node) → every (is_sound greatest) n ≡ true → IsTrue (has_plain_loops (cat n (cat goal end_of_cat)))
+whole-plain greatest n h = whole-every greatest n is_plain (λ m k. plain-node m (Sound-from greatest m k).characters) h
+
+pub whole : (groups greatest : ℕ) (n : Node) → greatest ≤ groups → IsPart 0 groups greatest n → IsTrue (is_well_formed (cat n (cat goal end_of_cat)))
+whole groups greatest n within p =
+    let ids_are : group_ids (cat n (cat goal end_of_cat)) ≡ group_ids n = append-nil (group_ids n) in
+    let count_is : length (group_ids n) ≡ groups = omega (arith, p.count) in
+    let root_count : length (group_ids (cat n (cat goal end_of_cat))) ≡ groups = ap length ids_are ∙ count_is in
+    by_clauses (cat n (cat goal end_of_cat)) (record {
+      goal_last = and_from _ _ (whole-goals n p.goals) refl;
+      ids = rw ids_are (list_all-members _ (numbers_from 0 (length (group_ids n))) (λ id k.
+          let r = numbers-within id 0 (length (group_ids n)) k in
+          rw (p.ids id, once-inside 0 groups id (omega arith) (omega arith))));
+      enclosed = whole-every greatest n names_the_groups_inside (λ m k. (Sound-from greatest m k).names) p.sound;
+      references = whole-every greatest n (refers_to_a_group (length (group_ids (cat n (cat goal end_of_cat)))))
+          (λ m k. refers-more greatest (length (group_ids (cat n (cat goal end_of_cat)))) m (omega (arith, root_count)) (Sound-from greatest m k).refers) p.sound;
+      quantifiers = whole-every greatest n has_order_in_quantifier (λ m k. (Sound-from greatest m k).order) p.sound;
+      bodies = whole-every greatest n has_one_character_body (λ m k. (Sound-from greatest m k).body) p.sound;
+      sequences = whole-every greatest n has_text_in_sequence (λ m k. text-from m (Sound-from greatest m k).characters) p.sound;
+      sets = whole-every greatest n fits_instructions (λ m k. (Sound-from greatest m k).fits) p.sound;
+    })

@@ -1,4 +1,4 @@
--- The trees of patterns, from one place to another.
+-- The trees of patterns are well formed.
 use Rattle.std.proofs.Common.{◌≡◌, ℕ, ◌+◌, ◌<◌, ◌≤◌, Bool, true, false, ◌&&◌, List, [], ◌∷◌, ◌++◌, length, count_by, refl, sym, ap, subst, ◌∙◌, arith, length-append, append-nil, reverse}
 use Rattle.std.specs.Prelude.{if◌then◌else◌, nat_le, nat_lt, nat_eq, ◌==◌, IsTrue}
 use Rattle.std.proofs.lemmas.Bool.{le-leb}
@@ -13,8 +13,8 @@ use Rattle.regex_grammar.specs.Parts.{is_sound, times, once_within, IsPart, IsLe
 use Rattle.regex_grammar.specs.Ahead.{names_ahead}
 use Rattle.regex_meaning.proofs.Booleans.{and-left, and-right}
 use Rattle.regex_grammar.proofs.Found.{groups_are_found}
-use Rattle.regex_grammar.specs.Laws.{GroupsAreCounted}
-use Rattle.regex_grammar.proofs.Parts.{part-leaf, IsJoined, part-joined, joined-cat, joined-alt, part-group, part-lookaround, part-loop, count_by-append}
+use Rattle.regex_grammar.specs.Laws.{GroupsAreCounted, TreesAreWellFormed}
+use Rattle.regex_grammar.proofs.Parts.{part-leaf, IsJoined, part-joined, joined-cat, joined-alt, part-group, part-lookaround, part-loop, count_by-append, whole, whole-reads_none, whole-plain}
 use Rattle.regex_grammar.proofs.References.{number-positive, number_of-bounds}
 
 -- ---- Atoms without groups
@@ -183,3 +183,8 @@ groups_are_counted flags pattern t (pattern_is {n = n} groups d distinct few) =
       omega (arith, few, found),
       λ id. ap (λ x. count_by (nat_eq id) x) ids ∙ p.ids id ∙ ids-within id (length groups) ∙ ap (λ m. if nat_lt id m then 1 else 0) found,
     )
+
+pub trees_are_well_formed : TreesAreWellFormed
+trees_are_well_formed flags pattern t (pattern_is {n = n} groups d distinct few) =
+    let p = part-disjunction d in
+    (refl, whole (length groups) (length groups) n (omega arith) p, whole-reads_none (length groups) n p.sound, whole-plain (length groups) n p.sound)

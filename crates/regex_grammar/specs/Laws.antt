@@ -4,8 +4,11 @@ use Rattle.regex_meaning.specs.Tree.{Node, Tree, Flags, goal, char, cat, end_of_
 use Rattle.regex_grammar.specs.Reading.{Text, Whole}
 use Rattle.regex_grammar.specs.Grammar.{Disjunction, Parses}
 use Rattle.regex_grammar.specs.Ahead.{names_ahead}
-use Rattle.std.specs.Prelude.{ℕ, ◌≤◌, length, count_by, nat_eq, nat_lt, if◌then◌else◌}
+use Rattle.std.specs.Prelude.{ℕ, ◌≤◌, IsTrue, length, count_by, nat_eq, nat_lt, if◌then◌else◌}
 use Rattle.regex_meaning.specs.Tree.{group_ids}
+use Rattle.regex_meaning.specs.WellFormed.{IsWellFormed}
+use Rattle.regex_meaning.specs.Layout.{reads_bytes}
+use Rattle.regex_grammar.specs.Loops.{has_plain_loops}
 
 abbrev pub no_flags : Flags
 no_flags =
@@ -38,3 +41,9 @@ GroupsAreCounted =
     let groups = length (names_ahead false pattern) in
     (length (group_ids t.root) ≡ groups) × (groups ≤ 65535)
     × ((id : ℕ) → count_by (nat_eq id) (group_ids t.root) ≡ (if nat_lt id groups then 1 else 0))
+
+-- the tree of a pattern is well formed, reads no bytes, and has no loop over one character
+abbrev pub TreesAreWellFormed : Type 0
+TreesAreWellFormed =
+    (flags : Flags) (pattern : Text) (t : Tree) → Parses flags pattern t
+    → (t.flags ≡ flags) × IsWellFormed t.root × (reads_bytes t.root ≡ false) × IsTrue (has_plain_loops t.root)

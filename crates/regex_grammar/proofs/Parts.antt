@@ -81,22 +81,19 @@ sound-more greatest more n h k =
     let s = Sound-from greatest n k in
     sound-from more n (record { names = s.names; refers = refers-more greatest more n h s.refers; order = s.order; body = s.body; characters = s.characters; fits = s.fits })
 
-every-more : (greatest more : ℕ) (n : Node) → greatest ≤ more → every (is_sound greatest) n ≡ true → every (is_sound more) n ≡ true
+pub every-more : (greatest more : ℕ) (n : Node) → greatest ≤ more → every (is_sound greatest) n ≡ true → every (is_sound more) n ≡ true
 every-more greatest more n h k = every-weaker (is_sound greatest) (is_sound more) (λ m. sound-more greatest more m h) n k
-
-pub part-more : (first end greatest more : ℕ) (n : Node) → greatest ≤ more → IsPart first end greatest n → IsPart first end more n
-part-more first end greatest more n h p = record { goals = p.goals; count = p.count; ids = p.ids; sound = every-more greatest more n h p.sound }
 
 -- ---- Ids
 
-within-none : (first id : ℕ) → once_within first first id ≡ 0
+pub within-none : (first id : ℕ) → once_within first first id ≡ 0
 within-none first id =
     elim (cases_lt id first) [
       | inl below ↦ rw (lt-leb first id below)
       | inr above ↦ rw (le-leb first id above, le-ltb id first above)
     ]
 
-within-join : (first middle end id : ℕ) → first ≤ middle → middle ≤ end
+pub within-join : (first middle end id : ℕ) → first ≤ middle → middle ≤ end
     → once_within first middle id + once_within middle end id ≡ once_within first end id
 within-join first middle end id h k =
     elim (cases_lt id first) [
@@ -120,7 +117,7 @@ within-first first end id h =
           ])
     ]
 
-sum_by-cons : {X : Type 0} (f : X → ℕ) (x : X) (xs : List X) → sum_by f (x ∷ xs) ≡ f x + sum_by f xs
+pub sum_by-cons : {X : Type 0} (f : X → ℕ) (x : X) (xs : List X) → sum_by f (x ∷ xs) ≡ f x + sum_by f xs
 sum_by-cons f x xs = let e = sum_by-append f (x ∷ []) xs in omega (arith, e)
 
 count_by-cons : (p : ℕ → Bool) (x : ℕ) (xs : List ℕ) → count_by p (x ∷ xs) ≡ (if p x then 1 else 0) + count_by p xs
@@ -138,9 +135,6 @@ part-leaf first greatest n l = record {
   ids = λ id. rw (l.ids, within-none first id);
   sound = l.sound;
 }
-
-pub leaf-more : (greatest more : ℕ) (n : Node) → greatest ≤ more → IsLeaf greatest n → IsLeaf more n
-leaf-more greatest more n h l = record { goals = l.goals; ids = l.ids; sound = every-more greatest more n h l.sound }
 
 -- ---- Two parts made one
 

@@ -9,6 +9,10 @@ use Rattle.regex_meaning.specs.Tree.{group_ids}
 use Rattle.regex_meaning.specs.WellFormed.{IsWellFormed}
 use Rattle.regex_meaning.specs.Layout.{reads_bytes}
 use Rattle.regex_grammar.specs.Loops.{has_plain_loops}
+use Rattle.std.specs.Prelude.{map}
+use Rattle.regex_meaning.specs.Flags.{escape}
+use Rattle.regex_grammar.specs.Reading.{cat_of}
+use Rattle.regex_grammar.specs.Grammar.{character_node}
 
 abbrev pub no_flags : Flags
 no_flags =
@@ -47,3 +51,12 @@ abbrev pub TreesAreWellFormed : Type 0
 TreesAreWellFormed =
     (flags : Flags) (pattern : Text) (t : Tree) → Parses flags pattern t
     → (t.flags ≡ flags) × IsWellFormed t.root × (reads_bytes t.root ≡ false) × IsTrue (has_plain_loops t.root)
+
+-- an escaped text is a pattern with every flag, and its tree has the characters of the text one after the other
+abbrev pub EscapedTextsAreRead : Type 0
+EscapedTextsAreRead =
+    (flags : Flags) (text : Text)
+    → Parses flags (escape text) (record {
+      root = cat (cat_of (map (character_node flags) text)) (cat goal end_of_cat);
+      flags = flags;
+    })

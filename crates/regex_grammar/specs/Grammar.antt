@@ -85,7 +85,8 @@ mutual
     look : {p q r s : Place} {n : Node} (negate backwards : Bool)
         → p ≡ opener negate backwards ▸ q → Disjunction w backwards q r n → r ≡ ")" ▸ s
         → Assertion w p s
-        (lookaround (record { negate = negate; backwards = backwards; start_group = groups_at p; end_group = groups_at s }) n)
+        (lookaround
+        (record { negate = negate; backwards = backwards; start_group = groups_at p; end_group = groups_at s }) n)
 
   pub data Atom (w : Whole) : (behind : Bool) → Place → Place → Node → Type 0 where
     leaf : {behind : Bool} {p : Place} {there : Text} {n : Node}

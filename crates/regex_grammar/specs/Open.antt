@@ -58,7 +58,8 @@ pub data Closes (o : Open) (contents : Node) (p : Place) : (q : Place) → Node 
   looked : (negate backwards : Bool) (start : ℕ)
       → o.opened ≡ looks negate backwards start
       → Closes o contents p p
-      (lookaround (record { negate = negate; backwards = backwards; start_group = start; end_group = groups_at p }) contents)
+      (lookaround
+      (record { negate = negate; backwards = backwards; start_group = start; end_group = groups_at p }) contents)
   captured : {id : ℕ} {name : Text} {q : Place} {n : Node}
       → o.opened ≡ captures id name → IsTerm o.start (capture_group id name contents) p q n
       → Closes o contents p q n

@@ -32,7 +32,8 @@ abbrev pub NoLeaf : Whole → (here : Text) → Type 0
 NoLeaf w here = (end : Text) (n : tree.Node) → AtomLeaf w here end n → ⊥
 
 abbrev pub NoTerm : Whole → (here : Text) → Type 0
-NoTerm w here = (behind : Bool) (opened : List Text) (q : Place) (n : tree.Node) → Term w behind (place here opened) q n → ⊥
+NoTerm w here =
+    (behind : Bool) (opened : List Text) (q : Place) (n : tree.Node) → Term w behind (place here opened) q n → ⊥
 
 abbrev pub IsAssertion : Whole → (here there : Text) → tree.Node → Type 0
 IsAssertion w here there n = (opened : List Text) → Assertion w (place here opened) (place there opened) n
@@ -45,9 +46,10 @@ IsAtomOr false w here there n = IsAssertion w here there n
 abbrev pub IsLeafOf : Whole → (here : Text) → Leaf → (there : Text) → Type 0
 IsLeafOf w here l there = IsAtomOr l.is_atom w here there (node_of l.node)
 
--- That was read, unless its reference, which is the greatest then, is past all groups: then there is none here. Or there is
--- none, or no memory.
-abbrev pub IsReadOrNot : (none : Type 0) → Whole → (here : Text) → Result Leaf Fault → (old new : ℕ) → (there : Text) → Type 0
+-- That was read, unless its reference, which is the greatest then, is past all groups: then there is none here. Or there
+-- is none, or no memory.
+abbrev pub IsReadOrNot :
+    (none : Type 0) → Whole → (here : Text) → Result Leaf Fault → (old new : ℕ) → (there : Text) → Type 0
 IsReadOrNot none w here (Ok l) old new there =
     (new ≤ length w.groups → IsLeafOf w here l there) × (length w.groups < new → (length w.groups < old) ⊎ none)
 IsReadOrNot none w here (Err e) old new there = IsTrue (is_refused e) → none
@@ -97,12 +99,14 @@ begins_reference (Some c) = c == 107 || is_in_range 49 57 c
 
 -- `<name>`, where the name has this number
 abbrev pub IsNamed : (numbers : Text → Option ℕ) → (here there : Text) → ℕ → Type 0
-IsNamed numbers here there n = (a name : Text) × (here ≡ codes "<" ++ a) × GroupName a there name × (numbers name ≡ Some n)
+IsNamed numbers here there n =
+    (a name : Text) × (here ≡ codes "<" ++ a) × GroupName a there name × (numbers name ≡ Some n)
 
 -- or there is none that a group could have, or no memory
 abbrev pub IsNamedRead : (numbers : Text → Option ℕ) → (here : Text) → Result ℕ Fault → (there : Text) → Type 0
 IsNamedRead numbers here (Ok n) there = IsNamed numbers here there n
-IsNamedRead numbers here (Err e) there = IsTrue (is_refused e) → (end : Text) (n : ℕ) → IsNamed numbers here end n → 0 < n → ⊥
+IsNamedRead numbers here (Err e) there =
+    IsTrue (is_refused e) → (end : Text) (n : ℕ) → IsNamed numbers here end n → 0 < n → ⊥
 
 -- a number, if it is one and not 0
 abbrev pub IsCounted : Option ℕ → Result ℕ Fault → Type 0
@@ -117,7 +121,8 @@ IsDecimalRead here None there = (end : Text) (n : ℕ) → Digits 10 here end n 
 -- a reference behind its backslash, by its number or by a name that has one
 abbrev pub IsReference : (numbers : Text → Option ℕ) → (here there : Text) → ℕ → Type 0
 IsReference numbers here there n =
-    Digits 10 here there n ⊎ ((a name : Text) × (here ≡ codes "k<" ++ a) × GroupName a there name × (numbers name ≡ Some n))
+    Digits 10 here there n
+    ⊎ ((a name : Text) × (here ≡ codes "k<" ++ a) × GroupName a there name × (numbers name ≡ Some n))
 
 -- or there is none that a group could have, or no memory
 abbrev pub IsReferenceRead : (numbers : Text → Option ℕ) → (here : Text) → Result ℕ Fault → (there : Text) → Type 0

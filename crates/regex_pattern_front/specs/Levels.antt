@@ -22,7 +22,8 @@ nodes_at level = level.arms.items ++ level.terms.items
 -- each level has the groups that opened between its own parenthesis and the next.
 abbrev pub AreOpen : (greatest first : ℕ) → List Open → (inner : ℕ) → Type 0
 AreOpen greatest first [] inner = first ≡ inner
-AreOpen greatest first (o ∷ os) inner = AreParts first o.start greatest (nodes_at o.outer) × AreOpen greatest (o.start + captures o.opening) os inner
+AreOpen greatest first (o ∷ os) inner =
+    AreParts first o.start greatest (nodes_at o.outer) × AreOpen greatest (o.start + captures o.opening) os inner
 
 -- the levels have all groups that have opened
 pub record IsReading (p : Parser) : Type 0 where

@@ -45,7 +45,8 @@ OptimizedIsWellFormed = (root : Node) → IsTrue (is_well_formed root) → IsTru
 -- and each well-formed tree has the outcomes that it had
 abbrev pub OptimizedHasSameOutcomes : Type 0
 OptimizedHasSameOutcomes = (root : Node) → IsTrue (is_well_formed root)
-    → (text : Text) (direction : Direction) (place : ℕ) (groups : Groups) → outcomes text (optimized root) direction place groups ≡ outcomes text root direction place groups
+    → (text : Text) (direction : Direction) (place : ℕ) (groups : Groups)
+    → outcomes text (optimized root) direction place groups ≡ outcomes text root direction place groups
 
 -- and the list of matches that it had, from each start
 abbrev pub OptimizedHasSameAnswers : Type 0

@@ -28,4 +28,5 @@ pub record IsMadeOf (nodes : List Node) (n : tree.Node) : Type 0 where
   pub goals : goal_count n ≡ sum_by (λ m. goal_count (node_of m)) nodes
   pub count : length (group_ids n) ≡ sum_by (λ m. length (group_ids (node_of m))) nodes
   pub ids : (id : ℕ) → times id n ≡ sum_by (λ m. times id (node_of m)) nodes
-  pub sound : (greatest : ℕ) → All (λ m. IsTrue (every (is_sound greatest) (node_of m))) nodes → IsTrue (every (is_sound greatest) n)
+  pub sound : (greatest : ℕ) → All (λ m. IsTrue (every (is_sound greatest) (node_of m))) nodes
+      → IsTrue (every (is_sound greatest) n)

@@ -63,7 +63,8 @@ IsFound here (Some q) there = Quantified here there (quantifier_of q)
 -- that, or it is out of order
 abbrev pub IsQuantifierRead : (here : Text) → Result (Option Quantifier) Fault → (there : Text) → Type 0
 IsQuantifierRead here (Ok found) there = IsFound here found there
-IsQuantifierRead here (Err e) there = IsQuantified here × ((end : Text) (q : tree.Quantifier) → Quantified here end q → ⊥)
+IsQuantifierRead here (Err e) there =
+    IsQuantified here × ((end : Text) (q : tree.Quantifier) → Quantified here end q → ⊥)
 
 -- the same from the brace on
 abbrev pub IsBracesRead : (here : Text) → Option (ℕ × Option ℕ) → (there : Text) → Type 0
@@ -96,7 +97,8 @@ IsCodePoint here there c = (b : Text) × Digits 16 here b c × (b ≡ codes "}" 
 -- with a trail surrogate behind it a lead surrogate makes a pair, else the number stands for itself
 abbrev pub IsPaired : (lead : ℕ) → (here : Text) → (c : ℕ) → (there : Text) → Type 0
 IsPaired lead here c there =
-    ((trail : ℕ) × IsTrail here there trail × IsTrue (is_lead lead) × (c ≡ 0x1_0000 + (lead - 0xD800) * 0x400 + (trail - 0xDC00)))
+    ((trail : ℕ) × IsTrail here there trail × IsTrue (is_lead lead)
+    × (c ≡ 0x1_0000 + (lead - 0xD800) * 0x400 + (trail - 0xDC00)))
     ⊎ ((there ≡ here) × (c ≡ lead) × (IsTrue (is_lead lead) → (end : Text) (trail : ℕ) → IsTrail here end trail → ⊥))
 
 -- what is read here up to there, or there is nothing to read, or no memory
@@ -118,4 +120,5 @@ IsReadBy {B = B} of reads (Err e) there = (end : Text) (b : B) → reads end b �
 abbrev pub IsUnescapedRead : (here : Text) → Option ℕ → (there : Text) → Type 0
 IsUnescapedRead here None there = here ≡ []
 IsUnescapedRead here (Some c) there =
-    ((c ≡ 92) × ((here ≡ 92 ∷ []) × (there ≡ []))) ⊎ (((c ≡ 92) × (d : ℕ) × (here ≡ 92 ∷ d ∷ there)) ⊎ ((c ≢ 92) × (here ≡ c ∷ there)))
+    ((c ≡ 92) × ((here ≡ 92 ∷ []) × (there ≡ [])))
+    ⊎ (((c ≡ 92) × (d : ℕ) × (here ≡ 92 ∷ d ∷ there)) ⊎ ((c ≢ 92) × (here ≡ c ∷ there)))

@@ -43,7 +43,8 @@ unfoldable mutual
   node_of (CaptureGroup' id p contents name) = tree.capture_group id (name_of name) (node_of contents)
   node_of (BackRef group icase) = tree.back_ref group icase
   node_of (LookaroundAssertion' negate backwards start_group end_group p contents) =
-      tree.lookaround (record { negate = negate; backwards = backwards; start_group = start_group; end_group = end_group }) (node_of contents)
+      tree.lookaround (record { negate = negate; backwards = backwards; start_group = start_group; end_group = end_group })
+      (node_of contents)
   node_of (Loop' p loopee quant enclosed) = tree.loop (quantifier_of quant) enclosed.start enclosed.end (node_of loopee)
   node_of (Loop1CharBody' p loopee quant) = tree.loop_1_char_body (quantifier_of quant) (node_of loopee)
 

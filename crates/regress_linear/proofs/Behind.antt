@@ -31,7 +31,7 @@ module _ (program : Program) (text : Text) (a : Account) (d : Direction) (s : St
       subst (λ (x : Look). Looks a s.ip x.continuation) (some-same (record { inner = leftwards; negate = negate; continuation = continuation }) look e) r
   looks-there _ e r = cc
 
-  asks-there : (o : Option Insn) → look_at o ≡ Some look → act_on program text d o s ≡ asks look.inner look.negate (next_ip s) (at_ip look.continuation s)
+  pub asks-there : (o : Option Insn) → look_at o ≡ Some look → act_on program text d o s ≡ asks look.inner look.negate (next_ip s) (at_ip look.continuation s)
   asks-there (Some (Lookahead negate start_group end_group continuation)) e =
       ap (λ (x : Look). asks x.inner x.negate (next_ip s) (at_ip x.continuation s)) (some-same (record { inner = rightwards; negate = negate; continuation = continuation }) look e)
   asks-there (Some (Lookbehind negate start_group end_group continuation)) e =

@@ -1,5 +1,5 @@
 -- Rows at hand agree with those of the machine.
-use Rattle.std.proofs.Common.{◌≡◌, ◌≤◌, ℕ, ◌+◌, ◌*◌, min, List, [], ◌∷◌, ◌++◌, Option, Some, None, Bool, true, false, not, ◌&&◌, refl, ap, ap₂, ◌∙◌, sym, subst, arith, slice_get, length}
+use Rattle.std.proofs.Common.{◌≡◌, ◌≤◌, ℕ, ◌+◌, ◌*◌, min, List, [], ◌∷◌, Option, Some, None, Bool, true, false, not, ◌&&◌, refl, ap, ap₂, ◌∙◌, sym, subst, arith, slice_get, length}
 use Rattle.std.specs.Prelude.{IsSome, ◌==◌, option_map, unwrap_or}
 use mathlib.Core.Logic.{inl, inr}
 use Rattle.regex_meaning.specs.Text.{Text, Direction, rightwards, leftwards}
@@ -12,9 +12,8 @@ use Rattle.regress_simulation.specs.Simulates.{Simulates}
 use Rattle.regress_simulation.proofs.Simulates.{simulates-asks, simulates-fewer}
 use Rattle.regress_linear.specs.Alike.{AlikeThreads, AlikeEnds, AlikeAnswers}
 use Rattle.regress_linear.specs.Account.{Account, World, Looks, IsRightAt, SimilarAt, IsKeptIn, Agree, IsAccount}
-use Rattle.regress_linear.specs.Silent.{SameGroups, AreSilent}
+use Rattle.regress_linear.specs.Silent.{SameGroups}
 use Rattle.regress_linear.specs.Distinct.{IsIn}
-use Rattle.regress_linear.specs.Turns.{FindEnd}
 use Rattle.regress_linear.specs.Weights.{Shape, stands_there, has_shape}
 use Rattle.regress_linear.specs.Codes.{Question, is_empty, how_many, answers, digit, answer, code_of, plan_code}
 use Rattle.regress_linear.specs.Behind.{Look, look_at, GoesOn, SuccessGoesOn, AsksOnly, RowsAtHand}

@@ -1,14 +1,14 @@
 -- The keys, the turns and the work of a plan.
-use Rattle.std.proofs.Common.{◌≡◌, ◌≤◌, ℕ, ◌+◌, ◌*◌, List, [], ◌∷◌, ◌++◌, Option, Some, None, Bool, true, false, refl, ap, ◌∙◌, sym, subst, arith, append-nil, sum_by, slice_get}
+use Rattle.std.proofs.Common.{◌≡◌, ℕ, ◌+◌, ◌*◌, List, [], ◌∷◌, ◌++◌, Option, Some, None, Bool, true, false, refl, ap, ◌∙◌, sym, subst, arith, slice_get}
 use Rattle.regex_meaning.specs.Text.{Text, Direction, rightwards, leftwards}
-use Rattle.regex_meaning.specs.Offsets.{IsText, units, place_at}
+use Rattle.regex_meaning.specs.Offsets.{units, place_at}
 use Rattle.regex_meaning.specs.Layout.{Program}
 use Rattle.regress_machine.specs.Machine.{State, Thread, running, waiting, goes, asks, resumed, at_ip, next_ip, act, test_of}
 use Rattle.regress_simulation.specs.Simulates.{Simulates}
 use Rattle.regress_simulation.proofs.Simulates.{simulates-goes, simulates-waits, simulates-asks}
 use Rattle.regress_linear.specs.Account.{Account}
-use Rattle.regress_linear.specs.Turns.{Key, Keys, Entry, tried, noted, tries, threads_in, IsBare, at_of, GoesOnward, IsOf, Gives}
-use Rattle.regress_linear.specs.Codes.{Question, plan_code, plan_codes, own_row, key_of}
+use Rattle.regress_linear.specs.Turns.{Key, Keys, tried, noted, tries, threads_in, IsBare, GoesOnward, IsOf, Gives}
+use Rattle.regress_linear.specs.Codes.{Question, plan_code, plan_codes, key_of}
 use Rattle.regress_linear.specs.RunKeys.{row_by, plan_rows, plan_keys}
 use Rattle.regress_linear.specs.Behind.{Look, look_at}
 use Rattle.regress_linear.specs.Plans.{IsPlan, IsRecorded, ThreadGives, LookGives, PlansServe}

@@ -1,13 +1,12 @@
 -- The turns of runs without a maximum.
-use Rattle.std.proofs.Common.{◌≡◌, ◌≤◌, ◌<◌, ℕ, zero, suc, ◌+◌, ◌-◌, List, [], ◌∷◌, ◌++◌, map, reverse, Some, Bool, true, false, refl, ap, ap₂, ◌∙◌, sym, subst, arith, append_assoc, append-nil}
-use Rattle.std.specs.Prelude.{nat_lt, min, if◌then◌else◌}
-use mathlib.Core.Logic.{inl, inr}
-use Rattle.std.proofs.lemmas.Bool.{cases_lt, lt-ltb}
+use Rattle.std.proofs.Common.{◌≡◌, ◌≤◌, ◌<◌, ℕ, zero, suc, ◌+◌, ◌-◌, List, [], ◌∷◌, ◌++◌, map, reverse, Bool, true, false, refl, ap, ap₂, ◌∙◌, sym, subst, arith, append-nil}
+use Rattle.std.specs.Prelude.{nat_lt}
+use Rattle.std.proofs.lemmas.Bool.{lt-ltb}
 use Rattle.std.proofs.lemmas.List.{reverse-append}
 use Rattle.regex_meaning.specs.Lists.{numbers_from}
 use Rattle.regex_meaning.specs.Text.{Text, Direction, rightwards, leftwards, last_place, moved, characters_left}
-use Rattle.regex_meaning.specs.Offsets.{IsText, offset, place_at, units}
-use Rattle.regex_meaning.specs.Layout.{Program, Loop1CharBody}
+use Rattle.regex_meaning.specs.Offsets.{IsText, offset, units}
+use Rattle.regex_meaning.specs.Layout.{Program}
 use Rattle.regex_meaning.proofs.Each.{Each, Each-map, Each-reverse}
 use Rattle.regex_meaning.proofs.TextLemmas.{place_at-offset, offset-place_at}
 use Rattle.regress_machine.specs.Machine.{State, Thread, running, waiting, scans, in_turn, act}
@@ -15,7 +14,7 @@ use Rattle.regress_machine.proofs.Beside.{moved-zero}
 use Rattle.regress_machine.proofs.Run.{numbers_between}
 use Rattle.regress_simulation.specs.Simulates.{Simulates, FindNothing}
 use Rattle.regress_simulation.specs.Runs.{behind, fewest_first, most_first}
-use Rattle.regress_simulation.proofs.Simulates.{simulates-scans, simulates-waits, simulates-before, simulates-same, simulates-fewer}
+use Rattle.regress_simulation.proofs.Simulates.{simulates-scans, simulates-waits, simulates-before, simulates-same}
 use Rattle.regress_simulation.proofs.Runs.{behind-from}
 use Rattle.regress_linear.specs.Alike.{Relation, AlikeThreads}
 use Rattle.regress_linear.specs.Account.{Account, IsAccount, IsPassed, Agree, outermost}
@@ -25,7 +24,7 @@ use Rattle.regress_linear.specs.Weights.{each_noted, AreOfEach}
 use Rattle.regress_linear.specs.Codes.{Question, IsStateOf}
 use Rattle.regress_linear.specs.Runs.{passing, run_from, lazy_run_from, waits_from}
 use Rattle.regress_linear.specs.RunKeys.{RunRecords, run_key, plan_keys}
-use Rattle.regress_linear.specs.RunTurns.{key_behind, placed, AreUnknown, AtRun, GivesRun, GreedyGives, LazyGives, LazyRunsComeBack, RunsGive}
+use Rattle.regress_linear.specs.RunTurns.{key_behind, placed, AreUnknown, AtRun, RunsGive}
 use Rattle.regress_linear.proofs.Agree.{Moves, moves-on}
 use Rattle.regress_linear.proofs.Looks.{soundness-stays}
 use Rattle.regress_linear.proofs.Runs.{passing-left, passing-on, runs-leave, runs-begin, lazy-runs-go-on}

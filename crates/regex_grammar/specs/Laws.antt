@@ -13,6 +13,9 @@ use Rattle.std.specs.Prelude.{map}
 use Rattle.regex_meaning.specs.Flags.{escape}
 use Rattle.regex_grammar.specs.Reading.{cat_of}
 use Rattle.regex_grammar.specs.Grammar.{character_node}
+use Rattle.std.specs.Prelude.{◌==◌}
+use Rattle.std.specs.List.{list_all}
+use Rattle.regex_meaning.specs.Names.{names_by_id}
 
 abbrev pub no_flags : Flags
 no_flags =
@@ -60,3 +63,10 @@ EscapedTextsAreRead =
       root = cat (cat_of (map (character_node flags) text)) (cat goal end_of_cat);
       flags = flags;
     })
+
+-- the names by id of a tree's groups are those found ahead; there is no list if no group has a name
+abbrev pub NamesAreFound : Type 0
+NamesAreFound =
+    (flags : Flags) (pattern : Text) (t : Tree) → Parses flags pattern t →
+    let names = names_ahead false pattern in
+    names_by_id t.root ≡ (if list_all (λ name. length name == 0) names then [] else names)

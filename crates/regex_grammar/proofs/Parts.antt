@@ -196,7 +196,7 @@ counted_more : (t : Bool) (n : ℕ) (r : Bool) → 0 < (if t then 1 else 0) + n 
 counted_more true n r h k = refl
 counted_more false n r h k = k (omega arith)
 
-contains-counted : (xs : List ℕ) (id : ℕ) → 0 < count_by (nat_eq id) xs → contains xs id ≡ true
+pub contains-counted : (xs : List ℕ) (id : ℕ) → 0 < count_by (nat_eq id) xs → contains xs id ≡ true
 contains-counted [] id h = absurd (omega arith)
 contains-counted (x ∷ xs) id h = counted_more (nat_eq id x) (count_by (nat_eq id) xs) (contains xs id) (rw (count_by-cons (nat_eq id) x xs) at h) (λ k. contains-counted xs id k)
 
@@ -216,7 +216,7 @@ numbers-within x first (suc count) h =
       | inr ne ↦ let r = numbers-within x (first + 1) count (rw (ne_eqb x first ne) at h) in (omega arith, omega arith)
     ]
 
-once-inside : (first end id : ℕ) → first ≤ id → id < end → once_within first end id ≡ 1
+pub once-inside : (first end id : ℕ) → first ≤ id → id < end → once_within first end id ≡ 1
 once-inside first end id h k = rw (le-leb first id h, lt-ltb id end k)
 
 inside-once : (first end id : ℕ) → 0 < once_within first end id → (first ≤ id) × (id < end)

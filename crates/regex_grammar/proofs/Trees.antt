@@ -140,7 +140,7 @@ group-between greatest before {a = a} {c = c} {n = n} name e f h =
     part-group a c greatest name n (between greatest (ap (λ x. x + 1) e ∙ sym (length-append before (name ∷ []))) f h)
 
 mutual
-  part-disjunction : {w : Whole} {behind : Bool} {p q : Place} {n : Node} → Disjunction w behind p q n → Reads w p q n
+  pub part-disjunction : {w : Whole} {behind : Bool} {p q : Place} {n : Node} → Disjunction w behind p q n → Reads w p q n
   part-disjunction (last_alternative a) = part-alternative a
   part-disjunction {w} (alternatives {p = p} {q = q} {r = r} {s = s} a bar d) =
       part-joined (groups_at p) (groups_at q) (groups_at s) (groups_in w) _ _ _ (joined-alt _ _) (part-alternative a) (between (groups_in w) (ap groups_at bar) refl (part-disjunction d))

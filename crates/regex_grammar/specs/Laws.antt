@@ -9,10 +9,14 @@ use Rattle.regex_meaning.specs.Tree.{group_ids}
 use Rattle.regex_meaning.specs.WellFormed.{IsWellFormed}
 use Rattle.regex_meaning.specs.Layout.{reads_bytes}
 use Rattle.regex_grammar.specs.Loops.{has_plain_loops}
-use Rattle.std.specs.Prelude.{map}
+use Rattle.std.specs.Prelude.{map, chars}
+use Rattle.std.specs.Str.{is_utf8}
 use Rattle.regex_meaning.specs.Flags.{escape}
 use Rattle.regex_grammar.specs.Reading.{cat_of}
 use Rattle.regex_grammar.specs.Grammar.{character_node}
+use Rattle.std.specs.Prelude.{◌==◌}
+use Rattle.std.specs.List.{list_all}
+use Rattle.regex_meaning.specs.Names.{names_by_id}
 
 abbrev pub no_flags : Flags
 no_flags =
@@ -52,11 +56,23 @@ TreesAreWellFormed =
     (flags : Flags) (pattern : Text) (t : Tree) → Parses flags pattern t
     → (t.flags ≡ flags) × IsWellFormed t.root × (reads_bytes t.root ≡ false) × IsTrue (has_plain_loops t.root)
 
+-- the tree of characters one after the other
+abbrev pub row_of : Flags → Text → Tree
+row_of flags text = record { root = cat (cat_of (map (character_node flags) text)) (cat goal end_of_cat); flags = flags }
+
 -- an escaped text is a pattern with every flag, and its tree has the characters of the text one after the other
 abbrev pub EscapedTextsAreRead : Type 0
-EscapedTextsAreRead =
-    (flags : Flags) (text : Text)
-    → Parses flags (escape text) (record {
-      root = cat (cat_of (map (character_node flags) text)) (cat goal end_of_cat);
-      flags = flags;
-    })
+EscapedTextsAreRead = (flags : Flags) (text : Text) → Parses flags (escape text) (row_of flags text)
+
+-- so is a text whose bytes were escaped
+abbrev pub EscapedBytesAreRead : Type 0
+EscapedBytesAreRead =
+    (flags : Flags) (bytes : List ℕ) → IsTrue (is_utf8 bytes)
+    → Parses flags (chars (escape bytes)) (row_of flags (chars bytes))
+
+-- the names by id of a tree's groups are those found ahead; there is no list if no group has a name
+abbrev pub NamesAreFound : Type 0
+NamesAreFound =
+    (flags : Flags) (pattern : Text) (t : Tree) → Parses flags pattern t →
+    let names = names_ahead false pattern in
+    names_by_id t.root ≡ (if list_all (λ name. length name == 0) names then [] else names)

@@ -6,6 +6,7 @@ pub mod NodeLemmas
 pub mod MatchLemmas
 pub mod OptimizedLemmas
 pub mod PartLemmas
+pub mod PartingLemmas
 pub mod LevelLemmas
 pub mod LeafLemmas
 pub mod FirstByteLemmas

@@ -3,6 +3,7 @@ pub mod TreeOf
 pub mod ByteSets
 pub mod Searching
 pub mod Optimized
+pub mod Parting
 pub mod Parts
 pub mod Levels
 pub mod Depth

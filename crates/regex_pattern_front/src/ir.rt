@@ -1,9 +1,13 @@
 //! The pattern tree.
 
-ghost use Rattle.std.specs.Prelude.{◌≡◌};
+ghost use Rattle.std.specs.Prelude.{◌≡◌, ◌+◌, Some, None};
+ghost use Rattle.regex_pattern_front.specs.Parting.{IsParted, weight, weight_of, work_in, work_of};
+ghost use Rattle.regex_pattern_front.specs.TreeOf.{cat_of};
+ghost use Rattle.regex_pattern_front.specs.declared.ir.Node.{Node};
 
 use crate::flags::Flags;
 use crate::types::{BracketContents, CaptureGroupID};
+use std::mem;
 use std::ops::Range;
 
 /// `^` or `$`.
@@ -116,60 +120,147 @@ impl Node {
             other => other,
         }
     }
+
+    // Takes the node from what is inside it.
+    fn parted(self, rest: Option<Node>) -> Parted
+        ensures { IsParted result (work_of self rest) }
+    {
+        match self {
+            Node::Cat(children) => parted_row(children, rest),
+            Node::Alt(left, right) => parted_alternatives(left, right, rest),
+            Node::CaptureGroup {
+                id: _,
+                contents,
+                name: _,
+            } => Parted::Inside(Box::into_inner(contents), rest),
+            Node::LookaroundAssertion {
+                negate: _,
+                backwards: _,
+                start_group: _,
+                end_group: _,
+                contents,
+            } => Parted::Inside(Box::into_inner(contents), rest),
+            Node::Loop {
+                loopee,
+                quant: _,
+                enclosed_groups: _,
+            } => Parted::Inside(Box::into_inner(loopee), rest),
+            Node::Loop1CharBody { loopee, quant: _ } => Parted::Inside(
+                Box::into_inner(loopee),
+                rest,
+            ),
+            Node::CharSet(_) => begun(rest),
+            Node::ByteSet(_) => begun(rest),
+            Node::ByteSequence(_) => begun(rest),
+            Node::Bracket(_) => begun(rest),
+            Node::StringSet {
+                alternatives: _,
+                icase: _,
+            } => begun(rest),
+            Node::Empty => begun(rest),
+            Node::Goal => begun(rest),
+            Node::Char { c: _ } => begun(rest),
+            Node::MatchAny => begun(rest),
+            Node::MatchAnyExceptLineTerminator => begun(rest),
+            Node::Anchor {
+                anchor_type: _,
+                multiline: _,
+            } => begun(rest),
+            Node::WordBoundary {
+                invert: _,
+                unicode_icase: _,
+            } => begun(rest),
+            Node::BackRef { group: _, icase: _ } => begun(rest),
+        }
+    }
 }
 
-// A loop along the last node inside each node, so that a long row of alternatives takes no more stack than a short one,
-// nor do groups in groups. Only what stands before a last node is let go by a call inside the call.
+// What a node was taken apart to.
+enum Parted {
+    // A node inside it, and the rest.
+    Inside(Node, Option<Node>),
+    // A row without nodes, and the rest.
+    Row(Vec<Node>, Option<Node>),
+    // Nothing is left.
+    Nothing,
+}
+
+// A loop that takes no memory and no stack, however deep the tree is: what is not let go yet is a node and the rest, in
+// which the way back stands in the place of a node inside.
 impl Drop for Node {
     fn drop(mut self) {
+        let mut rest = None;
         loop {
-            match self {
-                Node::Cat(mut children) => match children.pop() {
-                    Some(last) => self = last,
+            match self.parted(rest) {
+                Parted::Inside(node, others) => {
+                    self = node;
+                    rest = others;
+                }
+                Parted::Row(_row, others) => match others {
+                    Some(node) => {
+                        self = node;
+                        rest = None;
+                    }
                     None => return,
                 },
-                Node::Alt(_, right) => self = Box::into_inner(right),
-                Node::CaptureGroup {
-                    id: _,
-                    contents,
-                    name: _,
-                } => self = Box::into_inner(contents),
-                Node::LookaroundAssertion {
-                    negate: _,
-                    backwards: _,
-                    start_group: _,
-                    end_group: _,
-                    contents,
-                } => self = Box::into_inner(contents),
-                Node::Loop {
-                    loopee,
-                    quant: _,
-                    enclosed_groups: _,
-                } => self = Box::into_inner(loopee),
-                Node::Loop1CharBody { loopee, quant: _ } => self = Box::into_inner(loopee),
-                Node::CharSet(_) => return,
-                Node::ByteSet(_) => return,
-                Node::ByteSequence(_) => return,
-                Node::Bracket(_) => return,
-                Node::StringSet {
-                    alternatives: _,
-                    icase: _,
-                } => return,
-                Node::Empty => return,
-                Node::Goal => return,
-                Node::Char { c: _ } => return,
-                Node::MatchAny => return,
-                Node::MatchAnyExceptLineTerminator => return,
-                Node::Anchor {
-                    anchor_type: _,
-                    multiline: _,
-                } => return,
-                Node::WordBoundary {
-                    invert: _,
-                    unicode_icase: _,
-                } => return,
-                Node::BackRef { group: _, icase: _ } => return,
+                Parted::Nothing => return,
             }
+        }
+    }
+}
+
+// The rest alone.
+fn begun(rest: Option<Node>) -> Parted
+    ensures { (node : Node) → IsParted result (work_of node rest) }
+{
+    match rest {
+        Some(node) => Parted::Inside(node, None),
+        None => Parted::Nothing,
+    }
+}
+
+// Of a row its last node or, where there is a rest, the first one, whose place it takes: so the rest is reached last.
+fn parted_row(children: Vec<Node>, rest: Option<Node>) -> Parted
+    ensures { IsParted result (work_in (weight (cat_of children.items)) rest) }
+{
+    match rest {
+        None => popped(children),
+        Some(link) => linked(children, link),
+    }
+}
+
+fn popped(mut children: Vec<Node>) -> Parted
+    ensures { IsParted result (work_in (weight (cat_of children.items)) None) }
+{
+    let Some(node) = children.pop() else {
+        return Parted::Row(children, None);
+    };
+    if children.is_empty() {
+        return Parted::Row(children, Some(node));
+    }
+    Parted::Inside(node, Some(Node::Cat(children)))
+}
+
+fn linked(mut children: Vec<Node>, link: Node) -> Parted
+    ensures { IsParted result (work_in (weight (cat_of children.items)) (Some link)) }
+{
+    if children.is_empty() {
+        return Parted::Row(children, Some(link));
+    }
+    let node = mem::replace(&mut children[0], link);
+    Parted::Inside(node, Some(Node::Cat(children)))
+}
+
+// Of alternatives the right one or, where there is a rest, the left one, whose place it takes.
+fn parted_alternatives(mut left: Box<Node>, right: Box<Node>, rest: Option<Node>) -> Parted
+    ensures { let both = weight_of left.value + weight_of right.value + 1 in
+        IsParted result (work_in both rest) }
+{
+    match rest {
+        None => Parted::Inside(Box::into_inner(right), Some(Box::into_inner(left))),
+        Some(link) => {
+            let node = mem::replace(&mut *left, link);
+            Parted::Inside(node, Some(Node::Alt(left, right)))
         }
     }
 }

@@ -1,6 +1,6 @@
 -- Equal codes are equal answers.
 use Rattle.std.proofs.Common.{◌≡◌, ◌<◌, ◌≤◌, ℕ, ◌+◌, ◌*◌, min, List, [], ◌∷◌, Option, Some, None, Bool, true, false, ◌&&◌, refl, ap, ◌∙◌, sym, subst, arith, slice_get, length}
-use Rattle.std.specs.Prelude.{◌==◌, nat_lt, nat_le, option_map, unwrap_or}
+use Rattle.std.specs.Prelude.{◌==◌, option_map, unwrap_or}
 use mathlib.Core.Logic.{inl, inr}
 use Rattle.std.proofs.Math.Nat.{mul-le-mul_left}
 use Rattle.std.proofs.lemmas.Bool.{cases_lt, eq-eqb, le-leb, lt-ltb}
@@ -8,12 +8,12 @@ use Rattle.regex_meaning.specs.Text.{Text, Direction, rightwards, leftwards}
 use Rattle.regex_meaning.specs.Offsets.{units}
 use Rattle.regex_meaning.specs.Layout.{Program}
 use Rattle.regress_machine.specs.Machine.{LoopData, State, running}
-use Rattle.regress_linear.specs.Account.{Account, Agree, outermost}
-use Rattle.regress_linear.specs.Keys.{SamePlace, SameKey}
+use Rattle.regress_linear.specs.Account.{Account}
+use Rattle.regress_linear.specs.Keys.{SamePlace}
 use Rattle.regress_linear.specs.Distinct.{IsIn}
 use Rattle.regress_linear.specs.Turns.{Key}
-use Rattle.regress_linear.specs.Weights.{Shape, Tells, is_way, is_one_of, stands_there, has_shape}
-use Rattle.regress_linear.specs.Codes.{Question, is_empty, how_many, answers, of_loop, digit, answer, code_of, codes_of, plan_code, plan_codes, AsksAll, IsStateOf, key_of, own_row, ThreadHasKey, PlansTell}
+use Rattle.regress_linear.specs.Weights.{Shape, is_way, stands_there, has_shape}
+use Rattle.regress_linear.specs.Codes.{Question, is_empty, how_many, answers, digit, answer, code_of, codes_of, plan_code, plan_codes, AsksAll, IsStateOf, key_of, own_row, ThreadHasKey, PlansTell}
 use Rattle.regress_linear.proofs.Keys.{unasked-count}
 
 -- ---- Digits

@@ -1,19 +1,16 @@
 -- The rows of runs have their keys.
-use Rattle.std.proofs.Common.{◌≡◌, ◌≤◌, ◌<◌, ℕ, zero, suc, ◌+◌, ◌-◌, ◌*◌, ◌/◌, ◌%◌, List, [], ◌∷◌, ◌++◌, map, reverse, Option, Some, None, Bool, true, false, not, ◌&&◌, refl, ap, ap₂, ◌∙◌, sym, subst, arith, slice_get, length, add-one}
-use Rattle.std.specs.Prelude.{if◌then◌else◌, ◌==◌, nat_lt, nat_le, option_map, unwrap_or}
+use Rattle.std.proofs.Common.{◌≡◌, ◌≤◌, ◌<◌, ℕ, suc, ◌+◌, ◌-◌, ◌*◌, ◌/◌, ◌%◌, List, [], ◌∷◌, ◌++◌, map, Option, Some, None, Bool, true, false, not, refl, ap, ap₂, ◌∙◌, sym, subst, arith, slice_get, add-one}
+use Rattle.std.specs.Prelude.{if◌then◌else◌, ◌==◌, option_map, unwrap_or}
 use mathlib.Core.Logic.{inl, inr}
 use Rattle.std.proofs.lemmas.Bool.{eqb-true, eqb-false, lt-ltb, le-leb}
-use Rattle.std.proofs.lemmas.List.{map-append}
-use Rattle.std.proofs.lemmas.List.Sums.{prefix_len-le-length}
 use Rattle.regex_meaning.specs.Lists.{numbers_from}
-use Rattle.regex_meaning.specs.Text.{Text, Direction, last_place, moved, characters_left}
-use Rattle.regex_meaning.specs.Ticks.{nearest_first}
+use Rattle.regex_meaning.specs.Text.{Text, Direction, last_place}
 use Rattle.regex_meaning.specs.Offsets.{IsText, offset, place_at, units}
-use Rattle.regex_meaning.specs.Layout.{Program, Insn}
+use Rattle.regex_meaning.specs.Layout.{Program}
 use Rattle.regex_meaning.proofs.Each.{Each, Each-map, Each-reverse}
 use Rattle.regex_meaning.proofs.TextLemmas.{place_at-offset}
-use Rattle.regress_machine.specs.Machine.{LoopData, State, Thread, running, waiting, in_turn, test_of}
-use Rattle.regress_machine.proofs.Beside.{length-nearest, moved-zero}
+use Rattle.regress_machine.specs.Machine.{LoopData, State, Thread, waiting, in_turn, test_of}
+use Rattle.regress_machine.proofs.Beside.{moved-zero}
 use Rattle.regress_machine.proofs.Inside.{offset-inside}
 use Rattle.regress_machine.proofs.Run.{numbers_between}
 use Rattle.regress_simulation.specs.Runs.{behind, fewest_first, most_first}
@@ -23,13 +20,14 @@ use Rattle.regress_linear.specs.Account.{Account, IsPassed, IsSound, Agree, oute
 use Rattle.regress_linear.specs.Keys.{IsSoundState}
 use Rattle.regress_linear.specs.Distinct.{IsIn}
 use Rattle.regress_linear.specs.Turns.{Key, Keys, AreSound}
-use Rattle.regress_linear.specs.Weights.{Shape, is_way, stands_there, has_shape}
+use Rattle.regress_linear.specs.Weights.{Shape, stands_there, has_shape}
 use Rattle.regress_linear.specs.Codes.{Question, is_empty, how_many, answers, digit, answer, code_of, codes_of, plan_code, plan_codes, IsStateOf}
 use Rattle.regress_linear.specs.Runs.{passing, run_from, waits_from}
 use Rattle.regress_linear.specs.RunKeys.{answer_on, code_on, first_runs, shape_on, run_row, run_at, insn_before, row_by, plan_rows, RunRecords, run_key, plan_keys, IsOfPlan, RunHasKeys, RunsHaveKeys}
-use Rattle.regress_linear.proofs.Agree.{Moves, moves-on, not-here}
+use Rattle.regress_linear.proofs.Agree.{moves-on, not-here}
 use Rattle.regress_linear.proofs.Keys.{sound-state}
-use Rattle.regress_linear.proofs.Codes.{digits-same, answer-below, code-below, answer-is, and-both, way-same, stands-here}
+use Rattle.regress_linear.proofs.Runs.{passing-left}
+use Rattle.regress_linear.proofs.Codes.{digits-same, answer-below, code-below, and-both, way-same, stands-here}
 
 -- ---- Codes
 
@@ -93,17 +91,11 @@ module _ (program : Program) (text : Text) (a : Account) (d : Direction) (test :
   abbrev Asked : Type 0
   Asked = (l : ℕ) → IsIn (is_empty l) behind-it → a.inside (s.ip + 2) l ≡ true
 
-  few-left : passing text test d place ≤ characters_left text d place
-  few-left =
-      let l = prefix_len-le-length test (nearest_first text d place) in
-      let m = length-nearest text d place within in
-      omega (arith, l, m)
-
   -- an iteration that had begun by the first place has read a character by each later one
   not-empty : (n : ℕ) → (n ≡ 0 → ⊥) → n ≤ passing text test d place → (x : LoopData) (l : ℕ)
       → IsSound a (units text) d (at-place 0).pos (s.ip + 2) l x → (x.entry == (at-place n).pos) ≡ false
   not-empty n some le x l sound =
-      let few = few-left in
+      let few = passing-left text test d place within in
       let m = moves-on text is d (offset text place) place n (place_at-offset text place is within) (omega (arith, few, le)) in
       let here : (at-place 0).pos ≡ offset text place = ap (offset text) (moved-zero text d place) in
       not-here d x.entry (offset text place) (at-place n).pos (subst (λ p. IsPassed d x.entry p) here sound.passed) m.passed (m.further (lt-ltb 0 n (omega (arith, some))))

@@ -1,5 +1,5 @@
 -- A place is tried twice at most.
-use Rattle.std.proofs.Common.{◌≡◌, ◌≤◌, ◌<◌, ℕ, zero, suc, ◌+◌, ◌-◌, ◌*◌, List, [], ◌∷◌, Bool, true, false, refl, ap, sym, subst, ◌∙◌, arith, sum_by}
+use Rattle.std.proofs.Common.{◌≡◌, ◌≤◌, ◌<◌, ℕ, zero, suc, ◌+◌, ◌-◌, List, [], ◌∷◌, Bool, true, false, refl, ap, sym, subst, ◌∙◌, arith, sum_by}
 use Rattle.std.specs.Prelude.{if◌then◌else◌, ◌==◌}
 use mathlib.Core.Logic.{inl, inr}
 use Rattle.std.proofs.lemmas.Bool.{cases_lt, eqb-true}
@@ -8,10 +8,10 @@ use Rattle.regex_meaning.specs.Lists.{numbers_from}
 use Rattle.regex_meaning.specs.Text.{Text, rightwards}
 use Rattle.regex_meaning.specs.Layout.{Program}
 use Rattle.regress_machine.specs.Machine.{Thread}
-use Rattle.regress_linear.specs.Account.{Account, IsAccount}
-use Rattle.regress_linear.specs.Turns.{Key, Keys, Entry, tried, tries, at_of, weighs, AreOnward, AreKeys}
+use Rattle.regress_linear.specs.Account.{Account}
+use Rattle.regress_linear.specs.Turns.{Key, Keys, tried, tries, AreOnward}
 use Rattle.regress_linear.specs.Matches.{Searched, at_first as at_start, failed as search-failed, found as search-found}
-use Rattle.regress_linear.specs.Starts.{times_in, Attempted, at_first, passed, failed, found, ready_at, AreFew, AttemptsAreFew}
+use Rattle.regress_linear.specs.Starts.{Attempted, at_first, passed, failed, found, ready_at, AttemptsAreFew}
 use Rattle.regress_linear.proofs.Matches.{matches-together}
 use Rattle.regress_linear.proofs.Turns.{turns-go-on}
 

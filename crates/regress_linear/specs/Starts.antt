@@ -60,5 +60,6 @@ abbrev pub AttemptsAreFew : Type 0
 AttemptsAreFew = (program : Program) (text : Text) (a : Account) (keys : Keys)
     → IsAccount program text a → AreKeys program text a keys
     → (price : Key → ℕ) (weight : List Thread → ℕ) (row : ℕ → List Thread) (from next looks work : ℕ)
-    (memory : List Key) (starts : List ℕ) → Attempted program text a keys price weight row from next looks work memory starts
+    (memory : List Key) (starts : List ℕ)
+    → Attempted program text a keys price weight row from next looks work memory starts
     → AreFew program text a keys price weight row from next looks work starts

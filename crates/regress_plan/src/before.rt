@@ -7,7 +7,7 @@ ghost use Rattle.regress_plan.specs.BeforeKeys.{HasKeysOf, HasContents, reads_ch
 ghost use Rattle.regress_plan.specs.Keys.{wide_of};
 ghost use Rattle.regress_plan.specs.Leading.{AreOps};
 
-use crate::closing::lets_through;
+use crate::closing::{Sets, lets_through};
 use crate::first_set::FirstSet;
 use crate::keys::Units;
 use crate::looks_ahead::{Few, Only, few_keys};
@@ -66,7 +66,8 @@ impl Plan {
         ensures { IfSome result (HasContents (wide_of units) self.now) }
     {
         if self.ops.len() > 1 && reads_character(self.ops[1]) {
-            Some(lets_through(self, units, &[], 1))
+            let sets = Sets::none(*self.ops.allocator());
+            Some(lets_through(self, units, &sets, 1))
         } else {
             None
         }

@@ -1,15 +1,16 @@
 -- Names in the places of their ids are the names by id.
-use Rattle.std.proofs.Common.{◌≡◌, ℕ, zero, suc, ◌+◌, ◌<◌, ◌≤◌, Bool, true, false, IsTrue, List, [], ◌∷◌, ◌++◌, length, map, get_or, set, take, drop, replicate, refl, sym, ap, ◌∙◌, arith, get_or-set_same, get_or-set_other}
+use Rattle.std.proofs.Common.{◌≡◌, ℕ, ◌+◌, ◌<◌, ◌≤◌, Bool, true, false, IsTrue, List, [], ◌∷◌, ◌++◌, length, map, get_or, set, take, drop, replicate, refl, sym, ap, ◌∙◌, arith, get_or-set_same, get_or-set_other}
 use Rattle.std.specs.Prelude.{if◌then◌else◌, nat_eq, ◌==◌, count_by}
 use Rattle.std.specs.List.{AllZip}
 use Rattle.std.proofs.lemmas.Bool.{eqb-true, eq-eqb}
-use Rattle.std.proofs.lemmas.List.{length-map, length-set, length-replicate, get_or-replicate, ext_get_or, map-append, take-append-le, take_all, map-set, set_past}
+use Rattle.std.proofs.lemmas.List.{length-map, length-set, length-replicate, get_or-replicate, ext_get_or, take-append-le, take_all, map-set, set_past}
 use Rattle.regex_meaning.specs.Lists.{numbers_from}
-use Rattle.regex_meaning.specs.Tree.{Node, cat, alt, capture_group, lookaround, loop, loop_1_char_body, group_ids}
+use Rattle.regex_meaning.specs.Tree.{Node, alt, group_ids}
 use Rattle.regex_meaning.specs.Names.{named_ids, name_of, names_by_id}
 use Rattle.regex_meaning.specs.WellFormed.{each_id_stands_once}
 use Rattle.regex_meaning.proofs.Sound.{all-contains}
-use Rattle.regex_pattern_front.proofs.ByteLemmas.{contains-numbers_from}
+use Rattle.regex_grammar.proofs.Parts.{contains-numbers_from}
+use Rattle.regex_grammar.proofs.Names.{ids_of, named_ids-ids, at-number}
 use Rattle.regress_program.specs.Filing.{filed, is_unnamed}
 use Rattle.regress_program.proofs.IdLemmas.{false_is_true, count_by-first}
 use Rattle.regex_meaning.proofs.Booleans.{same-truth}
@@ -80,9 +81,6 @@ same-test a b = same-truth (nat_eq a b) (b == a) (λ h. eq-eqb b a (sym (eqb-tru
 counted : (id other : ℕ) (ids : List ℕ) (t : Bool) → t ≡ (other == id) → count_by (nat_eq id) (other ∷ ids) ≡ (if t then 1 else 0) + count_by (nat_eq id) ids
 counted id other ids t e = count_by-first id other ids ∙ ap (λ b. (if b then 1 else 0) + count_by (nat_eq id) ids) (same-test id other ∙ sym e)
 
-abbrev ids_of : List (ℕ × List ℕ) → List ℕ
-ids_of named = map (λ n. n.0) named
-
 not_there : (named : List (ℕ × List ℕ)) (id : ℕ) (other : List ℕ) → count_by (nat_eq id) (ids_of named) ≡ 0 → last_name named id other ≡ other
 unfolding last_name
 not_there [] id other h = refl
@@ -104,20 +102,6 @@ there_once (n ∷ named) id h = by (n.0 == id) refl (not_there named id n.1) (th
     by false e none go = go (omega (arith, h, counted id n.0 (ids_of named) false e))
 
 -- ---- The names of a tree
-
-named_ids-ids : (n : Node) → ids_of (named_ids n) ≡ group_ids n
-named_ids-ids (cat a b) = map-append (λ n. n.0) (named_ids a) (named_ids b) ∙ ap (λ xs. xs ++ ids_of (named_ids b)) (named_ids-ids a) ∙ ap (λ ys. group_ids a ++ ys) (named_ids-ids b)
-named_ids-ids (alt a b) = map-append (λ n. n.0) (named_ids a) (named_ids b) ∙ ap (λ xs. xs ++ ids_of (named_ids b)) (named_ids-ids a) ∙ ap (λ ys. group_ids a ++ ys) (named_ids-ids b)
-named_ids-ids (capture_group id name contents) = ap (λ xs. id ∷ xs) (named_ids-ids contents)
-named_ids-ids (lookaround l contents) = named_ids-ids contents
-named_ids-ids (loop q s e contents) = named_ids-ids contents
-named_ids-ids (loop_1_char_body q contents) = named_ids-ids contents
-named_ids-ids _ = refl
-
-at-number : (f : ℕ → List ℕ) (first count k : ℕ) → k < count → get_or (map f (numbers_from first count)) k [] ≡ f (first + k)
-at-number f first zero k h = absurd (omega (arith, h))
-at-number f first (suc count) zero h = ap f (omega arith)
-at-number f first (suc count) (suc k) h = at-number f (first + 1) count k (omega (arith, h)) ∙ ap f (omega arith)
 
 pub names-filed : (root : Node) (n : ℕ) → IsTrue (each_id_stands_once root) → n ≡ length (group_ids root) → is_unnamed root ≡ false
     → filed (named_ids root) (replicate n []) ≡ names_by_id root

@@ -1,0 +1,88 @@
+-- What is left of a tree that is let go.
+use Rattle.std.proofs.Common.{◌≡◌, ℕ, suc, ◌+◌, ◌*◌, ◌<◌, ◌≤◌, Option, List, [], ◌∷◌, ◌++◌, length, get_or, slice_set, Some, None, ap, arith, refl}
+use Rattle.std.proofs.Math.Nat.{mul-le-mul_left, mul-suc, mul_comm}
+use Rattle.regex_meaning.specs.Tree as tree
+use Rattle.regex_meaning.specs.Tree.{cat, alt, capture_group, lookaround, loop, loop_1_char_body}
+use Rattle.regex_pattern_front.specs.Parting.{left_of, weight, weight_of, work, work_in, work_of}
+use Rattle.regex_pattern_front.specs.TreeOf.{cat_of, node_of}
+use Rattle.regex_pattern_front.specs.declared.ir.Node.{Node}
+
+-- Less is left.
+pub fewer : (all at before from : ℕ) → all < before → at ≤ all → work all at < work before from
+fewer all at before from less within =
+    let wide : before * suc all ≤ before * before = mul-le-mul_left before (omega (arith, less)) in
+    let more : all * suc all ≤ all * before = mul-le-mul_left all (omega (arith, less)) in
+    omega (arith, wide, more, mul_comm all before, mul-suc before all, mul-suc all all, within, less)
+
+-- The same is left, and the loop stands at less of it.
+pub nearer : (all at from : ℕ) → at < from → work all at < work all from
+nearer all at from less = omega (arith, less)
+
+pub some-weight : (n : tree.Node) → 0 < weight n
+unfolding weight
+some-weight (cat first rest) = omega arith
+some-weight (alt left right) = omega arith
+some-weight (capture_group id name contents) = omega arith
+some-weight (lookaround l contents) = omega arith
+some-weight (loop q start_group end_group loopee) = omega arith
+some-weight (loop_1_char_body q loopee) = omega arith
+some-weight _ = omega arith
+
+-- Of the rest alone less is left.
+pub begun-less : (n node : Node) → work_of n None < work_of node (Some n)
+begun-less n node =
+    fewer (weight_of n + 0) (weight_of n) (weight_of node + weight_of n) (weight_of node)
+    (omega (arith, some-weight (node_of node))) (omega arith)
+
+-- A node inside one besides which there is nothing.
+pub inside-less : (m n : ℕ) (rest : Option Node) → m < n → work_in m rest < work_in n rest
+inside-less m n rest less = fewer (m + left_of rest) m (n + left_of rest) n (omega (arith, less)) (omega arith)
+
+weight-more : (xs : List Node) (x : Node) → weight (cat_of (xs ++ x ∷ [])) ≡ weight (cat_of xs) + weight_of x + 1
+unfolding weight
+weight-more [] x = omega arith
+weight-more (y ∷ ys) x = omega (arith, weight-more ys x)
+
+-- The last node of a row.
+pub popped-less : (xs ys : List Node) (x : Node) → xs ≡ ys ++ x ∷ []
+    → work (weight_of x + weight (cat_of ys)) (weight_of x) < work_in (weight (cat_of xs)) None
+popped-less xs ys x e =
+    fewer (weight_of x + weight (cat_of ys)) (weight_of x) (weight (cat_of xs) + 0) (weight (cat_of xs))
+    (omega (arith, weight-more ys x, ap (λ zs. weight (cat_of zs)) e)) (omega arith)
+
+-- Of alternatives the left one, in whose place the rest comes.
+pub linked-less : (a b link : ℕ) → work (a + (link + b + 1)) a < work (a + b + 1 + link) (a + b + 1)
+linked-less a b link =
+    let same : a + (link + b + 1) ≡ a + b + 1 + link = omega arith in
+    rw same (nearer (a + b + 1 + link) a (a + b + 1) (omega arith))
+
+-- The only node of a row.
+pub only-less : (xs ys : List Node) (x : Node) → xs ≡ ys ++ x ∷ [] → work_of x None < work_in (weight (cat_of xs)) None
+only-less xs ys x e =
+    fewer (weight_of x + 0) (weight_of x) (weight (cat_of xs) + 0) (weight (cat_of xs))
+    (omega (arith, weight-more ys x, ap (λ zs. weight (cat_of zs)) e)) (omega arith)
+
+-- A row without nodes, beside which a node waits.
+pub emptied-less : (row : List Node) (node : Node) → work_of node None < work_in (weight (cat_of row)) (Some node)
+emptied-less row node =
+    fewer (weight_of node + 0) (weight_of node) (weight (cat_of row) + weight_of node) (weight (cat_of row))
+    (omega (arith, some-weight (cat_of row))) (omega arith)
+
+-- Of a row the first node, in whose place the rest comes.
+pub linked-row-less : (first : Node) (xs : List Node) (link : Node)
+    → work (weight_of first + weight (cat_of (link ∷ xs))) (weight_of first) < work_in (weight (cat_of (first ∷ xs))) (Some link)
+unfolding weight
+linked-row-less first xs link =
+    let a = weight_of first in
+    let b = weight (cat_of xs) in
+    let k = weight_of link in
+    linked-less a b k
+
+pub linked-first-less : (row : List Node) (first link : Node) → 0 < length row → first ≡ get_or row 0 first
+    → work (weight_of first + weight (cat_of (slice_set row 0 link))) (weight_of first) < work_in (weight (cat_of row)) (Some link)
+linked-first-less [] first link some is = absurd (omega (arith, some))
+linked-first-less (x ∷ xs) first link some is = rw is (linked-row-less x xs link)
+
+pub no-nodes : (row : List Node) → length row ≡ 0 → row ≡ []
+no-nodes [] none = refl
+no-nodes (x ∷ xs) none = absurd (omega (arith, none))

@@ -41,6 +41,7 @@ module _ (program : Program) (text : Text) (a : Account) (questions : ℕ → Li
     abbrev pub GivesByPlan : List Thread → List Entry → Type 0
     GivesByPlan ts entries = Gives program text a (plan_keys program text a questions way ips taken) d memory ts entries
 
+    -- a thread that waits is taken up; one that runs is turned, with a record or without
     pub record ThreadGives (s : State) : Type 0 where
       pub taken_up : GivesByPlan (waiting s ∷ []) (tried (running s) ∷ [])
       pub turned : (ts : List Thread) → act program text d s ≡ goes ts → GivesByPlan (running s ∷ []) (tries ts)
@@ -62,7 +63,7 @@ module _ (program : Program) (text : Text) (a : Account) (questions : ℕ → Li
   abbrev pub plan_price : (price : ℕ → ℕ) → ℕ
   plan_price price = sum_by (λ ip. price ip * plan_codes questions ip) ips * (units text + 1)
 
-  -- All attempts of a text together, up to the next place.
+  -- all attempts of a text together, up to the next place
   abbrev pub AttemptsAreLinear : Type 0
   AttemptsAreLinear = (price : ℕ → ℕ) (weight : List Thread → ℕ) (row : ℕ → List Thread)
       (from next looks work : ℕ) (memory : List Key) (starts : List ℕ)

@@ -20,7 +20,7 @@ use Rattle.regress_linear.proofs.Starts.{attempts-few}
 use Rattle.regress_linear.proofs.Turns.{threads-tries}
 use Rattle.regress_linear.proofs.Weights.{places-keys, turns-give}
 
-bare-tries : (ts : List Thread) → IsBare (tries ts)
+pub bare-tries : (ts : List Thread) → IsBare (tries ts)
 bare-tries [] = tt
 bare-tries (t ∷ ts) = bare-tries ts
 

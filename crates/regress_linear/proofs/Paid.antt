@@ -14,7 +14,7 @@ use Rattle.regress_linear.specs.Weights.{Weights, weight_of, is_one_of, each_not
 use Rattle.regress_linear.specs.Codes.{Question, key_of}
 use Rattle.regress_linear.specs.Runs.{passing, run_from, waits_from}
 use Rattle.regress_linear.specs.RunTurns.{key_behind, placed}
-use Rattle.regress_linear.specs.Paid.{weight_by, IsPaid, ArePaid, RunIsPaid, ThreadIsPaid, places_from, key_on, RunTurnsArePaid, TurnsArePaid}
+use Rattle.regress_linear.specs.Paid.{weight_by, IsPaid, ArePaid, RunIsPaid, LazyRunIsPaid, ThreadIsPaid, places_from, key_on, RunTurnsArePaid, LazyTurnsArePaid, TurnsArePaid}
 use Rattle.regress_linear.proofs.Turns.{keys-bare, keys-tries}
 use Rattle.regress_linear.proofs.Plans.{bare-tries}
 use Rattle.regress_linear.proofs.Weights.{turns-weighed, runs-pay}
@@ -100,31 +100,49 @@ module _ (program : Program) (w : Weights) (price : ℕ → ℕ) (ips : List ℕ
           let pay = runs-pay cost weight [] ((running (behind text d place s n), its-key n) ∷ places (n - least)) (least + 2) (w.at s.ip) (n + 2) ready (omega (arith, many, le))
           (omega (arith, enough), each-paid (reverse (numbers_from least (n - least)))) in
           omega (arith, pay, x);
-      again = lazy-paid;
     }
-      where
-        kept-weighs : (n count : ℕ) → weight (map waiting (fewest_first text d place s n count)) ≤ w.at (s.ip + 2) + 1
-        kept-weighs n zero = omega arith
-        kept-weighs n (suc count) = omega arith
 
-        lazy-paid : IsPaid program w price ips 2 (kept (waits_from text test d 0 place s) ∷ [])
-            (tried (running (behind text d place s 0)) ∷ kept (waits_from text test d 1 place s) ∷ noted (its-key 0) (waits_from text test d 0 place s) ∷ [])
-        lazy-paid =
-            let some : passing text test d place + 1 - 0 ≡ suc (passing text test d place) = omega arith in
-            let full : weight (waits_from text test d 0 place s) ≡ w.at (s.ip + 2) + 1 = ap (λ m. weight (map waiting (fewest_first text d place s 0 m))) some in
-            let first = one-weighs (kept (waits_from text test d 0 place s)) in
-            let k = noted (its-key 0) (waits_from text test d 0 place s) in
-            let x = sum_by-cons (weighs weight) (tried (running (behind text d place s 0))) (kept (waits_from text test d 1 place s) ∷ k ∷ []) in
-            let y = sum_by-cons (weighs weight) (kept (waits_from text test d 1 place s)) (k ∷ []) in
-            let z = one-weighs k in
-            let rest = kept-weighs 1 (passing text test d place + 1 - 1) in
-            let enough = paid.places in
-            let last = sum_by-cons cost (its-key 0) [] in
-            omega (arith, full, first, x, y, z, rest, enough, last)
+  module _ (text : Text) (a : Account) (questions : ℕ → List Question) (way : ℕ → Direction) (taken : Key → ℕ) (d : Direction) (test : ℕ → Bool) (s : State) (place least : ℕ)
+      (paid : LazyRunIsPaid program w price ips least s.ip) where
+    abbrev first-key : Key
+    first-key = key_on program w price ips text a questions way taken d test s place least 0
+
+    kept-weighs : (n count : ℕ) → weight (map waiting (fewest_first text d place s n count)) ≤ w.at (s.ip + 2) + 1
+    kept-weighs n zero = omega arith
+    kept-weighs n (suc count) = omega arith
+
+    lazy-up : IsPaid program w price ips (least + 2) (tried (running s) ∷ [])
+        (tried (running (behind text d place s least)) ∷ kept (waits_from text test d (least + 1) place s) ∷ [])
+    lazy-up =
+        let first = one-weighs (tried (running s)) in
+        let x = sum_by-cons (weighs weight) (tried (running (behind text d place s least))) (kept (waits_from text test d (least + 1) place s) ∷ []) in
+        let y = one-weighs (kept (waits_from text test d (least + 1) place s)) in
+        let rest = kept-weighs (least + 1) (passing text test d place + 1 - (least + 1)) in
+        let enough = paid.ready in
+        omega (arith, first, x, y, rest, enough)
+
+    lazy-again : IsPaid program w price ips 2 (kept (waits_from text test d 0 place s) ∷ [])
+        (tried (running (behind text d place s 0)) ∷ kept (waits_from text test d 1 place s) ∷ noted first-key (waits_from text test d 0 place s) ∷ [])
+    lazy-again =
+        let some : passing text test d place + 1 - 0 ≡ suc (passing text test d place) = omega arith in
+        let full : weight (waits_from text test d 0 place s) ≡ w.at (s.ip + 2) + 1 = ap (λ m. weight (map waiting (fewest_first text d place s 0 m))) some in
+        let first = one-weighs (kept (waits_from text test d 0 place s)) in
+        let k = noted first-key (waits_from text test d 0 place s) in
+        let x = sum_by-cons (weighs weight) (tried (running (behind text d place s 0))) (kept (waits_from text test d 1 place s) ∷ k ∷ []) in
+        let y = sum_by-cons (weighs weight) (kept (waits_from text test d 1 place s)) (k ∷ []) in
+        let z = one-weighs k in
+        let rest = kept-weighs 1 (passing text test d place + 1 - 1) in
+        let enough = paid.places in
+        let last = sum_by-cons cost first-key [] in
+        omega (arith, full, first, x, y, z, rest, enough, last)
 
 pub turns-paid : TurnsArePaid
 turns-paid = record {
   threads = λ program w price ips paid text code d s. thread-paid program w price ips paid text code d s;
   runs = λ program w price ips text a questions way taken d test s place least paid.
       run-paid program w price ips text a questions way taken d test s place least paid;
+  lazy_runs = λ program w price ips text a questions way taken d test s place least paid. record {
+    taken_up = lazy-up program w price ips text a questions way taken d test s place least paid;
+    again = lazy-again program w price ips text a questions way taken d test s place least paid;
+  };
 }

@@ -1,14 +1,14 @@
 -- What the turns of a plan pay with: weights and prices that are checked at each instruction.
-use Rattle.std.specs.Prelude.{◌≡◌, ◌≤◌, ℕ, ◌+◌, ◌-◌, Bool, true, false, List, [], ◌∷◌, ◌++◌, Some, slice_get}
+use Rattle.std.specs.Prelude.{◌≡◌, ◌≤◌, ℕ, ◌+◌, ◌-◌, Bool, true, false, List, [], ◌∷◌, ◌++◌}
 use Rattle.std.specs.List.{sum_by}
 use Rattle.regex_meaning.specs.Text.{Text, Direction, moved}
-use Rattle.regex_meaning.specs.Layout.{Program, Loop1CharBody}
+use Rattle.regex_meaning.specs.Layout.{Program}
 use Rattle.regress_machine.specs.Machine.{State, Thread, running, waiting, goes, act}
 use Rattle.regress_simulation.specs.Runs.{behind}
 use Rattle.regress_linear.specs.Account.{Account}
 use Rattle.regress_linear.specs.Turns.{Key, Entry, tried, kept, noted, tries, keys_in, weighs}
 use Rattle.regress_linear.specs.Weights.{Weights, weight_of, AreEnough, is_one_of, each_noted}
-use Rattle.regress_linear.specs.Codes.{Question, plan_code, key_of}
+use Rattle.regress_linear.specs.Codes.{Question, key_of}
 use Rattle.regress_linear.specs.Runs.{run_from, waits_from}
 use Rattle.regress_linear.specs.RunTurns.{key_behind, placed}
 
@@ -18,8 +18,8 @@ module _ (program : Program) (w : Weights) (price : ℕ → ℕ) (ips : List ℕ
   weight_by [] = 0
   weight_by (t ∷ ts) = weight_of w t
 
-  -- So much work on some entries, and what stands ready for others that come of them, is paid by what stood ready and by
-  -- the keys that are opened.
+  -- So much work on some entries, and what stands ready for others that come of them, is paid by what stood ready and
+  -- by the keys that are opened.
   abbrev pub IsPaid : (work : ℕ) (front entries : List Entry) → Type 0
   IsPaid work front entries =
       work + sum_by (weighs weight_by) entries
@@ -33,9 +33,14 @@ module _ (program : Program) (w : Weights) (price : ℕ → ℕ) (ips : List ℕ
     pub recorded : (ip : ℕ) → is_one_of ips ip ≡ true → w.left ip + 2 ≤ w.at ip + price ip
     pub passed : (ip : ℕ) → is_one_of ips ip ≡ false → w.left ip + 1 ≤ w.at ip
 
-  -- a run without a maximum pays for the characters that it needs, and each of its places for itself and for one character
+  -- A run without a maximum pays for the characters that it needs, and each place for itself and for one character.
   pub record RunIsPaid (least ip : ℕ) : Type 0 where
     pub ready : least + 2 ≤ w.at ip
+    pub places : w.at (ip + 2) + 3 ≤ price (ip + 1)
+
+  -- a lazy one also for its first place, and for the others together
+  pub record LazyRunIsPaid (least ip : ℕ) : Type 0 where
+    pub ready : least + 2 + (w.at (ip + 2) + (w.at (ip + 2) + 1)) ≤ w.at ip
     pub places : w.at (ip + 2) + 3 ≤ price (ip + 1)
 
   -- ---- Turns
@@ -64,7 +69,11 @@ module _ (program : Program) (w : Weights) (price : ℕ → ℕ) (ips : List ℕ
       pub all : (n : ℕ) → least ≤ n
           → IsPaid (n + 2) (tried (running s) ∷ [])
           (each_noted [] ((running (behind text d place s n), key_on n) ∷ places_from (n - least)))
-      -- of a lazy run, which looks at one character in a turn
+
+    -- A lazy run looks at the characters that it needs, and then at one in a turn.
+    pub record LazyTurnsArePaid : Type 0 where
+      pub taken_up : IsPaid (least + 2) (tried (running s) ∷ [])
+          (tried (running (behind text d place s least)) ∷ kept (waits_from text test d (least + 1) place s) ∷ [])
       pub again : IsPaid 2 (kept (waits_from text test d 0 place s) ∷ [])
           (tried (running (behind text d place s 0)) ∷ kept (waits_from text test d 1 place s)
           ∷ noted (key_on 0) (waits_from text test d 0 place s) ∷ [])
@@ -79,3 +88,7 @@ pub record TurnsArePaid : Type 0 where
       (questions : ℕ → List Question) (way : ℕ → Direction) (taken : Key → ℕ) (d : Direction) (test : ℕ → Bool)
       (s : State) (place least : ℕ) → RunIsPaid program w price ips least s.ip
       → RunTurnsArePaid program w price ips text a questions way taken d test s place least
+  pub lazy_runs : (program : Program) (w : Weights) (price : ℕ → ℕ) (ips : List ℕ) (text : Text) (a : Account)
+      (questions : ℕ → List Question) (way : ℕ → Direction) (taken : Key → ℕ) (d : Direction) (test : ℕ → Bool)
+      (s : State) (place least : ℕ) → LazyRunIsPaid program w price ips least s.ip
+      → LazyTurnsArePaid program w price ips text a questions way taken d test s place least

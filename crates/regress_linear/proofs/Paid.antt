@@ -1,20 +1,20 @@
 -- Tables that are checked pay for turns.
-use Rattle.std.proofs.Common.{◌≡◌, ◌≤◌, ℕ, zero, suc, ◌+◌, ◌-◌, List, [], ◌∷◌, ◌++◌, map, length, reverse, Bool, true, false, refl, ap, sym, subst, ◌∙◌, arith, sum_by}
+use Rattle.std.proofs.Common.{◌≡◌, ◌≤◌, ℕ, zero, suc, ◌+◌, ◌-◌, List, [], ◌∷◌, map, length, reverse, Bool, refl, ap, ◌∙◌, arith, sum_by}
 use Rattle.std.proofs.lemmas.List.{length-map, length-reverse}
 use Rattle.std.proofs.lemmas.List.Sums.{sum_by-cons, sum_by-append}
 use Rattle.regex_meaning.specs.Laws.{Each}
 use Rattle.regex_meaning.specs.Lists.{numbers_from}
 use Rattle.regex_meaning.specs.Text.{Text, Direction, moved}
 use Rattle.regex_meaning.specs.Layout.{Program}
-use Rattle.regress_machine.specs.Machine.{State, Thread, running, waiting, goes, act}
+use Rattle.regress_machine.specs.Machine.{State, Thread, running, waiting}
 use Rattle.regress_simulation.specs.Runs.{behind, fewest_first}
 use Rattle.regress_linear.specs.Account.{Account}
-use Rattle.regress_linear.specs.Turns.{Key, Entry, tried, kept, noted, tries, keys_in, weighs}
-use Rattle.regress_linear.specs.Weights.{Weights, weight_of, is_one_of, each_noted}
+use Rattle.regress_linear.specs.Turns.{Key, Entry, tried, kept, noted, tries, weighs}
+use Rattle.regress_linear.specs.Weights.{Weights, weight_of}
 use Rattle.regress_linear.specs.Codes.{Question, key_of}
 use Rattle.regress_linear.specs.Runs.{passing, run_from, waits_from}
-use Rattle.regress_linear.specs.RunTurns.{key_behind, placed}
-use Rattle.regress_linear.specs.Paid.{weight_by, IsPaid, ArePaid, RunIsPaid, LazyRunIsPaid, ThreadIsPaid, places_from, key_on, RunTurnsArePaid, LazyTurnsArePaid, TurnsArePaid}
+use Rattle.regress_linear.specs.RunTurns.{key_behind}
+use Rattle.regress_linear.specs.Paid.{weight_by, IsPaid, ArePaid, RunIsPaid, LazyRunIsPaid, ThreadIsPaid, places_from, key_on, RunTurnsArePaid, TurnsArePaid}
 use Rattle.regress_linear.proofs.Turns.{keys-bare, keys-tries}
 use Rattle.regress_linear.proofs.Plans.{bare-tries}
 use Rattle.regress_linear.proofs.Weights.{turns-weighed, runs-pay}

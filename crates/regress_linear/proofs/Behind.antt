@@ -6,17 +6,17 @@ use Rattle.regex_meaning.specs.Text.{Text, Direction, rightwards, leftwards}
 use Rattle.regex_meaning.specs.Offsets.{units}
 use Rattle.regex_meaning.specs.Layout.{Program, Insn, Lookahead, Lookbehind}
 use Rattle.regex_meaning.proofs.Options.{some-same}
-use Rattle.regress_machine.specs.Machine.{LoopData, State, Thread, running, waiting, asks, Found, resumed, at_ip, next_ip, act_on, act, search}
+use Rattle.regress_machine.specs.Machine.{LoopData, State, Thread, running, waiting, asks, Found, resumed, at_ip, next_ip, act_on, act, search, Next, goes, scans, ends, stuck}
 use Rattle.regress_machine.proofs.Search.{asked-inner}
 use Rattle.regress_simulation.specs.Simulates.{Simulates}
 use Rattle.regress_simulation.proofs.Simulates.{simulates-asks, simulates-fewer}
-use Rattle.regress_linear.specs.Alike.{AlikeThreads, AlikeEnds, AlikeAnswers}
+use Rattle.regress_linear.specs.Alike.{AlikeThreads, AlikeEnds, AlikeAnswers, AlikeNext}
 use Rattle.regress_linear.specs.Account.{Account, World, Looks, IsRightAt, SimilarAt, IsKeptIn, Agree, IsAccount}
 use Rattle.regress_linear.specs.Silent.{SameGroups}
 use Rattle.regress_linear.specs.Distinct.{IsIn}
 use Rattle.regress_linear.specs.Weights.{Shape, stands_there, has_shape}
 use Rattle.regress_linear.specs.Codes.{Question, is_empty, how_many, answers, digit, answer, code_of, plan_code}
-use Rattle.regress_linear.specs.Behind.{Look, look_at, GoesOn, SuccessGoesOn, AsksOnly, RowsAtHand}
+use Rattle.regress_linear.specs.Behind.{Look, look_at, GoesOn, SuccessGoesOn, TurnsAtHand, AsksOnly, RowsAtHand}
 use Rattle.regress_linear.proofs.Agree.{agree-of, agree-here, agree-inside, contents-world, agree-kept, threads-alike}
 use Rattle.regress_linear.proofs.Silent.{groups-stay}
 
@@ -97,6 +97,46 @@ success-goes-on program text a acc silent are w d s look is positive quiet g fou
           (simulates-asks program text false d look.inner false s (next_ip s) (at_ip look.continuation s) n h asked searches));
     }
 
+-- ---- Turns
+
+module _ (program : Program) (text : Text) (a : Account) (acc : IsAccount program text a) (w : World) (d : Direction) (s t : State) (g : Agree a (units text) w d s t) where
+  abbrev Turns : Next → Next → Type 0
+  Turns x y = AlikeNext (λ w d. Agree a (units text) w d) w d x y
+
+  both-turn : (x : Next) → act program text d s ≡ x → Turns x (act program text d t)
+  both-turn x e = subst (λ x. Turns x (act program text d t)) e ((agree-kept program text a acc).kept w d s t g)
+
+  goes-too : (ts : List Thread) (y : Next) → act program text d t ≡ y → Turns (goes ts) y
+      → (us : List Thread) × (act program text d t ≡ goes us) × AlikeThreads (Agree a (units text) w d) ts us
+  goes-too ts (goes us) e h = (us, e, h)
+  goes-too ts (scans n us) e h = absurd h
+  goes-too ts (ends u) e h = absurd h
+  goes-too ts (asks inner negate u v) e h = absurd h
+  goes-too ts stuck e h = absurd h
+
+  scans-too : (n : ℕ) (ts : List Thread) (y : Next) → act program text d t ≡ y → Turns (scans n ts) y
+      → (us : List Thread) × (act program text d t ≡ scans n us) × AlikeThreads (Agree a (units text) w d) ts us
+  scans-too n ts (goes us) e h = absurd h
+  scans-too n ts (scans m us) e h = (us, e ∙ ap (λ k. scans k us) (sym h.0), h.1)
+  scans-too n ts (ends u) e h = absurd h
+  scans-too n ts (asks inner negate u v) e h = absurd h
+  scans-too n ts stuck e h = absurd h
+
+  ends-too : (u : State) (y : Next) → act program text d t ≡ y → Turns (ends u) y
+      → (f : State) × (act program text d t ≡ ends f) × (u.pos ≡ f.pos) × (a.groups ≡ true → u.groups ≡ f.groups)
+  ends-too u (goes us) e h = absurd h
+  ends-too u (scans n us) e h = absurd h
+  ends-too u (ends f) e h = (f, e, h.pos, h.groups)
+  ends-too u (asks inner negate v x) e h = absurd h
+  ends-too u stuck e h = absurd h
+
+  turns-at-hand : TurnsAtHand program text a w d s t
+  turns-at-hand = record {
+    goes = λ ts e. goes-too ts (act program text d t) refl (both-turn (goes ts) e);
+    scans = λ n ts e. scans-too n ts (act program text d t) refl (both-turn (scans n ts) e);
+    ends = λ u e. ends-too u (act program text d t) refl (both-turn (ends u) e);
+  }
+
 -- ---- Keys
 
 module _ (program : Program) (text : Text) (a : Account) (questions : ℕ → List Question) (only : AsksOnly questions a) (w : World) (d : Direction) where
@@ -161,5 +201,6 @@ pub rows-at-hand : RowsAtHand
 rows-at-hand = record {
   behind = success-goes-on;
   turns = agree-kept;
+  turned = λ program text a acc w d s t g. turns-at-hand program text a acc w d s t g;
   keys = λ program text a questions only w d xs ts us h. shapes-agree program text a questions only w d xs ts us h;
 }

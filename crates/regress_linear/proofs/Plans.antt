@@ -1,5 +1,5 @@
 -- The keys, the turns and the work of a plan.
-use Rattle.std.proofs.Common.{◌≡◌, ℕ, ◌+◌, ◌*◌, List, [], ◌∷◌, ◌++◌, Option, Some, None, Bool, true, false, refl, ap, ◌∙◌, sym, subst, arith, slice_get}
+use Rattle.std.proofs.Common.{◌≡◌, ℕ, ◌+◌, ◌*◌, List, [], ◌∷◌, ◌++◌, Option, Some, None, Bool, true, false, refl, ap, ◌∙◌, sym, subst, arith, add-one, slice_get}
 use Rattle.regex_meaning.specs.Text.{Text, Direction, rightwards, leftwards}
 use Rattle.regex_meaning.specs.Offsets.{units, place_at}
 use Rattle.regex_meaning.specs.Layout.{Program}
@@ -9,9 +9,9 @@ use Rattle.regress_simulation.proofs.Simulates.{simulates-goes, simulates-waits,
 use Rattle.regress_linear.specs.Account.{Account}
 use Rattle.regress_linear.specs.Turns.{Key, Keys, tried, noted, tries, threads_in, IsBare, GoesOnward, IsOf, Gives}
 use Rattle.regress_linear.specs.Codes.{Question, plan_code, plan_codes, key_of}
-use Rattle.regress_linear.specs.RunKeys.{row_by, plan_rows, plan_keys}
+use Rattle.regress_linear.specs.RunKeys.{row_by, plan_rows, plan_keys, run_at, insn_before}
 use Rattle.regress_linear.specs.Behind.{Look, look_at}
-use Rattle.regress_linear.specs.Plans.{IsPlan, IsRecorded, ThreadGives, LookGives, PlansServe}
+use Rattle.regress_linear.specs.Plans.{IsPlan, IsRecorded, ThreadGives, LookGives, PlansServe, taken_at, PlansTake}
 use Rattle.regress_linear.proofs.Behind.{asks-there}
 use Rattle.regress_linear.proofs.Codes.{plans-tell}
 use Rattle.regress_linear.proofs.Looks.{looks-decided}
@@ -20,7 +20,7 @@ use Rattle.regress_linear.proofs.Starts.{attempts-few}
 use Rattle.regress_linear.proofs.Turns.{threads-tries}
 use Rattle.regress_linear.proofs.Weights.{places-keys, turns-give}
 
-bare-tries : (ts : List Thread) → IsBare (tries ts)
+pub bare-tries : (ts : List Thread) → IsBare (tries ts)
 bare-tries [] = tt
 bare-tries (t ∷ ts) = bare-tries ts
 
@@ -96,6 +96,13 @@ module _ (program : Program) (text : Text) (a : Account) (questions : ℕ → Li
           reaches = λ negative found. gives-on 1 []
               ((looks-decided program text d).reaches look.inner s (next_ip s) after-it (asked ∙ ap (λ b. asks look.inner b (next_ip s) after-it) negative) found) (none-onward d);
         }
+
+pub plans-take : PlansTake
+plans-take = record {
+  threads = λ program k e. ap taken_at e;
+  greedy = λ program ip at code e. ap (λ i. taken_at (run_at (insn_before program i))) (add-one ip) ∙ ap taken_at e;
+  lazy = λ program ip at code e. ap (λ i. taken_at (run_at (insn_before program i))) (add-one ip) ∙ ap taken_at e;
+}
 
 pub plans-serve : PlansServe
 plans-serve program text a questions way ips taken plan =

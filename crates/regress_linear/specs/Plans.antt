@@ -1,5 +1,5 @@
 -- What is checked of a plan, and what follows: its keys, the turns of its threads, and the work of all attempts.
-use Rattle.std.specs.Prelude.{◌≡◌, ◌≤◌, ℕ, ◌+◌, ◌*◌, true, List, [], ◌∷◌, ◌++◌, Some, None, slice_get}
+use Rattle.std.specs.Prelude.{◌≡◌, ◌≤◌, ℕ, ◌+◌, ◌*◌, Bool, true, false, List, [], ◌∷◌, ◌++◌, Option, Some, None, slice_get}
 use Rattle.std.specs.List.{sum_by}
 use Rattle.regex_meaning.specs.Lists.{numbers_from}
 use Rattle.regex_meaning.specs.Text.{Text, Direction}
@@ -41,6 +41,7 @@ module _ (program : Program) (text : Text) (a : Account) (questions : ℕ → Li
     abbrev pub GivesByPlan : List Thread → List Entry → Type 0
     GivesByPlan ts entries = Gives program text a (plan_keys program text a questions way ips taken) d memory ts entries
 
+    -- a thread that waits is taken up; one that runs is turned, with a record or without
     pub record ThreadGives (s : State) : Type 0 where
       pub taken_up : GivesByPlan (waiting s ∷ []) (tried (running s) ∷ [])
       pub turned : (ts : List Thread) → act program text d s ≡ goes ts → GivesByPlan (running s ∷ []) (tries ts)
@@ -62,7 +63,7 @@ module _ (program : Program) (text : Text) (a : Account) (questions : ℕ → Li
   abbrev pub plan_price : (price : ℕ → ℕ) → ℕ
   plan_price price = sum_by (λ ip. price ip * plan_codes questions ip) ips * (units text + 1)
 
-  -- All attempts of a text together, up to the next place.
+  -- all attempts of a text together, up to the next place
   abbrev pub AttemptsAreLinear : Type 0
   AttemptsAreLinear = (price : ℕ → ℕ) (weight : List Thread → ℕ) (row : ℕ → List Thread)
       (from next looks work : ℕ) (memory : List Key) (starts : List ℕ)
@@ -81,7 +82,24 @@ module _ (program : Program) (text : Text) (a : Account) (questions : ℕ → Li
         → look_at (slice_get program.insns s.ip) ≡ Some look → LookGives d memory s look
     pub linear : AttemptsAreLinear
 
+-- ---- Steps below records
+
+abbrev pub taken_at : Option Bool → ℕ
+taken_at (Some true) = 0
+taken_at _ = 1
+
+-- what the laws on turns ask of `taken`: none is taken below the record of a greedy run's place, one below any other
+abbrev pub plan_taken : Program → Key → ℕ
+plan_taken program k = taken_at (run_at (insn_before program k.ip))
+
 -- ---- Laws
+
+pub record PlansTake : Type 0 where
+  pub threads : (program : Program) (k : Key) → run_at (insn_before program k.ip) ≡ None → plan_taken program k ≡ 1
+  pub greedy : (program : Program) (ip at code : ℕ) → run_at (slice_get program.insns ip) ≡ Some true
+      → plan_taken program (record { ip = ip + 1; at = at; code = code }) ≡ 0
+  pub lazy : (program : Program) (ip at code : ℕ) → run_at (slice_get program.insns ip) ≡ Some false
+      → plan_taken program (record { ip = ip + 1; at = at; code = code }) ≡ 1
 
 abbrev pub PlansServe : Type 0
 PlansServe = (program : Program) (text : Text) (a : Account) (questions : ℕ → List Question)

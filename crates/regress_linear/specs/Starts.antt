@@ -1,4 +1,4 @@
--- Attempts at places, for one match after another: a place is tried twice at most, and so it is looked at.
+-- Attempts at places, for one match after another: a place is tried twice at most.
 use Rattle.std.specs.Prelude.{◌≡◌, ◌≤◌, ◌<◌, ℕ, ◌+◌, ◌-◌, ◌*◌, if◌then◌else◌, ◌==◌, List, [], ◌∷◌, Some}
 use Rattle.std.specs.List.{sum_by}
 use Rattle.regex_meaning.specs.Lists.{numbers_from}
@@ -14,9 +14,10 @@ times_in starts at = sum_by (λ p. if p == at then 1 else 0) starts
 
 module _ (program : Program) (text : Text) (a : Account) (keys : Keys)
     (price : Key → ℕ) (weight : List Thread → ℕ) where
-  -- The threads that an attempt begins with at an offset. What waits for matches from an offset on has come to the next
-  -- place that is to be looked at. So many places were looked at, so much work was done, and these places were tried.
+  -- what an attempt begins with at an offset
   module _ (row : ℕ → List Thread) where
+    -- Up to a memory: the next match is looked for from an offset on, and the next place stands there or further on. So
+    -- many places were looked at, so much work was done, and attempts were made at these places.
     pub data Attempted : (from next looks work : ℕ) (memory : List Key) (starts : List ℕ) → Type 0 where
       at_first : (first : ℕ) → Attempted first first 0 0 [] []
       -- places up to another one are passed, as no match begins there

@@ -164,7 +164,7 @@ impl Prefix {
         for key in 0..128 {
             let mask = self.masks[key] | others;
             if mask != u16::MAX {
-                add_key(&mut commons, mask, key as u8);
+                add_key(&mut commons, self.len, mask, key as u8);
             }
         }
         commons
@@ -310,9 +310,9 @@ fn longest(commons: &[Common; 16], len: usize) -> Literal {
     longest
 }
 
-// One key more, wherever its mask lets it stand.
-fn add_key(commons: &mut [Common; 16], mask: u16, key: u8) {
-    for ahead in 0..16 {
+// One key more, wherever its mask lets it stand: so many units on, at most.
+fn add_key(commons: &mut [Common; 16], len: usize, mask: u16, key: u8) {
+    for ahead in 0..len.min(16) {
         if is_clear(mask, ahead) {
             commons[ahead] = commons[ahead].with(key);
         }

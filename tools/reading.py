@@ -2,7 +2,7 @@
 """reading.py TABLE: compares the rows of a table of patterns with the grammar.
 
 It is the relation of `crates/regex_grammar` once more, constructor by constructor: each function gives all ends and values, so every derivation is
-tried. It tells each row of which the tree is another (DIFF), and each pattern with two trees (TWO).
+tried. It tells each row of which the tree is another (DIFF), and each pattern with two trees (TWO), and fails where there is one.
 
   tools/reading.py crates/regex_pattern_rows/src/table.rt
 """
@@ -240,7 +240,7 @@ def show(n,opt=False):
         return ("Loop1CharBody"+h if one else f"Loop{h}{a}..{b}")+"("+show(x,opt)+")"
 if __name__=="__main__":
     rows=open(sys.argv[1]).read().split('r"',1)[1].rsplit('";',1)[0].split("\n")
-    bad=0;n=0
+    bad=0;two=0;n=0
     for l in rows:
         if not l: continue
         row,_,want=l.partition(" → ")
@@ -249,6 +249,7 @@ if __name__=="__main__":
         t=parses(letters,[ord(c) for c in pat])
         n+=1
         got="refused" if not t else show(t[0],'o' in letters)
-        if len(t)>1: print("TWO",l)
+        if len(t)>1: two+=1; print("TWO",l)
         if got!=want: bad+=1; print("DIFF",l,"\n  got",got)
-    print(n,"rows",bad,"differ")
+    print(n,"rows",bad,"differ",two,"have two trees")
+    sys.exit(bad+two>0)

@@ -4,19 +4,17 @@ use Rattle.regex_meaning.specs.Tree.{Node, Tree, Flags, goal, char, cat, end_of_
 use Rattle.regex_grammar.specs.Reading.{Text, Whole}
 use Rattle.regex_grammar.specs.Grammar.{Disjunction, Parses}
 use Rattle.regex_grammar.specs.Ahead.{names_ahead}
-use Rattle.std.specs.Prelude.{ℕ, ◌≤◌, IsTrue, length, count_by, nat_eq, nat_lt, if◌then◌else◌}
+use Rattle.std.specs.Prelude.{ℕ, ◌≤◌, ◌==◌, IsTrue, length, map, chars, count_by, nat_eq, nat_lt, if◌then◌else◌}
+use Rattle.std.specs.List.{list_all}
+use Rattle.std.specs.Str.{is_utf8}
 use Rattle.regex_meaning.specs.Tree.{group_ids}
+use Rattle.regex_meaning.specs.Flags.{escape}
+use Rattle.regex_meaning.specs.Names.{names_by_id}
 use Rattle.regex_meaning.specs.WellFormed.{IsWellFormed}
 use Rattle.regex_meaning.specs.Layout.{reads_bytes}
-use Rattle.regex_grammar.specs.Loops.{has_plain_loops}
-use Rattle.std.specs.Prelude.{map, chars}
-use Rattle.std.specs.Str.{is_utf8}
-use Rattle.regex_meaning.specs.Flags.{escape}
 use Rattle.regex_grammar.specs.Reading.{cat_of}
 use Rattle.regex_grammar.specs.Grammar.{character_node}
-use Rattle.std.specs.Prelude.{◌==◌}
-use Rattle.std.specs.List.{list_all}
-use Rattle.regex_meaning.specs.Names.{names_by_id}
+use Rattle.regex_grammar.specs.Loops.{has_plain_loops}
 
 abbrev pub no_flags : Flags
 no_flags =

@@ -2,7 +2,7 @@
 use Rattle.std.proofs.Common.{◌≡◌, ℕ, Bool, true, false, not, ◌&&◌, List, [], ◌∷◌, ◌++◌, length, drop, true≢false, ⊎_elim, nat_eq, refl, sym, ap, ap₂, subst, ◌∙◌, arith, append_assoc, append-nil, one-add}
 use Rattle.std.specs.Prelude.{codes, ◌||◌, if◌then◌else◌, take_while}
 use Rattle.std.specs.List.{list_all}
-use Rattle.std.specs.Char.{is_digit, is_ascii_digit}
+use Rattle.std.specs.Char.{is_digit}
 use Rattle.std.proofs.lemmas.Bool.{or_cases, and_parts, eqb-true, false_from_ne_true}
 use Rattle.std.proofs.Math.Seq.{drop-append_seam}
 use Rattle.regex_meaning.specs.Lists.{contains}
@@ -31,7 +31,7 @@ is_no : (c d : ℕ) (test : ℕ → Bool) → test c ≡ true → test d ≡ fal
 is_no c d test f g = false_from_ne_true (nat_eq c d) (λ e. no c d e test f g)
 
 -- past a character that says nothing
-past : (b : Bool) (c : ℕ) (t : Text) → nothing c ≡ true → Ahead b (c ∷ t) t
+pub past : (b : Bool) (c : ℕ) (t : Text) → nothing c ≡ true → Ahead b (c ∷ t) t
 unfolding names_ahead
 past b c [] e = rw (is_no c 40 nothing e refl) refl
 past b c (d ∷ t) e = rw (is_no c 92 nothing e refl, is_no c 91 nothing e refl, is_no c 93 nothing e refl, is_no c 40 nothing e refl) refl
@@ -221,13 +221,13 @@ past_paren : {p q : Place} (c : ℕ) (t : Text) → p ≡ record q { text = 40 �
 unfolding names_ahead
 past_paren c t e f g = stay (sym (ap (λ x. x.opened) e)) (ap (λ x. names_ahead false x.text) e ∙ ap (λ x. x ++ names_ahead false (c ∷ t)) f ∙ g)
 
-past_opener : (negate backwards : Bool) {p q : Place} → p ≡ opener negate backwards ▸ q → Opens p q
+pub past_opener : (negate backwards : Bool) {p q : Place} → p ≡ opener negate backwards ▸ q → Opens p q
 past_opener false false {q = q} e = past_paren 63 (61 ∷ q.text) e refl (past_all false (63 ∷ 61 ∷ []) q.text refl)
 past_opener true false {q = q} e = past_paren 63 (33 ∷ q.text) e refl (past_all false (63 ∷ 33 ∷ []) q.text refl)
 past_opener false true {q = q} e = past_paren 63 (60 ∷ 61 ∷ q.text) e refl (past_all false (63 ∷ 60 ∷ 61 ∷ []) q.text refl)
 past_opener true true {q = q} e = past_paren 63 (60 ∷ 33 ∷ q.text) e refl (past_all false (63 ∷ 60 ∷ 33 ∷ []) q.text refl)
 
-past_plain : {p q : Place} → p ≡ "(?:" ▸ q → Opens p q
+pub past_plain : {p q : Place} → p ≡ "(?:" ▸ q → Opens p q
 past_plain {q = q} e = past_paren 63 (58 ∷ q.text) e refl (past_all false (63 ∷ 58 ∷ []) q.text refl)
 
 no_name : (here : Text) → begins "?" here ≡ false → names_ahead false (40 ∷ here) ≡ [] ∷ names_ahead false here
@@ -239,7 +239,7 @@ no_name (c ∷ t) e = ap (λ x. x ++ names_ahead false (c ∷ t)) (opened (nat_e
     opened true f = absurd (true≢false (sym (rw f refl) ∙ e))
     opened false f = rw f refl
 
-past_group : {p q : Place} → p ≡ "(" ▸ q → begins "?" q.text ≡ false → Opens p (opening [] q)
+pub past_group : {p q : Place} → p ≡ "(" ▸ q → begins "?" q.text ≡ false → Opens p (opening [] q)
 past_group {p} {q} e o = record { added = [] ∷ []; opened = ap (λ x. x ++ [] ∷ []) (sym (ap (λ x. x.opened) e)); found = ap (λ x. names_ahead false x.text) e ∙ no_name q.text o }
 
 up_to : (n t : Text) → list_all goes_on_name n ≡ true → take_while goes_on_name (n ++ 62 ∷ t) ≡ n
@@ -289,7 +289,7 @@ named (c ∷ n) t e =
     other : (d c : ℕ) → begins_name c ≡ true → begins_name d ≡ false → nat_eq d c ≡ false
     other d c f g = false_from_ne_true (nat_eq d c) (λ h. true≢false (sym f ∙ sym (ap begins_name (eqb-true d c h)) ∙ g))
 
-past_named : {p q : Place} {there name : Text} → p ≡ "(?<" ▸ q → GroupName q.text there name → Opens p (opening name (at there q))
+pub past_named : {p q : Place} {there name : Text} → p ≡ "(?<" ▸ q → GroupName q.text there name → Opens p (opening name (at there q))
 unfolding names_ahead
 past_named {p} {q} {there} {name} e (group_name f g) =
     let whole : Text = name ++ (62 ∷ there) in

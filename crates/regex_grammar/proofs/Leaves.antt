@@ -1,8 +1,8 @@
 -- Escapes, names and quantifiers are read in one way.
 use Rattle.std.proofs.Common.{◌≡◌, ℕ, ◌<◌, Bool, true, false, not, [], ◌∷◌, ◌++◌, length, true≢false, ⊎_elim, nat_eq, refl, sym, ap, ap₂, subst, ◌∙◌, arith}
-use Rattle.std.specs.Prelude.{codes, ◌||◌, Option, Some, None}
+use Rattle.std.specs.Prelude.{codes, Option, Some, None}
 use Rattle.std.specs.List.{list_all}
-use Rattle.std.specs.Char.{is_digit, is_ascii_digit, is_ascii_alphanumeric}
+use Rattle.std.specs.Char.{is_digit, is_ascii_alphanumeric}
 use Rattle.std.proofs.lemmas.Bool.{or_cases, and_parts, eqb-true}
 use Rattle.regex_meaning.specs.Lists.{contains}
 use Rattle.regex_grammar.specs.Reading.{Text, ◌∈◌, begins, Digits, digits_from, digits, number}

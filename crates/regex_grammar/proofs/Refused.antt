@@ -4,10 +4,10 @@ use Rattle.std.specs.Prelude.{codes}
 use Rattle.regex_meaning.specs.Tree.{Node, Quantifier}
 use Rattle.regex_grammar.specs.Reading.{Text, Place, Whole, ◌▸◌, ◌∈◌}
 use Rattle.regex_grammar.specs.Characters.{IsQuantified, Quantified}
-use Rattle.regex_grammar.specs.Grammar.{Leaf, pattern_character, extended_character, any_character, decimal_escape, named_reference, character_escape, character_class_escape, character_class, Term, assertion, atom, quantified, Assertion, start, end, boundary, look, Atom, leaf, group, named_group, plain_group}
+use Rattle.regex_grammar.specs.Grammar.{Leaf, pattern_character, extended_character, any_character, decimal_escape, named_reference, character_escape, character_class_escape, character_class, Term, assertion, atom, quantified, start, end, boundary, look, Atom, leaf, group, named_group, plain_group}
 use Rattle.regex_grammar.specs.Open.{Level, push, Open, Opened, captures, plain, looks, IsTerm, once, repeated, Closes, looked, captured, enclosed, CompletesAll}
-use Rattle.regex_grammar.proofs.OneTree.{first, leaf_begins, ends_here}
-use Rattle.regex_grammar.proofs.Leaves.{inside, firsts}
+use Rattle.regex_grammar.proofs.OneTree.{leaf_begins, ends_here}
+use Rattle.regex_grammar.proofs.Leaves.{inside}
 use Rattle.regex_grammar.proofs.Members.{one_leaf, leaf_apart, leaf_no_boundary}
 use Rattle.regex_grammar.proofs.Quantifiers.{head, begins_prefix}
 use Rattle.regex_grammar.proofs.Parentheses.{is_done, leave, next_term}

@@ -1,13 +1,13 @@
 -- Escapes, as the reader reads them.
-use Rattle.std.proofs.Common.{◌≡◌, ℕ, ◌+◌, ◌-◌, ◌*◌, ◌<◌, ◌≤◌, ◌⊎◌, inl, inr, Bool, true, false, List, [], ◌∷◌, ◌++◌, length, true≢false, refl, sym, ap, ap₂, subst, ◌∙◌, arith, Some, None}
-use Rattle.std.specs.Prelude.{Option, Result, Ok, Err, nat_eq, codes, IsTrue, if◌then◌else◌}
+use Rattle.std.proofs.Common.{◌≡◌, ℕ, ◌+◌, ◌-◌, ◌*◌, ◌≤◌, inl, inr, Bool, true, false, ◌∷◌, true≢false, refl, sym, ap, subst, ◌∙◌, arith, Some, None}
+use Rattle.std.specs.Prelude.{Option, Result, Ok, Err, IsTrue}
 use Rattle.std.specs.Option.{SomeIff}
 use Rattle.std.specs.Char.{IsScalar, OutOfScalarRange, is_ascii_digit, is_ascii_alphanumeric}
 use Rattle.regex_meaning.specs.Text.{is_scalar}
 use Rattle.regex_grammar.specs.Reading.{Text, Digits}
 use Rattle.regex_grammar.specs.Characters.{Hex, Pair, pair, is_lead, is_trail, UnicodeEscape, surrogates, four_digits, code_point, CharacterEscape, control, control_escape, null, hex_escape, unicode_escape, identity_escape}
 use Rattle.regex_grammar.proofs.OneTree.{first, rest_of, unlike}
-use Rattle.regex_grammar.proofs.Leaves.{behind, firsts, one_hex, no_brace, no_brace_pair}
+use Rattle.regex_grammar.proofs.Leaves.{behind, one_hex, no_brace, no_brace_pair}
 use Rattle.regex_pattern_front.specs.Reads.{peeked, IsReadAs, IsTrail, IsPaired, IsCodePoint}
 
 -- the number that was asked whether it is a `char`

@@ -20,3 +20,4 @@ pub mod ModelLemmas
 pub mod ScanLemmas
 pub mod TermLemmas
 pub mod ReferenceLemmas
+mod ParsedLemmas

@@ -1,7 +1,6 @@
 -- Numbers, read a digit at a time.
-use Rattle.std.proofs.Common.{◌≡◌, ℕ, zero, suc, ◌+◌, ◌-◌, ◌*◌, ◌<◌, ◌≤◌, Bool, true, false, [], ◌∷◌, ◌++◌, length, drop, min, true≢false, refl, sym, ap, ap₂, subst, ◌∙◌, arith, append_assoc, append-nil, Some, None, ◌^◌}
-use Rattle.std.specs.Prelude.{Option, ◌&&◌}
-use Rattle.std.specs.List.{list_all, take_while, fold}
+use Rattle.std.proofs.Common.{◌≡◌, ℕ, ◌+◌, ◌-◌, ◌*◌, ◌<◌, ◌≤◌, true, [], ◌∷◌, ◌++◌, length, drop, min, refl, sym, ap, ap₂, subst, ◌∙◌, arith, append_assoc, Some, None, ◌^◌}
+use Rattle.std.specs.List.{list_all}
 use Rattle.std.specs.Char.{is_digit, digit_value}
 use Rattle.std.proofs.lemmas.List.Sums.{fold-append, take_while-cons}
 use Rattle.std.proofs.lemmas.List.Folds.{list_all-append}
@@ -11,7 +10,7 @@ use Rattle.std.proofs.lemmas.List.{length-append}
 use Rattle.regex_grammar.specs.Reading.{Text, Digits, digits_from, digits, number}
 use Rattle.regex_grammar.specs.Characters.{Hex, hex}
 use Rattle.regex_grammar.proofs.OneTree.{rest_of}
-use Rattle.regex_pattern_front.specs.Reads.{IsDigitRead, IsNumberRead, IsHexRead}
+use Rattle.regex_pattern_front.specs.Reads.{IsDigitRead, IsNumberRead}
 
 -- the text begins with these digits
 pub record HasDigits (base : ℕ) (here there ds : Text) : Type 0 where

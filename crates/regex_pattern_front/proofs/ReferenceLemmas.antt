@@ -1,24 +1,23 @@
 -- References to groups, and what else stands behind a backslash.
-use Rattle.std.proofs.Common.{◌≡◌, ℕ, zero, suc, ◌+◌, ◌*◌, ◌-◌, ◌<◌, ◌≤◌, ◌^◌, max, ◌⊎◌, inl, inr, Bool, true, false, not, List, [], ◌∷◌, ◌++◌, length, true≢false, ⊎_elim, nat_eq, nat_lt, refl, sym, ap, ap₂, subst, ◌∙◌, arith, Some, None}
-use Rattle.std.specs.Prelude.{if◌then◌else◌, codes, Option, ◌||◌, ◌&&◌, ◌==◌, Result, Ok, Err, IfOk, IfErr, IsTrue, option_map, String, fold}
+use Rattle.std.proofs.Common.{◌≡◌, ℕ, zero, suc, ◌+◌, ◌*◌, ◌-◌, ◌<◌, ◌≤◌, ◌^◌, max, ◌⊎◌, inl, inr, Bool, true, false, not, List, [], ◌∷◌, ◌++◌, length, true≢false, ⊎_elim, nat_eq, nat_lt, refl, sym, ap, subst, ◌∙◌, arith, Some, None}
+use Rattle.std.specs.Prelude.{codes, Option, ◌||◌, ◌==◌, Result, Ok, Err, IsTrue, option_map, String, fold}
 use Rattle.std.specs.Result.{IsErrAnd}
 use Rattle.std.specs.BTreeMap.{BTreeMap, get_by_text}
 use Rattle.std.specs.Char.{is_digit, digit_value, is_ascii_alphanumeric}
 use Rattle.std.specs.Int.{is_in_range}
-use Rattle.std.proofs.lemmas.Bool.{or_left, or_right, or_cases, false_from_ne_true, eqb-true, eq-eqb, ltb-true}
+use Rattle.std.proofs.lemmas.Bool.{or_right, or_cases, eqb-true, eq-eqb, ltb-true}
 use Rattle.std.proofs.lemmas.List.Sums.{take_while-cons}
 use Rattle.std.proofs.lemmas.Str.{digit_value_digit}
 use Rattle.std.proofs.lemmas.Str.Parse.{digit_from_value}
 use lib.Pointwise.{pointwise}
-use Rattle.regex_meaning.specs.Lists.{contains}
 use Rattle.regex_meaning.specs.Text.{is_scalar}
 use Rattle.regex_meaning.specs.Tree.{Node, back_ref, bracket}
-use Rattle.regex_grammar.specs.Reading.{Text, Place, Whole, ◌∈◌, begins, Digits, digits_from, digits, number, number_of}
+use Rattle.regex_grammar.specs.Reading.{Text, Whole, ◌∈◌, begins, Digits, digits_from, digits, number, number_of}
 use Rattle.regex_grammar.specs.Characters.{CharacterEscape, GroupName, group_name}
-use Rattle.regex_grammar.specs.Classes.{Member, class, class_escape, CharacterClass, IsSetOf}
+use Rattle.regex_grammar.specs.Classes.{Member, class, class_escape, IsSetOf}
 use Rattle.regex_grammar.specs.Grammar.{Leaf, pattern_character, extended_character, any_character, decimal_escape, named_reference, character_escape, character_class_escape, character_class}
 use Rattle.regex_grammar.specs.Laws.{no_flags}
-use Rattle.regex_grammar.proofs.OneTree.{first, rest_of, unlike}
+use Rattle.regex_grammar.proofs.OneTree.{first}
 use Rattle.regex_grammar.proofs.Leaves.{inside, firsts, behind, one_digits, one_name, Some_inj}
 use Rattle.regex_grammar.proofs.Members.{escape_begins, may_escape, class_letter, digit_begins}
 use Rattle.regex_grammar.proofs.Found.{past_leaf}
@@ -30,7 +29,7 @@ use Rattle.regex_pattern_front.specs.ClassReads.{base_class, escape_member, esca
 use Rattle.regex_pattern_front.specs.Reads.{peeked, IsNext, is_refused, IsNumberRead}
 use Rattle.regex_pattern_front.specs.declared.fault.Fault.{Fault}
 use Rattle.regex_pattern_front.specs.TreeOf.{node_of, flags_of, contents_of}
-use Rattle.regex_pattern_front.specs.LeafReads.{NoLeaf, whole, AreGroups, IsLeafOf, IsReadOrNot, IsPassed, begins_reference, IsReference, IsReferenceRead, IsNamed, IsNamedRead, IsCounted, IsDecimalRead}
+use Rattle.regex_pattern_front.specs.LeafReads.{NoLeaf, whole, AreGroups, IsReadOrNot, IsPassed, begins_reference, IsReference, IsReferenceRead, IsNamed, IsNamedRead, IsCounted, IsDecimalRead}
 use Rattle.regex_pattern_front.proofs.TermLemmas.{leaf-of}
 
 -- ---- What was asked for stands here

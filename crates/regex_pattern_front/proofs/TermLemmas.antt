@@ -1,19 +1,17 @@
 -- Where no term begins, and what terms without groups are.
-use Rattle.std.proofs.Common.{◌≡◌, ℕ, ◌+◌, ◌*◌, ◌<◌, ◌≤◌, ◌^◌, ◌⊎◌, inl, inr, Bool, true, false, not, List, [], ◌∷◌, ◌++◌, length, true≢false, ⊎_elim, nat_eq, nat_lt, refl, sym, ap, ap₂, subst, ◌∙◌, arith, Some, None, Vec, Global}
-use Rattle.std.specs.Prelude.{if◌then◌else◌, codes, Option, ◌||◌, ◌&&◌, ◌==◌, Result, Ok, Err, IfOk, IfErr, IsTrue}
+use Rattle.std.proofs.Common.{◌≡◌, ℕ, ◌<◌, ◌≤◌, ◌⊎◌, inl, inr, Bool, true, false, not, List, [], ◌∷◌, length, true≢false, ⊎_elim, nat_eq, nat_lt, refl, sym, ap, ap₂, subst, ◌∙◌, arith, Vec, Global}
+use Rattle.std.specs.Prelude.{codes, ◌||◌, ◌&&◌, Result, Ok, Err, IfOk, IfErr, IsTrue}
 use Rattle.std.specs.List.{list_all}
 use Rattle.std.specs.Result.{IsErrAnd}
-use Rattle.std.specs.Char.{is_digit}
-use Rattle.std.specs.Int.{is_in_range}
-use Rattle.std.proofs.lemmas.Bool.{or_left, or_right, or_cases, false_from_ne_true, eqb-true, eq-eqb, lt-ltb}
+use Rattle.std.proofs.lemmas.Bool.{false_from_ne_true, lt-ltb}
 use Rattle.regex_meaning.specs.Lists.{contains}
-use Rattle.regex_meaning.specs.Text.{expand_code_point, is_scalar}
-use Rattle.regex_meaning.specs.Tree.{Node, BracketContents, match_any, match_any_except_line_terminator, back_ref, bracket}
-use Rattle.regex_grammar.specs.Reading.{Text, Place, Whole, ◌∈◌, begins, Digits, number_of}
-use Rattle.regex_grammar.specs.Characters.{CharacterEscape, GroupName, IsQuantified}
-use Rattle.regex_grammar.specs.Classes.{Member, class, class_escape, CharacterClass, IsSetOf}
-use Rattle.regex_grammar.specs.Grammar.{character_node, Leaf, pattern_character, extended_character, any_character, decimal_escape, named_reference, character_escape, character_class_escape, character_class, Term, assertion, atom, quantified, Assertion, start, end, boundary, look, opener, Atom, leaf, group, named_group, plain_group}
-use Rattle.regex_grammar.proofs.OneTree.{first, rest_of, second, unlike}
+use Rattle.regex_meaning.specs.Text.{expand_code_point}
+use Rattle.regex_meaning.specs.Tree.{Node, BracketContents, back_ref, bracket}
+use Rattle.regex_grammar.specs.Reading.{Text, Place, Whole, ◌∈◌}
+use Rattle.regex_grammar.specs.Characters.{IsQuantified}
+use Rattle.regex_grammar.specs.Classes.{CharacterClass}
+use Rattle.regex_grammar.specs.Grammar.{character_node, Leaf, pattern_character, extended_character, any_character, decimal_escape, named_reference, character_escape, character_class_escape, character_class, Term, assertion, atom, quantified, Assertion, start, end, boundary, look, Atom, leaf, group, named_group, plain_group}
+use Rattle.regex_grammar.proofs.OneTree.{first, rest_of}
 use Rattle.regex_grammar.proofs.Leaves.{inside, firsts, behind}
 use Rattle.regex_grammar.specs.Ahead.{names_ahead}
 use Rattle.regex_grammar.proofs.Members.{leaf_apart}

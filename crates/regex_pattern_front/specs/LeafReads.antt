@@ -1,7 +1,7 @@
 -- Terms without groups, as they are read: `here` is the text before, `there` the text behind.
 use Rattle.std.specs.Prelude.{◌≡◌, ◌==◌, ◌||◌, ℕ, ◌<◌, ◌≤◌, ◌^◌, ◌⊎◌, Bool, true, false, List, ◌∷◌, ◌++◌, length, codes, Option, Some, None, Result, Ok, Err, String, IsTrue, if◌then◌else◌}
 use Rattle.std.specs.Int.{is_in_range}
-use Rattle.std.specs.BTreeMap.{BTreeMap, get_by_text}
+use Rattle.std.specs.BTreeMap.{BTreeMap}
 use Rattle.regex_meaning.specs.Tree as tree
 use Rattle.regex_grammar.specs.Reading.{Text, Place, Whole, ◌∈◌, Digits}
 use Rattle.regex_grammar.specs.Characters.{GroupName, IsQuantified}

@@ -11,3 +11,4 @@ pub mod ClassReads
 pub mod Model
 pub mod GroupReads
 pub mod LeafReads
+pub mod Parsed

@@ -1,5 +1,5 @@
 -- What the parser has read, in the words of the grammar.
-use Rattle.std.specs.Prelude.{ℕ, Bool, List, [], ◌∷◌, map}
+use Rattle.std.specs.Prelude.{List, [], ◌∷◌, map}
 use Rattle.regex_meaning.specs.Tree as tree
 use Rattle.regex_grammar.specs.Open as grammar
 use Rattle.regex_pattern_front.specs.declared.nesting.Level.{Level}

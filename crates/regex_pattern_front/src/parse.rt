@@ -1,13 +1,21 @@
 //! From the text of a pattern to its tree.
 
-ghost use Rattle.std.specs.Prelude.{◌≡◌, ℕ, ◌+◌, ◌≤◌, false, length, IfOk, IfErr, IfSome, OnOk, IsTrue};
+ghost use Rattle.std.specs.Prelude.{◌≡◌, ℕ, ◌+◌, ◌≤◌, ◌∷◌, [], false, length, IfOk, IfErr, IfSome, OnOk, IsTrue, None, Err};
 ghost use Rattle.regex_meaning.specs.Layout.{reads_bytes};
+ghost use Rattle.regex_meaning.specs.Tree.{Tree};
 ghost use Rattle.regex_meaning.specs.WellFormed.{is_well_formed};
 ghost use Rattle.regex_pattern_front.specs.TreeOf.{node_of, tree_of};
 ghost use Rattle.regex_pattern_front.specs.Optimized.{has_plain_loops};
 ghost use Rattle.regex_pattern_front.specs.Parts.{IsPart};
 ghost use Rattle.regex_pattern_front.specs.Levels.{IsReading, captures};
-ghost use Rattle.regex_pattern_front.specs.declared.parse.ParseError.TheVariants.{Memory};
+ghost use Rattle.regex_pattern_front.specs.Parsed.{HasRead, IsNameRead, IsParsed, IsRepeated, ReadsOn, is_named, node_around, with_flags};
+ghost use Rattle.regex_pattern_front.specs.TreeOf.{flags_of, name_of};
+ghost use Rattle.regex_grammar.specs.Grammar.{Parses};
+ghost use Rattle.regex_grammar.specs.Reading.{Text};
+ghost use Rattle.regex_grammar.specs.Standing.{NoTree};
+ghost use Rattle.std.specs.BTreeMap.{get_by_text};
+ghost use Rattle.regex_pattern_front.specs.declared.parse.ParseError.TheVariants.{Memory, Syntax};
+ghost use Rattle.regex_pattern_front.specs.LeafReads.{divides};
 
 use crate::diagnosis::{Cause, Diagnosis};
 use crate::escapes::name;
@@ -60,13 +68,15 @@ impl<T: Drop> From<AllocFailed<T>> for ParseError {
 ///
 /// # Errors
 ///
-/// `Syntax` where the text is no pattern, and `Memory` where there is no memory for the tree. No clause says which texts
-/// are patterns. `diagnose` says what is wrong with a text, and where.
+/// `Syntax` where the grammar has no tree of the text (`regex_grammar`), and `Memory` where there is no memory for the
+/// tree. `diagnose` says what is wrong with a text, and where.
 pub fn try_parse(alloc: Global, pattern: &[u32], flags: Flags) -> Result<Regex, ParseError>
     ensures flags { IfOk result (λ re. re.flags ≡ flags) }
     ensures well_formed { IfOk result (λ re. IsTrue (is_well_formed (tree_of re).root)) }
     ensures characters { IfOk result (λ re. reads_bytes (tree_of re).root ≡ false) }
     ensures plain { IfOk result (λ re. IsTrue (has_plain_loops (tree_of re).root)) }
+    ensures tree { IfOk result (λ re. Parses (flags_of flags) pattern.now (tree_of re)) }
+    ensures refused { result ≡ Err Syntax → NoTree (flags_of flags) pattern.now }
 {
     match read_pattern(alloc, pattern, flags)? {
         Ok(re) => Ok(re),
@@ -84,7 +94,10 @@ pub fn diagnose(
     pattern: &[u32],
     flags: Flags,
 ) -> Result<Option<Diagnosis>, AllocError>
-    ensures { IfOk result (λ found. IfSome found (λ d. d.at ≤ length pattern.now)) }
+    ensures place { IfOk result (λ found. IfSome found (λ d. d.at ≤ length pattern.now)) }
+    ensures tells { let flags = flags_of flags in IfOk result (λ found.
+        IfSome found (λ d. NoTree flags pattern.now)
+        × (found ≡ None → (tree : Tree) × Parses flags pattern.now tree)) }
 {
     Ok(read_pattern(alloc, pattern, flags)?.err())
 }
@@ -106,6 +119,8 @@ pub fn read_pattern(
     ensures characters { IfOk result (λ read. IfOk read (λ re. reads_bytes (tree_of re).root ≡ false)) }
     ensures plain { IfOk result (λ read. IfOk read (λ re. IsTrue (has_plain_loops (tree_of re).root))) }
     ensures place { IfOk result (λ read. IfErr read (λ d. d.at ≤ length pattern.now)) }
+    ensures tree { let flags = flags_of flags in IfOk result (λ read.
+        IfOk read (λ re. Parses flags pattern.now (tree_of re)) × IfErr read (λ d. NoTree flags pattern.now)) }
 {
     match read(alloc, pattern, flags) {
         Ok(re) => Ok(Ok(re)),
@@ -122,6 +137,7 @@ fn read(alloc: Global, pattern: &[u32], flags: Flags) -> Result<Regex, Fault>
     ensures well_formed { IfOk result (λ re. IsTrue (is_well_formed (tree_of re).root)) }
     ensures characters { IfOk result (λ re. reads_bytes (tree_of re).root ≡ false) }
     ensures plain { IfOk result (λ re. IsTrue (has_plain_loops (tree_of re).root)) }
+    ensures tree { IsParsed tree_of (flags_of flags) pattern.now result }
 {
     let mut parser = Parser {
         leaves: LeafReader {
@@ -155,7 +171,10 @@ struct Parser<'p> {
 impl Parser<'_> {
     fn read_all(&mut self) -> Result<(), Fault>
         requires { IsReading self.old }
-        ensures { OnOk result (IsReading self.new) }
+        ensures reading { OnOk result (IsReading self.new) }
+        ensures same { self.new.leaves.flags ≡ self.old.leaves.flags }
+        ensures end { OnOk result (self.new.leaves.reader.rest.now ≡ []) }
+        ensures text { ReadsOn self.old.leaves.reader.rest.now self.old result self.new }
     {
         while let Some(c) = self.leaves.reader.next() {
             self.step(c)?;
@@ -168,6 +187,8 @@ impl Parser<'_> {
         requires { IsReading self.old }
         ensures reading { OnOk result (IsReading self.new) }
         ensures moves { length self.new.leaves.reader.rest.now ≤ length self.old.leaves.reader.rest.now }
+        ensures same { self.new.leaves.flags ≡ self.old.leaves.flags }
+        ensures text { ReadsOn (c ∷ self.old.leaves.reader.rest.now) self.old result self.new }
     {
         match char::from_u32(c) {
             Some('|') => Ok(self.level.end_arm()?),
@@ -182,6 +203,8 @@ impl Parser<'_> {
         requires { IsReading self.old }
         ensures reading { OnOk result (IsReading self.new) }
         ensures moves { length self.new.leaves.reader.rest.now ≤ length self.old.leaves.reader.rest.now }
+        ensures same { self.new.leaves.flags ≡ self.old.leaves.flags }
+        ensures text { divides c ≡ false → ReadsOn (c ∷ self.old.leaves.reader.rest.now) self.old result self.new }
     {
         let Leaf { node, is_atom } = self.leaves.leaf(c)?;
         let groups = self.groups..self.groups;
@@ -195,6 +218,8 @@ impl Parser<'_> {
         requires { IsReading self.old }
         ensures reading { OnOk result (IsReading self.new) }
         ensures moves { length self.new.leaves.reader.rest.now ≤ length self.old.leaves.reader.rest.now }
+        ensures same { self.new.leaves.flags ≡ self.old.leaves.flags }
+        ensures text { ReadsOn (40 ∷ self.old.leaves.reader.rest.now) self.old result self.new }
     {
         let alloc = self.leaves.alloc;
         let start = self.groups;
@@ -222,6 +247,8 @@ impl Parser<'_> {
         requires { IsReading self.old }
         ensures reading { OnOk result (IsReading self.new) }
         ensures moves { length self.new.leaves.reader.rest.now ≤ length self.old.leaves.reader.rest.now }
+        ensures same { self.new.leaves.flags ≡ self.old.leaves.flags }
+        ensures text { ReadsOn (41 ∷ self.old.leaves.reader.rest.now) self.old result self.new }
     {
         let Some(
             Open {
@@ -257,6 +284,8 @@ impl Parser<'_> {
         ensures well_formed { IfOk result (λ n. IsTrue (is_well_formed (node_of n))) }
         ensures characters { IfOk result (λ n. reads_bytes (node_of n) ≡ false) }
         ensures plain { IfOk result (λ n. IsTrue (has_plain_loops (node_of n))) }
+        ensures tree { let flags = flags_of self.entry.leaves.flags in
+            (pattern : Text) → HasRead pattern [] self.entry → IsParsed (with_flags flags) flags pattern result }
     {
         if !self.around.is_empty() {
             return Err(self.unclosed());
@@ -281,9 +310,11 @@ fn enclosed(
     contents: Node,
     groups: Range<CaptureGroupID>,
 ) -> Result<Node, AllocError>
-    ensures { IfOk result (λ n. (greatest : ℕ)
+    ensures part { IfOk result (λ n. (greatest : ℕ)
         → IsPart (groups.start + captures opening) groups.end greatest (node_of contents)
         → IsPart groups.start groups.end greatest (node_of n)) }
+    ensures node { IfOk result (λ n. node_of n
+        ≡ node_around opening (name_of name) groups.start groups.end (node_of contents)) }
 {
     match opening {
         Opening::Plain => Ok(contents),
@@ -313,6 +344,9 @@ fn quantified(
     ensures references { leaves.new.references ≡ leaves.old.references }
     ensures part { IfOk result (λ n. (greatest : ℕ) → IsPart groups.start groups.end greatest (node_of term)
         → IsPart groups.start groups.end greatest (node_of n)) }
+    ensures same { (leaves.new.flags ≡ leaves.old.flags) × (leaves.new.numbers ≡ leaves.old.numbers) }
+    ensures text { IsRepeated is_atom leaves.old.reader.rest.now groups.start groups.end (node_of term) result
+        leaves.new.reader.rest.now }
 {
     if !is_atom {
         return if leaves.reader.has_quantifier() {
@@ -340,6 +374,9 @@ fn group_name(
 ) -> Result<Option<String>, Fault>
     ensures moves { length leaves.new.reader.rest.now ≤ length leaves.old.reader.rest.now }
     ensures references { leaves.new.references ≡ leaves.old.references }
+    ensures same { (leaves.new.flags ≡ leaves.old.flags) × (leaves.new.numbers ≡ leaves.old.numbers) }
+    ensures text { IsNameRead (λ name. get_by_text leaves.old.numbers name) groups (is_named opening)
+        leaves.old.reader.rest.now result leaves.new.reader.rest.now }
 {
     let Opening::Named = opening else {
         return Ok(None);

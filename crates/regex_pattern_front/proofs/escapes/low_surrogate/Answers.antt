@@ -1,4 +1,4 @@
-use Rattle.std.proofs.Common.{◌∙◌, sym, arith, ◌≤◌}
+use Rattle.std.proofs.Common.{◌∙◌, sym, arith}
 use Rattle.regex_pattern_front.proofs.EscapeLemmas.{no_trail}
 use Rattle.regex_pattern_front.proofs.escapes.low_surrogate.Goals as goal
 

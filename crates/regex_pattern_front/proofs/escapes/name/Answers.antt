@@ -1,4 +1,4 @@
-use Rattle.std.proofs.Common.{◌∙◌, sym, ap, refl, arith, ◌≡◌, true, false}
+use Rattle.std.proofs.Common.{◌∙◌, sym, ap, refl, arith, ◌≡◌, true}
 use Rattle.std.specs.Prelude.{string_bytes, ◌++◌, ◌∷◌, []}
 use Rattle.regex_pattern_front.proofs.NameLemmas.{name-begins, name-goes_on, name-ends, name-stops, name-unclosed, one_byte, follows, follows-not, goes_on, none-append, not_end, is_end, may_follow}
 use Rattle.regex_pattern_front.proofs.escapes.name.Goals as goal

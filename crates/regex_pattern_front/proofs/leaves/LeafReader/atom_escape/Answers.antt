@@ -1,4 +1,4 @@
-use Rattle.std.proofs.Common.{◌≡◌, ◌∙◌, sym, refl, [], ◌∷◌}
+use Rattle.std.proofs.Common.{◌∙◌, sym, refl, [], ◌∷◌}
 use Rattle.regex_grammar.specs.Grammar.{character_escape}
 use Rattle.regex_grammar.proofs.Found.{past_leaf}
 use Rattle.regex_pattern_front.specs.LeafReads.{whole, NoLeaf}

@@ -1,4 +1,4 @@
-use Rattle.std.proofs.Common.{◌≡◌, ◌∙◌, arith, length}
+use Rattle.std.proofs.Common.{arith}
 use Rattle.regex_pattern_front.proofs.LeafLemmas.{leaf-Char, leaf-CharSet, few_members}
 use Rattle.regex_pattern_front.proofs.TermLemmas.{node-set, node-one}
 use Rattle.regex_pattern_front.proofs.leaves.LeafReader.character.Goals as goal

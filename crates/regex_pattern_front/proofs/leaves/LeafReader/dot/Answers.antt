@@ -1,5 +1,5 @@
 use Rattle.regex_pattern_front.proofs.LeafLemmas.{leaf-MatchAny, leaf-MatchAnyExceptLineTerminator}
-use Rattle.regex_pattern_front.proofs.TermLemmas.{dot-all, dot-other, leaf-of}
+use Rattle.regex_pattern_front.proofs.TermLemmas.{dot-all, dot-other}
 use Rattle.regex_pattern_front.proofs.leaves.LeafReader.dot.Goals as goal
 
 pub returns-then-self-clause-leaf : goal.returns-then-self-clause-leaf

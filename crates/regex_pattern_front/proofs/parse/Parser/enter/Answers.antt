@@ -2,6 +2,9 @@ use Rattle.std.proofs.Common.{◌+◌}
 use Rattle.regex_pattern_front.specs.Levels.{captures}
 use Rattle.regex_pattern_front.proofs.PartLemmas.{parts-none}
 use Rattle.regex_pattern_front.proofs.LevelLemmas.{open-push}
+use Rattle.std.proofs.Common.{[], arith}
+use Rattle.std.specs.BTreeMap.{get_by_text}
+use Rattle.regex_pattern_front.proofs.ParsedLemmas.{err-reads, opening-refused, name-refused, entered, past-most, around-push}
 use Rattle.regex_pattern_front.proofs.parse.Parser.enter.Goals as goal
 
 pub returns-clause-reading : goal.returns-clause-reading
@@ -19,3 +22,41 @@ returns-clause-reading c =
           r.around (rw c.replace.ensures.value r.level));
       level = rw (c.replace.ensures.after, c.new-inner.ensures.parts, c.captures-more.ensures) (parts-none (groups + captures opening) references);
     })
+
+pub returns-in_err-opening-clause-text : goal.returns-in_err-opening-clause-text
+returns-in_err-opening-clause-text c =
+    err-reads _ c.args.self.now _ c.from_residual.result _ c.from_residual.ensures.1 (λ x h. h)
+    (λ r pattern h. opening-refused h.stands c.opened.new.reader.rest.now c.in_err-opening.ensures.text)
+
+pub returns-in_err-name-clause-text : goal.returns-in_err-name-clause-text
+returns-in_err-name-clause-text c =
+    err-reads _ c.args.self.now _ c.from_residual-in_err-name.result _ c.from_residual-in_err-name.ensures.1 (λ x h. h)
+    (λ r pattern h. name-refused h.stands c.opened.new.reader.rest.now _ c.in_ok-opening.opening c.in_ok-opening.ensures.text
+    (λ x. get_by_text c.args.self.now.leaves.numbers x) h.numbers _ _ r c.in_err-name.ensures.text)
+
+pub returns-then-more-start-clause-text : goal.returns-then-more-start-clause-text
+returns-then-more-start-clause-text c = λ r pattern h.
+    past-most (entered h.stands c.opened.new.reader.rest.now c.in_ok-opening.opening c.in_ok-opening.ensures.text
+    (λ x. get_by_text c.args.self.now.leaves.numbers x) h.numbers c.in_ok-name.name _ c.in_ok-name.ensures.text)
+    (omega (arith, c.if-more-start.true, c.captures-more.ensures))
+
+pub returns-clause-text : goal.returns-clause-text
+returns-clause-text c = λ pattern h. record {
+  numbers = rw c.in_ok-name.ensures.same.1 h.numbers;
+  few = omega (arith, c.if-more-start.false, h.few);
+  stands = rw (
+    c.in_ok-name.ensures.same.0,
+    c.in_ok-name.ensures.references,
+    c.captures-more.ensures,
+    c.in_ok-push.ensures.items,
+    c.replace.ensures.value,
+    around-push [] c.args.self.now.around.items
+        (record { outer = c.args.self.now.level; opening = c.in_ok-opening.opening; name = c.in_ok-name.name; start = c.args.self.now.groups; left = c.left_from_last.result }),
+    c.replace.ensures.after,
+    c.new-inner.ensures.level,
+    c.is_behind.ensures,
+    c.behind.ensures,
+  )
+      (entered h.stands c.opened.new.reader.rest.now c.in_ok-opening.opening c.in_ok-opening.ensures.text
+      (λ x. get_by_text c.args.self.now.leaves.numbers x) h.numbers c.in_ok-name.name _ c.in_ok-name.ensures.text);
+}

@@ -1,5 +1,5 @@
-use Rattle.std.proofs.Common.{◌≡◌, ◌≤◌, ◌∙◌, [], refl, sym, arith, vec_len}
-use Rattle.std.proofs.lemmas.Bool.{eqb-true}
+use Rattle.std.proofs.Common.{true≢false, ◌≡◌, ◌≤◌, ◌∙◌, [], refl, sym, arith, vec_len}
+use Rattle.std.proofs.lemmas.Bool.{eqb-true, eq-eqb}
 use Rattle.regex_meaning.specs.Tree.{goal as the_goal}
 use Rattle.regex_pattern_front.specs.TreeOf.{node_of}
 use Rattle.regex_pattern_front.specs.Parts.{AreParts}
@@ -8,6 +8,8 @@ use Rattle.regex_pattern_front.specs.declared.ir.Node.TheVariants.{Goal}
 use Rattle.regex_pattern_front.proofs.NodeLemmas.{node_of-Cat}
 use Rattle.regex_pattern_front.proofs.PartLemmas.{empty-list, whole, whole-plain, whole-reads_none}
 use Rattle.regex_pattern_front.proofs.LevelLemmas.{open-none}
+use Rattle.regex_grammar.proofs.Standing.{past-groups, stands-end}
+use Rattle.regex_pattern_front.proofs.ParsedLemmas.{ends-open}
 use Rattle.regex_pattern_front.proofs.parse.Parser.finish.Goals as goal
 
 node_of-Goal : node_of Goal ≡ the_goal
@@ -50,3 +52,19 @@ returns-clause-plain c =
     let parts : AreParts 0 groups references (nodes_at c.args.self.level) = rw from_none r.level in
     rw (node_of-Cat c.in_ok-vec.field-0, c.in_ok-vec.ensures.items, node_of-Goal)
     (whole-plain references (node_of c.in_ok-node.node) (c.in_ok-node.ensures.parts 0 groups references parts).sound)
+
+pub returns-then-not-is_empty-clause-tree : goal.returns-then-not-is_empty-clause-tree
+returns-then-not-is_empty-clause-tree c = λ pattern h refused.
+    let some : vec_len c.args.self.around ≡ 0 → ⊥ = λ e. true≢false (sym (eq-eqb _ _ e) ∙ sym c.is_empty.ensures ∙ c.if-not-is_empty.true) in
+    ends-open c.args.self.around.items (omega (arith, some, c.args.self.around.ok.0)) h.stands
+
+pub returns-then-self-from-clause-tree : goal.returns-then-self-from-clause-tree
+returns-then-self-from-clause-tree c = λ pattern h refused.
+    past-groups h.stands (omega (arith, c.if-self-from.true, c.from.ensures))
+
+pub returns-clause-tree : goal.returns-clause-tree
+returns-clause-tree c = λ pattern h.
+    let none : vec_len c.args.self.around ≡ 0 = eqb-true _ _ (sym c.is_empty.ensures ∙ c.if-not-is_empty.false) in
+    let closed : c.args.self.around.items ≡ [] = empty-list c.args.self.around.items (omega (arith, none, c.args.self.around.ok.0)) in
+    rw (node_of-Cat c.in_ok-vec.field-0, c.in_ok-vec.ensures.items, node_of-Goal, c.in_ok-node.ensures.node)
+    (stands-end (rw closed at h.stands) (omega (arith, c.if-self-from.false, c.from.ensures)) h.few)

@@ -1,4 +1,4 @@
-use Rattle.std.proofs.Common.{◌^◌, ◌-◌, ◌≤◌, arith, refl}
+use Rattle.std.proofs.Common.{◌^◌, ◌-◌, arith, refl}
 use Rattle.regex_pattern_front.proofs.ReadLemmas.{number-first, number-next, number-end, step16}
 use Rattle.regex_pattern_front.proofs.reader.Reader.hex_number.Goals as goal
 

@@ -1,4 +1,4 @@
-use Rattle.std.proofs.Common.{◌≤◌, ◌<◌, length, ◌^◌, ◌-◌}
+use Rattle.std.proofs.Common.{◌<◌, length, ◌^◌, ◌-◌}
 use Rattle.regex_pattern_front.proofs.ReadLemmas.{NumberSoFar}
 use Rattle.regex_pattern_front.proofs.reader.Reader.hex_number.Given as goal
 

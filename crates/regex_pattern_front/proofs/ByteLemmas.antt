@@ -7,6 +7,7 @@ use Rattle.std.proofs.Common.{get_or-set_same, get_or-set_other, w64, bit_and, b
 use Rattle.std.proofs.lemmas.Bool.{cases_eq, cases_lt, ne_eqb, eq-eqb, eqb-true, lt-ltb, le-ltb}
 use Rattle.std.proofs.lemmas.Nat.Bits.{bit_at_set_same, bit_at_set_other, shr_and_one, bit_at-lt, bit_at-zero}
 use Rattle.regex_pattern_front.specs.ByteSets.{is_set}
+pub use Rattle.regex_grammar.proofs.Parts.{contains-numbers_from}
 use Rattle.regex_meaning.specs.Lists.{contains, numbers_from}
 use Rattle.regex_meaning.specs.StartPredicate.{bytes_where}
 
@@ -17,14 +18,6 @@ contains-past : (b first count : ℕ) → b < first → contains (numbers_from f
 contains-past b first zero h = refl
 contains-past b first (suc count) h =
     rw (ne_eqb b first (omega arith)) (contains-past b (first + 1) count (omega arith))
-
-pub contains-numbers_from : (b first count : ℕ) → first ≤ b → b < first + count → contains (numbers_from first count) b ≡ true
-contains-numbers_from b first zero h k = absurd (omega arith)
-contains-numbers_from b first (suc count) h k =
-    elim (cases_eq b first) [
-      | inl e ↦ rw (eq-eqb b first e)
-      | inr ne ↦ rw (ne_eqb b first ne) (contains-numbers_from b (first + 1) count (omega arith) (omega arith))
-    ]
 
 contains-if : (t : Bool) (x b : ℕ) (l : List ℕ) → contains (if t then x ∷ l else l) b ≡ (if t then (nat_eq b x || contains l b) else contains l b)
 contains-if true x b l = refl

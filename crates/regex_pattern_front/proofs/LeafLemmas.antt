@@ -1,8 +1,8 @@
 -- Nodes without groups are sound parts of a pattern.
-use Rattle.std.proofs.Common.{◌≡◌, ℕ, ◌<◌, ◌≤◌, Bool, true, false, ◌&&◌, [], ◌∷◌, ◌++◌, length, refl, arith, Vec, Global}
-use Rattle.std.specs.Prelude.{if◌then◌else◌, nat_le, ◌==◌}
+use Rattle.std.proofs.Common.{◌≡◌, ℕ, ◌<◌, ◌≤◌, Bool, true, false, ◌&&◌, [], length, refl, arith, Vec, Global}
+use Rattle.std.specs.Prelude.{nat_le}
 use Rattle.std.proofs.lemmas.Bool.{le-leb}
-use Rattle.regex_meaning.specs.Text.{expand_code_point, fold_code_point, all_with_fold, to_uppercase, to_lowercase}
+pub use Rattle.regex_grammar.proofs.Trees.{few_members}
 use Rattle.regex_pattern_front.specs.TreeOf.{node_of}
 use Rattle.regex_pattern_front.specs.Parts.{IsPart, AreParts, IsLeaf}
 use Rattle.regex_pattern_front.specs.declared.ir.AnchorType.{AnchorType}
@@ -61,26 +61,3 @@ module _ (greatest : ℕ) where
   part-Empty first end a =
       let same : end ≡ first = omega (arith, a.count) in
       rw same (part-leaf first greatest (node_of Empty) leaf-Empty)
-
--- a code point has at most three spellings
-pub few_members : (c : ℕ) (icase unicode : Bool) → length (expand_code_point c icase unicode) ≤ 4
-unfolding expand_code_point
-few_members c false unicode = omega arith
-few_members c true unicode = few_with_fold unicode (fold_code_point unicode c)
-  where
-    cases : (a b d : Bool) (x y z u v : ℕ) → length ((if a then x ∷ [] else y ∷ z ∷ []) ++ (if b then u ∷ [] else if d then v ∷ [] else [])) ≤ 4
-    cases true true d x y z u v = omega arith
-    cases true false true x y z u v = omega arith
-    cases true false false x y z u v = omega arith
-    cases false true d x y z u v = omega arith
-    cases false false true x y z u v = omega arith
-    cases false false false x y z u v = omega arith
-
-    plain : (a : Bool) (x y z : ℕ) → length ((if a then x ∷ [] else y ∷ z ∷ []) ++ []) ≤ 4
-    plain true x y z = omega arith
-    plain false x y z = omega arith
-
-    few_with_fold : (unicode : Bool) (folded : ℕ) → length (all_with_fold unicode folded) ≤ 4
-    few_with_fold false folded = plain (to_uppercase folded == to_lowercase folded) folded (to_uppercase folded) (to_lowercase folded)
-    few_with_fold true folded =
-        cases (to_uppercase folded == to_lowercase folded) (folded == 115) (folded == 107) folded (to_uppercase folded) (to_lowercase folded) 0x017F 0x212A

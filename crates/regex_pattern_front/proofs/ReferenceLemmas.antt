@@ -1,18 +1,16 @@
 -- References to groups, and what else stands behind a backslash.
-use Rattle.std.proofs.Common.{◌≡◌, ℕ, zero, suc, ◌+◌, ◌*◌, ◌-◌, ◌<◌, ◌≤◌, ◌^◌, max, ◌⊎◌, inl, inr, Bool, true, false, not, List, [], ◌∷◌, ◌++◌, length, true≢false, ⊎_elim, nat_eq, nat_lt, refl, sym, ap, subst, ◌∙◌, arith, Some, None}
-use Rattle.std.specs.Prelude.{codes, Option, ◌||◌, ◌==◌, Result, Ok, Err, IsTrue, option_map, String, fold}
+use Rattle.std.proofs.Common.{◌≡◌, ℕ, zero, suc, ◌-◌, ◌<◌, ◌≤◌, ◌^◌, max, ◌⊎◌, inl, inr, Bool, true, false, not, List, [], ◌∷◌, ◌++◌, length, true≢false, ⊎_elim, nat_eq, nat_lt, refl, sym, ap, subst, ◌∙◌, arith, Some, None}
+use Rattle.std.specs.Prelude.{codes, Option, ◌||◌, ◌==◌, Result, Ok, Err, IsTrue, option_map, String}
 use Rattle.std.specs.Result.{IsErrAnd}
 use Rattle.std.specs.BTreeMap.{BTreeMap, get_by_text}
-use Rattle.std.specs.Char.{is_digit, digit_value, is_ascii_alphanumeric}
+use Rattle.std.specs.Char.{is_digit, is_ascii_alphanumeric}
 use Rattle.std.specs.Int.{is_in_range}
 use Rattle.std.proofs.lemmas.Bool.{or_right, or_cases, eqb-true, eq-eqb, ltb-true}
-use Rattle.std.proofs.lemmas.List.Sums.{take_while-cons}
-use Rattle.std.proofs.lemmas.Str.{digit_value_digit}
 use Rattle.std.proofs.lemmas.Str.Parse.{digit_from_value}
 use lib.Pointwise.{pointwise}
 use Rattle.regex_meaning.specs.Text.{is_scalar}
 use Rattle.regex_meaning.specs.Tree.{Node, back_ref, bracket}
-use Rattle.regex_grammar.specs.Reading.{Text, Whole, ◌∈◌, begins, Digits, digits_from, digits, number, number_of}
+use Rattle.regex_grammar.specs.Reading.{Text, Whole, ◌∈◌, begins, Digits, digits_from, digits, number_of}
 use Rattle.regex_grammar.specs.Characters.{CharacterEscape, GroupName, group_name}
 use Rattle.regex_grammar.specs.Classes.{Member, class, class_escape, IsSetOf}
 use Rattle.regex_grammar.specs.Grammar.{Leaf, pattern_character, extended_character, any_character, decimal_escape, named_reference, character_escape, character_class_escape, character_class}
@@ -21,6 +19,7 @@ use Rattle.regex_grammar.proofs.OneTree.{first}
 use Rattle.regex_grammar.proofs.Leaves.{inside, firsts, behind, one_digits, one_name, Some_inj}
 use Rattle.regex_grammar.proofs.Members.{escape_begins, may_escape, class_letter, digit_begins}
 use Rattle.regex_grammar.proofs.Found.{past_leaf}
+use Rattle.regex_grammar.proofs.References.{number-positive, number_of-bounds}
 use Rattle.regex_pattern_front.specs.declared.classes.ClassEscape.{ClassEscape}
 use Rattle.regex_pattern_front.specs.declared.flags.Flags.{Flags}
 use Rattle.regex_pattern_front.specs.declared.leaves.Leaf.{Leaf as TheLeaf}
@@ -128,27 +127,6 @@ no_leaf-reference w rest e no_number no_name =
 
 -- ---- Numbers
 
-grows : (n : ℕ) (ds : Text) → 0 < n → 0 < fold (λ n c. 10 * n + digit_value c) n ds
-grows n [] h = h
-grows n (d ∷ ds) h = grows (10 * n + digit_value d) ds (omega arith)
-
-positive : (c : ℕ) → is_reference c ≡ true → is_digit c 10 ≡ true → 0 < digit_value c
-positive c e d = ⊎_elim (λ h. absurd (no_number (eqb-true c 107 h))) (λ h. by (low c h)) (or_cases (c == 107) _ e)
-  where
-    no_number : c ≡ 107 → ⊥
-    no_number f = true≢false (sym d ∙ ap (λ x. is_digit x 10) f)
-
-    by : (49 ≤ c) × (c ≤ 57) → 0 < digit_value c
-    by k = let v : digit_value c + 48 ≡ c = digit_value_digit c (digit_from_value c (ltb-true _ _ d)) in omega (arith, v, k.0)
-
-pub digits-positive : (rest there : Text) (n : ℕ) → is_reference (first rest) ≡ true → Digits 10 rest there n → 0 < n
-digits-positive [] there n e (digits_from k) = absurd (omega arith)
-digits-positive (c ∷ cs) there n e (digits_from k) =
-    let d : is_digit c 10 ≡ true = digit_begins {base = 10} {here = c ∷ cs} (digits_from k) in
-    let same : digits 10 (c ∷ cs) ≡ c ∷ digits 10 cs = take_while-cons (λ x. is_digit x 10) c cs ∙ rw d refl in
-    let p : 0 < digit_value c = positive c e d in
-    subst (λ x. 0 < number 10 x) (sym same) (grows (10 * 0 + digit_value c) (digits 10 cs) (omega arith))
-
 pub no_zero : (rest : Text) → is_reference (first rest) ≡ true → begins "0" rest ≡ false
 no_zero [] e = refl
 no_zero (c ∷ cs) e = by (nat_eq 48 c) refl
@@ -157,22 +135,10 @@ no_zero (c ∷ cs) e = by (nat_eq 48 c) refl
     by true f = absurd (true≢false (sym e ∙ ap is_reference (sym (eqb-true 48 c f))))
     by false f = rw f refl
 
--- ---- Names
+pub digits-positive : (rest there : Text) (n : ℕ) → is_reference (first rest) ≡ true → Digits 10 rest there n → 0 < n
+digits-positive rest there n e d = number-positive (no_zero rest e) d
 
-pub number_of-bounds : (name : Text) (groups : List Text) (n : ℕ) → number_of name groups ≡ Some n → (0 < n) × (n ≤ length groups)
-number_of-bounds name [] n e = absurd cc
-number_of-bounds name (o ∷ groups) n e = by (λ m f. number_of-bounds name groups m f) (pointwise nat_eq name o) refl (number_of name groups) refl
-  where
-    by : ((m : ℕ) → number_of name groups ≡ Some m → (0 < m) × (m ≤ length groups)) → (b : Bool) → pointwise nat_eq name o ≡ b
-        → (m : Option ℕ) → number_of name groups ≡ m → (0 < n) × (n ≤ length (o ∷ groups))
-    by h true f m g =
-        let k : Some 1 ≡ number_of name (o ∷ groups) = rw f refl in
-        let one : 1 ≡ n = Some_inj (k ∙ e) in (omega (arith, one), omega (arith, one))
-    by h false f None g = let k : None ≡ number_of name (o ∷ groups) = rw (f, g) refl in let none : None ≡ Some n = k ∙ e in absurd cc
-    by h false f (Some m) g =
-        let k : Some (suc m) ≡ number_of name (o ∷ groups) = rw (f, g) refl in
-        let more : suc m ≡ n = Some_inj (k ∙ e) in
-        let b = h m g in (omega (arith, more), omega (arith, more, b.1))
+-- ---- Names
 
 same_text : (name : Text) → pointwise nat_eq name name ≡ true
 same_text [] = refl

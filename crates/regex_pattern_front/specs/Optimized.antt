@@ -1,10 +1,11 @@
 -- The tree with loops over one character.
 use Rattle.std.specs.Prelude.{◌≡◌, ℕ, Bool, true, false, IsTrue, if◌then◌else◌}
-use Rattle.regex_meaning.specs.Tree.{Node, group_ids, every, char, char_set, byte_set, cat, alt, bracket, match_any, match_any_except_line_terminator, capture_group, lookaround, loop, loop_1_char_body}
+use Rattle.regex_meaning.specs.Tree.{Node, group_ids, char, char_set, byte_set, cat, alt, bracket, match_any, match_any_except_line_terminator, capture_group, lookaround, loop, loop_1_char_body}
 use Rattle.regex_meaning.specs.Text.{Text, Direction}
 use Rattle.regex_meaning.specs.Outcomes.{Groups, outcomes}
 use Rattle.regex_meaning.specs.WellFormed.{is_well_formed}
 use Rattle.regex_meaning.specs.Names.{answers_from, named_ids}
+pub use Rattle.regex_grammar.specs.Loops.{has_plain_loops}
 
 -- the nodes that read one character and accept it or not
 abbrev pub reads_one_character : Node → Bool
@@ -26,15 +27,6 @@ optimized (loop q start_group end_group loopee) =
     if reads_one_character loopee then loop_1_char_body q loopee else loop q start_group end_group (optimized loopee)
 optimized (loop_1_char_body q loopee) = loop_1_char_body q (optimized loopee)
 optimized node = node
-
--- the node is no loop over one character
-abbrev pub is_plain : Node → Bool
-is_plain (loop_1_char_body q loopee) = false
-is_plain _ = true
-
--- no loop is one over one character: only optimizing makes those
-abbrev pub has_plain_loops : Node → Bool
-has_plain_loops root = every is_plain root
 
 -- a loop as one over one character
 abbrev pub narrowed : Node → Node

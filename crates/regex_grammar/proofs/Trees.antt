@@ -1,0 +1,190 @@
+-- The trees of patterns are well formed.
+use Rattle.std.proofs.Common.{◌≡◌, ℕ, ◌+◌, ◌<◌, ◌≤◌, Bool, true, false, ◌&&◌, List, [], ◌∷◌, ◌++◌, length, count_by, refl, sym, ap, subst, ◌∙◌, arith, length-append, append-nil, reverse}
+use Rattle.std.specs.Prelude.{if◌then◌else◌, nat_le, nat_lt, nat_eq, ◌==◌, IsTrue}
+use Rattle.std.proofs.lemmas.Bool.{le-leb}
+use Rattle.std.proofs.lemmas.List.{reverse-append}
+use Rattle.regex_meaning.specs.Tree.{Node, Flags, Quantifier, group_ids, every, char, char_set, cat, end_of_cat, back_ref, match_any, match_any_except_line_terminator, capture_group}
+use Rattle.regex_meaning.specs.Text.{expand_code_point, fold_code_point, all_with_fold, to_uppercase, to_lowercase}
+use Rattle.regex_meaning.specs.WellFormed.{is_in_order, goal_count}
+use Rattle.regex_grammar.specs.Reading.{Text, Place, Whole, groups_at, arm, cat_of}
+use Rattle.regex_grammar.specs.Characters.{Quantified, greedy, lazy}
+use Rattle.regex_grammar.specs.Grammar.{character_node, Leaf, pattern_character, extended_character, any_character, decimal_escape, named_reference, character_escape, character_class_escape, character_class, Disjunction, Alternative, Term, Assertion, Atom, last_alternative, alternatives, no_terms, terms, assertion, atom, quantified, start, end, boundary, look, leaf, group, named_group, plain_group, pattern_is}
+use Rattle.regex_grammar.specs.Parts.{is_sound, times, once_within, IsPart, IsLeaf}
+use Rattle.regex_grammar.specs.Ahead.{names_ahead}
+use Rattle.regex_meaning.proofs.Booleans.{and-left, and-right}
+use Rattle.regex_grammar.proofs.Found.{groups_are_found}
+use Rattle.regex_grammar.specs.Laws.{GroupsAreCounted, TreesAreWellFormed}
+use Rattle.regex_grammar.proofs.Parts.{part-leaf, IsJoined, part-joined, joined-cat, joined-alt, part-group, part-lookaround, part-loop, count_by-append, whole, whole-reads_none, whole-plain}
+use Rattle.regex_grammar.proofs.References.{number-positive, number_of-bounds}
+
+-- ---- Atoms without groups
+
+leaf-if : (greatest : ℕ) (b : Bool) (x y : Node) → IsLeaf greatest x → IsLeaf greatest y → IsLeaf greatest (if b then x else y)
+leaf-if greatest true x y h k = h
+leaf-if greatest false x y h k = k
+
+-- a code point has at most three spellings
+pub few_members : (c : ℕ) (icase unicode : Bool) → length (expand_code_point c icase unicode) ≤ 4
+unfolding expand_code_point
+few_members c false unicode = omega arith
+few_members c true unicode = few_with_fold unicode (fold_code_point unicode c)
+  where
+    cases : (a b d : Bool) (x y z u v : ℕ) → length ((if a then x ∷ [] else y ∷ z ∷ []) ++ (if b then u ∷ [] else if d then v ∷ [] else [])) ≤ 4
+    cases true true d x y z u v = omega arith
+    cases true false true x y z u v = omega arith
+    cases true false false x y z u v = omega arith
+    cases false true d x y z u v = omega arith
+    cases false false true x y z u v = omega arith
+    cases false false false x y z u v = omega arith
+
+    plain : (a : Bool) (x y z : ℕ) → length ((if a then x ∷ [] else y ∷ z ∷ []) ++ []) ≤ 4
+    plain true x y z = omega arith
+    plain false x y z = omega arith
+
+    few_with_fold : (unicode : Bool) (folded : ℕ) → length (all_with_fold unicode folded) ≤ 4
+    few_with_fold false folded = plain (to_uppercase folded == to_lowercase folded) folded (to_uppercase folded) (to_lowercase folded)
+    few_with_fold true folded =
+        cases (to_uppercase folded == to_lowercase folded) (folded == 115) (folded == 107) folded (to_uppercase folded) (to_lowercase folded) 0x017F 0x212A
+
+module _ (greatest : ℕ) where
+  leaf-character : (flags : Flags) (c : ℕ) → IsLeaf greatest (character_node flags c)
+  leaf-character flags c =
+      let members = expand_code_point c flags.icase flags.unicode in
+      leaf-if greatest (nat_lt 1 (length members)) (char_set members) (char c)
+      (record { goals = refl; ids = refl; sound = le-leb (length members) 4 (few_members c flags.icase flags.unicode) })
+      (record { goals = refl; ids = refl; sound = refl })
+
+  leaf-reference : (id : ℕ) (icase : Bool) → 0 < id → id ≤ greatest → IsLeaf greatest (back_ref id icase)
+  leaf-reference id icase h k = record {
+    goals = refl;
+    ids = refl;
+    sound = sound (nat_le 1 id) (nat_le id greatest) (le-leb 1 id (omega arith)) (le-leb id greatest k);
+  }
+    where
+      sound : (a b : Bool) → a ≡ true → b ≡ true → (true && (a && b) && true && true && true && true) ≡ true
+      sound true true h k = refl
+      sound true false h k = k
+      sound false b h k = grind arith
+
+abbrev groups_in : Whole → ℕ
+groups_in w = length w.groups
+
+leaf-is : (w : Whole) {here there : Text} {n : Node} → Leaf w here there n → IsLeaf (groups_in w) n
+leaf-is w (pattern_character {c = c} e f) = leaf-character (groups_in w) w.flags c
+leaf-is w (extended_character {c = c} e f k l) = leaf-character (groups_in w) w.flags c
+leaf-is w (any_character e) =
+    leaf-if (groups_in w) w.flags.dot_all match_any match_any_except_line_terminator (record { goals = refl; ids = refl; sound = refl }) (record { goals = refl; ids = refl; sound = refl })
+leaf-is w (decimal_escape {n = n} e f d l) = leaf-reference (groups_in w) n w.flags.icase (number-positive f d) l
+leaf-is w (named_reference {name = name} {n = n} e d f) =
+    let h = number_of-bounds name w.groups n f in leaf-reference (groups_in w) n w.flags.icase h.0 h.1
+leaf-is w (character_escape {c = c} e d) = leaf-character (groups_in w) w.flags c
+leaf-is w (character_class_escape e f s) = record { goals = refl; ids = refl; sound = refl }
+leaf-is w (character_class e d) = record { goals = refl; ids = refl; sound = refl }
+
+-- ---- Terms one after the other
+
+snoc-goals : (xs : List Node) (y : Node) → goal_count (cat_of (xs ++ y ∷ [])) ≡ goal_count y + goal_count (cat_of xs)
+snoc-goals [] y = omega arith
+snoc-goals (x ∷ xs) y = omega (arith, snoc-goals xs y)
+
+snoc-count : (xs : List Node) (y : Node) → length (group_ids (cat_of (xs ++ y ∷ []))) ≡ length (group_ids y) + length (group_ids (cat_of xs))
+snoc-count [] y = length-append (group_ids y) []
+snoc-count (x ∷ xs) y =
+    length-append (group_ids x) (group_ids (cat_of (xs ++ y ∷ [])))
+    ∙ (let h = snoc-count xs y in let k = length-append (group_ids x) (group_ids (cat_of xs)) in omega (arith, h, k))
+
+snoc-ids : (id : ℕ) (xs : List Node) (y : Node) → times id (cat_of (xs ++ y ∷ [])) ≡ times id y + times id (cat_of xs)
+snoc-ids id [] y = count_by-append (nat_eq id) (group_ids y) []
+snoc-ids id (x ∷ xs) y =
+    count_by-append (nat_eq id) (group_ids x) (group_ids (cat_of (xs ++ y ∷ [])))
+    ∙ (let h = snoc-ids id xs y in let k = count_by-append (nat_eq id) (group_ids x) (group_ids (cat_of xs)) in omega (arith, h, k))
+
+snoc-sound : (greatest : ℕ) (xs : List Node) (y : Node) → IsTrue (every (is_sound greatest) y) → IsTrue (every (is_sound greatest) (cat_of xs)) → IsTrue (every (is_sound greatest) (cat_of (xs ++ y ∷ [])))
+snoc-sound greatest [] y h k = (joined-cat y end_of_cat).sound greatest h k
+snoc-sound greatest (x ∷ xs) y h k =
+    (joined-cat x (cat_of (xs ++ y ∷ []))).sound greatest (and-right (is_sound greatest (cat x (cat_of xs))) _ (and-left _ (every (is_sound greatest) (cat_of xs)) k)) (snoc-sound greatest xs y h (and-right _ (every (is_sound greatest) (cat_of xs)) k))
+
+joined-snoc : (xs : List Node) (y : Node) → IsJoined (cat_of (xs ++ y ∷ [])) y (cat_of xs)
+joined-snoc xs y = record { goals = snoc-goals xs y; count = snoc-count xs y; ids = λ id. snoc-ids id xs y; sound = λ greatest. snoc-sound greatest xs y }
+
+arm-none : (behind : Bool) (first greatest : ℕ) → IsPart first first greatest (arm behind [])
+arm-none true first greatest = part-leaf first greatest end_of_cat (record { goals = refl; ids = refl; sound = refl })
+arm-none false first greatest = part-leaf first greatest end_of_cat (record { goals = refl; ids = refl; sound = refl })
+
+arm-more : (behind : Bool) (first middle last greatest : ℕ) (n : Node) (ns : List Node) → IsPart first middle greatest n → IsPart middle last greatest (arm behind ns)
+    → IsPart first last greatest (arm behind (n ∷ ns))
+arm-more false first middle last greatest n ns h k = part-joined first middle last greatest (cat n (cat_of ns)) n (cat_of ns) (joined-cat n (cat_of ns)) h k
+arm-more true first middle last greatest n ns h k =
+    subst (λ x. IsPart first last greatest (cat_of x)) (sym (reverse-append (n ∷ []) ns))
+    (part-joined first middle last greatest (cat_of (reverse ns ++ n ∷ [])) n (cat_of (reverse ns)) (joined-snoc (reverse ns) n) h k)
+
+-- ---- From one place to another
+
+in-order : {here there : Text} {q : Quantifier} → Quantified here there q → is_in_order q ≡ true
+in-order (greedy h e o) = o
+in-order (lazy h e o) = o
+
+-- the part of a tree that is read from one place to another
+abbrev pub Reads : Whole → Place → Place → Node → Type 0
+Reads w p q n = IsPart (groups_at p) (groups_at q) (groups_in w) n
+
+between : (greatest : ℕ) {a b c d : ℕ} {n : Node} → a ≡ b → c ≡ d → IsPart b c greatest n → IsPart a d greatest n
+between greatest {b = b} {d = d} {n = n} e f h = subst (λ x. IsPart x d greatest n) (sym e) (subst (λ x. IsPart b x greatest n) f h)
+
+leaf-between : (greatest : ℕ) {a b : ℕ} {n : Node} → a ≡ b → IsLeaf greatest n → IsPart a b greatest n
+leaf-between greatest {a = a} {n = n} e h = between greatest refl e (part-leaf a greatest n h)
+
+group-between : (greatest : ℕ) (before : List Text) {a b c : ℕ} {n : Node} (name : Text) → a ≡ length before → b ≡ c → IsPart (length (before ++ name ∷ [])) b greatest n
+    → IsPart a c greatest (capture_group a name n)
+group-between greatest before {a = a} {c = c} {n = n} name e f h =
+    part-group a c greatest name n (between greatest (ap (λ x. x + 1) e ∙ sym (length-append before (name ∷ []))) f h)
+
+mutual
+  part-disjunction : {w : Whole} {behind : Bool} {p q : Place} {n : Node} → Disjunction w behind p q n → Reads w p q n
+  part-disjunction (last_alternative a) = part-alternative a
+  part-disjunction {w} (alternatives {p = p} {q = q} {r = r} {s = s} a bar d) =
+      part-joined (groups_at p) (groups_at q) (groups_at s) (groups_in w) _ _ _ (joined-alt _ _) (part-alternative a) (between (groups_in w) (ap groups_at bar) refl (part-disjunction d))
+
+  part-alternative : {w : Whole} {behind : Bool} {p q : Place} {ns : List Node} → Alternative w behind p q ns → Reads w p q (arm behind ns)
+  part-alternative {w} (no_terms {behind = behind} {p = p}) = arm-none behind (groups_at p) (groups_in w)
+  part-alternative {w} (terms {behind = behind} {p = p} {q = q} {r = r} {n = n} {ns = ns} t a) =
+      arm-more behind (groups_at p) (groups_at q) (groups_at r) (groups_in w) n ns (part-term t) (part-alternative a)
+
+  part-term : {w : Whole} {behind : Bool} {p q : Place} {n : Node} → Term w behind p q n → Reads w p q n
+  part-term (assertion a) = part-assertion a
+  part-term (atom a k) = part-atom a
+  part-term {w} (quantified {p = p} {q = q} {n = n} {quantifier = quantifier} a k) =
+      part-loop (groups_at p) (groups_at q) (groups_in w) quantifier n (in-order k) (part-atom a)
+
+  part-assertion : {w : Whole} {p q : Place} {n : Node} → Assertion w p q n → Reads w p q n
+  part-assertion {w} (start e) = leaf-between (groups_in w) (ap groups_at e) (record { goals = refl; ids = refl; sound = refl })
+  part-assertion {w} (end e) = leaf-between (groups_in w) (ap groups_at e) (record { goals = refl; ids = refl; sound = refl })
+  part-assertion {w} (boundary invert e) = leaf-between (groups_in w) (ap groups_at e) (record { goals = refl; ids = refl; sound = refl })
+  part-assertion {w} (look {p = p} {s = s} {n = n} negate backwards e d f) =
+      part-lookaround (groups_at p) (groups_at s) (groups_in w) negate backwards n (between (groups_in w) (ap groups_at e) (ap groups_at f) (part-disjunction d))
+
+  part-atom : {w : Whole} {behind : Bool} {p q : Place} {n : Node} → Atom w behind p q n → Reads w p q n
+  part-atom {w} (leaf {p = p} {n = n} a) = part-leaf (groups_at p) (groups_in w) n (leaf-is w a)
+  part-atom {w} (group {q = q} e o d f) = group-between (groups_in w) q.opened [] (ap groups_at e) (ap groups_at f) (part-disjunction d)
+  part-atom {w} (named_group {q = q} {name = name} e g d f) = group-between (groups_in w) q.opened name (ap groups_at e) (ap groups_at f) (part-disjunction d)
+  part-atom {w} (plain_group e d f) = between (groups_in w) (ap groups_at e) (ap groups_at f) (part-disjunction d)
+
+-- ---- The whole pattern
+
+ids-within : (id groups : ℕ) → once_within 0 groups id ≡ (if nat_lt id groups then 1 else 0)
+ids-within id groups = rw (le-leb 0 id (omega arith)) refl
+
+pub groups_are_counted : GroupsAreCounted
+groups_are_counted flags pattern t (pattern_is {n = n} groups d distinct few) =
+    let p = part-disjunction d in
+    let found : length groups ≡ length (names_ahead false pattern) = ap length (groups_are_found (record { flags = flags; groups = groups }) pattern groups n d) in
+    let ids : group_ids t.root ≡ group_ids n = append-nil (group_ids n) in (
+      ap length ids ∙ omega (arith, p.count, found),
+      omega (arith, few, found),
+      λ id. ap (λ x. count_by (nat_eq id) x) ids ∙ p.ids id ∙ ids-within id (length groups) ∙ ap (λ m. if nat_lt id m then 1 else 0) found,
+    )
+
+pub trees_are_well_formed : TreesAreWellFormed
+trees_are_well_formed flags pattern t (pattern_is {n = n} groups d distinct few) =
+    let p = part-disjunction d in
+    (refl, whole (length groups) (length groups) n (omega arith) p, whole-reads_none (length groups) n p.sound, whole-plain (length groups) n p.sound)

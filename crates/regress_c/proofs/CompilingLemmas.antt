@@ -14,7 +14,7 @@ use Rattle.regress_c.specs.declared.refusal.Refusal.TheVariants.{Empty, Full, No
 
 -- want of memory, or the pattern itself
 abbrev pub IsOfCompiling : Given → Refusal → Type 0
-IsOfCompiling g r = (r ≡ Memory) ⊎ RefusesPattern g r
+IsOfCompiling g r = (r ≡ Memory) ⊎ RefusesPattern (flags_of_text g.flags) g.characters r
 
 of-compiling : (g : Given) (e : Error) → Refuses (flags_of_text g.flags) g.characters e → IsOfCompiling g (refused_as e)
 of-compiling g error.Memory refuses = inl refl
@@ -41,7 +41,7 @@ module _ (g : Given) (bounds : Bounds) (readable : IsReadable g) (within : IsWit
   refuses _ h = absurd (the-pattern h (λ e. cc))
 
   pub told-refuses : (e : Error) (r told : Refusal) → Refuses (flags_of_text g.flags) g.characters e → r ≡ refused_as e
-      → (r ≡ Memory → told ≡ Memory) → (RefusesPattern g r → RefusesPattern g told)
+      → (r ≡ Memory → told ≡ Memory) → (RefusesPattern (flags_of_text g.flags) g.characters r → RefusesPattern (flags_of_text g.flags) g.characters told)
       → Compiles g bounds (Err told)
   told-refuses e r told can is kept same = refuses told (by (subst (IsOfCompiling g) (sym is) (of-compiling g e can)))
     where

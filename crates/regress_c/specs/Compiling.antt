@@ -1,5 +1,6 @@
 -- What compiling a pattern answers.
 use Rattle.std.specs.Prelude.{◌≡◌, ◌⊎◌, ◌<◌, ◌≤◌, ◌-◌, ◌^◌, ℕ, List, Option, Some, None, Result, Ok, Err, length}
+use Rattle.regex_meaning.specs.Tree.{Flags}
 use Rattle.regex_meaning.specs.Flags.{flags_of_text}
 use Rattle.regex_pattern_front.specs.Depth.{nesting_of}
 use Rattle.regex_grammar.specs.Standing.{NoTree}
@@ -37,13 +38,12 @@ pub record IsWithin (bounds : Bounds) (characters : List ℕ) : Type 0 where
 
 -- What refuses the pattern itself: the grammar has no tree of it, or its tree exceeds a limit. More groups than there are
 -- numbers are no pattern.
-abbrev pub RefusesPattern : Given → Refusal → Type 0
-RefusesPattern g Syntax = NoTree (flags_of_text g.flags) g.characters
-RefusesPattern g TooManyGroups =
-    NoTree (flags_of_text g.flags) g.characters ⊎ Exceeds (flags_of_text g.flags) g.characters emit.TooManyGroups
-RefusesPattern g TooManyLoops = Exceeds (flags_of_text g.flags) g.characters emit.TooManyLoops
-RefusesPattern g TooManyInstructions = Exceeds (flags_of_text g.flags) g.characters emit.TooManyInstructions
-RefusesPattern g _ = ⊥
+abbrev pub RefusesPattern : Flags → (characters : List ℕ) → Refusal → Type 0
+RefusesPattern flags characters Syntax = NoTree flags characters
+RefusesPattern flags characters TooManyGroups = NoTree flags characters ⊎ Exceeds flags characters emit.TooManyGroups
+RefusesPattern flags characters TooManyLoops = Exceeds flags characters emit.TooManyLoops
+RefusesPattern flags characters TooManyInstructions = Exceeds flags characters emit.TooManyInstructions
+RefusesPattern flags characters _ = ⊥
 
 -- a pattern with the flags whose letters stand there, or a refusal
 abbrev pub Compiles : Given → Bounds → Result Regex Refusal → Type 0
@@ -54,7 +54,7 @@ Compiles g bounds (Err NotUtf8) = ¬ g.is_text
 Compiles g bounds (Err Memory) = IsReadable g
 Compiles g bounds (Err TooLong) = IsReadable g × (bounds.length < length g.characters)
 Compiles g bounds (Err TooDeep) = IsReadable g × (bounds.nesting < nesting_of g.characters)
-Compiles g bounds (Err refusal) = IsReadable g × IsWithin bounds g.characters × RefusesPattern g refusal
+Compiles g bounds (Err refusal) = IsReadable g × IsWithin bounds g.characters × RefusesPattern (flags_of_text g.flags) g.characters refusal
 
 -- the same for a handle, which has to be empty
 abbrev pub CompilesInto : (held : Option Regex) → Given → Bounds → Result Regex Refusal → Type 0

@@ -17,4 +17,4 @@ returns g c =
     c.in-Err.error c.of_error.result c.told.result
     (subst (λ f. Refuses f characters c.in-Err.error) c.in_ok-flags.ensures.1
     (subst (λ cs. Refuses _ cs c.in-Err.error) (c.deref-2.ensures.value ∙ read.1) c.in-Err.ensures.refused))
-    c.of_error.ensures c.told.ensures.kept (c.told.ensures.refuses asked)
+    c.of_error.ensures c.told.ensures.kept (c.told.ensures.refuses _ _)

@@ -34,7 +34,7 @@ returns-clause-compiled c =
 pub returns-in_err-parsed-clause-refused : goal.returns-in_err-parsed-clause-refused
 returns-in_err-parsed-clause-refused c =
     let e = c.in_err-parsed.field-0.0 in
-    err-refused c.from_residual-in_err-parsed.result (of_parse e) _ _ (λ x h. h) c.from_residual-in_err-parsed.ensures.1
+    err-refused c.from_residual.result (of_parse e) _ _ (λ x h. h) c.from_residual.ensures.1
     (parse-refuses _ _ e (λ is. subst (λ f. NoTree f c.args.pattern.now) c.for_front.ensures
     (c.in_err-parsed.ensures.refused (ap Err is))))
 

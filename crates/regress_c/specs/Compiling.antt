@@ -1,8 +1,12 @@
 -- What compiling a pattern answers.
-use Rattle.std.specs.Prelude.{◌≡◌, ◌<◌, ◌≤◌, ◌-◌, ◌^◌, ℕ, List, Option, Some, None, Result, Ok, Err, length}
+use Rattle.std.specs.Prelude.{◌≡◌, ◌⊎◌, ◌<◌, ◌≤◌, ◌-◌, ◌^◌, ℕ, List, Option, Some, None, Result, Ok, Err, length}
+use Rattle.regex_meaning.specs.Tree.{Flags}
 use Rattle.regex_meaning.specs.Flags.{flags_of_text}
 use Rattle.regex_pattern_front.specs.Depth.{nesting_of}
+use Rattle.regex_grammar.specs.Standing.{NoTree}
+use Rattle.regress_program.specs.declared.emit.EmitError.TheVariants as emit
 use Rattle.regress_match.specs.Programs.{IsCompiledWith}
+use Rattle.regress_match.specs.Refusals.{Exceeds}
 use Rattle.regress_match.specs.declared.api.regex.Regex.{Regex}
 use Rattle.regress_c.specs.Codes.{code_of, done}
 use Rattle.regress_c.specs.Reading.{AreFlags}
@@ -32,23 +36,25 @@ pub record IsWithin (bounds : Bounds) (characters : List ℕ) : Type 0 where
   pub length_is : length characters ≤ bounds.length
   pub nesting_is : nesting_of characters ≤ bounds.nesting
 
--- what refuses the pattern itself
-abbrev pub RefusesPattern : Refusal → Type 0
-RefusesPattern Syntax = Unit {0}
-RefusesPattern TooManyGroups = Unit {0}
-RefusesPattern TooManyLoops = Unit {0}
-RefusesPattern TooManyInstructions = Unit {0}
-RefusesPattern _ = ⊥
+-- What refuses the pattern itself: the grammar has no tree of it, or its tree exceeds a limit. More groups than there are
+-- numbers are no pattern.
+abbrev pub RefusesPattern : Flags → (characters : List ℕ) → Refusal → Type 0
+RefusesPattern flags characters Syntax = NoTree flags characters
+RefusesPattern flags characters TooManyGroups = NoTree flags characters ⊎ Exceeds flags characters emit.TooManyGroups
+RefusesPattern flags characters TooManyLoops = Exceeds flags characters emit.TooManyLoops
+RefusesPattern flags characters TooManyInstructions = Exceeds flags characters emit.TooManyInstructions
+RefusesPattern flags characters _ = ⊥
 
 -- a pattern with the flags whose letters stand there, or a refusal
 abbrev pub Compiles : Given → Bounds → Result Regex Refusal → Type 0
-Compiles g bounds (Ok re) = IsReadable g × IsWithin bounds g.characters × IsCompiledWith (flags_of_text g.flags) re
+Compiles g bounds (Ok re) =
+    IsReadable g × IsWithin bounds g.characters × IsCompiledWith (flags_of_text g.flags) g.characters re
 Compiles g bounds (Err UnknownFlag) = ¬ AreFlags g.flags
 Compiles g bounds (Err NotUtf8) = ¬ g.is_text
 Compiles g bounds (Err Memory) = IsReadable g
 Compiles g bounds (Err TooLong) = IsReadable g × (bounds.length < length g.characters)
 Compiles g bounds (Err TooDeep) = IsReadable g × (bounds.nesting < nesting_of g.characters)
-Compiles g bounds (Err refusal) = IsReadable g × IsWithin bounds g.characters × RefusesPattern refusal
+Compiles g bounds (Err refusal) = IsReadable g × IsWithin bounds g.characters × RefusesPattern (flags_of_text g.flags) g.characters refusal
 
 -- the same for a handle, which has to be empty
 abbrev pub CompilesInto : (held : Option Regex) → Given → Bounds → Result Regex Refusal → Type 0

@@ -1,6 +1,7 @@
 //! Compiling into a handle.
 
-ghost use Rattle.std.specs.Prelude.{◌≡◌, None};
+ghost use Rattle.std.specs.Prelude.{◌≡◌, ℕ, List, None};
+ghost use Rattle.regex_meaning.specs.Tree.{Flags as Asked};
 ghost use Rattle.std.specs.Result.{result_map_both};
 ghost use Rattle.regress_c.specs.Compiling.{Compiles, RefusesPattern, RepliesMade, given};
 ghost use Rattle.regress_c.specs.declared.refusal.Refusal.TheVariants.{Memory};
@@ -99,7 +100,8 @@ fn compiled<S: Source>(
 // Too many groups are refused by the parser, as no pattern: what is wrong with it tells.
 fn told(alloc: Global, pattern: &[u32], flags: Flags, refusal: Refusal) -> Refusal
     ensures kept { refusal ≡ Memory → result ≡ Memory }
-    ensures refuses { RefusesPattern refusal → RefusesPattern result }
+    ensures refuses { (flags : Asked) (characters : List ℕ)
+        → RefusesPattern flags characters refusal → RefusesPattern flags characters result }
 {
     if refusal != Refusal::Syntax {
         return refusal;

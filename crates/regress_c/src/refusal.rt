@@ -2,7 +2,6 @@
 
 ghost use Rattle.std.specs.Prelude.{◌≡◌};
 ghost use Rattle.regress_c.specs.Codes.{code_of, refused_as};
-ghost use Rattle.regress_match.specs.Refusals.{CanRefuse};
 
 use crate::reply::Reply;
 use regex_pattern_front::parse::ParseError;
@@ -94,16 +93,14 @@ impl Refusal {
 
     /// What a pattern is refused for.
     pub(crate) fn of_error(error: Error) -> Refusal
-        requires { CanRefuse error }
         ensures { result ≡ refused_as error }
     {
         match error {
-            Error::Memory => Refusal::Memory,
             Error::Parse(ParseError::Syntax) => Refusal::Syntax,
             Error::Emit(EmitError::TooManyGroups) => Refusal::TooManyGroups,
             Error::Emit(EmitError::TooManyLoops) => Refusal::TooManyLoops,
             Error::Emit(EmitError::TooManyInstructions) => Refusal::TooManyInstructions,
-            _ => unreachable!(),
+            _ => Refusal::Memory,
         }
     }
 }

@@ -1,7 +1,7 @@
 -- Flags of letters, and results that are told more of.
 use Rattle.std.proofs.Common.{◌≡◌, ℕ, List, [], ◌∷◌, ◌++◌, Bool, true, false, refl, ap, ap₂, sym, ◌∙◌, nat_eq, eq-eqb, ne_eqb, eqb-true, append_assoc}
 use Rattle.std.proofs.lemmas.Bool.{eqb-false}
-use Rattle.std.specs.Prelude.{◌||◌, Result, Ok, Err, IfOk}
+use Rattle.std.specs.Prelude.{◌||◌, Result, Ok, Err, IfOk, IfErr}
 use Rattle.regex_meaning.specs.Tree.{Flags}
 use Rattle.regex_meaning.specs.Flags.{letter_if, flags_of_text, flags_text}
 use Rattle.std.specs.List.{list_any}
@@ -21,6 +21,10 @@ contains-by n (x ∷ xs) = ap₂ (λ a b. a || b) (either_way x n) (contains-by 
 pub IfOk-map : {T E : Type 0} (r : Result T E) (P Q : T → Type 0) → ((x : T) → P x → Q x) → IfOk r P → IfOk r Q
 IfOk-map (Ok x) P Q f h = f x h
 IfOk-map (Err e) P Q f h = tt
+
+pub IfErr-map : {T E : Type 0} (r : Result T E) (P Q : E → Type 0) → ((x : E) → P x → Q x) → IfErr r P → IfErr r Q
+IfErr-map (Ok x) P Q f h = tt
+IfErr-map (Err e) P Q f h = f e h
 
 abbrev pub flags_by : (icase multiline dot_all no_opt unicode unicode_sets : Bool) → Flags
 flags_by i m d n u v = record { icase = i; multiline = m; dot_all = d; no_opt = n; unicode = u; unicode_sets = v }

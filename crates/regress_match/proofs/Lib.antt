@@ -4,6 +4,7 @@ pub mod Closures
 pub mod EscapeLemmas
 pub mod Expansion
 pub mod FlagLemmas
+pub mod PatternLemmas
 pub mod RefusalLemmas
 pub mod Replacing
 pub mod SearchLemmas

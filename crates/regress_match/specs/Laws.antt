@@ -1,7 +1,11 @@
 -- Laws of the public face.
 use Rattle.std.specs.Prelude.{◌≡◌, ℕ, List, IsUtf8, codes, take}
+use Rattle.regex_meaning.specs.Tree.{Tree, Flags}
+use Rattle.regex_meaning.specs.Text.{utf8_text, ascii_text, utf16_text, ucs2_text}
+use Rattle.regex_meaning.specs.Names.{answers_from}
 use Rattle.regex_meaning.specs.Replace.{replaced}
-use Rattle.regress_match.specs.Programs.{utf8_answers}
+use Rattle.regex_grammar.specs.Grammar.{Parses}
+use Rattle.regress_match.specs.Programs.{IsCompiledWith, utf8_answers, ascii_answers, utf16_answers, ucs2_answers}
 use Rattle.regress_match.specs.Replacements.{StandFrom, expanded}
 use Rattle.regress_match.specs.declared.api.regex.Regex.{Regex}
 
@@ -10,6 +14,15 @@ abbrev pub WholeMatchesGiveBack : Type 0
 WholeMatchesGiveBack = (re : Regex) (text : List ℕ)
     → let answers = utf8_answers re text 0 in
     (replaced text 0 (expanded text (codes "$0") (take 1 answers)) ≡ text) × (replaced text 0 (expanded text (codes "$0") answers) ≡ text)
+
+-- What is found in a text, by whichever program, is what the tree says that the grammar has of the pattern.
+abbrev pub SearchesFollowThePattern : Type 0
+SearchesFollowThePattern = (flags : Flags) (pattern : List ℕ) (re : Regex) (tree : Tree)
+    → IsCompiledWith flags pattern re → Parses flags pattern tree → (text : List ℕ) (start : ℕ)
+    → (utf8_answers re text start ≡ answers_from tree.root (utf8_text text flags.unicode) start)
+    × (ascii_answers re text start ≡ answers_from tree.root (ascii_text text flags.unicode) start)
+    × (utf16_answers re text start ≡ answers_from tree.root (utf16_text text flags.unicode) start)
+    × (ucs2_answers re text start ≡ answers_from tree.root (ucs2_text text flags.unicode) start)
 
 -- the matches from a start on stand in the text: in order from there on, none over another, each match and each of its groups a
 -- range of whole characters

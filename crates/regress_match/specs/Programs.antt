@@ -8,6 +8,7 @@ use Rattle.regex_meaning.specs.Names.{Answer, answers_from}
 use Rattle.regex_meaning.specs.Answers.{answer_at}
 use Rattle.regex_meaning.specs.Steps.{answers_within, end_within}
 use Rattle.regex_meaning.specs.WellFormed.{is_well_formed}
+use Rattle.regex_grammar.specs.Grammar.{Parses}
 use Rattle.regex_pattern_front.specs.TreeOf.{tree_of}
 use Rattle.regex_pattern_front.specs.Optimized.{has_plain_loops}
 use Rattle.regress_program.specs.Code.{compiled}
@@ -22,9 +23,10 @@ byte_tree re = tree_of re.cr
 abbrev pub unit_tree : Regex → Tree
 unit_tree re = tree_of re.units
 
--- One well-formed tree has these flags, and no loop in it is optimized. The program for 16-bit units is its code, and that
--- for bytes the code of the tree that is run in its place.
-pub record IsCompiledWith (wanted : Flags) (re : Regex) : Type 0 where
+-- The grammar has one tree of the pattern, with these flags; it is well formed, and no loop in it is optimized. The program
+-- for 16-bit units is its code, and that for bytes the code of the tree that is run in its place.
+pub record IsCompiledWith (wanted : Flags) (pattern : List ℕ) (re : Regex) : Type 0 where
+  pub parsed : Parses wanted pattern (unit_tree re)
   pub flags : (unit_tree re).flags ≡ wanted
   pub well_formed : IsTrue (is_well_formed (unit_tree re).root)
   pub plain : IsTrue (has_plain_loops (unit_tree re).root)

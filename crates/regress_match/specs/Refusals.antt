@@ -1,5 +1,10 @@
 -- Which refusal of a step is which of the whole.
-use Rattle.std.specs.Prelude.{◌≡◌}
+use Rattle.std.specs.Prelude.{◌≡◌, ◌⊎◌, ℕ, List}
+use Rattle.regex_meaning.specs.Tree.{Tree, Flags}
+use Rattle.regex_grammar.specs.Grammar.{Parses}
+use Rattle.regex_grammar.specs.Standing.{NoTree}
+use Rattle.regress_program.specs.Refusals.{IsRefused}
+use Rattle.regress_program.specs.Running.{tree_to_run}
 use Rattle.regex_pattern_front.specs.declared.parse.ParseError.{ParseError}
 use Rattle.regex_pattern_front.specs.declared.parse.ParseError.TheVariants as parse
 use Rattle.regress_program.specs.declared.emit.EmitError.{EmitError}
@@ -18,13 +23,23 @@ abbrev pub of_emit : EmitError → Error
 of_emit emit.Memory = Memory
 of_emit e = Emit e
 
--- What refuses a pattern: no want of memory is wrapped, and a parsed tree is well formed and of characters.
-abbrev pub CanRefuse : Error → Type 0
-CanRefuse (Parse parse.Memory) = ⊥
-CanRefuse (Emit emit.Memory) = ⊥
-CanRefuse (Emit emit.NotWellFormed) = ⊥
-CanRefuse (Emit emit.BytesInUnits) = ⊥
-CanRefuse _ = Unit {0}
+-- The pattern's tree, or the one that is run in its place, exceeds the limit that a refusal names.
+pub record Exceeds (flags : Flags) (pattern : List ℕ) (e : EmitError) : Type 0 where
+  pub tree : Tree
+  pub parsed : Parses flags pattern tree
+  pub refused : IsRefused e tree ⊎ IsRefused e (tree_to_run tree)
+
+-- What refuses a pattern: the grammar has no tree of it, or its tree exceeds a limit, or there was no memory.
+abbrev pub Refuses : Flags → (pattern : List ℕ) → Error → Type 0
+Refuses flags pattern (Parse parse.Syntax) = NoTree flags pattern
+Refuses flags pattern (Parse parse.Memory) = ⊥
+Refuses flags pattern (Emit emit.TooManyGroups) = Exceeds flags pattern emit.TooManyGroups
+Refuses flags pattern (Emit emit.TooManyLoops) = Exceeds flags pattern emit.TooManyLoops
+Refuses flags pattern (Emit emit.TooManyInstructions) = Exceeds flags pattern emit.TooManyInstructions
+Refuses flags pattern (Emit emit.NotWellFormed) = ⊥
+Refuses flags pattern (Emit emit.BytesInUnits) = ⊥
+Refuses flags pattern (Emit emit.Memory) = ⊥
+Refuses flags pattern Memory = Unit {0}
 
 -- want of memory, which alone refuses a search without a limit of steps
 abbrev pub IsMemory : SearchError → Type 0

@@ -1,2 +1,3 @@
 mod Lines
 mod Parts
+mod Searched

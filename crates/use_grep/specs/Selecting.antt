@@ -1,8 +1,12 @@
 -- Which lines a grep selects, and what it shows of them.
-use Rattle.std.specs.Prelude.{ℕ, ◌+◌, List, [], ◌∷◌, ◌++◌, Bool, eqb, codes, is_some, map, not, slice_get, slice_range, if◌then◌else◌}
+use Rattle.std.specs.Prelude.{◌≡◌, ℕ, ◌+◌, List, [], ◌∷◌, ◌++◌, Bool, ◌||◌, eqb, chars, codes, is_some, map, not, slice_get, slice_range, if◌then◌else◌}
 use Rattle.std.specs.List.{slice_split}
-use Rattle.regex_meaning.specs.Names.{Answer}
+use Rattle.regex_meaning.specs.Tree.{Tree, Flags}
+use Rattle.regex_meaning.specs.Text.{utf8_text}
+use Rattle.regex_meaning.specs.Flags.{flags_of_text}
+use Rattle.regex_meaning.specs.Names.{Answer, answers_from}
 use Rattle.regex_meaning.specs.Replace.{replaced}
+use Rattle.regex_grammar.specs.Grammar.{Parses}
 use Rattle.regress_match.specs.Programs.{utf8_answers}
 use Rattle.regress_match.specs.Replacements.{expanded}
 use Rattle.regress_match.specs.declared.api.regex.Regex.{Regex}
@@ -37,7 +41,21 @@ matched_parts line matches = map (λ m. slice_range line m.range.0 m.range.1) ma
 abbrev pub colored : Regex → (line : List ℕ) → List ℕ
 colored re line = replaced line 0 (expanded line (27 ∷ (codes "[1;31m$0" ++ 27 ∷ codes "[m")) (utf8_answers re line 0))
 
+-- the flags that the pattern is read with
+abbrev pub tree_flags : (ignore_case : Bool) → Flags
+tree_flags ignore_case = if ignore_case then flags_of_text (codes "i") else flags_of_text []
+
+-- The grammar has a tree of the pattern, and a line has a match where that tree finds one in it.
+pub record IsSearchOf (flags : Flags) (pattern : List ℕ) (re : Regex) : Type 0 where
+  pub tree : Tree
+  pub parsed : Parses flags (chars pattern) tree
+  pub found : (line : List ℕ) → has_match re line ≡ is_some (slice_get (answers_from tree.root (utf8_text line flags.unicode) 0) 0)
+
 -- a pattern between the ends of a line, or between places that are no word's
 abbrev pub framed : (whole_lines : Bool) → (pattern : List ℕ) → List ℕ
 framed whole_lines pattern =
     if whole_lines then codes "^(?:" ++ (pattern ++ codes ")$") else codes "(?<!\\w)(?:" ++ (pattern ++ codes ")(?!\\w)")
+
+-- what is searched: the pattern, or with what `-w` and `-x` put around it
+abbrev pub searched : (words whole_lines : Bool) → (pattern : List ℕ) → List ℕ
+searched words whole_lines pattern = if words || whole_lines then framed whole_lines pattern else pattern

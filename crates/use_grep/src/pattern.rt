@@ -1,7 +1,10 @@
 //! The pattern that is searched.
 
-ghost use Rattle.std.specs.Prelude.{◌≡◌, ◌++◌, IfOk, codes, if◌then◌else◌, string_bytes};
-ghost use Rattle.use_grep.specs.Selecting.{framed};
+ghost use Rattle.std.specs.Prelude.{◌≡◌, ◌++◌, IfOk, chars, codes, if◌then◌else◌, string_bytes};
+ghost use Rattle.regex_meaning.specs.Tree.{Tree};
+ghost use Rattle.regex_grammar.specs.Grammar.{Parses};
+ghost use Rattle.regress_match.specs.Flags.{flags_of};
+ghost use Rattle.use_grep.specs.Selecting.{IsSearchOf, framed, searched, tree_flags};
 
 use crate::options::Options;
 use regress_match::{Error, Flags, Regex};
@@ -9,7 +12,9 @@ use std::alloc::{AllocError, Global};
 use std::io;
 
 // The flags that the pattern is read with.
-fn flags(options: &Options<'_>) -> Flags {
+fn flags(options: &Options<'_>) -> Flags
+    ensures { flags_of result ≡ tree_flags options.now.ignore_case }
+{
     if options.ignore_case {
         Flags::from("i")
     } else {
@@ -22,7 +27,12 @@ fn flags(options: &Options<'_>) -> Flags {
 /// # Errors
 ///
 /// Those of `Regex::with_flags`: the pattern has to be one by itself, without what `-w` and `-x` put around it.
-pub fn compile(alloc: Global, options: &Options<'_>) -> Result<Regex, Error> {
+pub fn compile(alloc: Global, options: &Options<'_>) -> Result<Regex, Error>
+    ensures searched { IfOk result (IsSearchOf (tree_flags options.now.ignore_case)
+        (searched options.now.words options.now.whole_lines options.now.pattern.now)) }
+    ensures alone { IfOk result (λ _. (tree : Tree)
+        × Parses (tree_flags options.now.ignore_case) (chars options.now.pattern.now) tree) }
+{
     let alone = Regex::with_flags(alloc, options.pattern, flags(options))?;
     if !options.words && !options.whole_lines {
         return Ok(alone);

@@ -2,9 +2,10 @@
 use Rattle.std.specs.Prelude.{◌≡◌, ℕ, List, Some}
 use Rattle.regress_match.specs.Programs.{IsCompiledWith}
 use Rattle.use_regexp.specs.Flags.{flags_of, tree_flags}
+use Rattle.use_regexp.specs.Units.{characters_of}
 use Rattle.use_regexp.specs.declared.pattern.Pattern.{Pattern}
 
 pub record IsPatternOf (source letters : List ℕ) (p : Pattern) : Type 0 where
   pub flags : flags_of letters ≡ Some p.flags
   pub text : p.source.items ≡ source
-  pub compiled : IsCompiledWith (tree_flags p.flags) p.re
+  pub compiled : IsCompiledWith (tree_flags p.flags) (characters_of p.flags.unicode source) p.re

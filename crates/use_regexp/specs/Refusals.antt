@@ -1,9 +1,12 @@
 -- What refuses a regular expression.
-use Rattle.std.specs.Prelude.{◌≡◌, ℕ, List, false}
-use Rattle.regress_match.specs.Refusals as engine
+use Rattle.std.specs.Prelude.{◌≡◌, ℕ, List, Some, false}
+use Rattle.regress_match.specs.Refusals.{Refuses}
 use Rattle.regress_match.specs.declared.api.error.Error.{Error}
 use Rattle.regress_match.specs.declared.api.error.Error.TheVariants as error
+use Rattle.use_regexp.specs.Flags.{flags_of, tree_flags}
 use Rattle.use_regexp.specs.Letters.{are_flags}
+use Rattle.use_regexp.specs.Units.{characters_of}
+use Rattle.use_regexp.specs.declared.flags.Flags as flags
 use Rattle.use_regexp.specs.declared.error.RegExpError.{RegExpError}
 use Rattle.use_regexp.specs.declared.error.RegExpError.TheVariants.{Flags, Pattern, Memory}
 
@@ -12,9 +15,15 @@ abbrev pub of_pattern : Error → RegExpError
 of_pattern error.Memory = Memory
 of_pattern e = Pattern e
 
+-- With the flags of these letters the text is refused, as the engine says.
+pub record IsRefused (source letters : List ℕ) (e : Error) : Type 0 where
+  pub flags : flags.Flags
+  pub are : flags_of letters ≡ Some flags
+  pub refused : Refuses (tree_flags flags) (characters_of flags.unicode source) e
+
 -- what refuses a pattern with these letters of flags
-abbrev pub CanRefuse : (letters : List ℕ) → RegExpError → Type 0
-CanRefuse letters Flags = are_flags letters ≡ false
-CanRefuse letters (Pattern error.Memory) = ⊥
-CanRefuse letters (Pattern e) = engine.CanRefuse e
-CanRefuse letters Memory = Unit {0}
+abbrev pub CanRefuse : (source letters : List ℕ) → RegExpError → Type 0
+CanRefuse source letters Flags = are_flags letters ≡ false
+CanRefuse source letters (Pattern error.Memory) = ⊥
+CanRefuse source letters (Pattern e) = IsRefused source letters e
+CanRefuse source letters Memory = Unit {0}

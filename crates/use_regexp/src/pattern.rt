@@ -35,7 +35,7 @@ impl Pattern {
     /// memory.
     pub fn new(alloc: Global, source: &[u16], letters: &[u16]) -> Result<Pattern, RegExpError>
         ensures compiled { IfOk result (IsPatternOf source.now letters.now) }
-        ensures refused { IfErr result (CanRefuse letters.now) }
+        ensures refused { IfErr result (CanRefuse source.now letters.now) }
     {
         let Some(flags) = Flags::of_letters(letters) else {
             return Err(RegExpError::Flags);

@@ -34,7 +34,7 @@ impl RegExp {
     pub fn new(alloc: Global, source: &[u16], letters: &[u16]) -> Result<RegExp, RegExpError>
         ensures compiled { IfOk result (λ r. IsPatternOf source.now letters.now r.pattern) }
         ensures first { IfOk result (λ r. r.last_index ≡ 0) }
-        ensures refused { IfErr result (CanRefuse letters.now) }
+        ensures refused { IfErr result (CanRefuse source.now letters.now) }
     {
         let pattern = Pattern::new(alloc, source, letters)?;
         Ok(RegExp {

@@ -1,6 +1,10 @@
 //! What is wrong with a text that is no pattern.
 
-ghost use Rattle.std.specs.Prelude.{◌≡◌, ◌≤◌, IfOk, IfSome, chars, length};
+ghost use Rattle.std.specs.Prelude.{◌≡◌, ◌≤◌, IfOk, IfSome, None, chars, length};
+ghost use Rattle.regex_meaning.specs.Tree.{Tree};
+ghost use Rattle.regex_grammar.specs.Grammar.{Parses};
+ghost use Rattle.regex_grammar.specs.Standing.{NoTree};
+ghost use Rattle.regress_match.specs.Flags.{flags_of};
 
 use crate::api::{Flags, Regex};
 use regex_pattern_front::diagnosis::Diagnosis;
@@ -27,7 +31,10 @@ impl Regex {
         pattern: &str,
         flags: Flags,
     ) -> Result<Option<Diagnosis>, AllocError>
-        ensures { IfOk result (λ told. IfSome told (λ d. d.at ≤ length (chars pattern.now))) }
+        ensures place { IfOk result (λ told. IfSome told (λ d. d.at ≤ length (chars pattern.now))) }
+        ensures tells { IfOk result (λ told.
+            IfSome told (λ d. NoTree (flags_of flags) (chars pattern.now))
+            × (told ≡ None → (tree : Tree) × Parses (flags_of flags) (chars pattern.now) tree)) }
     {
         let code_points = code_points(alloc, pattern)?;
         diagnose(alloc, &code_points, flags.for_front())

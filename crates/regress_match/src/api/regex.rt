@@ -1,10 +1,10 @@
 //! Patterns that are compiled, and their searches.
 
-ghost use Rattle.std.specs.Prelude.{◌≡◌, ◌<◌, ◌⊎◌, IfErr, IfOk, IfSome, IsAscii, IsCharBoundary, false, length, nat_le, not, option_map, slice_get, []};
+ghost use Rattle.std.specs.Prelude.{◌≡◌, ◌<◌, ◌⊎◌, IfErr, IfOk, IfSome, IsAscii, IsCharBoundary, chars, false, length, nat_le, not, option_map, slice_get, []};
 ghost use Rattle.regex_meaning.specs.Flags.{flags_of_text};
 ghost use Rattle.regex_pattern_front.specs.TreeOf.{tree_of};
 ghost use Rattle.regress_exec.specs.Answers.{answer_of};
-ghost use Rattle.regress_match.specs.Refusals.{CanRefuse, IsMemory};
+ghost use Rattle.regress_match.specs.Refusals.{IsMemory, Refuses};
 ghost use Rattle.regress_match.specs.Replacements.{FitsText, StandFrom};
 ghost use Rattle.regress_match.specs.Searches.{YieldsMatches};
 ghost use Rattle.regress_program.specs.Running.{tree_to_run};
@@ -61,8 +61,8 @@ impl Regex {
     ///
     /// Those of `with_flags`.
     pub fn new(alloc: Global, pattern: &str) -> Result<Regex, Error>
-        ensures compiled { IfOk result (IsCompiledWith (flags_of_text [])) }
-        ensures refused { IfErr result CanRefuse }
+        ensures compiled { IfOk result (IsCompiledWith (flags_of_text []) (chars pattern.now)) }
+        ensures refused { IfErr result (Refuses (flags_of_text []) (chars pattern.now)) }
     {
         Regex::with_flags(alloc, pattern, Flags::default())
     }
@@ -73,8 +73,8 @@ impl Regex {
     ///
     /// Those of `with_flags`.
     pub fn from_str(alloc: Global, pattern: &str) -> Result<Regex, Error>
-        ensures compiled { IfOk result (IsCompiledWith (flags_of_text [])) }
-        ensures refused { IfErr result CanRefuse }
+        ensures compiled { IfOk result (IsCompiledWith (flags_of_text []) (chars pattern.now)) }
+        ensures refused { IfErr result (Refuses (flags_of_text []) (chars pattern.now)) }
     {
         Regex::new(alloc, pattern)
     }
@@ -87,8 +87,8 @@ impl Regex {
     /// `Parse` where the text is no pattern (`diagnose` tells what is wrong with it), `Emit` where its tree has too many
     /// groups, loops or instructions, and `Memory` where there is no memory for one of these stages.
     pub fn with_flags(alloc: Global, pattern: &str, flags: Flags) -> Result<Regex, Error>
-        ensures compiled { IfOk result (IsCompiledWith (flags_of flags)) }
-        ensures refused { IfErr result CanRefuse }
+        ensures compiled { IfOk result (IsCompiledWith (flags_of flags) (chars pattern.now)) }
+        ensures refused { IfErr result (Refuses (flags_of flags) (chars pattern.now)) }
     {
         let code_points = code_points(alloc, pattern)?;
         Regex::from_unicode(alloc, &code_points, flags)
@@ -100,8 +100,8 @@ impl Regex {
     ///
     /// Those of `with_flags`.
     pub fn from_unicode(alloc: Global, pattern: &[u32], flags: Flags) -> Result<Regex, Error>
-        ensures compiled { IfOk result (IsCompiledWith (flags_of flags)) }
-        ensures refused { IfErr result CanRefuse }
+        ensures compiled { IfOk result (IsCompiledWith (flags_of flags) pattern.now) }
+        ensures refused { IfErr result (Refuses (flags_of flags) pattern.now) }
     {
         let parsed = try_parse(alloc, pattern, flags.for_front())?;
         let units = emit_units(alloc, &parsed)?;

@@ -14,4 +14,7 @@ returns g c =
     let shallow : nesting_of characters ≤ c.args.bounds.nesting =
     let deep = c.nesting.ensures ∙ ap nesting_of (c.deref.ensures.value ∙ read.1) in let test = c.if-nesting-bounds.false in omega (arith, deep, test) in
     told-refuses asked c.args.bounds (record { letters = c.in_ok-flags.ensures.0; text = read.0 }) (record { length_is = short; nesting_is = shallow })
-    c.in-Err.error c.of_error.result c.told.result c.in-Err.ensures.refused c.of_error.ensures c.told.ensures.kept c.told.ensures.refuses
+    c.in-Err.error c.of_error.result c.told.result
+    (subst (λ f. Refuses f characters c.in-Err.error) c.in_ok-flags.ensures.1
+    (subst (λ cs. Refuses _ cs c.in-Err.error) (c.deref-2.ensures.value ∙ read.1) c.in-Err.ensures.refused))
+    c.of_error.ensures c.told.ensures.kept (c.told.ensures.refuses _ _)

@@ -1,4 +1,4 @@
-use Rattle.std.proofs.Common.{◌≡◌, ◌∙◌, ap, sym, subst, IsTrue, true≢false}
+use Rattle.std.proofs.Common.{◌≡◌, ◌∙◌, inl, inr, ap, sym, subst, IsTrue, true≢false}
 use Rattle.regex_meaning.specs.Layout.{IsByteCodeOf, IsUnitCodeOf}
 use Rattle.regex_meaning.specs.Tree.{Tree}
 use Rattle.regex_meaning.specs.WellFormed.{IsWellFormed}
@@ -7,10 +7,13 @@ use Rattle.regex_pattern_front.specs.TreeOf.{tree_of, flags_of}
 use Rattle.regress_program.specs.Code.{compiled}
 use Rattle.regress_program.specs.Running.{tree_to_run}
 use Rattle.regress_program.proofs.RunningLemmas.{well_formed-planned}
-use Rattle.regress_program.specs.Refusals.{IsRefused, IsRefusedInUnits}
+use Rattle.regress_program.specs.Refusals.{IsRefused, IsRefusedInUnits, IsRefusedWith}
 use Rattle.std.specs.Prelude.{true}
-use Rattle.regress_match.specs.Refusals.{of_emit}
-use Rattle.regress_match.proofs.RefusalLemmas.{emit-refuses, err-refused, reads-not}
+use Rattle.std.specs.Prelude.{Err}
+use Rattle.regex_grammar.specs.Grammar.{Parses}
+use Rattle.regex_grammar.specs.Standing.{NoTree}
+use Rattle.regress_match.specs.Refusals.{of_emit, of_parse}
+use Rattle.regress_match.proofs.RefusalLemmas.{parse-refuses, emit-refuses, err-refused, reads-not}
 use Rattle.regress_match.proofs.api.regex.Regex.from_unicode.Goals as goal
 
 pub returns-clause-compiled : goal.returns-clause-compiled
@@ -19,6 +22,7 @@ returns-clause-compiled c =
     let units = c.in_ok-units.ensures in
     let bytes = c.in_ok-cr.ensures in
     record {
+      parsed = subst (Parses _ _) (sym (ap tree_of units.tree)) (subst (λ f. Parses f c.args.pattern.now (tree_of c.in_ok-parsed.parsed)) c.for_front.ensures parsed.tree);
       flags = ap (λ t. (tree_of t).flags) units.tree ∙ ap flags_of parsed.flags ∙ c.for_front.ensures;
       well_formed = subst (λ t. IsWellFormed (tree_of t).root) (sym units.tree) parsed.well_formed;
       plain = subst (λ t. IsTrue (has_plain_loops (tree_of t).root)) (sym units.tree) parsed.plain;
@@ -27,23 +31,34 @@ returns-clause-compiled c =
       bytes = subst (λ t. IsByteCodeOf (compiled (tree_of t)) (tree_of t)) (sym bytes.tree) bytes.code;
     }
 
+pub returns-in_err-parsed-clause-refused : goal.returns-in_err-parsed-clause-refused
+returns-in_err-parsed-clause-refused c =
+    let e = c.in_err-parsed.field-0.0 in
+    err-refused c.from_residual.result (of_parse e) _ _ (λ x h. h) c.from_residual.ensures.1
+    (parse-refuses _ _ e (λ is. subst (λ f. NoTree f c.args.pattern.now) c.for_front.ensures
+    (c.in_err-parsed.ensures.refused (ap Err is))))
+
 pub returns-in_err-units-clause-refused : goal.returns-in_err-units-clause-refused
 returns-in_err-units-clause-refused c =
     let tree = tree_of c.in_ok-parsed.parsed in
     let parsed = c.in_ok-parsed.ensures in
     let e = c.in_err-units.field-0.0 in
-    err-refused c.from_residual-in_err-units.result (of_emit e) _ (λ x h. h) c.from_residual-in_err-units.ensures.1
-    (emit-refuses e
-    (λ is. subst (λ x. IsRefusedInUnits x tree) is c.in_err-units.ensures.refused parsed.well_formed)
-    (λ is. reads-not tree.root parsed.characters (subst (λ x. IsRefusedInUnits x tree) is c.in_err-units.ensures.refused).1))
+    let refused = c.in_err-units.ensures.refused in
+    err-refused c.from_residual-in_err-units.result (of_emit e) _ _ (λ x h. h) c.from_residual-in_err-units.ensures.1
+    (emit-refuses _ _ tree (subst (λ f. Parses f c.args.pattern.now tree) c.for_front.ensures parsed.tree) e
+    (λ is. subst (λ x. IsRefusedInUnits x tree) is refused parsed.well_formed)
+    (λ is. reads-not tree.root parsed.characters (subst (λ x. IsRefusedInUnits x tree) is refused).1)
+    (inl (subst (λ b. IsRefusedWith b e tree) parsed.characters refused)))
 
 pub returns-in_err-cr-clause-refused : goal.returns-in_err-cr-clause-refused
 returns-in_err-cr-clause-refused c =
     let tree = tree_of c.in_ok-parsed.parsed in
+    let parsed = c.in_ok-parsed.ensures in
     let e = c.in_err-cr.field-0.0 in
     let is_run : tree_of c.to_run-tree.result ≡ tree_to_run tree = c.to_run-tree.ensures in
-    err-refused c.from_residual-in_err-cr.result (of_emit e) _ (λ x h. h) c.from_residual-in_err-cr.ensures.1
-    (emit-refuses e
-    (λ is. subst (λ x. IsRefused x (tree_of c.to_run-tree.result)) is c.in_err-cr.ensures.refused
-    (subst (λ (t : Tree). IsWellFormed t.root) (sym is_run) (well_formed-planned true tree c.in_ok-parsed.ensures.well_formed)))
-    (λ is. true≢false (sym (subst (λ x. IsRefused x (tree_of c.to_run-tree.result)) is c.in_err-cr.ensures.refused).1)))
+    let refused : IsRefused e (tree_to_run tree) = subst (IsRefused e) is_run c.in_err-cr.ensures.refused in
+    err-refused c.from_residual-in_err-cr.result (of_emit e) _ _ (λ x h. h) c.from_residual-in_err-cr.ensures.1
+    (emit-refuses _ _ tree (subst (λ f. Parses f c.args.pattern.now tree) c.for_front.ensures parsed.tree) e
+    (λ is. subst (λ x. IsRefused x (tree_to_run tree)) is refused (well_formed-planned true tree parsed.well_formed))
+    (λ is. true≢false (sym (subst (λ x. IsRefused x (tree_to_run tree)) is refused).1))
+    (inr refused))

@@ -7,7 +7,8 @@ does that. It fails where a pattern has two trees.
 import random
 import sys
 
-from reading import parses, show
+sys.dont_write_bytecode = True
+from reading import parses, show  # noqa: E402
 
 TOKENS = (
     "a b k s K 1 2 0 ( ( (?: (?= (?! (?<= (?<! (?<n> (?<m> ) ) ) | * + ? { } {1} {2,} {1,2} {2,1} {,1} \\ \\1 \\2 \\k<n> \\k<m> \\k \\b \\B \\d \\W "

@@ -114,9 +114,9 @@ fn grow<T: Copy + Drop>(row: &mut Vec<T>, value: T) -> Result<(), AllocError>
     }
 }
 
-// Makes room in a row of which so many are used, where there is none.
+// Makes room for one change more in a log of which so many are used, where there is none.
 #[inline(always)]
-fn make_room<T: Copy + Drop>(row: &mut Vec<T>, used: usize, value: T) -> Result<(), AllocError>
+fn make_room(row: &mut Vec<Change>, used: usize) -> Result<(), AllocError>
     requires { used ≤ length row.old.items }
     ensures room { OnOk result (used < length row.new.items) }
     ensures kept { OnOk result (take used row.new.items ≡ take used row.old.items) }
@@ -125,7 +125,7 @@ fn make_room<T: Copy + Drop>(row: &mut Vec<T>, used: usize, value: T) -> Result<
     if used < row.len() {
         return Ok(());
     }
-    grow(row, value)
+    grow(row, ROOM_FOR_CHANGE)
 }
 
 // So many slots, where there are fewer or more.
@@ -241,7 +241,7 @@ impl Memory {
         ensures set { OnOk result (IsSet slot value self.old self.new) }
         ensures refused { OnErr result (self.new ≡ self.old) }
     {
-        make_room(&mut self.log, self.logged, ROOM_FOR_CHANGE)?;
+        make_room(&mut self.log, self.logged)?;
         let old = self.slots[slot];
         self.log[self.logged] = Change { slot, old };
         self.logged += 1;
@@ -309,7 +309,9 @@ impl Memory {
         ensures marked { OnOk result (self.new ≡ with_marks (self.old.marks ++ mark ∷ []) self.old) }
         ensures refused { OnErr result (self.new ≡ self.old) }
     {
-        make_room(&mut self.marks, self.marked, ROOM_FOR_MARK)?;
+        if self.marked >= self.marks.len() {
+            grow(&mut self.marks, ROOM_FOR_MARK)?;
+        }
         self.marks[self.marked] = mark;
         self.marked += 1;
         Ok(())

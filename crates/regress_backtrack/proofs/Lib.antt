@@ -1,4 +1,5 @@
 pub mod Undoing
+pub mod Fresh
 mod Slots
 pub mod Turning
 pub mod Arms

@@ -1,19 +1,21 @@
 //! What a search remembers: a row of slots, a log of the values that they had, and the threads still to try.
 
-ghost use Rattle.std.specs.Prelude.{◌≡◌, ◌≢◌, ◌<◌, ◌≤◌, ◌+◌, ◌-◌, ◌^◌, ◌++◌, ℕ, [], ◌∷◌, length, take, slice_get, slice_set, Some, OnOk, OnErr, IfOk};
-ghost use Rattle.regress_backtrack.specs.Memory.{Held, undone, AreThere, first_slots, slot_before, laid_out, state_of, loop_in, with_marks, IsUndone, IsSet, Becomes, with_open, without_range, with_range, with_iteration};
+ghost use Rattle.std.specs.Prelude.{◌≡◌, ◌≢◌, ◌<◌, ◌≤◌, ◌+◌, ◌-◌, ◌^◌, ◌++◌, ℕ, [], ◌∷◌, length, take, map, slice_get, slice_set, Some, true, false, OnOk, OnErr, IfOk};
+ghost use Rattle.regress_backtrack.specs.Memory.{Held, undone, AreThere, first_slot as first_slot_at, seen, seen_change, AreUnset, laid_out, state_of, loop_in, with_marks, IsUndone, IsSet, Becomes, with_open, without_range, with_range, with_iteration};
 
 use std::alloc::{AllocError, Global};
 use std::marker::Model;
 
-/// Of a group: the offset at which it was opened last, and its range in offsets, if it has one. Of a loop: its finished
-/// iterations, and as `from` the offset at which the current one began.
+/// Of a group: the offset at which it was opened last, and its range in offsets, if it has one. Of a loop: the offset at
+/// which the current iteration began, and as `from` how many are finished.
 #[derive(Clone, Copy)]
 pub struct Slot {
-    pub number: usize,
+    pub at: usize,
     pub from: usize,
     pub to: usize,
     pub has_range: bool,
+    /// Whether the search set it.
+    pub is_set: bool,
 }
 
 /// What a slot held before a change. It is moved to the log as it stands if it comes before the slot's number.
@@ -45,10 +47,13 @@ pub struct Mark {
 }
 
 /// The slots, how to take their changes back, and the marks. Contracts see their lists. Log and marks are the first so
-/// many of their vectors, which only grow.
+/// many of their vectors, which only grow. A slot that the search did not set holds what it holds before a search, so
+/// that slots need not be written before each.
 #[derive(Drop)]
 pub struct Memory {
     groups: usize,
+    // where the search began
+    begun: usize,
     slots: Vec<Slot>,
     log: Vec<Change>,
     logged: usize,
@@ -61,8 +66,8 @@ impl Model for Memory {
 
     ghost view = { λ m. record {
       groups = m.groups;
-      slots = m.slots.items;
-      log = take m.logged m.log.items;
+      slots = map (seen m.begun) m.slots.items;
+      log = map (seen_change m.begun) (take m.logged m.log.items);
       marks = take m.marked m.marks.items;
     } };
 
@@ -72,10 +77,11 @@ impl Model for Memory {
 // What stands in a row where nothing is noted yet. To make room with what is to be noted would have it stand in memory
 // first, whether there is room or not.
 const NO_SLOT: Slot = Slot {
-    number: 0,
+    at: 0,
     from: 0,
     to: 0,
     has_range: false,
+    is_set: false,
 };
 
 const ROOM_FOR_CHANGE: Change = Change {
@@ -108,11 +114,40 @@ fn grow<T: Copy + Drop>(row: &mut Vec<T>, value: T) -> Result<(), AllocError>
     }
 }
 
+// Makes room for one change more in a log of which so many are used, where there is none.
+#[inline(always)]
+fn make_room(row: &mut Vec<Change>, used: usize) -> Result<(), AllocError>
+    requires { used ≤ length row.old.items }
+    ensures room { OnOk result (used < length row.new.items) }
+    ensures kept { OnOk result (take used row.new.items ≡ take used row.old.items) }
+    ensures refused { OnErr result (row.new.items ≡ row.old.items) }
+{
+    if used < row.len() {
+        return Ok(());
+    }
+    grow(row, ROOM_FOR_CHANGE)
+}
+
+// So many slots, where there are fewer or more.
+#[inline(always)]
+fn fit(slots: &mut Vec<Slot>, count: usize) -> Result<(), AllocError>
+    ensures made { OnOk result (length slots.new.items ≡ count) }
+    ensures fresh { AreUnset slots.old.items → AreUnset slots.new.items }
+    ensures refused { OnErr result (length slots.new.items ≢ count) }
+    ensures short { OnErr result (length slots.old.items < count) }
+{
+    if slots.len() == count {
+        return Ok(());
+    }
+    make(slots, count)
+}
+
 // So many slots, fewer or more than there were.
 #[cold]
 #[inline(never)]
 fn make(slots: &mut Vec<Slot>, count: usize) -> Result<(), AllocError>
     ensures made { OnOk result (length slots.new.items ≡ count) }
+    ensures fresh { AreUnset slots.old.items → AreUnset slots.new.items }
     ensures refused { OnErr result (slots.new.items ≡ slots.old.items) }
     ensures short { OnErr result (length slots.old.items < count) }
 {
@@ -123,28 +158,29 @@ fn make(slots: &mut Vec<Slot>, count: usize) -> Result<(), AllocError>
     slots.resize(count, NO_SLOT)
 }
 
-// The slot of this number before a search from an offset. Those of groups come first, of which there are so many.
+// A slot before a search from an offset.
 #[inline(always)]
-fn first_slot(id: usize, groups: usize, at: usize) -> Slot
-    ensures { result ≡ slot_before id groups at }
+fn first_slot(at: usize) -> Slot
+    ensures { result ≡ first_slot_at at }
 {
-    let (number, from) = if id < groups { (at, 0) } else { (0, at) };
     Slot {
-        number,
-        from,
+        at,
+        from: 0,
         to: 0,
         has_range: false,
+        is_set: false,
     }
 }
 
-// Each slot as it is before a search from an offset.
-#[inline(always)]
-fn lay_out(slots: &mut Vec<Slot>, groups: usize, at: usize)
-    requires { groups ≤ length slots.old.items }
-    ensures { slots.new.items ≡ first_slots groups (length slots.old.items - groups) at }
+// No slot was set.
+#[cold]
+#[inline(never)]
+fn wipe(slots: &mut Vec<Slot>)
+    ensures unset { AreUnset slots.new.items }
+    ensures length { length slots.new.items ≡ length slots.old.items }
 {
     for id in 0..slots.len() {
-        slots[id] = first_slot(id, groups, at);
+        slots[id] = NO_SLOT;
     }
 }
 
@@ -155,6 +191,7 @@ impl Memory {
     {
         Memory {
             groups: 0,
+            begun: 0,
             slots: Vec::new(alloc),
             log: Vec::new(alloc),
             logged: 0,
@@ -171,33 +208,59 @@ impl Memory {
         ensures refused { OnErr result (length self.new.slots ≢ groups + loops) }
         ensures short { OnErr result (length self.old.slots < groups + loops) }
     {
+        self.take_all_back();
         self.groups = 0;
         self.logged = 0;
         self.marked = 0;
-        if self.slots.len() != groups + loops {
-            make(&mut self.slots, groups + loops)?;
-        }
-        lay_out(&mut self.slots, groups, at);
+        self.begun = at;
+        fit(&mut self.slots, groups + loops)?;
         self.groups = groups;
         Ok(())
+    }
+
+    // Takes all changes back: one by one or, where they are more than the slots, by the slots.
+    #[inline(always)]
+    fn take_all_back(&mut self)
+        ensures groups { self.new.groups ≡ self.old.groups }
+        ensures slots { length self.new.slots ≡ length self.old.slots }
+        ensures log { self.new.log ≡ [] }
+    {
+        if self.logged > self.slots.len() {
+            self.logged = 0;
+            wipe(&mut self.slots);
+        } else {
+            self.undo_to(0);
+        }
     }
 
     // Changes a slot, and notes what it held. Without memory nothing is changed.
     #[inline(always)]
     fn set(&mut self, slot: usize, value: Slot) -> Result<(), AllocError>
-        requires { slot < length self.old.slots }
+        requires slot { slot < length self.old.slots }
+        requires is_set { value.is_set ≡ true }
         ensures set { OnOk result (IsSet slot value self.old self.new) }
         ensures refused { OnErr result (self.new ≡ self.old) }
     {
-        if self.logged >= self.log.len() {
-            grow(&mut self.log, ROOM_FOR_CHANGE)?;
-        }
+        make_room(&mut self.log, self.logged)?;
         let old = self.slots[slot];
-        let change = Change { slot, old };
-        self.log[self.logged] = change;
+        self.log[self.logged] = Change { slot, old };
         self.logged += 1;
         self.slots[slot] = value;
         Ok(())
+    }
+
+    // What a slot holds.
+    #[inline(always)]
+    fn held(&self, slot: usize) -> Slot
+        requires { slot < length self.now.slots }
+        ensures { slice_get self.now.slots slot ≡ Some result }
+    {
+        let held = self.slots[slot];
+        if held.is_set {
+            held
+        } else {
+            first_slot(self.begun)
+        }
     }
 
     /// How many changes are noted.
@@ -291,10 +354,11 @@ impl Memory {
         ensures refused { OnErr result (self.new ≡ self.old) }
     {
         let opened = Slot {
-            number: at,
+            at,
             from: 0,
             to: 0,
             has_range: false,
+            is_set: true,
         };
         let _laid_out = self.groups;
         self.set(id, opened)
@@ -307,9 +371,11 @@ impl Memory {
         ensures reset { OnOk result (Becomes (without_range id) self.old self.new) }
         ensures refused { OnErr result (self.new ≡ self.old) }
     {
+        let _laid_out = self.groups;
         let reset = Slot {
             has_range: false,
-            ..self.slots[id]
+            is_set: true,
+            ..self.held(id)
         };
         self.set(id, reset)
     }
@@ -321,11 +387,13 @@ impl Memory {
         ensures closed { OnOk result (Becomes (with_range id from to) self.old self.new) }
         ensures refused { OnErr result (self.new ≡ self.old) }
     {
+        let _laid_out = self.groups;
         let closed = Slot {
             from,
             to,
             has_range: true,
-            ..self.slots[id]
+            is_set: true,
+            ..self.held(id)
         };
         self.set(id, closed)
     }
@@ -336,7 +404,8 @@ impl Memory {
         requires { id < self.now.groups }
         ensures { slice_get (state_of self.now 0 0).starts id ≡ Some result }
     {
-        self.slots[id].number
+        let _laid_out = self.groups;
+        self.held(id).at
     }
 
     /// How many groups there are.
@@ -354,7 +423,8 @@ impl Memory {
         requires { id < self.now.groups }
         ensures { slice_get (state_of self.now 0 0).groups id ≡ Some result }
     {
-        let slot = self.slots[id];
+        let _laid_out = self.groups;
+        let slot = self.held(id);
         if slot.has_range {
             Some((slot.from, slot.to))
         } else {
@@ -372,10 +442,11 @@ impl Memory {
         ensures refused { OnErr result (self.new ≡ self.old) }
     {
         let entered = Slot {
-            number: k,
-            from: at,
+            at,
+            from: k,
             to: 0,
             has_range: false,
+            is_set: true,
         };
         self.set(self.groups + id, entered)
     }
@@ -386,6 +457,6 @@ impl Memory {
         requires { self.now.groups + id < length self.now.slots }
         ensures { slice_get (state_of self.now 0 0).loops id ≡ Some (loop_in result) }
     {
-        self.slots[self.groups + id]
+        self.held(self.groups + id)
     }
 }

@@ -1,4 +1,4 @@
-use Rattle.std.specs.Prelude.{false}
+use Rattle.std.specs.Prelude.{false, true}
 use Rattle.regress_backtrack.specs.Memory.{with_open}
 use Rattle.regress_backtrack.specs.declared.memory.Slot.{Slot}
 use Rattle.regress_backtrack.proofs.Slots.{ok-more, becomes, opens}
@@ -7,5 +7,5 @@ use Rattle.regress_backtrack.proofs.memory.Memory.open_group.Goals as goal
 pub returns-clause-opened : goal.returns-clause-opened
 returns-clause-opened c =
     let h = c.args.self.now in
-    let opened : Slot = record { number = c.args.at; from = 0; to = 0; has_range = false } in
+    let opened : Slot = record { at = c.args.at; from = 0; to = 0; has_range = false; is_set = true } in
     ok-more c.set.result (becomes (with_open c.args.id c.args.at) c.args.id opened h c.set.new.self (λ ip pos. opens h.groups h.slots ip pos c.args.id c.requires opened)) c.set.ensures.set

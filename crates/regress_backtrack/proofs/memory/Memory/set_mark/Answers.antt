@@ -1,7 +1,7 @@
-use Rattle.std.proofs.Common.{◌<◌, ap, sym, subst, ◌∙◌, slice_set, length, take, arith}
+use Rattle.std.proofs.Common.{◌<◌, ap, sym, subst, ◌∙◌, slice_set, length, map, take, arith}
 use Rattle.std.proofs.Math.Seq.{take-set-lt}
 use Rattle.std.proofs.lemmas.List.{length-take-le}
-use Rattle.regress_backtrack.specs.Memory.{Held, with_marks}
+use Rattle.regress_backtrack.specs.Memory.{Held, seen, seen_change, with_marks}
 use Rattle.regress_backtrack.proofs.memory.Memory.set_mark.Goals as goal
 
 pub returns : goal.returns
@@ -9,6 +9,6 @@ returns c =
     let m = c.self.inside in
     let inside : c.args.index < length (take m.marked m.marks.items) = subst (λ (h : Held). c.args.index < length h.marks) (sym c.self.view_is) c.requires in
     let less : c.args.index < m.marked = omega (arith, length-take-le m.marked m.marks.items c.self.invariant.2, inside) in
-    let prefix : Held = record { groups = m.groups; slots = m.slots.items; log = take m.logged m.log.items; marks = take m.marked m.marks.items } in
+    let prefix : Held = record { groups = m.groups; slots = map (seen m.begun) m.slots.items; log = map (seen_change m.begun) (take m.logged m.log.items); marks = take m.marked m.marks.items } in
     ap (λ l. with_marks l prefix) (take-set-lt m.marked m.marks.items c.args.index c.args.mark less)
     ∙ ap (λ (h : Held). with_marks (slice_set h.marks c.args.index c.args.mark) h) c.self.view_is

@@ -1,0 +1,8 @@
+use Rattle.std.proofs.Common.{◌≡◌, ◌<◌, ℕ, false, length, slice_index_or}
+use Rattle.regress_backtrack.specs.declared.memory.Slot.{Slot}
+use Rattle.regress_backtrack.proofs.memory.wipe.Given as goal
+
+-- none of the first so many was set
+abbrev pub invariant-loop-id : goal.invariant-loop-id
+invariant-loop-id l =
+    ((k : ℕ) (d : Slot) → k < l.id → (slice_index_or l.slots.items k d).is_set ≡ false) × (length l.slots.items ≡ length l.initial.slots.items)

@@ -31,10 +31,9 @@ module _ (flags : Flags) (pattern : List ℕ) (re : Regex) (tree : Tree) (is : I
       ∙ in-units of start
 
 pub searches-follow : SearchesFollowThePattern
-searches-follow flags pattern re tree is parsed units start =
-    (
-        in-bytes flags pattern re tree is parsed (text.utf8_text units) start,
-        in-bytes flags pattern re tree is parsed (text.ascii_text units) start,
-        in-units flags pattern re tree is parsed (text.utf16_text units) start,
-        in-units flags pattern re tree is parsed (text.ucs2_text units) start
-    )
+searches-follow flags pattern re tree is parsed units start = (
+  in-bytes flags pattern re tree is parsed (text.utf8_text units) start,
+  in-bytes flags pattern re tree is parsed (text.ascii_text units) start,
+  in-units flags pattern re tree is parsed (text.utf16_text units) start,
+  in-units flags pattern re tree is parsed (text.ucs2_text units) start,
+)

@@ -1,15 +1,51 @@
 -- A pattern that is compiled is a search for what its tree finds.
-use Rattle.std.proofs.Common.{◌≡◌, ℕ, List, ap}
-use Rattle.std.specs.Prelude.{chars, is_some, slice_get}
-use Rattle.regex_meaning.specs.Tree.{Flags}
+use Rattle.std.proofs.Common.{◌≡◌, ℕ, List, Bool, true, false, refl, ap, sym, subst}
+use Rattle.std.specs.Prelude.{◌||◌, chars, is_some, slice_get, if◌then◌else◌, Result, Ok, Err, IfOk}
+use Rattle.regex_meaning.specs.Tree.{Flags, Tree}
+use Rattle.regex_grammar.specs.Grammar.{Parses}
 use Rattle.regress_match.specs.Programs.{IsCompiledWith, unit_tree}
 use Rattle.regress_match.specs.declared.api.regex.Regex.{Regex}
 use Rattle.regress_match.proofs.PatternLemmas.{searches-follow}
-use Rattle.use_grep.specs.Selecting.{IsSearchOf}
+use Rattle.use_grep.specs.Selecting.{IsSearchOf, framed, searched}
 
-pub is-search : (flags : Flags) (pattern : List ℕ) (re : Regex) → IsCompiledWith flags (chars pattern) re → IsSearchOf flags pattern re
+is-search : (flags : Flags) (pattern : List ℕ) (re : Regex) → IsCompiledWith flags (chars pattern) re → IsSearchOf flags pattern re
 is-search flags pattern re is = record {
   tree = unit_tree re;
   parsed = is.parsed;
   found = λ line. ap (λ answers. is_some (slice_get answers 0)) (searches-follow flags (chars pattern) re (unit_tree re) is is.parsed line 0).0;
 }
+
+-- what holds whatever is answered
+pub whatever : {T E : Type 0} (r : Result T E) (X : Type 0) → X → IfOk r (λ _. X)
+whatever (Ok x) X h = h
+whatever (Err e) X h = tt
+
+module _ (flags wanted : Flags) (same : flags ≡ wanted) (words whole_lines : Bool) (pattern : List ℕ) (re : Regex) where
+  -- the flags, and what is searched, said in the words of the options
+  search-of : (text : List ℕ) → IsCompiledWith flags (chars text) re → IsSearchOf wanted text re
+  search-of text is = is-search wanted text re (subst (λ f. IsCompiledWith f (chars text) re) same is)
+
+  abbrev chosen : Bool → List ℕ
+  chosen b = if b then framed whole_lines pattern else pattern
+
+  neither : words ≡ false → whole_lines ≡ false → (words || whole_lines) ≡ false
+  neither w l = rw (w, l) refl
+
+  pub alone-searched : words ≡ false → whole_lines ≡ false → IsCompiledWith flags (chars pattern) re
+      → IsSearchOf wanted (searched words whole_lines pattern) re
+  alone-searched w l is = subst (λ b. IsSearchOf wanted (chosen b) re) (sym (neither w l)) (search-of pattern is)
+
+  pub framed-searched : (text : List ℕ) → (words || whole_lines) ≡ true → text ≡ framed whole_lines pattern → IsCompiledWith flags (chars text) re
+      → IsSearchOf wanted (searched words whole_lines pattern) re
+  framed-searched text either is_framed is =
+      subst (λ b. IsSearchOf wanted (chosen b) re) (sym either) (subst (λ t. IsSearchOf wanted t re) is_framed (search-of text is))
+
+  pub alone-is-one : IsCompiledWith flags (chars pattern) re → (tree : Tree) × Parses wanted (chars pattern) tree
+  alone-is-one is = (unit_tree re, subst (λ f. Parses f (chars pattern) (unit_tree re)) same is.parsed)
+
+-- a pattern that is framed asks for one of the two
+pub by-words : (words whole_lines : Bool) → words ≡ true → (words || whole_lines) ≡ true
+by-words words whole_lines w = rw (w) refl
+
+pub by-lines : (words whole_lines : Bool) → words ≡ false → whole_lines ≡ true → (words || whole_lines) ≡ true
+by-lines words whole_lines w l = rw (w, l) refl

@@ -1,5 +1,8 @@
-use Rattle.std.proofs.Common.{◌≤◌, length, sym, ap, ◌∙◌, arith}
+use Rattle.std.proofs.Common.{◌≤◌, length, sym, ap, subst, ◌∙◌, arith}
 use Rattle.regex_pattern_front.specs.Depth.{nesting_of}
+use Rattle.regex_meaning.specs.Flags.{flags_of_text}
+use Rattle.regress_match.specs.Flags.{flags_of}
+use Rattle.regress_match.specs.Refusals.{Refuses}
 use Rattle.regress_c.specs.Compiling.{given}
 use Rattle.regress_c.proofs.CompilingLemmas.{told-refuses}
 use Rattle.regress_c.proofs.compiling.compiled.Goals as goal
@@ -16,5 +19,5 @@ returns g c =
     told-refuses asked c.args.bounds (record { letters = c.in_ok-flags.ensures.0; text = read.0 }) (record { length_is = short; nesting_is = shallow })
     c.in-Err.error c.of_error.result c.told.result
     (subst (λ f. Refuses f characters c.in-Err.error) c.in_ok-flags.ensures.1
-    (subst (λ cs. Refuses _ cs c.in-Err.error) (c.deref-2.ensures.value ∙ read.1) c.in-Err.ensures.refused))
-    c.of_error.ensures c.told.ensures.kept (c.told.ensures.refuses _ _)
+    (subst (λ cs. Refuses (flags_of c.in_ok-flags.flags) cs c.in-Err.error) (c.deref-2.ensures.value ∙ read.1) c.in-Err.ensures.refused))
+    c.of_error.ensures c.told.ensures.kept (c.told.ensures.refuses (flags_of_text c.args.flags.now) characters)

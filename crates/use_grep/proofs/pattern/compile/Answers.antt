@@ -15,8 +15,8 @@ pub returns-clause-searched : goal.returns-clause-searched
 returns-clause-searched c =
     let o = c.args.options.now in
     let either : (o.words || o.whole_lines) ≡ true = elim c.else-not-options.branch [
-      else-not-options-via-then-not-options+else-not-options-2 w ↦ by-lines o.words o.whole_lines w.if-not-options.true w.if-not-options-2.false
-    | else-not-options-via-else-not-options w ↦ by-words o.words o.whole_lines w.if-not-options.false
+      | else-not-options-via-then-not-options+else-not-options-2 w ↦ by-lines o.words o.whole_lines w.if-not-options.true w.if-not-options-2.false
+      | else-not-options-via-else-not-options w ↦ by-words o.words o.whole_lines w.if-not-options.false
     ] in
     IfOk-map c.with_flags-2.result _ _
     (λ re is. framed-searched _ _ c.flags-2.ensures o.words o.whole_lines o.pattern.now re c.as_str.result.now either (c.as_str.ensures.value ∙ c.in_ok-framed.ensures) is)

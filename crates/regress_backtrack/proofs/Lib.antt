@@ -12,6 +12,7 @@ pub mod Taking
 pub mod RunTurns
 pub mod RunMarks
 pub mod FurtherTurns
+pub mod ChoiceTurns
 pub mod Dispatch
 pub mod PossessiveTurns
 mod BeginOtherwise
@@ -22,6 +23,7 @@ pub mod Remaining
 pub mod TakingUp
 pub mod Going
 pub mod FurtherBack
+pub mod ArmsBack
 pub mod Stages
 pub mod Looking
 pub mod Attempting

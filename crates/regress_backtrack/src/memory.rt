@@ -30,6 +30,8 @@ pub struct Change {
 pub enum Kind {
     /// `next` alone.
     One,
+    /// `next` alone, for the arms from number `last` on.
+    Arms,
     /// Those of the characters from `next` to `last`, in this order.
     Run,
     /// `next`, and those behind it, each one more character of the lazy run before the instruction on; `last` of them at most.

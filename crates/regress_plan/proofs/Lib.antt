@@ -4,6 +4,7 @@ pub mod RowLemmas
 pub mod PlanLemmas
 pub mod ClosingLemmas
 pub mod LookAheadLemmas
+pub mod ChoiceLemmas
 pub mod SetLemmas
 pub mod PrefixLemmas
 pub mod BeforeLemmas

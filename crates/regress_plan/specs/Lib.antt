@@ -8,3 +8,4 @@ pub mod Prefixes
 pub mod Leading
 pub mod Before
 pub mod BeforeKeys
+pub mod Choices

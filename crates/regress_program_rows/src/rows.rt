@@ -1,5 +1,6 @@
 //! What is answered for trees, row by row.
 
+use crate::choices::{write_choices, write_unit_choices};
 use crate::classes::{write_classes, write_unit_classes};
 use crate::listing::{write_program, write_units};
 use crate::parts::{write_parts, write_shown_names, write_unit_parts};
@@ -35,6 +36,8 @@ fn write_answer(
         "names" => write_shown_names(alloc, text, tree),
         "plan" => write_plan(alloc, text, tree),
         "unit_plan" => write_unit_plan(alloc, text, tree),
+        "choices" => write_choices(alloc, text, tree),
+        "unit_choices" => write_unit_choices(alloc, text, tree),
         "classes" => write_classes(alloc, text, tree),
         "unit_classes" => write_unit_classes(alloc, text, tree),
         _ => text.push_str("no question"),

@@ -6,10 +6,11 @@
 // instruction, and more groups or loops than there may be. For 16-bit units a tree that is not well formed is refused as such,
 // whatever stands in it. In the parts, the groups inside a lookbehind have the later one first. Plans say where a search
 // has to try, and what may stand behind each loop over one character: the keys at which rows of keys begin and end; what is
-// looked for first, and what must stand before. Classes have behind the first of each row of keys the step of them all: how
-// many units the character has, 0 where none is accepted, and 5 where the character decides; and the bytes at which a run ends.
-// Programs for 16-bit units are those of the tree as it is, and so are those for bytes, of which `optimized` asks for that of
-// the optimized tree.
+// looked for first, and what must stand before. Choices have the operation at which an alternation begins, and behind the
+// first of each row of keys, and behind the end, the operations at which the arms begin that may match there. Classes have behind
+// the first of each row of keys the step of them all: how many units the character has, 0 where none is accepted, and 5 where the
+// character decides; and the bytes at which a run ends. Programs for 16-bit units are those of the tree as it is, and so are
+// those for bytes, of which `optimized` asks for that of the optimized tree.
 pub(crate) const ROWS: &str = "\
 program goal → Goal
 program cat:3 empty any goal → MatchAny, Goal
@@ -175,6 +176,14 @@ plan /[ab]+?c/ → few 2 [97, 98, 0], lazy 99 100
 plan /.*?x/ → among 0 10 11 13 14 128 194 245, lazy 120 121
 plan /\"(.*?)\"/ → few 1 [34, 0, 0], lazy 34 35
 unit_plan /a*?b/ → few 2 [97, 98, 0], lazy 98 99
+choices cat:2 alt a alt b c goal → at 0 0: 97:1 98:4 99:6 100:
+choices cat:2 alt a cat:2 a b goal → at 0 0: 97:1,3 98:
+choices cat:2 alt alt a b c goal → at 0 0: 97:1 99:6 100:; at 1 0: 97:2 98:4 99:
+choices cat:3 alt a b alt c a goal → at 0 0: 97:1 98:3 99:; at 4 0: 97:7 98: 99:5 100:
+choices cat:3 alt a empty b goal → at 0 0: 97:1 98:3 99:
+choices cat:2 alt a empty goal → at 0 0:3 97:1,3 98:3
+choices cat:2 alt any any goal → none
+unit_choices cat:2 alt a alt b c goal → at 0 0: 97:1 98:4 99:6 100:
 classes /a*/ → single 97:1 98:0
 classes /.*/ → wide 0:1 10:0 11:1 13:0 14:1 128:0 194:2 224:3 226:5 227:3 240:4 245:0 stops [10, 13, 226]
 classes /[^\"]*/ → wide 0:1 34:0 35:1 128:0 194:2 224:3 240:4 245:0 stops [34]

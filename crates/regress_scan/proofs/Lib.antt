@@ -1,5 +1,6 @@
 pub mod Advancing
 pub mod Allowing
+pub mod Choosing
 pub mod StopSets
 pub mod Behind
 pub mod FurtherPlaces

@@ -6,5 +6,6 @@ pub mod Reading
 pub mod Starts
 pub mod Reached
 pub mod LeftOut
+pub mod Choosing
 pub mod Further
 pub mod Fitting

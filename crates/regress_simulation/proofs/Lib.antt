@@ -14,3 +14,4 @@ pub mod Ends
 pub mod Checks
 pub mod Prefixes
 pub mod Arms
+pub mod Choices

@@ -5,3 +5,4 @@ pub mod Tables
 pub mod Starts
 pub mod Prefixes
 pub mod Runs
+pub mod Choices

@@ -9,3 +9,4 @@ pub mod Leading
 pub mod Before
 pub mod BeforeKeys
 pub mod Choices
+pub mod Told

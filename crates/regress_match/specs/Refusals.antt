@@ -1,10 +1,9 @@
 -- Which refusal of a step is which of the whole.
-use Rattle.std.specs.Prelude.{◌≡◌, ◌⊎◌, ℕ, List}
+use Rattle.std.specs.Prelude.{◌≡◌, ℕ, List}
 use Rattle.regex_meaning.specs.Tree.{Tree, Flags}
 use Rattle.regex_grammar.specs.Grammar.{Parses}
 use Rattle.regex_grammar.specs.Standing.{NoTree}
 use Rattle.regress_program.specs.Refusals.{IsRefused}
-use Rattle.regress_program.specs.Running.{tree_to_run}
 use Rattle.regex_pattern_front.specs.declared.parse.ParseError.{ParseError}
 use Rattle.regex_pattern_front.specs.declared.parse.ParseError.TheVariants as parse
 use Rattle.regress_program.specs.declared.emit.EmitError.{EmitError}
@@ -23,11 +22,11 @@ abbrev pub of_emit : EmitError → Error
 of_emit emit.Memory = Memory
 of_emit e = Emit e
 
--- The pattern's tree, or the one that is run in its place, exceeds the limit that a refusal names.
+-- The pattern's tree exceeds the limit that a refusal names.
 pub record Exceeds (flags : Flags) (pattern : List ℕ) (e : EmitError) : Type 0 where
   pub tree : Tree
   pub parsed : Parses flags pattern tree
-  pub refused : IsRefused e tree ⊎ IsRefused e (tree_to_run tree)
+  pub refused : IsRefused e tree
 
 -- What refuses a pattern: the grammar has no tree of it, or its tree exceeds a limit, or there was no memory.
 abbrev pub Refuses : Flags → (pattern : List ℕ) → Error → Type 0

@@ -1,4 +1,4 @@
-use Rattle.std.proofs.Common.{◌≡◌, ◌∙◌, inl, inr, ap, sym, subst, IsTrue, true≢false}
+use Rattle.std.proofs.Common.{◌≡◌, ◌∙◌, ap, sym, subst, IsTrue}
 use Rattle.regex_meaning.specs.Layout.{IsByteCodeOf, IsUnitCodeOf}
 use Rattle.regex_meaning.specs.Tree.{Tree}
 use Rattle.regex_meaning.specs.WellFormed.{IsWellFormed}
@@ -6,14 +6,12 @@ use Rattle.regex_pattern_front.specs.Optimized.{has_plain_loops}
 use Rattle.regex_pattern_front.specs.TreeOf.{tree_of, flags_of}
 use Rattle.regress_program.specs.Code.{compiled}
 use Rattle.regress_program.specs.Running.{tree_to_run}
-use Rattle.regress_program.proofs.RunningLemmas.{well_formed-planned}
 use Rattle.regress_program.specs.Refusals.{IsRefused, IsRefusedInUnits, IsRefusedWith}
-use Rattle.std.specs.Prelude.{true}
 use Rattle.std.specs.Prelude.{Err}
 use Rattle.regex_grammar.specs.Grammar.{Parses}
 use Rattle.regex_grammar.specs.Standing.{NoTree}
 use Rattle.regress_match.specs.Refusals.{of_emit, of_parse}
-use Rattle.regress_match.proofs.RefusalLemmas.{parse-refuses, emit-refuses, err-refused, reads-not}
+use Rattle.regress_match.proofs.RefusalLemmas.{parse-refuses, emit-refuses, err-refused, memory-refuses, reads-not, run-refused}
 use Rattle.regress_match.proofs.api.regex.Regex.from_unicode.Goals as goal
 
 pub returns-clause-compiled : goal.returns-clause-compiled
@@ -48,17 +46,13 @@ returns-in_err-units-clause-refused c =
     (emit-refuses _ _ tree (subst (λ f. Parses f c.args.pattern.now tree) c.for_front.ensures parsed.tree) e
     (λ is. subst (λ x. IsRefusedInUnits x tree) is refused parsed.well_formed)
     (λ is. reads-not tree.root parsed.characters (subst (λ x. IsRefusedInUnits x tree) is refused).1)
-    (inl (subst (λ b. IsRefusedWith b e tree) parsed.characters refused)))
+    (subst (λ b. IsRefusedWith b e tree) parsed.characters refused))
 
 pub returns-in_err-cr-clause-refused : goal.returns-in_err-cr-clause-refused
 returns-in_err-cr-clause-refused c =
     let tree = tree_of c.in_ok-parsed.parsed in
-    let parsed = c.in_ok-parsed.ensures in
     let e = c.in_err-cr.field-0.0 in
     let is_run : tree_of c.to_run-tree.result ≡ tree_to_run tree = c.to_run-tree.ensures in
-    let refused : IsRefused e (tree_to_run tree) = subst (IsRefused e) is_run c.in_err-cr.ensures.refused in
+    let memory = run-refused tree e c.in_ok-units.ensures.fits (subst (IsRefused e) is_run c.in_err-cr.ensures.refused) in
     err-refused c.from_residual-in_err-cr.result (of_emit e) _ _ (λ x h. h) c.from_residual-in_err-cr.ensures.1
-    (emit-refuses _ _ tree (subst (λ f. Parses f c.args.pattern.now tree) c.for_front.ensures parsed.tree) e
-    (λ is. subst (λ x. IsRefused x (tree_to_run tree)) is refused (well_formed-planned true tree parsed.well_formed))
-    (λ is. true≢false (sym (subst (λ x. IsRefused x (tree_to_run tree)) is refused).1))
-    (inr refused))
+    (memory-refuses _ _ e memory)

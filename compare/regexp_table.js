@@ -99,6 +99,20 @@ for (const source of PATTERNS) {
   }
 }
 
+// ---- Each method with each of the 64 sets of flags, on a text in which each flag has a say
+
+const ALL_FLAGS = [..."gimsuy"].reduce((sets, flag) => sets.concat(sets.map((set) => set + flag)), [""]);
+const MIXED = "a\nB\u{1F600}\nb\n";
+
+for (const flags of ALL_FLAGS) {
+  for (const [source, last] of [["^(?<n>b)?.?", 2], ["(?<n>b)$|.", 4]]) {
+    add(source, flags, last, ["exec", MIXED], ["test", MIXED], ["exec", MIXED], ["lastIndex"]);
+    add(source, flags, last, ["match", MIXED], ["match", MIXED], ["search", MIXED]);
+    add(source, flags, last, ["matchAll", MIXED], ["replace", MIXED, "[$1|$&|$<n>|$`|$']"], ["replaceWith", MIXED]);
+    add(source, flags, last, ["split", MIXED], ["split", MIXED, 3], ["source"], ["flags"], ["toString"]);
+  }
+}
+
 // ---- An index within a pair, at the end, and past it
 
 for (const source of [".", "", "a", "\\ude00", "\ud83d", "(?=a)", "$", "^"]) {

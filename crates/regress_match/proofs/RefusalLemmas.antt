@@ -53,11 +53,19 @@ run-refused t emit.BytesInUnits fits refused = absurd (true≢false (sym refused
 run-refused t emit.TooManyGroups fits refused =
     absurd (omega (arith, fits.groups, refused.1.groups, planned-same (λ n. length (group_ids n)) true t (ap length (group_ids-optimized t.root))))
 run-refused t emit.TooManyLoops fits refused =
-    absurd (omega (arith, fits.loops, refused.1.loops,
-    no-larger loop_count t (subst (λ n. loop_count n ≤ loop_count t.root) (shaped-narrow t.root) (loops-shaped true t.root))))
+    absurd (omega (
+      arith,
+      fits.loops,
+      refused.1.loops,
+      no-larger loop_count t (subst (λ n. loop_count n ≤ loop_count t.root) (shaped-narrow t.root) (loops-shaped true t.root)),
+    ))
 run-refused t emit.TooManyInstructions fits refused =
-    absurd (omega (arith, fits.insns, refused.1.insns,
-    no-larger size t (subst (λ n. size n ≤ size t.root) (shaped-narrow t.root) (size-shaped true t.root))))
+    absurd (omega (
+      arith,
+      fits.insns,
+      refused.1.insns,
+      no-larger size t (subst (λ n. size n ≤ size t.root) (shaped-narrow t.root) (size-shaped true t.root)),
+    ))
 run-refused t emit.Memory fits refused = refl
 
 -- a refusal that is this error

@@ -1,4 +1,5 @@
 pub mod Memory
+pub mod Noted
 pub mod Branches
 pub mod Steps
 pub mod Turns

@@ -1,7 +1,8 @@
 //! What a search remembers: a row of slots, a log of the values that they had, and the threads still to try.
 
 ghost use Rattle.std.specs.Prelude.{◌≡◌, ◌≢◌, ◌<◌, ◌≤◌, ◌+◌, ◌-◌, ◌^◌, ◌++◌, ℕ, [], ◌∷◌, length, take, map, slice_get, slice_set, Some, true, false, OnOk, OnErr, IfOk};
-ghost use Rattle.regress_backtrack.specs.Memory.{Held, undone, AreThere, first_slot as first_slot_at, seen, seen_change, AreUnset, laid_out, state_of, loop_in, with_marks, IsUndone, IsSet, Becomes, with_open, without_range, with_range, with_iteration};
+ghost use Rattle.regress_backtrack.specs.Memory.{Held, undone, AreThere, first_slot as first_slot_at, seen, seen_change, AreFresh, change_of, since as noted_since, laid_out, state_of, loop_in, with_marks, IsUndone, IsSet, Becomes, with_open, without_range, with_range, with_iteration};
+ghost use Rattle.regress_backtrack.specs.Noted.{HasRoom, IsNotedAs};
 
 use std::alloc::{AllocError, Global};
 use std::marker::Model;
@@ -13,6 +14,8 @@ pub struct Slot {
     pub at: usize,
     pub from: usize,
     pub to: usize,
+    /// In memory: as which change it was noted last, counted from 1, or less.
+    pub noted: u32,
     pub has_range: bool,
     /// Whether the search set it.
     pub is_set: bool,
@@ -59,6 +62,8 @@ pub struct Memory {
     slots: Vec<Slot>,
     log: Vec<Change>,
     logged: usize,
+    // how many changes are noted whatever slots they are of
+    free: usize,
     marks: Vec<Mark>,
     marked: usize,
 }
@@ -73,7 +78,7 @@ impl Model for Memory {
       marks = take m.marked m.marks.items;
     } };
 
-    ghost invariant = { λ m. AreThere m.groups m.slots.items m.logged m.log.items m.marked m.marks.items };
+    ghost invariant = { λ m. AreThere m.groups m.slots.items m.logged m.free m.log.items m.marked m.marks.items };
 }
 
 // What stands in a row where nothing is noted yet. To make room with what is to be noted would have it stand in memory
@@ -82,6 +87,7 @@ const NO_SLOT: Slot = Slot {
     at: 0,
     from: 0,
     to: 0,
+    noted: 0,
     has_range: false,
     is_set: false,
 };
@@ -90,6 +96,10 @@ const ROOM_FOR_CHANGE: Change = Change {
     slot: 0,
     old: NO_SLOT,
 };
+
+// So many changes are noted without the question whether their slots were noted before: most searches make fewer, and what is
+// noted twice takes no more memory than this.
+const ALL_NOTED: usize = 4096;
 
 const ROOM_FOR_MARK: Mark = Mark {
     ip: 0,
@@ -116,25 +126,126 @@ fn grow<T: Copy + Drop>(row: &mut Vec<T>, value: T) -> Result<(), AllocError>
     }
 }
 
-// Makes room for one change more in a log of which so many are used, where there is none.
+// How many changes were noted when the last mark was made; none where there is none.
 #[inline(always)]
-fn make_room(row: &mut Vec<Change>, used: usize) -> Result<(), AllocError>
-    requires { used ≤ length row.old.items }
-    ensures room { OnOk result (used < length row.new.items) }
-    ensures kept { OnOk result (take used row.new.items ≡ take used row.old.items) }
-    ensures refused { OnErr result (row.new.items ≡ row.old.items) }
+fn since(marks: &[Mark]) -> usize
+    ensures { result ≡ noted_since marks.now }
 {
-    if used < row.len() {
+    if marks.len() == 0 {
+        0
+    } else {
+        marks[marks.len() - 1].log
+    }
+}
+
+// Room for one change more in a log of which so many are used. None is made for a slot that was noted last as this one of
+// them, if that was behind the last mark; but so many are free.
+#[inline(always)]
+fn reserve(
+    log: &mut Vec<Change>,
+    free: &mut usize,
+    used: usize,
+    marks: &[Mark],
+    noted: u32,
+) -> Result<bool, AllocError>
+    requires used { used ≤ length log.old.items }
+    requires free { free.old ≤ length log.old.items }
+    ensures room { IfOk result (HasRoom used (noted_since marks.now) noted log.new.items) }
+    ensures kept { take used log.new.items ≡ take used log.old.items }
+    ensures used { used ≤ length log.new.items }
+    ensures free { free.new ≤ length log.new.items }
+{
+    if used < *free {
+        return Ok(true);
+    }
+    make_room(log, free, used, marks, noted)
+}
+
+// The same where none is free.
+#[inline(never)]
+fn make_room(
+    log: &mut Vec<Change>,
+    free: &mut usize,
+    used: usize,
+    marks: &[Mark],
+    noted: u32,
+) -> Result<bool, AllocError>
+    requires used { used ≤ length log.old.items }
+    requires free { free.old ≤ length log.old.items }
+    ensures room { IfOk result (HasRoom used (noted_since marks.now) noted log.new.items) }
+    ensures kept { take used log.new.items ≡ take used log.old.items }
+    ensures used { used ≤ length log.new.items }
+    ensures free { free.new ≤ length log.new.items }
+{
+    if since(marks) < noted as usize {
+        return Ok(false);
+    }
+    lengthen(log, used)?;
+    *free = at_most(log.len(), ALL_NOTED);
+    Ok(true)
+}
+
+// Makes a log longer of which so many are used, if all are.
+#[inline(always)]
+fn lengthen(log: &mut Vec<Change>, used: usize) -> Result<(), AllocError>
+    requires { used ≤ length log.old.items }
+    ensures room { OnOk result (used < length log.new.items) }
+    ensures kept { OnOk result (take used log.new.items ≡ take used log.old.items) }
+    ensures longer { length log.old.items ≤ length log.new.items }
+    ensures refused { OnErr result (log.new.items ≡ log.old.items) }
+{
+    if used < log.len() {
         return Ok(());
     }
-    grow(row, ROOM_FOR_CHANGE)
+    grow(log, ROOM_FOR_CHANGE)
+}
+
+#[inline(always)]
+fn at_most(number: usize, most: usize) -> usize
+    ensures { result ≤ number }
+{
+    if number < most { number } else { most }
+}
+
+// The number as which a slot is noted that is to be set: as a change of its own, unless it was noted since the last mark and
+// no change is free.
+#[inline(always)]
+fn note(
+    log: &mut Vec<Change>,
+    logged: &mut usize,
+    free: &mut usize,
+    marks: &[Mark],
+    slots: &[Slot],
+    slot: usize,
+) -> Result<u32, AllocError>
+    requires logged { logged.old ≤ length log.old.items }
+    requires free { free.old ≤ length log.old.items }
+    requires slot { slot < length slots.now }
+    ensures noted { IfOk result (IsNotedAs (change_of slots.now slot) (noted_since marks.now)
+        logged.old log.old.items logged.new log.new.items) }
+    ensures refused { OnErr result ((logged.new ≡ logged.old)
+        × (take logged.old log.new.items ≡ take logged.old log.old.items)) }
+    ensures logged { logged.new ≤ length log.new.items }
+    ensures free { free.new ≤ length log.new.items }
+{
+    let used = *logged;
+    let noted = slots[slot].noted;
+    if !reserve(log, free, used, marks, noted)? {
+        return Ok(noted);
+    }
+    log[used] = Change {
+        slot,
+        old: slots[slot],
+    };
+    *logged = used + 1;
+    Ok(((used + 1) % 0x1_0000_0000) as u32)
 }
 
 // So many slots, where there are fewer or more.
 #[inline(always)]
 fn fit(slots: &mut Vec<Slot>, count: usize) -> Result<(), AllocError>
     ensures made { OnOk result (length slots.new.items ≡ count) }
-    ensures fresh { AreUnset slots.old.items → AreUnset slots.new.items }
+    ensures fresh { AreFresh slots.old.items → AreFresh slots.new.items }
     ensures refused { OnErr result (length slots.new.items ≢ count) }
     ensures short { OnErr result (length slots.old.items < count) }
 {
@@ -149,7 +260,7 @@ fn fit(slots: &mut Vec<Slot>, count: usize) -> Result<(), AllocError>
 #[inline(never)]
 fn make(slots: &mut Vec<Slot>, count: usize) -> Result<(), AllocError>
     ensures made { OnOk result (length slots.new.items ≡ count) }
-    ensures fresh { AreUnset slots.old.items → AreUnset slots.new.items }
+    ensures fresh { AreFresh slots.old.items → AreFresh slots.new.items }
     ensures refused { OnErr result (slots.new.items ≡ slots.old.items) }
     ensures short { OnErr result (length slots.old.items < count) }
 {
@@ -169,6 +280,7 @@ fn first_slot(at: usize) -> Slot
         at,
         from: 0,
         to: 0,
+        noted: 0,
         has_range: false,
         is_set: false,
     }
@@ -178,7 +290,7 @@ fn first_slot(at: usize) -> Slot
 #[cold]
 #[inline(never)]
 fn wipe(slots: &mut Vec<Slot>)
-    ensures unset { AreUnset slots.new.items }
+    ensures fresh { AreFresh slots.new.items }
     ensures length { length slots.new.items ≡ length slots.old.items }
 {
     for id in 0..slots.len() {
@@ -197,6 +309,7 @@ impl Memory {
             slots: Vec::new(alloc),
             log: Vec::new(alloc),
             logged: 0,
+            free: 0,
             marks: Vec::new(alloc),
             marked: 0,
         }
@@ -235,19 +348,25 @@ impl Memory {
         }
     }
 
-    // Changes a slot, and notes what it held. Without memory nothing is changed.
+    // Changes a slot, and notes what it held; behind the first changes only if it was not noted since the last mark. Without
+    // memory nothing is changed.
     #[inline(always)]
     fn set(&mut self, slot: usize, value: Slot) -> Result<(), AllocError>
         requires slot { slot < length self.old.slots }
         requires is_set { value.is_set ≡ true }
+        requires noted { value.noted ≡ 0 }
         ensures set { OnOk result (IsSet slot value self.old self.new) }
         ensures refused { OnErr result (self.new ≡ self.old) }
     {
-        make_room(&mut self.log, self.logged)?;
-        let old = self.slots[slot];
-        self.log[self.logged] = Change { slot, old };
-        self.logged += 1;
-        self.slots[slot] = value;
+        let noted = note(
+            &mut self.log,
+            &mut self.logged,
+            &mut self.free,
+            &self.marks[..self.marked],
+            &self.slots,
+            slot,
+        )?;
+        self.slots[slot] = Slot { noted, ..value };
         Ok(())
     }
 
@@ -259,7 +378,7 @@ impl Memory {
     {
         let held = self.slots[slot];
         if held.is_set {
-            held
+            Slot { noted: 0, ..held }
         } else {
             first_slot(self.begun)
         }
@@ -359,6 +478,7 @@ impl Memory {
             at,
             from: 0,
             to: 0,
+            noted: 0,
             has_range: false,
             is_set: true,
         };
@@ -375,6 +495,7 @@ impl Memory {
     {
         let _laid_out = self.groups;
         let reset = Slot {
+            noted: 0,
             has_range: false,
             is_set: true,
             ..self.held(id)
@@ -393,6 +514,7 @@ impl Memory {
         let closed = Slot {
             from,
             to,
+            noted: 0,
             has_range: true,
             is_set: true,
             ..self.held(id)
@@ -447,6 +569,7 @@ impl Memory {
             at,
             from: k,
             to: 0,
+            noted: 0,
             has_range: false,
             is_set: true,
         };

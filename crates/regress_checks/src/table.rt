@@ -44,6 +44,13 @@ a*~~aab~18446744073709551615~
 ^(\w+)=(\d+)~~ key=123~all~
 .*b~~bé~all~0..1
 (?:a?){3}~~~all~0..0
+(?:){1000}~~~all~0..0
+(){1000}~~a~first~0..0 0..0
+(?:a?){1000}~~aab~first~0..2
+(?:([ab])){10,20}b~~abababababababab~first~0..16 14..15
+(?:([ab])){10,}?b$~~aaaaaaaaaaaab~first~0..13 11..12
+(?:(?=(.))a){12}\1~~aaaaaaaaaaaaa~first~0..13 11..12
+(?:(a)(?!(b)\1c)){10}b~~aaaaaaaaaab~first~0..11 9..10 -
 (aa|aabaac|ba|b|c)*~~aabaac~first~0..4 2..4
 (?:a|a)*~~aaaaaaaaaaaaaaaaaaaaaaaaaaaaaaaaaaaaaaaa~first~0..40
 a+?~~aa~all~0..1; 1..2

@@ -1,4 +1,4 @@
-use Rattle.std.proofs.Common.{◌≡◌, ◌≤◌, ◌+◌, [], ◌∷◌, ap, ap₂, sym, subst, refl, ◌∙◌}
+use Rattle.std.proofs.Common.{◌≡◌, ◌≤◌, ◌+◌, [], ◌∷◌, length, arith, ap, ap₂, sym, subst, refl, ◌∙◌}
 use Rattle.std.specs.Prelude.{IsSome, true, option_map, Option, Err}
 use Rattle.regex_meaning.specs.Offsets.{units}
 use Rattle.regress_input.proofs.Places.{boundary_inside}
@@ -8,7 +8,7 @@ use Rattle.regress_exec.specs.Attempts.{ticks_from}
 use Rattle.regress_exec.specs.Spends.{Spends, TakesIfBegun}
 use Rattle.regress_exec.specs.declared.exec.SearchError.TheVariants.{Memory}
 use Rattle.regress_exec.proofs.Budget.{handed}
-use Rattle.regress_backtrack.specs.Memory.{state_of}
+use Rattle.regress_backtrack.specs.Memory.{Held, state_of, since}
 use Rattle.regress_scan.specs.Searching.{program_of}
 use Rattle.regress_backtrack.specs.Attempted.{IsLaidOut}
 use Rattle.regress_backtrack.specs.Searches.{searched_from, NeedAtLeast}
@@ -43,6 +43,9 @@ run-requires-clause-inside g c =
     let text = (g.W.Planned.searching c.args.planned.now).text in
     subst (λ at. at ≤ units text) (sym c.pos_to_offset-at.ensures)
     (boundary_inside text (g.met.W.Planned.is_text c.args.planned.now) (g.W.Input.Position.PositionType.offset c.args.pos) c.requires.can.1)
+
+pub run-requires-clause-noted : goal.run-requires-clause-noted
+run-requires-clause-noted g c = subst (λ (h : Held). length h.log ≤ since h.marks) (sym c.in_ok-begin.ensures.begun) (omega arith)
 
 pub run-requires-clause-answers : goal.run-requires-clause-answers
 run-requires-clause-answers g c =

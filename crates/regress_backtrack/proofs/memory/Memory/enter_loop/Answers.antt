@@ -8,6 +8,6 @@ use Rattle.regress_backtrack.proofs.memory.Memory.enter_loop.Goals as goal
 pub returns-clause-entered : goal.returns-clause-entered
 returns-clause-entered c =
     let h = c.args.self.now in
-    let entered : Slot = record { at = c.args.at; from = c.args.k; to = 0; has_range = false; is_set = true } in
+    let entered : Slot = record { at = c.args.at; from = c.args.k; to = 0; noted = 0; has_range = false; is_set = true } in
     ok-more c.set-2.result (becomes (with_iteration c.args.id c.args.k c.args.at) (h.groups + c.args.id) entered h c.set-2.new.self
     (λ ip pos. enters h.groups h.slots ip pos c.args.id entered)) (subst (λ g. OnOk c.set-2.result (IsSet (g + c.args.id) entered h c.set-2.new.self)) (ap (λ (h : Held). h.groups) c.set.view_is) c.set-2.ensures.set)

@@ -7,5 +7,5 @@ use Rattle.regress_backtrack.proofs.memory.Memory.open_group.Goals as goal
 pub returns-clause-opened : goal.returns-clause-opened
 returns-clause-opened c =
     let h = c.args.self.now in
-    let opened : Slot = record { at = c.args.at; from = 0; to = 0; has_range = false; is_set = true } in
+    let opened : Slot = record { at = c.args.at; from = 0; to = 0; noted = 0; has_range = false; is_set = true } in
     ok-more c.set.result (becomes (with_open c.args.id c.args.at) c.args.id opened h c.set.new.self (λ ip pos. opens h.groups h.slots ip pos c.args.id c.requires opened)) c.set.ensures.set

@@ -1,13 +1,17 @@
 -- The ids of groups, as a test of trees reads them.
-use Rattle.std.specs.Prelude.{◌≡◌, ℕ, ◌+◌, ◌-◌, ◌^◌, ◌/◌, ◌%◌, Bool, true, not, ◌&&◌, ◌||◌, List, [], ◌∷◌, length, min, max, ◌==◌, slice_index}
+use Rattle.std.specs.Prelude.{◌≡◌, ℕ, ◌+◌, ◌-◌, ◌^◌, ◌/◌, ◌%◌, Bool, true, not, ◌&&◌, ◌||◌, List, [], ◌∷◌, length, min, max, ◌==◌, nat_le, slice_index}
 use Rattle.std.specs.Int.{bit_at}
 use Rattle.regex_meaning.specs.Lists.{contains}
 use Rattle.regex_meaning.specs.Tree.{Node, group_ids, every}
 use Rattle.regex_meaning.specs.WellFormed.{names_the_groups_inside, encloses, refers_to_a_group, has_order_in_quantifier, has_one_character_body, has_text_in_sequence, fits_instructions}
 
--- 64 ids to a word, the lowest bit first
+-- it has no bit in so many words; 1,024 are for each id that there is
+abbrev pub is_past : (words : ℕ) → ℕ → Bool
+is_past words id = not (words == 1024) && nat_le words (id / 64)
+
+-- 64 ids to a word, the lowest bit first; those past the words are seen
 abbrev pub is_seen : List ℕ → ℕ → Bool
-is_seen bits id = bit_at (slice_index bits (id / 64)) (id % 64) == 1
+is_seen bits id = is_past (length bits) id || bit_at (slice_index bits (id / 64)) (id % 64) == 1
 
 -- these ids are seen besides
 abbrev pub AddsSeen : List ℕ → (before after : List ℕ) → Type 0

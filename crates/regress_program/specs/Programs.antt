@@ -2,7 +2,7 @@
 use Rattle.std.specs.Prelude.{◌≡◌, map, Bool, true, false, IsTrue}
 use Rattle.regex_meaning.specs.WellFormed.{is_well_formed}
 use Rattle.regex_pattern_front.specs.TreeOf.{tree_of, flags_of, contents_of}
-use Rattle.regex_meaning.specs.Layout.{reads_bytes}
+use Rattle.regex_meaning.specs.Layout.{Program, reads_bytes}
 use Rattle.regex_pattern_front.specs.declared.ir.Regex.{Regex}
 use Rattle.regress_plan.specs.declared.plan.Plan.{Plan}
 use Rattle.regress_plan.specs.Plans.{IsPlanOf}
@@ -28,6 +28,10 @@ pub record IsProgram (p : Inside) : Type 0 where
 abbrev pub IsPlanFor : (wide : Bool) → Regex → Plan → Type 0
 IsPlanFor wide re plan = IsPlanOf wide (compiled (planned_tree wide (tree_of re))) plan
 
+-- whatever the plan is one of, the other is one of too
+abbrev pub IsSamePlan : Plan → Plan → Type 0
+IsSamePlan plan other = (wide : Bool) (program : Program) → IsPlanOf wide program plan → IsPlanOf wide program other
+
 -- what programs for bytes hold besides
 pub record IsForBytes (re : Regex) (start : StartPredicate) (plan : Plan) : Type 0 where
   pub starts : IsStartOf start re
@@ -35,7 +39,7 @@ pub record IsForBytes (re : Regex) (start : StartPredicate) (plan : Plan) : Type
 
 -- what is run in place of the tree's program for 16-bit units
 pub record IsRunOf (re : Regex) (run : Run) : Type 0 where
-  pub planned : IsPlanFor true re run.plan
+  pub planned : IsPlanFor true re run.plan.value
   pub loops : run.loops ≡ (compiled (tree_to_run (tree_of re))).loops
 
 -- what programs for 16-bit units hold besides

@@ -26,7 +26,7 @@ use crate::emit::emitter::{Emitter, Mode};
 use crate::emit::names::names_by_id;
 use crate::emit::tally::Tally;
 pub use crate::emit::wellformed::is_well_formed;
-use crate::insn::{CompiledRegex, CompiledUnits, GroupNames, Program, Run};
+use crate::insn::{CompiledRegex, CompiledUnits, GroupNames, Program, Run, placed};
 use crate::startpredicate::predicate_for_re;
 use regex_pattern_front::ir;
 use regex_pattern_front::types::{LoopID, MAX_CAPTURE_GROUPS};
@@ -84,6 +84,7 @@ pub fn emit(alloc: Global, re: &ir::Regex) -> Result<CompiledRegex, EmitError>
     let program = compile(alloc, re, false)?;
     let start_pred = predicate_for_re(alloc, re)?;
     let plan = program.planned(Units::Bytes)?;
+    let plan = placed(alloc, plan)?;
     Ok(CompiledRegex {
         program,
         start_pred,
@@ -118,9 +119,10 @@ fn run_of(alloc: Global, re: &ir::Regex, program: &Program) -> Result<Run, Alloc
     if re.flags.no_opt {
         let plan = program.planned(Units::Wide)?;
         let loops = program.loops();
+        let plan = placed(alloc, plan)?;
         return Ok(Run { plan, loops });
     }
-    let narrow = emitted(alloc, re, true)?;
+    let narrow = emitted(alloc, re, true, program.insns().len())?;
     let code = Code {
         insns: &narrow.insns,
         brackets: &narrow.brackets,
@@ -128,16 +130,17 @@ fn run_of(alloc: Global, re: &ir::Regex, program: &Program) -> Result<Run, Alloc
     };
     let plan = Plan::new(alloc, code, Units::Wide)?;
     let loops = u32::from(narrow.loops);
+    let plan = placed(alloc, plan)?;
     Ok(Run { plan, loops })
 }
 
-// The code of a tree; loops over one character are narrow in it or not.
-fn emitted(alloc: Global, re: &ir::Regex, narrow: bool) -> Result<Emitter, AllocError>
+// The code of a tree, which has so many instructions; loops over one character are narrow in it or not.
+fn emitted(alloc: Global, re: &ir::Regex, narrow: bool, room: usize) -> Result<Emitter, AllocError>
     requires { FitsLimits (tree_of re.now) }
     ensures { IfOk result (λ e. state_of e
         ≡ with_code re.now.flags.unicode false (shaped narrow (node_of re.now.node)) nothing) }
 {
-    let mut emitter = Emitter::new(alloc);
+    let mut emitter = Emitter::new(alloc, room)?;
     let mode = Mode {
         unicode: re.flags.unicode,
         narrow,
@@ -155,12 +158,15 @@ fn compile(alloc: Global, re: &ir::Regex, bytes_in_units: bool) -> Result<Progra
     ensures no_bytes { OnOk result (bytes_in_units ≡ false) }
     ensures refused { IfErr result (λ e. IsRefusedWith bytes_in_units e (tree_of re.now)) }
 {
-    let groups = check_limits(re, bytes_in_units)?;
+    let Counts {
+        groups,
+        insns: room,
+    } = check_limits(re, bytes_in_units)?;
     let Emitter {
         insns,
         brackets,
         loops,
-    } = emitted(alloc, re, false)?;
+    } = emitted(alloc, re, false, room)?;
     let group_names = GroupNames::shared(names_by_id(alloc, &re.node, groups)?)?;
     Ok(Program {
         insns,
@@ -173,9 +179,16 @@ fn compile(alloc: Global, re: &ir::Regex, bytes_in_units: bool) -> Result<Progra
     })
 }
 
-// How many groups a tree has, where it is one that is compiled.
-fn check_limits(re: &ir::Regex, bytes_in_units: bool) -> Result<u32, EmitError>
-    ensures groups { IfOk result (λ n. n ≡ length (group_ids (tree_of re.now).root)) }
+// How many groups and instructions a tree has.
+#[derive(Clone, Copy)]
+struct Counts {
+    groups: u32,
+    insns: usize,
+}
+
+// How many groups and instructions a tree has, where it is one that is compiled.
+fn check_limits(re: &ir::Regex, bytes_in_units: bool) -> Result<Counts, EmitError>
+    ensures groups { IfOk result (λ counts. counts.groups ≡ length (group_ids (tree_of re.now).root)) }
     ensures fits { OnOk result (FitsLimits (tree_of re.now)) }
     ensures no_bytes { OnOk result (bytes_in_units ≡ false) }
     ensures refused { IfErr result (λ e. IsRefusedWith bytes_in_units e (tree_of re.now)) }
@@ -202,5 +215,8 @@ fn check_limits(re: &ir::Regex, bytes_in_units: bool) -> Result<u32, EmitError>
     if insns > u32::MAX as usize {
         return Err(EmitError::TooManyInstructions);
     }
-    Ok(groups as u32)
+    Ok(Counts {
+        groups: groups as u32,
+        insns,
+    })
 }

@@ -8,6 +8,8 @@ mod classes;
 #[cfg(test)]
 mod deep;
 #[cfg(test)]
+mod ledgers;
+#[cfg(test)]
 mod listing;
 #[cfg(test)]
 mod parts;

@@ -2,6 +2,7 @@
 
 use crate::choices::{write_choices, write_unit_choices};
 use crate::classes::{write_classes, write_unit_classes};
+use crate::ledgers::{write_codes, write_ledger};
 use crate::listing::{write_program, write_units};
 use crate::parts::{write_parts, write_shown_names, write_unit_parts};
 use crate::plans::{write_plan, write_unit_plan};
@@ -40,6 +41,8 @@ fn write_answer(
         "unit_choices" => write_unit_choices(alloc, text, tree),
         "classes" => write_classes(alloc, text, tree),
         "unit_classes" => write_unit_classes(alloc, text, tree),
+        "ledger" => write_ledger(alloc, text, tree),
+        "codes" => write_codes(alloc, text, tree),
         _ => text.push_str("no question"),
     }
 }

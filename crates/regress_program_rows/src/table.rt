@@ -10,7 +10,9 @@
 // first of each row of keys, and behind the end, the operations at which the arms begin that may match there. Classes have behind
 // the first of each row of keys the step of them all: how many units the character has, 0 where none is accepted, and 5 where the
 // character decides; and the bytes at which a run ends. Programs for 16-bit units are those of the tree as it is, and so are
-// those for bytes, of which `optimized` asks for that of the optimized tree.
+// those for bytes, of which `optimized` asks for that of the optimized tree. Ledgers have each instruction that records with how many codes it has, and what a
+// place pays for all of them; codes are those behind none, one and two iterations of each loop, the last of which has read a
+// character, or has not.
 pub(crate) const ROWS: &str = "\
 program goal → Goal
 program cat:3 empty any goal → MatchAny, Goal
@@ -200,4 +202,26 @@ units cat:2 loop:0,0,0 a goal → EnterLoop 0 0 18446744073709551615 true 3, Cha
 optimized cat:2 loop:0,0,0 a goal → Loop1CharBody 0 18446744073709551615 true, Char 97, Goal
 units cat:2 loop1:0 a goal → Loop1CharBody 0 18446744073709551615 true, Char 97, Goal
 unit_plan cat:3 loop:0,0,0 a b goal → few 2 [97, 98, 0], apart 98 99
+ledger /abc/ → for 0
+ledger /a*/ → 1x1 for 4
+ledger /(?:ab)*c/ → 1x1 4x1 for 12
+ledger /(?:a*)*b/ → 2x2 3x2 4x1 for 26
+ledger /(?:a*){2,}b/ → 2x6 3x6 4x1 for 70
+ledger /(?:ab){2,4}/ → 1x4 for 32
+ledger /(?:ab|cd){0,100}/ → none
+ledger /(a)\\1/ → none
+ledger /(?=(a))b/ → none
+ledger /(?!(a))b/ → for 0
+ledger /(?:(?=a)b)*d/ → 4x1 6x1 for 12
+ledger /(x+x+)+y/ → 1x1 4x1 6x1 7x1 9x1 for 28
+ledger /^(\\w+\\s?)*$/ → 2x1 5x1 6x1 8x1 10x1 for 31
+ledger /(?:a|ab)(?:c|bcd)(?:d*)/ → 5x1 12x1 for 17
+ledger /(?<=(?:ab)*)c/ → 2x1 for 8
+ledger /a{2,5}b/ → 2x1 for 4
+ledger /(?:.*?,){3}x/ → 2x3 3x3 5x1 for 49
+ledger /((a*)*)*b/ → 1x2 5x4 8x4 9x4 11x2 13x1 for 104
+codes /(?:ab)*c/ → one each
+codes /(?:a*){2,}b/ → 2: 0 1 2 3 4 5; 3: 0 1 2 3 4 5
+codes /(?:ab){2,4}/ → 1: 0 0 1 1 2 2
+codes /((a*)*)*b/ → 1: 0 1 0 1 0 1; 5: 0 3 0 3 0 3; 8: 0 3 0 3 0 3; 9: 0 3 0 3 0 3; 11: 0 1 0 1 0 1
 ";

@@ -110,14 +110,15 @@ pub(crate) struct Emitter {
 }
 
 impl Emitter {
-    pub(crate) fn new(alloc: Global) -> Emitter
-        ensures { state_of result ≡ nothing }
+    // Of no node yet, with room for so many instructions.
+    pub(crate) fn new(alloc: Global, room: usize) -> Result<Emitter, AllocError>
+        ensures { IfOk result (λ e. state_of e ≡ nothing) }
     {
-        Emitter {
-            insns: Vec::new(alloc),
+        Ok(Emitter {
+            insns: Vec::with_capacity(alloc, room)?,
             brackets: Vec::new(alloc),
             loops: 0,
-        }
+        })
     }
 
     // The code of a node behind the code so far.

@@ -1,7 +1,7 @@
 //! The ids of groups: each stands once, and loops and lookarounds name those inside them.
 #![tactic(auto, unfolding(regex_pattern_front::specs::TreeOf::node_of, crate::specs::Ids::are_fresh, crate::specs::Ids::least, crate::specs::Ids::past, crate::proofs::Weights::weight))]
 
-ghost use Rattle.std.specs.Prelude.{◌≡◌, ◌≤◌, ◌<◌, ◌^◌, ◌&&◌, ◌||◌, ◌+◌, ◌-◌, ◌∷◌, [], not, ◌==◌, ℕ, false, length, IsTrue, nat_le};
+ghost use Rattle.std.specs.Prelude.{◌≡◌, is_some, IfSome, ◌≤◌, ◌<◌, ◌^◌, ◌&&◌, ◌||◌, ◌+◌, ◌-◌, ◌∷◌, [], not, ◌==◌, ℕ, false, length, IsTrue, nat_le};
 ghost use Rattle.regex_meaning.specs.Tree.{alt, group_ids, every};
 ghost use Rattle.regex_meaning.specs.WellFormed.{names_the_groups_inside};
 ghost use Rattle.regex_pattern_front.specs.TreeOf.{node_of};
@@ -63,49 +63,76 @@ impl Span {
     }
 }
 
-/// Which ids have been seen, and the span of those that stand inside the node at hand so far.
+/// So many words have a bit for each id.
+const ALL: usize = 1024;
+
+/// So many words are tried first: to clear a bit for each id takes longer than all else that is done for a short pattern.
+const FEW: usize = 4;
+
+/// The span of the ids inside a node, where none stands twice and each loop and each lookaround names those inside it.
+pub(crate) fn span_of_ids(root: &Node) -> Option<Span>
+    ensures stand { is_some result ≡ ids_stand (λ k. false) (node_of root.now) }
+    ensures span { IfSome result (λ span. as_span span ≡ span_of (group_ids (node_of root.now))) }
+    ensures high { IfSome result (λ span. span.high ≤ 65536) }
+{
+    let mut bits = [0; FEW];
+    match span_in(&mut bits, root) {
+        Some(span) => Some(span),
+        None => span_of_many(root),
+    }
+}
+
+// The same where few words do not tell. A bit for each id is cleared in each call, so this stands apart.
+#[inline(never)]
+fn span_of_many(root: &Node) -> Option<Span>
+    ensures stand { is_some result ≡ ids_stand (λ k. false) (node_of root.now) }
+    ensures span { IfSome result (λ span. as_span span ≡ span_of (group_ids (node_of root.now))) }
+    ensures high { IfSome result (λ span. span.high ≤ 65536) }
+{
+    let mut bits = [0; ALL];
+    span_in(&mut bits, root)
+}
+
+// The span of the ids inside a node, where none of them has its bit set or stands twice, and each loop and each lookaround
+// names those inside it. Where there is not a bit for each id, those that have none count as set.
+fn span_in(bits: &mut [u64], root: &Node) -> Option<Span>
+    ensures stand { is_some result ≡ ids_stand (is_seen bits.old) (node_of root.now) }
+    ensures span { IfSome result (λ span. as_span span ≡ span_of (group_ids (node_of root.now))) }
+    ensures high { IfSome result (λ span. span.high ≤ 65536) }
+{
+    let mut ids = Ids { inside: Span::NONE };
+    if ids.gather(bits, root) {
+        Some(ids.inside)
+    } else {
+        None
+    }
+}
+
+/// The span of the ids that stand inside the node at hand so far. Which ids have been seen at all is told by bits.
 #[derive(Drop)]
-pub(crate) struct Ids {
-    bits: [u64; 1024],
+struct Ids {
     inside: Span,
-    ghost sized: { length bits ≡ 1024 },
     ghost counted: { inside.count < 2 ^ 64 },
     ghost low: { inside.low ≤ 65536 },
     ghost high: { inside.high ≤ 65536 },
 }
 
 impl Ids {
-    // None of them.
-    pub(crate) fn none() -> Ids
-        ensures seen { (k : ℕ) → is_seen result.bits k ≡ false }
-        ensures span { as_span result.inside ≡ span_of [] }
-    {
-        Ids {
-            bits: [0; 1024],
-            inside: Span::NONE,
-        }
-    }
-
-    // The span of all that were seen.
-    pub(crate) fn span(&self) -> Span
-        ensures inside { result ≡ self.now.inside }
-        ensures high { result.high ≤ 65536 }
-    {
-        self.inside
-    }
-
     // Sees an id; whether it was not seen before.
-    fn see(&mut self, id: CaptureGroupID) -> bool
-        ensures fresh { result ≡ not (is_seen self.old.bits id) }
-        ensures seen { (k : ℕ) → is_seen self.new.bits k ≡ (is_seen self.old.bits k || k == id) }
+    fn see(&mut self, bits: &mut [u64], id: CaptureGroupID) -> bool
+        ensures fresh { result ≡ not (is_seen bits.old id) }
+        ensures seen { (k : ℕ) → is_seen bits.new k ≡ (is_seen bits.old k || k == id) }
         ensures span { as_span self.new.inside
             ≡ joined_spans (as_span self.old.inside) (span_of (id ∷ [])) }
     {
-        let word = usize::from(id / 64);
-        let bit = id % 64;
-        let before = self.bits[word];
-        self.bits[word] = before | 1 << bit;
         self.inside = self.inside.joined(Span::one(id));
+        let word = usize::from(id / 64);
+        if word >= bits.len() {
+            return false;
+        }
+        let bit = id % 64;
+        let before = bits[word];
+        bits[word] = before | 1 << bit;
         before >> bit & 1 == 0
     }
 
@@ -113,24 +140,24 @@ impl Ids {
     // those inside it. Along the last node inside each node it is a loop, and what it finds out stands in one place: so
     // deep nesting costs little stack.
     #[cycle(gather)]
-    pub(crate) fn gather(&mut self, root: &Node) -> bool
-        ensures found { result ≡ ids_stand (is_seen self.old.bits) (node_of root.now) }
+    fn gather(&mut self, bits: &mut [u64], root: &Node) -> bool
+        ensures found { result ≡ ids_stand (is_seen bits.old) (node_of root.now) }
         ensures span { IsTrue result
             → AddsSpan (group_ids (node_of root.now)) self.old.inside self.new.inside }
-        ensures seen { IsTrue result → AddsSeen (group_ids (node_of root.now)) self.old.bits self.new.bits }
+        ensures seen { IsTrue result → AddsSeen (group_ids (node_of root.now)) bits.old bits.new }
     {
         let mut rest = root;
         loop {
             match rest {
-                Node::Cat(nodes) => return self.gather_row(nodes),
+                Node::Cat(nodes) => return self.gather_row(bits, nodes),
                 Node::Alt(left, right) => {
-                    if !self.gather(left) {
+                    if !self.gather(bits, left) {
                         return false;
                     }
                     rest = right;
                 }
                 Node::CaptureGroup { id, contents, .. } => {
-                    if !self.see(*id) {
+                    if !self.see(bits, *id) {
                         return false;
                     }
                     rest = contents;
@@ -140,12 +167,13 @@ impl Ids {
                     end_group,
                     contents,
                     ..
-                } => return self.gather_enclosed(*start_group, *end_group, contents),
+                } => return self.gather_enclosed(bits, *start_group, *end_group, contents),
                 Node::Loop {
                     loopee,
                     enclosed_groups,
                     ..
                 } => return self.gather_enclosed(
+                    bits,
                     enclosed_groups.start,
                     enclosed_groups.end,
                     loopee,
@@ -158,14 +186,14 @@ impl Ids {
 
     #[cycle(gather)]
     #[inline(never)]
-    fn gather_row(&mut self, nodes: &[Node]) -> bool
-        ensures found { result ≡ ids_stand (is_seen self.old.bits) (cat_of nodes.now) }
+    fn gather_row(&mut self, bits: &mut [u64], nodes: &[Node]) -> bool
+        ensures found { result ≡ ids_stand (is_seen bits.old) (cat_of nodes.now) }
         ensures span { IsTrue result
             → AddsSpan (group_ids (cat_of nodes.now)) self.old.inside self.new.inside }
-        ensures seen { IsTrue result → AddsSeen (group_ids (cat_of nodes.now)) self.old.bits self.new.bits }
+        ensures seen { IsTrue result → AddsSeen (group_ids (cat_of nodes.now)) bits.old bits.new }
     {
         for node in nodes {
-            if !self.gather(node) {
+            if !self.gather(bits, node) {
                 return false;
             }
         }
@@ -177,19 +205,20 @@ impl Ids {
     #[inline(never)]
     fn gather_enclosed(
         &mut self,
+        bits: &mut [u64],
         start: CaptureGroupID,
         end: CaptureGroupID,
         contents: &Node,
     ) -> bool
-        ensures found { result ≡ ids_stand_within (is_seen self.old.bits) start end (node_of contents.now) }
+        ensures found { result ≡ ids_stand_within (is_seen bits.old) start end (node_of contents.now) }
         ensures span { IsTrue result
             → AddsSpan (group_ids (node_of contents.now)) self.old.inside self.new.inside }
         ensures seen { IsTrue result
-            → AddsSeen (group_ids (node_of contents.now)) self.old.bits self.new.bits }
+            → AddsSeen (group_ids (node_of contents.now)) bits.old bits.new }
     {
         let before = self.inside;
         self.inside = Span::NONE;
-        if !self.gather(contents) {
+        if !self.gather(bits, contents) {
             return false;
         }
         let inside = self.inside;

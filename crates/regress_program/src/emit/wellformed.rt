@@ -13,7 +13,7 @@ ghost use Rattle.regress_program.specs.Emitting.{code_points_of};
 ghost use Rattle.regress_program.specs.Walked.{passes};
 ghost use Rattle.regress_program.specs.Goals.{with_goals};
 
-use crate::emit::ids::Ids;
+use crate::emit::ids::span_of_ids;
 use crate::emit::walk::{Visitor, walk};
 use regex_pattern_front::ir;
 use regex_pattern_front::ir::{Node, Quantifier};
@@ -40,11 +40,9 @@ fn is_root_well_formed(root: &Node) -> bool
     if !is_goal_last(root) {
         return false;
     }
-    let mut ids = Ids::none();
-    if !ids.gather(root) {
+    let Some(span) = span_of_ids(root) else {
         return false;
-    }
-    let span = ids.span();
+    };
     if span.high as usize > span.count {
         return false;
     }

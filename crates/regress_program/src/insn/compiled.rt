@@ -11,7 +11,7 @@ ghost use Rattle.regress_program.specs.Programs.{IsPlanFor};
 
 use crate::insn::predicates::StartPredicate;
 use crate::insn::programs::Program;
-use crate::insn::runs::Run;
+use crate::insn::runs::{Run, copy_of_plan};
 use regress_plan::plan::Plan;
 use std::alloc::AllocError;
 use std::marker::Model;
@@ -23,7 +23,7 @@ use std::ops::Deref;
 pub struct CompiledRegex {
     pub(crate) program: Program,
     pub(crate) start_pred: StartPredicate,
-    pub(crate) plan: Plan,
+    pub(crate) plan: Box<Plan>,
 }
 
 impl Model for CompiledRegex {
@@ -39,7 +39,7 @@ impl Model for CompiledRegex {
 
     ghost view = { λ p. p.program };
 
-    ghost invariant = { λ p. IsForBytes p.program p.start_pred p.plan };
+    ghost invariant = { λ p. IsForBytes p.program p.start_pred p.plan.value };
 }
 
 impl CompiledRegex {
@@ -79,7 +79,7 @@ impl CompiledRegex {
         Ok(CompiledRegex {
             program: self.program.clone()?,
             start_pred: self.start_pred.clone()?,
-            plan: self.plan.clone()?,
+            plan: copy_of_plan(&self.plan)?,
         })
     }
 }

@@ -12,11 +12,11 @@ pub emit-requires-clause-room : goal.emit-requires-clause-room
 emit-requires-clause-room c =
     let root = node_of c.args.re.now.node in
     record {
-      insns = omega (arith, c.requires.insns, size-shaped c.args.narrow root, ap (λ s. length s.insns) c.new-emitter.ensures);
-      loops = omega (arith, c.requires.loops, loops-shaped c.args.narrow root, ap (λ s. s.loops) c.new-emitter.ensures);
+      insns = omega (arith, c.requires.insns, size-shaped c.args.narrow root, ap (λ s. length s.insns) c.in_ok-emitter.ensures);
+      loops = omega (arith, c.requires.loops, loops-shaped c.args.narrow root, ap (λ s. s.loops) c.in_ok-emitter.ensures);
     }
 
 pub returns : goal.returns
 returns c =
     let re = c.args.re.now in
-    c.in_ok-emit.ensures ∙ ap (with_code re.flags.unicode false (shaped c.args.narrow (node_of re.node))) c.new-emitter.ensures
+    c.in_ok-emit.ensures ∙ ap (with_code re.flags.unicode false (shaped c.args.narrow (node_of re.node))) c.in_ok-emitter.ensures

@@ -1,18 +1,27 @@
 use Rattle.std.proofs.Common.{◌≡◌, ◌∙◌, ap, sym, true, false, subst, map, length, zero-add, arith}
 use Rattle.std.proofs.lemmas.List.{length-map}
 use Rattle.regex_pattern_front.specs.TreeOf.{node_of, tree_of, contents_of}
-use Rattle.regress_plan.specs.Plans.{HasCode}
+use Rattle.regress_plan.specs.Plans.{HasCode, IsPlanOf}
 use Rattle.regress_program.specs.Insns.{insn_of}
 use Rattle.regress_program.specs.Code.{compiled, loop_count, size}
 use Rattle.regress_program.specs.Running.{tree_to_run}
 use Rattle.regress_program.specs.Emitting.{state_of, nothing, with_code}
 use Rattle.regress_program.proofs.CodeLemmas.{compiled-length}
 use Rattle.regress_program.proofs.ShapedLemmas.{shaped-narrow, size-shaped}
-use Rattle.regress_program.proofs.RunningLemmas.{groups-planned, to_run-optimized}
+use Rattle.regress_program.proofs.RunningLemmas.{groups-planned, to_run-plain, to_run-optimized}
 use Rattle.regress_program.proofs.emit.run_of.Goals as goal
 
 pub planned-requires : goal.planned-requires
 planned-requires c = rw c.requires.same c.requires.fits.insns
+
+pub returns-then-re : goal.returns-then-re
+returns-then-re c =
+    let tree = tree_of c.args.re.now in
+    let own = ap tree_of c.requires.same ∙ sym (to_run-plain tree c.if-re.true) in
+    record {
+      planned = c.in_ok-plan-2.ensures _ _ (subst (λ t. IsPlanOf true (compiled t) c.in_ok-plan.plan) own c.in_ok-plan.ensures);
+      loops = c.loops-loops.ensures ∙ ap (λ t. (compiled t).loops) own;
+    }
 
 pub new-requires : goal.new-requires
 unfolding compiled
@@ -39,6 +48,6 @@ returns c =
       groups = c.groups.ensures ∙ ap (λ r. (compiled (tree_of r)).groups) c.requires.same ∙ sym (groups-planned true tree);
     } in
     record {
-      planned = c.in_ok-plan-2.ensures (compiled (tree_to_run tree)) has;
+      planned = c.in_ok-plan-4.ensures _ _ (c.in_ok-plan-3.ensures (compiled (tree_to_run tree)) has);
       loops = c.from-loops.ensures ∙ ap (λ s. s.loops) made ∙ zero-add (loop_count (tree_to_run tree).root);
     }

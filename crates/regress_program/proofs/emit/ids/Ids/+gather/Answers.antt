@@ -43,7 +43,7 @@ unfolding node_of
 gather-returns-then-not-gather-clause-found t c =
     let a = node_of c.in-Alt.left.value in
     let b = node_of c.in-Alt.right.value in
-    let f = is_seen c.loop-rest.self.bits in
+    let f = is_seen c.loop-rest.bits in
     let is : node_of c.loop-rest.rest.now ≡ alt a b = ap node_of c.in-Alt.is in
     let l = left-same _ _ _ _ f (as_span c.loop-rest.self.inside) (node_of c.loop-rest.rest.now) (alt a b) is c.loop-rest.invariant.left in
     let node : node_of c.deref-in-Alt.result.now ≡ a = ap node_of c.deref-in-Alt.ensures in
@@ -55,8 +55,8 @@ unfolding node_of weight
 gather-loop-rest-preserved-in-Alt t c =
     let a = node_of c.in-Alt.left.value in
     let b = node_of c.in-Alt.right.value in
-    let f = is_seen c.loop-rest.self.bits in
-    let g = is_seen c.gather.new.self.bits in
+    let f = is_seen c.loop-rest.bits in
+    let g = is_seen c.gather.new.bits in
     let s = as_span c.loop-rest.self.inside in
     let t = as_span c.gather.new.self.inside in
     let is : node_of c.loop-rest.rest.now ≡ alt a b = ap node_of c.in-Alt.is in
@@ -79,8 +79,8 @@ unfolding node_of weight
 gather-loop-rest-preserved-in-CaptureGroup t c =
     let id = c.in-CaptureGroup.id in
     let n = node_of c.in-CaptureGroup.contents.value in
-    let f = is_seen c.loop-rest.self.bits in
-    let g = is_seen c.see.new.self.bits in
+    let f = is_seen c.loop-rest.bits in
+    let g = is_seen c.see.new.bits in
     let s = as_span c.loop-rest.self.inside in
     let t = as_span c.see.new.self.inside in
     let is : node_of c.loop-rest.rest.now ≡ capture_group id (name_of c.in-CaptureGroup.name) n = ap node_of c.in-CaptureGroup.is in
@@ -98,7 +98,7 @@ pub gather-returns-in_default : goal.gather-returns-in_default
 gather-returns-in_default t c =
     let d = c.in_default in
     let leaf = leaf-left c.loop-rest.rest.now d.not-Cat d.not-Alt d.not-CaptureGroup d.not-LookaroundAssertion d.not-Loop d.not-Loop1CharBody in
-    let f = is_seen c.loop-rest.self.bits in
+    let f = is_seen c.loop-rest.bits in
     let s = as_span c.loop-rest.self.inside in
     let l = left-leaf _ _ _ _ f s (node_of c.loop-rest.rest.now) leaf c.loop-rest.invariant.left in
     record {
@@ -113,7 +113,7 @@ gather_enclosed-returns-clause-found t c =
     let i = c.gather.new.self.inside in
     let went = sym c.if-not-gather.false in
     let span : as_span i ≡ span_of (group_ids n) = c.gather.ensures.span (sym went) ∙ joined-none (group_ids n) in
-    fills-encloses n (is_seen c.args.self.now.bits) c.args.start c.args.end i.count i.low i.high c.fills.result (every names_the_groups_inside n) c.ranges.start.fits c.ranges.end.fits
+    fills-encloses n (is_seen c.args.bits.now) c.args.start c.args.end i.count i.low i.high c.fills.result (every names_the_groups_inside n) c.ranges.start.fits c.ranges.end.fits
     (went ∙ c.gather.ensures.found) (ap (λ s. s.count) span) (ap (λ s. s.low) span) (ap (λ s. s.high) span) c.fills.ensures
 
 pub gather_row-gather-requires : goal.gather_row-gather-requires
@@ -126,7 +126,7 @@ gather_row-returns-then-not-gather-clause-found t c =
     let n = node_of c.node-item.result in
     let rest = cat_of (drop (c.loop-node.node-index + 1) nodes) in
     let next = cat_of-drop nodes c.loop-node.node-index c.node-item.result c.loop-node-test.true c.node-item.is in
-    let f = is_seen c.loop-node.self.bits in
+    let f = is_seen c.loop-node.bits in
     let s = as_span c.loop-node.self.inside in
     let l = left-same _ _ _ _ f s (cat_of (drop c.loop-node.node-index nodes)) (cat n rest) next c.loop-node.invariant in
     left-fails _ _ _ _ f s (group_ids n) (group_ids rest) (every names_the_groups_inside n) (every names_the_groups_inside rest) l (sym c.if-not-gather.true ∙ c.gather.ensures.found)
@@ -137,8 +137,8 @@ gather_row-loop-node-preserved t c =
     let n = node_of c.node-item.result in
     let rest = cat_of (drop (c.loop-node.node-index + 1) nodes) in
     let next = cat_of-drop nodes c.loop-node.node-index c.node-item.result c.loop-node-test.true c.node-item.is in
-    let f = is_seen c.loop-node.self.bits in
-    let g = is_seen c.gather.new.self.bits in
+    let f = is_seen c.loop-node.bits in
+    let g = is_seen c.gather.new.bits in
     let s = as_span c.loop-node.self.inside in
     let t = as_span c.gather.new.self.inside in
     let l = left-same _ _ _ _ f s (cat_of (drop c.loop-node.node-index nodes)) (cat n rest) next c.loop-node.invariant in
@@ -150,7 +150,7 @@ pub gather_row-returns-clause-span : goal.gather_row-returns-clause-span
 gather_row-returns-clause-span t c h =
     let nodes = c.args.nodes.now in
     let none : drop c.loop-node.node-index nodes ≡ [] = drop_all c.loop-node.node-index nodes c.loop-node-test.false in
-    let f = is_seen c.loop-node.self.bits in
+    let f = is_seen c.loop-node.bits in
     let s = as_span c.loop-node.self.inside in
     let l = left-same _ _ _ _ f s (cat_of (drop c.loop-node.node-index nodes)) end_of_cat (ap cat_of none) c.loop-node.invariant in
     left-span _ _ _ _ f s c.loop-node.self.counted c.loop-node.self.low l

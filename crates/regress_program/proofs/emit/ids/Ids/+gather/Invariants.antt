@@ -21,8 +21,8 @@ decreases-gather_enclosed l = 2 * (weight (node_of l.contents.now) + 1)
 abbrev pub invariant-gather-loop-rest : goal.invariant-gather-loop-rest
 invariant-gather-loop-rest l = record {
   within : weight (node_of l.rest) ≤ weight (node_of l.root);
-  left : IsLeft (is_seen l.fn.self.bits) (as_span l.fn.self.inside) (group_ids (node_of l.root)) (every names_the_groups_inside (node_of l.root))
-      (is_seen l.self.bits) (as_span l.self.inside) (group_ids (node_of l.rest)) (every names_the_groups_inside (node_of l.rest));
+  left : IsLeft (is_seen l.fn.bits) (as_span l.fn.self.inside) (group_ids (node_of l.root)) (every names_the_groups_inside (node_of l.root))
+      (is_seen l.bits) (as_span l.self.inside) (group_ids (node_of l.rest)) (every names_the_groups_inside (node_of l.rest));
 }
 
 abbrev pub decreases-gather-loop-rest : goal.decreases-gather-loop-rest
@@ -30,5 +30,5 @@ decreases-gather-loop-rest l = weight (node_of l.rest)
 
 abbrev pub invariant-gather_row-loop-node : goal.invariant-gather_row-loop-node
 invariant-gather_row-loop-node l =
-    IsLeft (is_seen l.fn.self.bits) (as_span l.fn.self.inside) (group_ids (cat_of l.nodes)) (every names_the_groups_inside (cat_of l.nodes))
-    (is_seen l.self.bits) (as_span l.self.inside) (group_ids (cat_of (drop l.node-index l.nodes))) (every names_the_groups_inside (cat_of (drop l.node-index l.nodes)))
+    IsLeft (is_seen l.fn.bits) (as_span l.fn.self.inside) (group_ids (cat_of l.nodes)) (every names_the_groups_inside (cat_of l.nodes))
+    (is_seen l.bits) (as_span l.self.inside) (group_ids (cat_of (drop l.node-index l.nodes))) (every names_the_groups_inside (cat_of (drop l.node-index l.nodes)))

@@ -1,6 +1,7 @@
-use Rattle.std.proofs.Common.{false}
+use Rattle.std.proofs.Common.{false, subst, sym}
 use Rattle.regex_pattern_front.specs.TreeOf.{tree_of}
 use Rattle.regress_program.specs.Code.{compiled}
+use Rattle.regress_program.specs.Programs.{IsPlanFor}
 use Rattle.regress_program.proofs.PredicateLemmas.{copy-start}
 use Rattle.regress_program.proofs.insn.compiled.CompiledRegex.clone.Goals as goal
 
@@ -9,5 +10,5 @@ invariant_of-result c =
     let held = c.self.invariant in
     rw c.in_ok-clone.ensures (record {
       starts = copy-start c.self.inside.start_pred _ c.self.inside.program c.in_ok-clone-2.ensures held.starts;
-      planned = c.in_ok-clone-3.ensures.plan false (compiled (tree_of c.self.inside.program)) held.planned;
+      planned = c.in_ok-copy_of_plan.ensures false (compiled (tree_of c.self.inside.program)) (subst (IsPlanFor false c.self.inside.program) (sym c.deref.ensures) held.planned);
     })

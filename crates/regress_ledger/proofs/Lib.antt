@@ -1,0 +1,6 @@
+pub mod Rows
+pub mod StepLemmas
+pub mod Digits
+pub mod Bits
+pub mod WholeLemmas
+pub mod Ways

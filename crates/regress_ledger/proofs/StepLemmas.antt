@@ -1,0 +1,207 @@
+-- What is checked of a step is what the laws ask of its instruction.
+use Rattle.std.proofs.Common.{◌≡◌, ◌<◌, ◌^◌, ℕ, ◌+◌, true, false, List, Option, Some, None, ap, ◌∙◌, sym, subst, map, slice_get}
+use Rattle.std.proofs.lemmas.Bool.{le-leb, lt-leb}
+use Rattle.regex_meaning.specs.Layout.{Program, Insn, Goal, JustFail, Char, CharSet, ByteSet, ByteSeq, AsciiBracket, Bracket, MatchAny, MatchAnyExceptLineTerminator, StartOfLine, EndOfLine, WordBoundary, WordBoundaryUnicodeICase, Alt, Jump, EnterLoop, LoopAgain, ResetCaptureGroup, Loop1CharBody, BeginCaptureGroup, EndCaptureGroup, BackRef, Lookahead, Lookbehind}
+use Rattle.regex_meaning.specs.Layout as layout
+use Rattle.regress_insn.specs.Insns.{insn_of}
+use Rattle.regress_insn.specs.declared.insn.Insn as declared
+use Rattle.regress_linear.specs.Account.{Enters, IsRepeated, Looks, IsRightAt}
+use Rattle.regress_linear.specs.Behind.{look_at}
+use Rattle.regress_linear.specs.Behind as behind
+use Rattle.regress_linear.specs.Silent.{IsSilentAt, IsSilentAgain}
+use Rattle.regress_linear.specs.Weights.{Weights, HasOne, HasTwo, HasRepeated, HasEnough}
+use Rattle.regress_ledger.specs.declared.ledger.Ledger.{Ledger}
+use Rattle.regress_ledger.specs.declared.ledger.Said.TheVariants.{Inside}
+use Rattle.regress_ledger.specs.declared.steps.Look as look
+use Rattle.regress_ledger.specs.declared.steps.Step.{Step}
+use Rattle.regress_ledger.specs.declared.steps.Step.TheVariants.{Ends, One, Two, Enter, Again, Run, Look, Same}
+use Rattle.regress_ledger.specs.Ledger.{line_of, rows_of, holds, account_of, weights_of, silent_of, way_of}
+use Rattle.regress_ledger.specs.Steps.{HasInsns, step_in}
+use Rattle.regress_ledger.specs.Checks.{Begins, BeginsAgainAt, LooksOn, StepIsRight, StepHasEnough}
+use Rattle.regress_ledger.proofs.Rows.{holds-in, below-from}
+
+pub at-step : (P : Step → Type 0) (program : Program) (insns : List declared.Insn) (ip : ℕ) (s : Step) → HasInsns program insns
+    → s ≡ step_in ip (slice_get (map insn_of insns) ip) → P s → P (step_in ip (slice_get program.insns ip))
+at-step P program insns ip s has is p =
+    let e : s ≡ step_in ip (slice_get program.insns ip) = is ∙ ap (λ xs. step_in ip (slice_get xs ip)) (sym has) in
+    subst P e p
+
+module _ (t : Ledger) (program : Program) where
+  -- ---- The account
+
+  module _ (top : ℕ) (less : top < 2 ^ 63) where
+    enters : (f : layout.LoopFields) (ip begin : ℕ) → Begins t f ip begin → Enters (account_of t) f ip begin
+    enters f ip begin h = record {
+      again = h.again.account;
+      leave = h.leave.account;
+      writes = le-leb (line_of t ip).from f.loop_id h.writes;
+      few = h.few;
+    }
+
+    repeated : (x : Option Insn) (ip begin : ℕ) → BeginsAgainAt t x ip begin → IsRepeated (account_of t) top x ip begin
+    repeated (Some (EnterLoop f)) ip begin h = record {
+      enters = enters f ip begin h.begins;
+      inside = h.round.inside;
+      empty = h.round.empty;
+      decides = h.round.decides top less;
+    }
+    repeated _ ip begin h = tt
+
+    looks : (l : look.Look) (ip : ℕ) → LooksOn t l ip → Looks (account_of t) ip l.past
+    looks l ip h = record {
+      on = h.on.account;
+      start = λ id e. cc;
+      apart = λ i. ap (λ rows. holds Inside i rows) h.apart;
+      left = λ i e.
+          let found = holds-in Inside i (rows_of t l.past) e in
+          let before = h.left found.k found.row found.there in
+          lt-leb (line_of t (ip + 1)).from i (subst (λ n. n < (line_of t (ip + 1)).from) found.is before);
+      writes = λ i e. below-from (line_of t ip).from (line_of t (ip + 1)).from i h.from e;
+    }
+
+    pub right-at : (x : Option Insn) (ip : ℕ) → StepIsRight t program (step_in ip x) ip → IsRightAt (account_of t) top program x ip
+    right-at None ip h = tt
+    right-at (Some Goal) ip h = tt
+    right-at (Some JustFail) ip h = tt
+    right-at (Some (Char c)) ip h = h.0.account
+    right-at (Some (CharSet members)) ip h = h.0.account
+    right-at (Some (ByteSet members)) ip h = h.0.account
+    right-at (Some (ByteSeq bytes)) ip h = h.0.account
+    right-at (Some (AsciiBracket members)) ip h = h.0.account
+    right-at (Some (Bracket index)) ip h = h.0.account
+    right-at (Some MatchAny) ip h = h.0.account
+    right-at (Some MatchAnyExceptLineTerminator) ip h = h.0.account
+    right-at (Some (StartOfLine multiline)) ip h = h.0.account
+    right-at (Some (EndOfLine multiline)) ip h = h.0.account
+    right-at (Some (WordBoundary invert)) ip h = h.0.account
+    right-at (Some (WordBoundaryUnicodeICase invert)) ip h = h.0.account
+    right-at (Some (Alt secondary)) ip h = (h.0.account, h.1.account)
+    right-at (Some (Jump target)) ip h = h.0.account
+    right-at (Some (EnterLoop f)) ip h = enters f ip ip h
+    right-at (Some (LoopAgain begin)) ip h = repeated (slice_get program.insns begin) ip begin h
+    right-at (Some (ResetCaptureGroup id)) ip h = h.0.account
+    right-at (Some (Loop1CharBody least most greedy)) ip h = h.account
+    right-at (Some (BeginCaptureGroup id)) ip h =
+        let on = h.0.account in
+        record {
+          start = λ i e b. cc;
+          inside = on.inside;
+          moved = on.moved;
+          empty = on.empty;
+          fresh = on.fresh;
+          writes = on.writes;
+        }
+    right-at (Some (EndCaptureGroup id)) ip h = (h.0.account, λ e. cc)
+    right-at (Some (BackRef group icase)) ip h = absurd h
+    right-at (Some (Lookahead negate start_group end_group continuation)) ip h = looks _ ip h
+    right-at (Some (Lookbehind negate start_group end_group continuation)) ip h = looks _ ip h
+
+-- ---- Weights
+
+-- enough stands ready for what a step leaves
+abbrev pub EnoughBy : Weights → Program → Step → (ip : ℕ) → Type 0
+EnoughBy w program Ends ip = Unit {0}
+EnoughBy w program (One n) ip = HasOne w ip n.to
+EnoughBy w program (Two other) ip = HasTwo w ip (ip + 1) other
+EnoughBy w program (Enter f) ip = HasTwo w ip (ip + 1) f.exit
+EnoughBy w program (Again begin) ip = HasRepeated w (slice_get program.insns begin) ip begin
+EnoughBy w program (Run b) ip = Unit {0}
+EnoughBy w program (Look l) ip = HasOne w ip l.past
+EnoughBy w program Same ip = HasOne w ip (ip + 1)
+
+module _ (w : Weights) (program : Program) where
+  pub has-enough : (x : Option Insn) (ip : ℕ) → EnoughBy w program (step_in ip x) ip → HasEnough w program x ip
+  has-enough None ip h = tt
+  has-enough (Some Goal) ip h = tt
+  has-enough (Some JustFail) ip h = tt
+  has-enough (Some (Char c)) ip h = h
+  has-enough (Some (CharSet members)) ip h = h
+  has-enough (Some (ByteSet members)) ip h = h
+  has-enough (Some (ByteSeq bytes)) ip h = h
+  has-enough (Some (AsciiBracket members)) ip h = h
+  has-enough (Some (Bracket index)) ip h = h
+  has-enough (Some MatchAny) ip h = h
+  has-enough (Some MatchAnyExceptLineTerminator) ip h = h
+  has-enough (Some (StartOfLine multiline)) ip h = h
+  has-enough (Some (EndOfLine multiline)) ip h = h
+  has-enough (Some (WordBoundary invert)) ip h = h
+  has-enough (Some (WordBoundaryUnicodeICase invert)) ip h = h
+  has-enough (Some (Alt secondary)) ip h = h
+  has-enough (Some (Jump target)) ip h = h
+  has-enough (Some (EnterLoop f)) ip h = h
+  has-enough (Some (LoopAgain begin)) ip h = h
+  has-enough (Some (ResetCaptureGroup id)) ip h = h
+  has-enough (Some (Loop1CharBody least most greedy)) ip h = h
+  has-enough (Some (BeginCaptureGroup id)) ip h = h
+  has-enough (Some (EndCaptureGroup id)) ip h = h
+  has-enough (Some (BackRef group icase)) ip h = h
+  has-enough (Some (Lookahead negate start_group end_group continuation)) ip h = h
+  has-enough (Some (Lookbehind negate start_group end_group continuation)) ip h = h
+
+module _ (t : Ledger) (program : Program) where
+  enough-by : (s : Step) (ip : ℕ) → StepHasEnough t program s ip → EnoughBy (weights_of t) program s ip
+  enough-by (Run b) ip h = tt
+  enough-by Ends ip h = h
+  enough-by (One n) ip h = h
+  enough-by (Two other) ip h = h
+  enough-by (Enter f) ip h = h
+  enough-by (Again begin) ip h = h
+  enough-by (Look l) ip h = h
+  enough-by Same ip h = h
+
+  pub enough-at : (x : Option Insn) (ip : ℕ) → StepHasEnough t program (step_in ip x) ip → HasEnough (weights_of t) program x ip
+  enough-at x ip h = has-enough (weights_of t) program x ip (enough-by (step_in ip x) ip h)
+
+  -- ---- Groups
+
+  silent-again : (x : Option Insn) (ip begin : ℕ) → BeginsAgainAt t x ip begin → silent_of t ip ≡ true → IsSilentAgain (silent_of t) x begin
+  silent-again (Some (EnterLoop f)) ip begin h s = (h.begins.again.silent s, h.begins.leave.silent s)
+  silent-again _ ip begin h s = tt
+
+  pub silent-at : (x : Option Insn) (ip : ℕ) → StepIsRight t program (step_in ip x) ip → silent_of t ip ≡ true
+      → IsSilentAt (silent_of t) program x ip
+  silent-at None ip h s = tt
+  silent-at (Some Goal) ip h s = tt
+  silent-at (Some JustFail) ip h s = tt
+  silent-at (Some (Char c)) ip h s = h.0.silent s
+  silent-at (Some (CharSet members)) ip h s = h.0.silent s
+  silent-at (Some (ByteSet members)) ip h s = h.0.silent s
+  silent-at (Some (ByteSeq bytes)) ip h s = h.0.silent s
+  silent-at (Some (AsciiBracket members)) ip h s = h.0.silent s
+  silent-at (Some (Bracket index)) ip h s = h.0.silent s
+  silent-at (Some MatchAny) ip h s = h.0.silent s
+  silent-at (Some MatchAnyExceptLineTerminator) ip h s = h.0.silent s
+  silent-at (Some (StartOfLine multiline)) ip h s = h.0.silent s
+  silent-at (Some (EndOfLine multiline)) ip h s = h.0.silent s
+  silent-at (Some (WordBoundary invert)) ip h s = h.0.silent s
+  silent-at (Some (WordBoundaryUnicodeICase invert)) ip h s = h.0.silent s
+  silent-at (Some (Alt secondary)) ip h s = (h.0.silent s, h.1.silent s)
+  silent-at (Some (Jump target)) ip h s = h.0.silent s
+  silent-at (Some (EnterLoop f)) ip h s = (h.again.silent s, h.leave.silent s)
+  silent-at (Some (LoopAgain begin)) ip h s = silent-again (slice_get program.insns begin) ip begin h s
+  silent-at (Some (ResetCaptureGroup id)) ip h s = let e = h.1 s in cc
+  silent-at (Some (Loop1CharBody least most greedy)) ip h s = h.silent s
+  silent-at (Some (BeginCaptureGroup id)) ip h s = let e = h.1 s in cc
+  silent-at (Some (EndCaptureGroup id)) ip h s = let e = h.1 s in cc
+  silent-at (Some (BackRef group icase)) ip h s = absurd h
+  silent-at (Some (Lookahead negate start_group end_group continuation)) ip h s = (h.silent s, h.on.silent s)
+  silent-at (Some (Lookbehind negate start_group end_group continuation)) ip h s = (h.silent s, h.on.silent s)
+
+  -- ---- Lookarounds
+
+  pub record LookIsRight (l : behind.Look) (ip : ℕ) : Type 0 where
+    pub way : way_of t (ip + 1) ≡ l.inner
+    pub quiet : l.negate ≡ false → silent_of t (ip + 1) ≡ true
+
+  pub look-right : (x : Option Insn) (l : behind.Look) (ip : ℕ) → look_at x ≡ Some l → StepIsRight t program (step_in ip x) ip → LookIsRight l ip
+  look-right (Some (Lookahead negate start_group end_group continuation)) l ip e h =
+      subst (λ l. LookIsRight l ip) (some-is _ _ e) (record { way = h.way; quiet = h.quiet })
+    where
+      some-is : (a b : behind.Look) → Some a ≡ Some b → a ≡ b
+      some-is a b e = cc
+  look-right (Some (Lookbehind negate start_group end_group continuation)) l ip e h =
+      subst (λ l. LookIsRight l ip) (some-is _ _ e) (record { way = h.way; quiet = h.quiet })
+    where
+      some-is : (a b : behind.Look) → Some a ≡ Some b → a ≡ b
+      some-is a b e = cc
+  look-right _ l ip e h = cc

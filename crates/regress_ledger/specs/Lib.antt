@@ -1,0 +1,4 @@
+pub mod Ledger
+pub mod Steps
+pub mod Checks
+pub mod Whole

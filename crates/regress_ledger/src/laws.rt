@@ -1,0 +1,19 @@
+//! Laws of ledgers.
+
+ghost use Rattle.regress_ledger.specs.Whole.{LedgersServe, WaysStay, KeysHaveBits};
+
+/// What is written of a program is a plan in each text: its keys decide, its turns are turns with records, and all attempts
+/// of a text together are linear in the text.
+pub fn ledgers_serve()
+    ensures { LedgersServe }
+{}
+
+/// Keys of a program that are not the same have different bits.
+pub fn keys_have_bits()
+    ensures { KeysHaveBits }
+{}
+
+/// A turn leaves threads at instructions that are searched in the same direction.
+pub fn ways_stay()
+    ensures { WaysStay }
+{}

@@ -1,0 +1,13 @@
+//! The account of a program: what may still be asked of a thread at each instruction, which instructions record, and what
+//! they pay.
+#![tactic(auto)]
+
+mod check;
+pub mod codes;
+mod edges;
+pub mod laws;
+pub mod ledger;
+pub mod maker;
+mod paid;
+pub mod steps;
+mod weights;

@@ -1,3 +1,4 @@
+mod InParts
 mod Lines
 mod Parts
 mod Searched

@@ -47,3 +47,16 @@ module _ {A : Type 0} (text : A → List ℕ) (test : List ℕ → Bool) (first 
   pub one-left : (done next : List (ℕ × List ℕ)) → test line ≡ false → done ≡ passed i → next ≡ done → next ≡ passed (i + 1)
   one-left done next fails so_far is =
       is ∙ so_far ∙ sym (append-nil (passed i)) ∙ ap (λ ls. passed i ++ ls) (sym (left (first + i, line) (test line) fails)) ∙ sym (more (first + i) refl)
+
+-- what a test leaves nothing of
+none-left : {A : Type 0} (b : Bool) (x : A) (xs : List A) → (if b then x ∷ xs else xs) ≡ [] → (b ≡ false) × (xs ≡ [])
+none-left true x xs h = cc h
+none-left false x xs h = (refl, h)
+
+-- where no line passes, none with its number does
+pub none-numbered : (test : List ℕ → Bool) (first : ℕ) (lines : List (List ℕ)) → filter test lines ≡ []
+    → filter (λ l. test l.1) (numbered first lines) ≡ []
+none-numbered test first [] none = refl
+none-numbered test first (line ∷ lines) none =
+    let both = none-left (test line) line (filter test lines) none in
+    rw (both.0, none-numbered test (first + 1) lines both.1) refl

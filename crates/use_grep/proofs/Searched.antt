@@ -1,24 +1,33 @@
 -- A pattern that is compiled is a search for what its tree finds.
-use Rattle.std.proofs.Common.{◌≡◌, ℕ, List, Bool, true, false, refl, ap, sym, subst}
-use Rattle.std.specs.Prelude.{◌||◌, chars, is_some, slice_get, if◌then◌else◌, Result, Ok, Err, IfOk}
+use Rattle.std.proofs.Common.{◌≡◌, ℕ, List, [], ◌∷◌, Bool, true, false, refl, ap, sym, subst, ◌∙◌, filter}
+use Rattle.std.specs.Prelude.{◌||◌, chars, is_some, slice_get, if◌then◌else◌}
 use Rattle.regex_meaning.specs.Tree.{Flags, Tree}
 use Rattle.regex_grammar.specs.Grammar.{Parses}
 use Rattle.regress_match.specs.Programs.{IsCompiledWith, unit_tree}
 use Rattle.regress_match.specs.declared.api.regex.Regex.{Regex}
 use Rattle.regress_match.proofs.PatternLemmas.{searches-follow}
-use Rattle.use_grep.specs.Selecting.{IsSearchOf, framed, searched}
+use Rattle.regex_meaning.proofs.Each.{Each, Each-map}
+use Rattle.use_grep.specs.Selecting.{HasNoneInLines, IsLocal, IsSearchOf, framed, has_match, lines_of, searched}
+use Rattle.use_grep.proofs.InParts.{lines-have_none}
 
 is-search : (flags : Flags) (pattern : List ℕ) (re : Regex) → IsCompiledWith flags (chars pattern) re → IsSearchOf flags pattern re
 is-search flags pattern re is = record {
   tree = unit_tree re;
   parsed = is.parsed;
-  found = λ line. ap (λ answers. is_some (slice_get answers 0)) (searches-follow flags (chars pattern) re (unit_tree re) is is.parsed line 0).0;
+  found = λ tree parsed line. ap (λ answers. is_some (slice_get answers 0)) (searches-follow flags (chars pattern) re tree is parsed line 0).0;
 }
 
--- what holds whatever is answered
-pub whatever : {T E : Type 0} (r : Result T E) (X : Type 0) → X → IfOk r (λ _. X)
-whatever (Ok x) X h = h
-whatever (Err e) X h = tt
+-- A text with no match has none in its lines, where the grammar has a local tree of the pattern.
+pub none-in_lines : (flags : Flags) (pattern : List ℕ) (re : Regex) → IsCompiledWith flags (chars pattern) re → IsLocal flags pattern → HasNoneInLines re
+none-in_lines flags pattern re is local text utf8 none =
+    let found = (is-search flags pattern re is).found local.0 local.1 in
+    filter-none (has_match re) (lines_of text)
+    (Each-map _ _ (λ line h. found line ∙ h) (lines_of text)
+    (lines-have_none local.0.root flags.unicode text local.2 utf8 (sym (found text) ∙ none)))
+  where
+    filter-none : (test : List ℕ → Bool) (lines : List (List ℕ)) → Each (λ line. test line ≡ false) lines → filter test lines ≡ []
+    filter-none test [] h = refl
+    filter-none test (line ∷ lines) h = rw (h.0, filter-none test lines h.1) refl
 
 module _ (flags wanted : Flags) (same : flags ≡ wanted) (words whole_lines : Bool) (pattern : List ℕ) (re : Regex) where
   -- the flags, and what is searched, said in the words of the options

@@ -1,5 +1,5 @@
 -- Which lines a grep selects, and what it shows of them.
-use Rattle.std.specs.Prelude.{◌≡◌, ℕ, ◌+◌, List, [], ◌∷◌, ◌++◌, Bool, ◌||◌, eqb, chars, codes, is_some, map, not, slice_get, slice_range, if◌then◌else◌}
+use Rattle.std.specs.Prelude.{◌≡◌, ℕ, ◌+◌, List, [], ◌∷◌, ◌++◌, Bool, true, false, ◌||◌, IsUtf8, eqb, chars, codes, filter, is_some, map, not, slice_get, slice_range, if◌then◌else◌}
 use Rattle.std.specs.List.{slice_split}
 use Rattle.regex_meaning.specs.Tree.{Tree, Flags}
 use Rattle.regex_meaning.specs.Text.{utf8_text}
@@ -10,6 +10,7 @@ use Rattle.regex_grammar.specs.Grammar.{Parses}
 use Rattle.regress_match.specs.Programs.{utf8_answers}
 use Rattle.regress_match.specs.Replacements.{expanded}
 use Rattle.regress_match.specs.declared.api.regex.Regex.{Regex}
+use Rattle.use_grep.specs.Local.{is_local}
 use Rattle.use_grep.specs.declared.select.Line.{Line}
 
 -- the lines of a text, which line breaks end
@@ -45,11 +46,20 @@ colored re line = replaced line 0 (expanded line (27 ∷ (codes "[1;31m$0" ++ 27
 abbrev pub tree_flags : (ignore_case : Bool) → Flags
 tree_flags ignore_case = if ignore_case then flags_of_text (codes "i") else flags_of_text []
 
--- The grammar has a tree of the pattern, and a line has a match where that tree finds one in it.
+-- The grammar has a tree of the pattern, and a line has a match where such a tree finds one in it.
 pub record IsSearchOf (flags : Flags) (pattern : List ℕ) (re : Regex) : Type 0 where
   pub tree : Tree
   pub parsed : Parses flags (chars pattern) tree
-  pub found : (line : List ℕ) → has_match re line ≡ is_some (slice_get (answers_from tree.root (utf8_text line flags.unicode) 0) 0)
+  pub found : (tree : Tree) → Parses flags (chars pattern) tree → (line : List ℕ)
+      → has_match re line ≡ is_some (slice_get (answers_from tree.root (utf8_text line flags.unicode) 0) 0)
+
+-- the grammar has a tree of the pattern whose matches depend on the characters that they read alone
+abbrev pub IsLocal : (flags : Flags) → (pattern : List ℕ) → Type 0
+IsLocal flags pattern = (tree : Tree) × Parses flags (chars pattern) tree × (is_local tree.root ≡ true)
+
+-- a text with no match has none in its lines
+abbrev pub HasNoneInLines : Regex → Type 0
+HasNoneInLines re = (text : List ℕ) → IsUtf8 text → has_match re text ≡ false → filter (has_match re) (lines_of text) ≡ []
 
 -- a pattern between the ends of a line, or between places that are no word's
 abbrev pub framed : (whole_lines : Bool) → (pattern : List ℕ) → List ℕ

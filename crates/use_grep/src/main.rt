@@ -6,6 +6,7 @@
 ghost use Rattle.std.specs.Prelude.{◌≡◌, if◌then◌else◌, nat_eq};
 
 mod blocks;
+mod local;
 mod options;
 mod pattern;
 mod search;
@@ -14,7 +15,7 @@ mod select;
 use crate::options::{Options, command};
 use crate::pattern::{compile, say_refused};
 use crate::search::{Search, Tally};
-use anyhow::Result;
+use anyhow::{Context, Result};
 use std::env;
 use std::process::ExitCode;
 
@@ -42,7 +43,7 @@ fn run(rt: &HostRuntime, words: &[String]) -> Result<u8> {
     };
     let options = Options::of(rt, &matches)?;
     match compile(alloc, &options) {
-        Ok(re) => Ok(status(&Search::new(rt, &re, &options)?.all()?)),
+        Ok(query) => Ok(status(&Search::new(rt, &query, &options)?.all()?)),
         Err(why) => {
             say_refused(rt, &options, &why)?;
             Ok(TROUBLE)
@@ -51,7 +52,8 @@ fn run(rt: &HostRuntime, words: &[String]) -> Result<u8> {
 }
 
 fn run_words(rt: &HostRuntime) -> Result<u8> {
-    let words: Vec<String> = env::args(rt)?.collect(rt.alloc())?;
+    let words = env::args(rt).context("reading the command line")?;
+    let words: Vec<String> = words.collect(rt.alloc())?;
     run(rt, &words)
 }
 
@@ -59,7 +61,7 @@ fn main(rt: HostRuntime) -> ExitCode {
     match run_words(&rt) {
         Ok(status) => ExitCode::from(status),
         Err(why) => {
-            let _ = eprintln!(rt; "use_grep: {why}");
+            let _ = eprintln!(rt; "use_grep: {why:#}");
             ExitCode::from(TROUBLE)
         }
     }

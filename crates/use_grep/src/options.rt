@@ -20,6 +20,8 @@ pub struct Options<'a> {
     pub only_matches: bool,
     pub count: bool,
     pub color: bool,
+    /// Whether it is told how far a long search is: on a terminal that shows nothing else.
+    pub tells: bool,
     /// Whether lines that are no UTF-8 are searched, too, with U+FFFD in place of what is none.
     pub lossy: bool,
     /// How many lines of each file are selected at most.
@@ -46,6 +48,7 @@ impl<'a> Options<'a> {
             only_matches: matches.get_flag("only-matching"),
             count: matches.get_flag("count"),
             color: is_colored(rt, text_of(matches, "color")),
+            tells: rt.stderr().is_terminal() && !rt.stdout().is_terminal(),
             lossy: matches.get_flag("text"),
             most: matches.get_one("max-count").unwrap_or(u64::MAX),
             longest: matches.get_one("max-line").unwrap_or(u64::MAX),

@@ -1,11 +1,12 @@
 //! The pattern that is searched.
 
-ghost use Rattle.std.specs.Prelude.{◌≡◌, ◌++◌, IfOk, chars, codes, if◌then◌else◌, string_bytes};
+ghost use Rattle.std.specs.Prelude.{◌≡◌, ◌++◌, IfOk, IsTrue, chars, codes, if◌then◌else◌, string_bytes};
 ghost use Rattle.regex_meaning.specs.Tree.{Tree};
 ghost use Rattle.regex_grammar.specs.Grammar.{Parses};
 ghost use Rattle.regress_match.specs.Flags.{flags_of};
-ghost use Rattle.use_grep.specs.Selecting.{IsSearchOf, framed, searched, tree_flags};
+ghost use Rattle.use_grep.specs.Selecting.{HasNoneInLines, IsSearchOf, framed, searched, tree_flags};
 
+use crate::local::is_local;
 use crate::options::Options;
 use regress_match::{Error, Flags, Regex};
 use std::alloc::{AllocError, Global};
@@ -22,23 +23,39 @@ fn flags(options: &Options<'_>) -> Flags
     }
 }
 
+/// A pattern that is searched, and whether a text with no match is known to have none in its lines.
+#[derive(Drop)]
+pub struct Query {
+    pub re: Regex,
+    pub is_local: bool,
+    ghost none_in_lines: { IsTrue is_local → HasNoneInLines re },
+}
+
 /// The pattern of these options.
 ///
 /// # Errors
 ///
 /// Those of `Regex::with_flags`: the pattern has to be one by itself, without what `-w` and `-x` put around it.
-pub fn compile(alloc: Global, options: &Options<'_>) -> Result<Regex, Error>
-    ensures searched { IfOk result (IsSearchOf (tree_flags options.now.ignore_case)
-        (searched options.now.words options.now.whole_lines options.now.pattern.now)) }
+pub fn compile(alloc: Global, options: &Options<'_>) -> Result<Query, Error>
+    ensures searched { IfOk result (λ q. IsSearchOf (tree_flags options.now.ignore_case)
+        (searched options.now.words options.now.whole_lines options.now.pattern.now) q.re) }
     ensures alone { IfOk result (λ _. (tree : Tree)
         × Parses (tree_flags options.now.ignore_case) (chars options.now.pattern.now) tree) }
 {
     let alone = Regex::with_flags(alloc, options.pattern, flags(options))?;
     if !options.words && !options.whole_lines {
-        return Ok(alone);
+        let is_local = is_local(alloc, options.pattern, flags(options))?;
+        return Ok(Query {
+            re: alone,
+            is_local,
+        });
     }
     let framed = framed(alloc, options.pattern, options.whole_lines)?;
-    Regex::with_flags(alloc, framed.as_str(), flags(options))
+    let re = Regex::with_flags(alloc, framed.as_str(), flags(options))?;
+    Ok(Query {
+        re,
+        is_local: false,
+    })
 }
 
 // The pattern between the ends of the line, or else between places that are no word's.

@@ -2,14 +2,20 @@
 
 use crate::blocks::{BlockError, Blocks};
 use crate::options::Options;
-use crate::select::{Line, PLAIN, RED, colored, how_many_fit, lines_of, matched_parts, selected};
+use crate::pattern::Query;
+use crate::select::{
+    Line, PLAIN, RED, colored, count_lines, how_many_fit, lines_of, matched_parts, selected,
+    selected_in,
+};
 use anyhow::{Result, bail};
-use regress_match::Regex;
 use simdutf8::compat::{Utf8Error, from_utf8};
 use std::fmt::Display;
 use std::fs::File;
 use std::io;
 use std::io::{BufWriter, Printer, Read, Write};
+
+// After how many blocks of a file, each of 128 KB or more, it is told again how far its search is.
+const BLOCKS: u64 = 512;
 
 /// What came of a search.
 #[derive(Clone, Copy, Debug)]
@@ -24,7 +30,7 @@ pub struct Tally {
 #[derive(Drop)]
 pub struct Search<'s, 'a> {
     rt: &'s HostRuntime,
-    re: &'s Regex,
+    query: &'s Query,
     options: &'s Options<'a>,
     out: BufWriter<Printer<'s, HostRuntime>>,
     tally: Tally,
@@ -34,6 +40,7 @@ pub struct Search<'s, 'a> {
 #[derive(Clone, Copy)]
 struct Progress<'n> {
     name: &'n str,
+    blocks: u64,
     lines: u64,
     selected: u64,
     // whether no more of it is searched
@@ -48,12 +55,12 @@ impl<'s, 'a> Search<'s, 'a> {
     /// Where there is no memory for what is written.
     pub fn new(
         rt: &'s HostRuntime,
-        re: &'s Regex,
+        query: &'s Query,
         options: &'s Options<'a>,
     ) -> io::Result<Search<'s, 'a>> {
         Ok(Search {
             rt,
-            re,
+            query,
             options,
             out: BufWriter::new(rt.alloc(), io::writer(rt))?,
             tally: Tally {
@@ -90,6 +97,7 @@ impl<'s, 'a> Search<'s, 'a> {
     fn trouble<E: Display>(&mut self, what: &str, why: &E) -> Result<()> {
         self.out.flush()?;
         self.tally.has_trouble = true;
+        self.clear()?;
         eprintln!(self.rt; "use_grep: {what}: {why}")?;
         Ok(())
     }
@@ -98,6 +106,7 @@ impl<'s, 'a> Search<'s, 'a> {
         let mut blocks = Blocks::new(self.rt.alloc(), reader, self.options.longest)?;
         let mut progress = Progress {
             name,
+            blocks: 0,
             lines: 0,
             selected: 0,
             is_over: self.options.most == 0,
@@ -107,7 +116,10 @@ impl<'s, 'a> Search<'s, 'a> {
                 break;
             }
             match blocks.advance() {
-                Ok(true) => self.block(&mut progress, blocks.lines())?,
+                Ok(true) => {
+                    self.block(&mut progress, blocks.lines())?;
+                    self.tell(&mut progress)?;
+                }
                 Ok(false) => progress.is_over = true,
                 Err(why) => self.give_up(&mut progress, &why)?,
             }
@@ -115,10 +127,31 @@ impl<'s, 'a> Search<'s, 'a> {
         self.end(&progress)
     }
 
+    // Tells how far the search of a long file is.
+    fn tell(&self, progress: &mut Progress<'_>) -> io::Result<()> {
+        progress.blocks = progress.blocks.saturating_add(1);
+        if !self.options.tells || progress.blocks % BLOCKS != 0 {
+            return Ok(());
+        }
+        let Progress { name, lines, .. } = *progress;
+        eprint!(self.rt; "\r{name}: {lines} lines")
+    }
+
+    // Clears what was told.
+    fn clear(&self) -> io::Result<()> {
+        if self.options.tells {
+            eprint!(self.rt; "\r\u{1b}[K")?;
+        }
+        Ok(())
+    }
+
     // Says why the rest of a file is not searched.
-    fn give_up<E: Display>(&mut self, progress: &mut Progress<'_>, why: &E) -> Result<()> {
+    fn give_up(&mut self, progress: &mut Progress<'_>, why: &BlockError) -> Result<()> {
         progress.is_over = true;
-        self.trouble_at(progress, why)
+        match why {
+            BlockError::Read(why) => self.trouble(progress.name, why),
+            _ => self.trouble_at(progress, why),
+        }
     }
 
     // Says what is wrong with the next line.
@@ -155,27 +188,49 @@ impl<'s, 'a> Search<'s, 'a> {
         Ok(())
     }
 
+    // A text of whole lines.
     fn text(&mut self, progress: &mut Progress<'_>, text: &str) -> Result<()> {
         if progress.is_over {
             return Ok(());
         }
-        let lines = lines_of(self.rt.alloc(), text)?;
+        if self.options.invert || !self.query.is_local || text.len() as u64 > self.options.longest {
+            return self.cut_text(progress, text);
+        }
+        let before = progress.lines;
+        let Some(behind) = before.checked_add(count_lines(text)) else {
+            bail!("the file has too many lines");
+        };
+        let found = selected_in(self.rt.alloc(), self.query, text, before)?;
+        self.lines(progress, behind, &found)
+    }
+
+    // A text that is cut into lines, of which one may be too long.
+    fn cut_text(&mut self, progress: &mut Progress<'_>, text: &str) -> Result<()> {
+        let alloc = self.rt.alloc();
+        let lines = lines_of(alloc, text)?;
         let fit = how_many_fit(&lines, self.options.longest);
-        self.lines(progress, &lines[..fit])?;
+        let before = progress.lines;
+        let Some(behind) = before.checked_add(fit as u64) else {
+            bail!("the file has too many lines");
+        };
+        let re = &self.query.re;
+        let found = selected(alloc, re, self.options.invert, &lines[..fit], before)?;
+        self.lines(progress, behind, &found)?;
         if fit < lines.len() && !progress.is_over {
             self.give_up(progress, &BlockError::TooLong)?;
         }
         Ok(())
     }
 
-    fn lines(&mut self, progress: &mut Progress<'_>, lines: &[&str]) -> Result<()> {
-        let before = progress.lines;
-        let Some(behind) = before.checked_add(lines.len() as u64) else {
-            bail!("the file has too many lines");
-        };
-        let found = selected(self.rt.alloc(), self.re, self.options.invert, lines, before)?;
+    // What was found in lines, of which so many were read then.
+    fn lines(
+        &mut self,
+        progress: &mut Progress<'_>,
+        behind: u64,
+        found: &[Line<'_>],
+    ) -> Result<()> {
         progress.lines = behind;
-        for line in &found {
+        for line in found {
             if !progress.is_over {
                 self.print(progress.name, line)?;
                 progress.selected = progress.selected.saturating_add(1);
@@ -194,7 +249,7 @@ impl<'s, 'a> Search<'s, 'a> {
         }
         self.print_prefix(name, Some(line.number))?;
         if self.options.color && !self.options.invert {
-            writeln!(self.out, "{}", colored(self.re, line.text)?)?;
+            writeln!(self.out, "{}", colored(&self.query.re, line.text)?)?;
         } else {
             writeln!(self.out, "{}", line.text)?;
         }
@@ -202,7 +257,7 @@ impl<'s, 'a> Search<'s, 'a> {
     }
 
     fn print_matches(&mut self, name: &str, line: &Line<'_>) -> Result<()> {
-        for part in &matched_parts(self.rt.alloc(), self.re, line.text)? {
+        for part in &matched_parts(self.rt.alloc(), &self.query.re, line.text)? {
             if part.is_empty() {
                 continue;
             }
@@ -229,6 +284,7 @@ impl<'s, 'a> Search<'s, 'a> {
 
     // What is told behind the last line.
     fn end(&mut self, progress: &Progress<'_>) -> Result<()> {
+        self.clear()?;
         self.tally.selected = self.tally.selected.saturating_add(progress.selected);
         if self.options.count {
             self.print_prefix(progress.name, None)?;

@@ -1,11 +1,13 @@
 //! Which lines are selected, and what is shown of them.
 
-ghost use Rattle.std.specs.Prelude.{◌≡◌, ◌++◌, ◌∷◌, ◌+◌, ◌^◌, ◌<◌, [], IfErr, IfOk, filter, length, map, nat_lt, string_bytes};
+ghost use Rattle.std.specs.Prelude.{◌≡◌, ◌++◌, ◌∷◌, ◌+◌, ◌^◌, ◌<◌, [], IfErr, IfOk, false, filter, length, map, nat_lt, string_bytes};
 ghost use Rattle.std.specs.List.{position_or_len};
 ghost use Rattle.regress_match.specs.Programs.{utf8_answers};
 ghost use Rattle.regress_match.specs.Refusals.{IsMemory};
 ghost use Rattle.use_grep.specs.Selecting.{colored, is_selected, lines_of, matched_parts, numbered, shown};
 
+use crate::pattern::Query;
+use memchr::memchr_iter;
 use regress_match::{Regex, SearchError};
 use std::alloc::{AllocError, Global};
 
@@ -42,6 +44,13 @@ pub fn lines_of<'t>(alloc: Global, text: &'t str) -> Result<Vec<&'t str>, AllocE
     ensures { IfOk result (λ v. map (λ l. l.now) v.items ≡ lines_of text.now) }
 {
     text.split('\n').collect(alloc)
+}
+
+/// How many lines a text has.
+pub fn count_lines(text: &str) -> u64
+    ensures { result ≡ length (lines_of text.now) }
+{
+    memchr_iter(b'\n', text.as_bytes()).count() as u64 + 1
 }
 
 /// How many lines stand before the first one that has more bytes than it may have: all of them where none has.
@@ -86,6 +95,29 @@ pub fn selected<'t>(
         }
     }
     Ok(found)
+}
+
+/// Those of a text's lines that have a match. A text with none is not cut into lines where these are known to have none.
+///
+/// # Errors
+///
+/// `Memory` where there is no memory for a search or the list.
+pub fn selected_in<'t>(
+    alloc: Global,
+    query: &Query,
+    text: &'t str,
+    before: u64,
+) -> Result<Vec<Line<'t>>, SearchError>
+    requires { before + length (lines_of text.now) < 2 ^ 64 }
+    ensures selected { IfOk result (λ v. map shown v.items
+        ≡ filter (λ l. is_selected query.now.re false l.1) (numbered (before + 1) (lines_of text.now))) }
+    ensures refused { IfErr result IsMemory }
+{
+    if query.is_local && !is_selected(&query.re, false, text)? {
+        return Ok(Vec::new(alloc));
+    }
+    let lines = lines_of(alloc, text)?;
+    selected(alloc, &query.re, false, &lines, before)
 }
 
 // One line more.

@@ -56,7 +56,8 @@ fn run(rt: &HostRuntime, words: &[String]) -> Result<u8> {
 }
 
 fn run_words(rt: &HostRuntime) -> Result<u8> {
-    let words: Vec<String> = env::args(rt)?.collect(rt.alloc())?;
+    let words = env::args(rt).context("reading the command line")?;
+    let words: Vec<String> = words.collect(rt.alloc())?;
     run(rt, &words)
 }
 

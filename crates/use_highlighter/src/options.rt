@@ -53,6 +53,10 @@ fn texts_of<'a>(
     }
 }
 
+const AFTER: &str =
+    r#"A name is of ASCII letters, digits, _ and $, with no digit in front, and stands once.
+For example: use_highlighter -t 'comment=//.*' -t 'string="[^"]*"' -t 'number=\b\d+\b' FILE"#;
+
 /// The command line.
 ///
 /// # Errors
@@ -77,6 +81,7 @@ pub fn command<'a>(alloc: Global) -> Result<Command<'a>, Error> {
     Ok(
         Command::new(alloc, "use_highlighter")
             .about("Colours the tokens of a text.")
+            .after_help(AFTER)
             .arg(html)?
             .arg(token)?
             .arg(file)?,

@@ -41,9 +41,14 @@ pub fn compile(alloc: Global, tokens: &[Token<'_>]) -> Result<Regex> {
     for token in tokens {
         refuse_wrong(alloc, token)?;
     }
-    match Regex::new(alloc, any_of(alloc, tokens)?.as_str()) {
-        Ok(re) => Ok(re),
-        Err(why) => bail!("the names of the tokens: {why}"),
+    let any = any_of(alloc, tokens)?;
+    let why = match Regex::new(alloc, any.as_str()) {
+        Ok(re) => return Ok(re),
+        Err(why) => why,
+    };
+    match Regex::diagnose(alloc, any.as_str(), Flags::default())? {
+        Some(told) => bail!("all tokens: {told}\n{}", told.below_text(any.as_str())),
+        None => bail!("{why}"),
     }
 }
 

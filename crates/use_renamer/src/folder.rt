@@ -3,7 +3,10 @@
 use crate::plan::Rename;
 use anyhow::{Result, bail};
 use std::fs;
-use std::io::ErrorKind;
+use std::io::{ErrorKind, IsTerminal};
+
+// From how many files on, and after how many, it is told on a terminal how far the renaming is.
+const MANY: usize = 1000;
 
 /// What stands in a folder: the names of its files, and those of what else is there, both in order.
 #[derive(Drop)]
@@ -61,8 +64,15 @@ pub fn list(rt: &HostRuntime, path: &str) -> Result<Folder> {
 /// Where a file cannot be renamed, or something has come under its new name since the folder was read. The files before
 /// it are renamed then, and no other is.
 pub fn apply(rt: &HostRuntime, folder: &str, plan: &[Rename]) -> Result<()> {
-    for Rename { from, to } in plan {
+    let tells = rt.stderr().is_terminal() && plan.len() >= MANY;
+    for (done, Rename { from, to }) in plan.iter().enumerate() {
+        if tells && done % MANY == 0 {
+            eprint!(rt; "\r{done} of {} files", plan.len())?;
+        }
         move_file(rt, folder, from.as_str(), to.as_str())?;
+    }
+    if tells {
+        eprint!(rt; "\r\u{1b}[K")?;
     }
     Ok(())
 }

@@ -16,7 +16,7 @@ use crate::command::{Options, command};
 use crate::folder::{apply, list};
 use crate::groups::parts;
 use crate::plan::{Refusal, Rename, plan};
-use anyhow::{Result, bail};
+use anyhow::{Context, Result, bail};
 use regress_match::{Error, Flags, Regex};
 use std::process::ExitCode;
 use std::{env, io};
@@ -56,7 +56,7 @@ fn run(rt: &HostRuntime, options: &Options<'_>) -> Result<bool> {
     let folder = list(rt, options.folder)?;
     if folder.unreadable > 0 {
         eprintln!(rt;
-            "{} names that are not UTF-8 are passed over",
+            "names that are not UTF-8, which are passed over: {}",
             folder.unreadable
         )?;
     }
@@ -81,22 +81,31 @@ fn run(rt: &HostRuntime, options: &Options<'_>) -> Result<bool> {
     Ok(true)
 }
 
-fn main(rt: HostRuntime) -> Result<ExitCode> {
+// Does what the words of a command line ask for, and answers with which status the program ends.
+fn run_words(rt: &HostRuntime) -> Result<u8> {
     let alloc = rt.alloc();
-    let words: Vec<String> = env::args(&rt)?.collect(alloc)?;
+    let words = env::args(rt).context("reading the command line")?;
+    let words: Vec<String> = words.collect(alloc)?;
     let matches = match command(alloc)?.try_get_matches_from(words.as_slice()) {
         Ok(matches) => matches,
         Err(error) => {
-            error.print(&rt)?;
-            return Ok(ExitCode::from(if error.exit_code() == 0 { 0 } else { 2 }));
+            error.print(rt)?;
+            return Ok(if error.exit_code() == 0 { 0 } else { 2 });
         }
     };
-    match run(&rt, &Options::of(&matches)) {
-        Ok(true) => Ok(ExitCode::from(0)),
-        Ok(false) => Ok(ExitCode::from(1)),
+    Ok(if run(rt, &Options::of(&matches))? {
+        0
+    } else {
+        1
+    })
+}
+
+fn main(rt: HostRuntime) -> ExitCode {
+    match run_words(&rt) {
+        Ok(status) => ExitCode::from(status),
         Err(why) => {
-            eprintln!(rt; "{why}")?;
-            Ok(ExitCode::from(2))
+            let _ = eprintln!(rt; "use_renamer: {why:#}");
+            ExitCode::from(2)
         }
     }
 }

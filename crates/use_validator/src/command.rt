@@ -16,7 +16,8 @@ const ABOUT: &str =
     "Looks through the strings of a JSON document for those that the patterns of a schema refuse.
 
 Of the schema `pattern` and `patternProperties` are read, within `properties`, `patternProperties` and `items`.
-A line says where in the document a string stands (JSON Pointer), and which pattern refuses it.";
+A line says where in the document a string stands (JSON Pointer, which is empty for the document itself), and
+which pattern refuses it. Status: 0 where none is refused, 1 where one is, 2 where it cannot be told.";
 
 const STEPS: &str = "100000";
 

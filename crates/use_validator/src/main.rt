@@ -14,7 +14,7 @@ mod walk;
 use crate::command::{Options, command};
 use crate::schema::Patterns;
 use crate::walk::findings;
-use anyhow::{Result, bail};
+use anyhow::{Context, Result, bail};
 use serde_json::Value;
 use std::process::ExitCode;
 use std::{env, fs, io};
@@ -52,22 +52,31 @@ fn run(rt: &HostRuntime, options: &Options<'_>) -> Result<bool> {
     Ok(findings.is_empty())
 }
 
-fn main(rt: HostRuntime) -> Result<ExitCode> {
+// Does what the words of a command line ask for, and answers with which status the program ends.
+fn run_words(rt: &HostRuntime) -> Result<u8> {
     let alloc = rt.alloc();
-    let words: Vec<String> = env::args(&rt)?.collect(alloc)?;
+    let words = env::args(rt).context("reading the command line")?;
+    let words: Vec<String> = words.collect(alloc)?;
     let matches = match command(alloc)?.try_get_matches_from(words.as_slice()) {
         Ok(matches) => matches,
         Err(error) => {
-            error.print(&rt)?;
-            return Ok(ExitCode::from(if error.exit_code() == 0 { 0 } else { 2 }));
+            error.print(rt)?;
+            return Ok(if error.exit_code() == 0 { 0 } else { 2 });
         }
     };
-    match run(&rt, &Options::of(&matches)) {
-        Ok(true) => Ok(ExitCode::from(0)),
-        Ok(false) => Ok(ExitCode::from(1)),
+    Ok(if run(rt, &Options::of(&matches))? {
+        0
+    } else {
+        1
+    })
+}
+
+fn main(rt: HostRuntime) -> ExitCode {
+    match run_words(&rt) {
+        Ok(status) => ExitCode::from(status),
         Err(why) => {
-            eprintln!(rt; "{why}")?;
-            Ok(ExitCode::from(2))
+            let _ = eprintln!(rt; "use_validator: {why:#}");
+            ExitCode::from(2)
         }
     }
 }

@@ -59,17 +59,20 @@ impl Patterns {
             let Some(pattern) = pattern.as_str() else {
                 bail!("the schema's {place}/pattern is no string");
             };
-            self.compile(alloc, place, pattern)?;
+            let place = child(alloc, place, "pattern")?;
+            self.compile(alloc, place.as_str(), pattern)?;
         }
         if let Some(members) = object_of(part, "patternProperties")? {
+            let above = child(alloc, place, "patternProperties")?;
             for (pattern, _) in members {
-                self.compile(alloc, place, pattern.as_str())?;
+                let place = child(alloc, above.as_str(), pattern.as_str())?;
+                self.compile(alloc, place.as_str(), pattern.as_str())?;
             }
         }
         Ok(())
     }
 
-    // One more pattern.
+    // One more pattern, and where it stands.
     fn compile(&mut self, alloc: Global, place: &str, pattern: &str) -> Result<()> {
         let flags = Flags::from("u");
         match Regex::with_flags(alloc, pattern, flags) {
@@ -78,12 +81,12 @@ impl Patterns {
             }
             Err(Error::Parse(_)) => match Regex::diagnose(alloc, pattern, flags)? {
                 Some(told) => bail!(
-                    "a pattern in the schema's {place} is refused\n{}",
+                    "the schema's {place} is refused: {told}\n{}",
                     told.below_text(pattern)
                 ),
-                None => bail!("a pattern in the schema's {place} is refused"),
+                None => bail!("the schema's {place} is refused"),
             },
-            Err(why) => bail!("a pattern in the schema's {place} is refused: {why}"),
+            Err(why) => bail!("the schema's {place} is refused: {why}"),
         }
         Ok(())
     }

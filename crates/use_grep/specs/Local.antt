@@ -1,0 +1,16 @@
+-- Trees whose matches depend on the characters that they read alone.
+use Rattle.std.specs.Prelude.{Bool, true, false}
+use Rattle.regex_meaning.specs.Tree.{Node, byte_sequence, string_set, anchor, word_boundary, back_ref, lookaround, every}
+
+-- a node that looks at nothing beside a place, and at no group; what an optimizer alone makes is left out, too
+abbrev pub is_local_node : Node → Bool
+is_local_node (byte_sequence bytes) = false
+is_local_node (string_set strings icase) = false
+is_local_node (anchor type multiline) = false
+is_local_node (word_boundary invert unicode_icase) = false
+is_local_node (back_ref group icase) = false
+is_local_node (lookaround l contents) = false
+is_local_node _ = true
+
+abbrev pub is_local : Node → Bool
+is_local root = every is_local_node root

@@ -1,0 +1,86 @@
+//! Patterns whose matches depend on the characters that they read alone: not on what stands beside them, nor on a group.
+//!
+//! Such a pattern has no match in a line where it has none in a text with this line, so that texts are searched first.
+#![tactic(auto, unfolding(regex_pattern_front::specs::TreeOf::node_of, regress_program::proofs::Weights::weight))]
+
+ghost use Rattle.std.specs.Prelude.{◌≡◌, IfOk, IsTrue, chars};
+ghost use Rattle.regex_pattern_front.specs.TreeOf.{node_of};
+ghost use Rattle.regress_match.specs.Flags.{flags_of};
+ghost use Rattle.regress_program.specs.Nodes.{cat_of};
+ghost use Rattle.use_grep.specs.Local.{is_local as is_local_tree};
+ghost use Rattle.use_grep.specs.Selecting.{IsLocal};
+
+use regex_pattern_front::ir::Node;
+use regress_match::Flags;
+use regress_match::backends::try_parse;
+use std::alloc::{AllocError, Global};
+
+/// Whether a pattern is such a one. One that is refused is none.
+///
+/// # Errors
+///
+/// Where there is no memory for its characters.
+pub fn is_local(alloc: Global, pattern: &str, flags: Flags) -> Result<bool, AllocError>
+    ensures { IfOk result (λ b. IsTrue b → IsLocal (flags_of flags) pattern.now) }
+{
+    let characters = characters(alloc, pattern)?;
+    match try_parse(alloc, &characters, flags.for_front()) {
+        Ok(parsed) => Ok(is_local_node(&parsed.node)),
+        Err(_) => Ok(false),
+    }
+}
+
+// The characters of a text.
+fn characters(alloc: Global, text: &str) -> Result<Vec<u32>, AllocError>
+    ensures { IfOk result (λ v. v.items ≡ chars text.now) }
+{
+    text.chars().map(u32::from).collect(alloc)
+}
+
+// Whether a node and each inside it is such a one. Along the last node inside each node it is a loop, so that neither many
+// alternatives nor groups in groups take stack.
+#[cycle(is_local_node)]
+fn is_local_node(node: &Node) -> bool
+    ensures { result ≡ is_local_tree (node_of node.now) }
+{
+    let mut rest = node;
+    loop {
+        match rest {
+            Node::Cat(nodes) => return are_local(nodes),
+            Node::Alt(left, right) => {
+                if !is_local_node(left) {
+                    return false;
+                }
+                rest = right;
+            }
+            Node::CaptureGroup { contents, .. } => rest = contents,
+            Node::Loop { loopee, .. } | Node::Loop1CharBody { loopee, .. } => rest = loopee,
+            Node::Empty
+            | Node::Goal
+            | Node::Char { .. }
+            | Node::CharSet(_)
+            | Node::ByteSet(_)
+            | Node::Bracket(_)
+            | Node::MatchAny
+            | Node::MatchAnyExceptLineTerminator => return true,
+            Node::ByteSequence(_)
+            | Node::StringSet { .. }
+            | Node::Anchor { .. }
+            | Node::WordBoundary { .. }
+            | Node::BackRef { .. }
+            | Node::LookaroundAssertion { .. } => return false,
+        }
+    }
+}
+
+#[cycle(is_local_node)]
+fn are_local(nodes: &[Node]) -> bool
+    ensures { result ≡ is_local_tree (cat_of nodes.now) }
+{
+    for node in nodes {
+        if !is_local_node(node) {
+            return false;
+        }
+    }
+    true
+}

@@ -5,7 +5,7 @@ use crate::options::Options;
 use crate::pattern::Query;
 use crate::select::{
     Line, PLAIN, RED, colored, count_lines, how_many_fit, lines_of, matched_parts, selected,
-    selected_in,
+    selected_in, within_most,
 };
 use anyhow::{Result, bail};
 use simdutf8::compat::{Utf8Error, from_utf8};
@@ -229,14 +229,14 @@ impl<'s, 'a> Search<'s, 'a> {
         behind: u64,
         found: &[Line<'_>],
     ) -> Result<()> {
-        progress.lines = behind;
-        for line in found {
-            if !progress.is_over {
-                self.print(progress.name, line)?;
-                progress.selected = progress.selected.saturating_add(1);
-                progress.is_over = progress.selected >= self.options.most;
-            }
+        let most = self.options.most;
+        let shown = within_most(found, progress.selected, most);
+        for line in shown {
+            self.print(progress.name, line)?;
         }
+        progress.lines = behind;
+        progress.selected = progress.selected.saturating_add(shown.len() as u64);
+        progress.is_over = progress.selected >= most;
         Ok(())
     }
 

@@ -1,5 +1,7 @@
 //! Files that are searched, and what is printed of them.
 
+ghost use Rattle.std.specs.Prelude.{◌≡◌, IfOk, false, true};
+
 use crate::blocks::{BlockError, Blocks};
 use crate::options::Options;
 use crate::pattern::Query;
@@ -94,7 +96,9 @@ impl<'s, 'a> Search<'s, 'a> {
     }
 
     // Says what cannot be searched.
-    fn trouble<E: Display>(&mut self, what: &str, why: &E) -> Result<()> {
+    fn trouble<E: Display>(&mut self, what: &str, why: &E) -> Result<()>
+        ensures { IfOk result (λ _. self.new.tally.has_trouble ≡ true) }
+    {
         self.out.flush()?;
         self.tally.has_trouble = true;
         self.clear()?;
@@ -155,7 +159,9 @@ impl<'s, 'a> Search<'s, 'a> {
     }
 
     // Says what is wrong with the next line.
-    fn trouble_at<E: Display>(&mut self, progress: &Progress<'_>, why: &E) -> Result<()> {
+    fn trouble_at<E: Display>(&mut self, progress: &Progress<'_>, why: &E) -> Result<()>
+        ensures { IfOk result (λ _. self.new.tally.has_trouble ≡ true) }
+    {
         let name = progress.name;
         let number = progress.lines.saturating_add(1);
         let what = format!(in self.rt.alloc(); "{name}:{number}")?;
@@ -176,7 +182,10 @@ impl<'s, 'a> Search<'s, 'a> {
     }
 
     // A line that is no UTF-8 is said and passed over, or searched with U+FFFD in place of what is none.
-    fn no_text(&mut self, progress: &mut Progress<'_>, line: &[u8], why: &Utf8Error) -> Result<()> {
+    fn no_text(&mut self, progress: &mut Progress<'_>, line: &[u8], why: &Utf8Error) -> Result<()>
+        ensures { self.old.options.now.lossy ≡ false → progress.old.is_over ≡ false
+            → IfOk result (λ _. self.new.tally.has_trouble ≡ true) }
+    {
         if self.options.lossy {
             let text = String::from_utf8_lossy(self.rt.alloc(), line)?;
             return self.text(progress, text.as_str());

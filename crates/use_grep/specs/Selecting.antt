@@ -59,12 +59,14 @@ IsLocal flags pattern = (tree : Tree) × Parses flags (chars pattern) tree × (i
 
 -- a text with no match has none in its lines
 abbrev pub HasNoneInLines : Regex → Type 0
-HasNoneInLines re = (text : List ℕ) → IsUtf8 text → has_match re text ≡ false → filter (has_match re) (lines_of text) ≡ []
+HasNoneInLines re =
+    (text : List ℕ) → IsUtf8 text → has_match re text ≡ false → filter (has_match re) (lines_of text) ≡ []
 
 -- a pattern between the ends of a line, or between places that are no word's
 abbrev pub framed : (whole_lines : Bool) → (pattern : List ℕ) → List ℕ
 framed whole_lines pattern =
-    if whole_lines then codes "^(?:" ++ (pattern ++ codes ")$") else codes "(?<!\\w)(?:" ++ (pattern ++ codes ")(?!\\w)")
+    if whole_lines then codes "^(?:" ++ (pattern ++ codes ")$")
+    else codes "(?<!\\w)(?:" ++ (pattern ++ codes ")(?!\\w)")
 
 -- what is searched: the pattern, or with what `-w` and `-x` put around it
 abbrev pub searched : (words whole_lines : Bool) → (pattern : List ℕ) → List ℕ

@@ -8,7 +8,7 @@ use std::io;
 use std::io::Read;
 use thiserror::Error;
 
-// How many bytes are read at a time.
+// How many bytes are read at a time: so a block is no longer than its last line and this, however long one before was.
 const STEP: usize = 1 << 17;
 
 /// Why there is no next block.
@@ -113,7 +113,9 @@ impl<R: Read + Drop> Blocks<R> {
             return Err(BlockError::TooLong);
         }
         self.make_room()?;
-        match self.reader.read(&mut self.buffer[self.filled..]) {
+        let room = &mut self.buffer[self.filled..];
+        let most = room.len().min(STEP);
+        match self.reader.read(&mut room[..most]) {
             Ok(count) => {
                 self.filled += count;
                 Ok(count)

@@ -1,4 +1,5 @@
-//! Patterns whose matches depend on the characters that they read alone: not on what stands beside them, nor on a group.
+//! Patterns whose matches depend on the characters that they read alone: not on what stands beside them, nor on what a
+//! group matched.
 //!
 //! Such a pattern has no match in a line where it has none in a text with this line, so that texts are searched first.
 #![tactic(auto, unfolding(regex_pattern_front::specs::TreeOf::node_of, regress_program::proofs::Weights::weight))]
@@ -37,8 +38,8 @@ fn characters(alloc: Global, text: &str) -> Result<Vec<u32>, AllocError>
     text.chars().map(u32::from).collect(alloc)
 }
 
-// Whether a node and each inside it is such a one. Along the last node inside each node it is a loop, so that neither many
-// alternatives nor groups in groups take stack.
+// Whether a node and each inside it is such a one. Along the last node inside each node it is a loop, so that neither
+// many alternatives nor groups in groups take stack.
 #[cycle(is_local_node)]
 fn is_local_node(node: &Node) -> bool
     ensures { result ≡ is_local_tree (node_of node.now) }

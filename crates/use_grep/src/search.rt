@@ -1,11 +1,13 @@
 //! Files that are searched, and what is printed of them.
 
+ghost use Rattle.std.specs.Prelude.{◌≡◌, IfOk, false, true};
+
 use crate::blocks::{BlockError, Blocks};
 use crate::options::Options;
 use crate::pattern::Query;
 use crate::select::{
     Line, PLAIN, RED, colored, count_lines, how_many_fit, lines_of, matched_parts, selected,
-    selected_in,
+    selected_in, within_most,
 };
 use anyhow::{Result, bail};
 use simdutf8::compat::{Utf8Error, from_utf8};
@@ -94,7 +96,9 @@ impl<'s, 'a> Search<'s, 'a> {
     }
 
     // Says what cannot be searched.
-    fn trouble<E: Display>(&mut self, what: &str, why: &E) -> Result<()> {
+    fn trouble<E: Display>(&mut self, what: &str, why: &E) -> Result<()>
+        ensures { IfOk result (λ _. self.new.tally.has_trouble ≡ true) }
+    {
         self.out.flush()?;
         self.tally.has_trouble = true;
         self.clear()?;
@@ -155,7 +159,9 @@ impl<'s, 'a> Search<'s, 'a> {
     }
 
     // Says what is wrong with the next line.
-    fn trouble_at<E: Display>(&mut self, progress: &Progress<'_>, why: &E) -> Result<()> {
+    fn trouble_at<E: Display>(&mut self, progress: &Progress<'_>, why: &E) -> Result<()>
+        ensures { IfOk result (λ _. self.new.tally.has_trouble ≡ true) }
+    {
         let name = progress.name;
         let number = progress.lines.saturating_add(1);
         let what = format!(in self.rt.alloc(); "{name}:{number}")?;
@@ -176,7 +182,10 @@ impl<'s, 'a> Search<'s, 'a> {
     }
 
     // A line that is no UTF-8 is said and passed over, or searched with U+FFFD in place of what is none.
-    fn no_text(&mut self, progress: &mut Progress<'_>, line: &[u8], why: &Utf8Error) -> Result<()> {
+    fn no_text(&mut self, progress: &mut Progress<'_>, line: &[u8], why: &Utf8Error) -> Result<()>
+        ensures { self.old.options.now.lossy ≡ false → progress.old.is_over ≡ false
+            → IfOk result (λ _. self.new.tally.has_trouble ≡ true) }
+    {
         if self.options.lossy {
             let text = String::from_utf8_lossy(self.rt.alloc(), line)?;
             return self.text(progress, text.as_str());
@@ -229,14 +238,14 @@ impl<'s, 'a> Search<'s, 'a> {
         behind: u64,
         found: &[Line<'_>],
     ) -> Result<()> {
-        progress.lines = behind;
-        for line in found {
-            if !progress.is_over {
-                self.print(progress.name, line)?;
-                progress.selected = progress.selected.saturating_add(1);
-                progress.is_over = progress.selected >= self.options.most;
-            }
+        let most = self.options.most;
+        let shown = within_most(found, progress.selected, most);
+        for line in shown {
+            self.print(progress.name, line)?;
         }
+        progress.lines = behind;
+        progress.selected = progress.selected.saturating_add(shown.len() as u64);
+        progress.is_over = progress.selected >= most;
         Ok(())
     }
 

@@ -1,6 +1,7 @@
 //! Which lines are selected, and what is shown of them.
 
-ghost use Rattle.std.specs.Prelude.{◌≡◌, ◌++◌, ◌∷◌, ◌+◌, ◌^◌, ◌<◌, [], IfErr, IfOk, false, filter, length, map, nat_lt, string_bytes};
+ghost use Rattle.std.specs.Prelude.{◌≡◌, ◌++◌, ◌∷◌, ◌+◌, ◌^◌, ◌<◌, [], IfErr, IfOk, false};
+ghost use Rattle.std.specs.Prelude.{◌-◌, filter, length, map, nat_lt, string_bytes, take};
 ghost use Rattle.std.specs.List.{position_or_len};
 ghost use Rattle.regress_match.specs.Programs.{utf8_answers};
 ghost use Rattle.regress_match.specs.Refusals.{IsMemory};
@@ -97,7 +98,8 @@ pub fn selected<'t>(
     Ok(found)
 }
 
-/// Those of a text's lines that have a match. A text with none is not cut into lines where these are known to have none.
+/// Those of a text's lines that have a match. A text with none is not cut into lines where it is known that these have
+/// none.
 ///
 /// # Errors
 ///
@@ -118,6 +120,18 @@ pub fn selected_in<'t>(
     }
     let lines = lines_of(alloc, text)?;
     selected(alloc, &query.re, false, &lines, before)
+}
+
+/// Those of the lines found that are shown, where so many were shown before, and at most so many are.
+pub fn within_most<'f, 't>(found: &'f [Line<'t>], before: u64, most: u64) -> &'f [Line<'t>]
+    ensures { result.now ≡ take (most - before) found.now }
+{
+    let left = most.saturating_sub(before);
+    if left < found.len() as u64 {
+        &found[..left as usize]
+    } else {
+        found
+    }
 }
 
 // One line more.
@@ -151,7 +165,8 @@ pub fn matched_parts<'t>(
 
 // One part more.
 fn push_part<'t>(parts: &mut Vec<&'t str>, part: &'t str) -> Result<(), AllocError>
-    ensures { IfOk result (λ _. map (λ l. l.now) parts.new.items ≡ map (λ l. l.now) parts.old.items ++ part.now ∷ []) }
+    ensures { IfOk result (λ _. map (λ l. l.now) parts.new.items
+        ≡ map (λ l. l.now) parts.old.items ++ part.now ∷ []) }
 {
     Ok(parts.push(part)?)
 }

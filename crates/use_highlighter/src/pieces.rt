@@ -29,7 +29,8 @@ pub fn cut(
     tokens: &[Token<'_>],
     text: &str,
 ) -> Result<Vec<Piece>, SearchError>
-    ensures cut { IfOk result (λ pieces. IsCutAt text.now (names_of tokens.now) (utf8_answers re.now text.now 0) pieces.items) }
+    ensures cut { IfOk result (λ pieces.
+        IsCutAt text.now (names_of tokens.now) (utf8_answers re.now text.now 0) pieces.items) }
     ensures refused { IfErr result IsMemory }
 {
     let mut pieces = Vec::new(alloc);
@@ -52,7 +53,8 @@ fn push(
     end: usize,
     token: Option<usize>,
 ) -> Result<(), AllocError>
-    ensures { IfOk result (λ _. pieces.new.items ≡ pieces.old.items ++ record { start = start; end = end; token = token } ∷ []) }
+    ensures { IfOk result (λ _. pieces.new.items
+        ≡ pieces.old.items ++ record { start = start; end = end; token = token } ∷ []) }
 {
     Ok(pieces.push(Piece { start, end, token })?)
 }

@@ -1,9 +1,12 @@
 //! The tokens that are looked for.
 
-ghost use Rattle.std.specs.Prelude.{◌≡◌, ◌++◌, IfOk, is_some, string_bytes};
+ghost use Rattle.std.specs.Prelude.{◌≡◌, ◌++◌, [], All, IfOk, chars, is_some, string_bytes};
+ghost use Rattle.regex_meaning.specs.Flags.{flags_of_text};
 ghost use Rattle.regex_meaning.specs.Names.{named_group};
-ghost use Rattle.use_highlighter.specs.Tokens.{any_of, arm_of, names_of, token_of};
 ghost use Rattle.regress_exec.specs.Answers.{answer_of};
+ghost use Rattle.regress_match.specs.Flags.{flags_of};
+ghost use Rattle.regress_match.specs.Programs.{IsCompiledWith};
+ghost use Rattle.use_highlighter.specs.Tokens.{IsPattern, any_of, arm_of, names_of, token_of};
 
 use anyhow::{Result, bail};
 use regress_match::{Error, Flags, Match, Regex};
@@ -37,7 +40,10 @@ pub fn tokens<'a>(alloc: Global, words: &[&'a str]) -> Result<Vec<Token<'a>>> {
 /// # Errors
 ///
 /// Where the pattern of a token is none by itself, or a name is none of a group, and where there is no memory.
-pub fn compile(alloc: Global, tokens: &[Token<'_>]) -> Result<Regex> {
+pub fn compile(alloc: Global, tokens: &[Token<'_>]) -> Result<Regex>
+    ensures compiled { IfOk result (IsCompiledWith (flags_of_text []) (chars (any_of tokens.now))) }
+    ensures alone { IfOk result (λ _. All IsPattern tokens.now) }
+{
     for token in tokens {
         refuse_wrong(alloc, token)?;
     }
@@ -46,23 +52,33 @@ pub fn compile(alloc: Global, tokens: &[Token<'_>]) -> Result<Regex> {
         Ok(re) => return Ok(re),
         Err(why) => why,
     };
-    match Regex::diagnose(alloc, any.as_str(), Flags::default())? {
+    match Regex::diagnose(alloc, any.as_str(), flags())? {
         Some(told) => bail!("all tokens: {told}\n{}", told.below_text(any.as_str())),
         None => bail!("{why}"),
     }
 }
 
-// Refuses a token whose pattern is none.
-fn refuse_wrong(alloc: Global, token: &Token<'_>) -> Result<()> {
-    let name = token.name;
-    if let Some(told) = Regex::diagnose(alloc, token.pattern, Flags::default())? {
-        bail!("{name}: {told}\n{}", told.below_text(token.pattern));
-    }
-    Ok(())
+// The flags that patterns are read with: none.
+fn flags() -> Flags
+    ensures { flags_of result ≡ flags_of_text [] }
+{
+    Flags::default()
 }
 
-// A pattern that matches what one of the tokens matches, in a group by its name. `[]` matches nothing, so that each token
-// stands behind a bar.
+// Refuses a token whose pattern is none.
+fn refuse_wrong(alloc: Global, token: &Token<'_>) -> Result<()>
+    ensures { IfOk result (λ _. IsPattern token.now) }
+{
+    let name = token.name;
+    let told = Regex::diagnose(alloc, token.pattern, flags())?;
+    match told {
+        Some(told) => bail!("{name}: {told}\n{}", told.below_text(token.pattern)),
+        None => Ok(()),
+    }
+}
+
+// A pattern that matches what one of the tokens matches, in a group by its name. `[]` matches nothing, so that each
+// token stands behind a bar.
 fn any_of(alloc: Global, tokens: &[Token<'_>]) -> Result<String, AllocError>
     ensures { IfOk result (λ s. string_bytes s ≡ any_of tokens.now) }
 {

@@ -101,10 +101,10 @@ module _ (p : Pattern) (us : List ℕ) (index start : ℕ) (s : start ≡ start_
   unfolding first_match
   first-ok u answers e a h =
       let same : answers ≡ list_by p.flags.unicode (start_of p us index) = a ∙ ap (list_by u) s ∙ ap (λ b. list_by b (start_of p us index)) (sym e) in
-      IfOk-map r _ _ (λ m g. g ∙ ap (λ (ms : List Answer). slice_get ms 0) same) h
+      IfOk-map r (λ m. option_map answer_of m ≡ slice_get answers 0) _ (λ m g. g ∙ ap (λ (ms : List Answer). slice_get ms 0) same) h
 
   pub here-ok : (u : Bool) → p.flags.unicode ≡ u → IfOk r (λ m. option_map answer_of m ≡ here_by u start) → IfOk r (λ m. option_map answer_of m ≡ match_here p us index)
   unfolding match_here
   here-ok u e h =
       let same : here_by u start ≡ here_by p.flags.unicode (start_of p us index) = ap (here_by u) s ∙ ap (λ b. here_by b (start_of p us index)) (sym e) in
-      IfOk-map r _ _ (λ m g. g ∙ same) h
+      IfOk-map r (λ m. option_map answer_of m ≡ here_by u start) _ (λ m g. g ∙ same) h

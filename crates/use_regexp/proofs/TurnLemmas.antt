@@ -31,7 +31,8 @@ module _ (p : Pattern) (us : List ℕ) (index last : ℕ) (same : index ≡ sear
   pub found-ok : (sticky : Bool) → p.flags.sticky ≡ sticky → IfOk r (λ m. option_map answer_of m ≡ found_by sticky index)
       → IfOk r (λ m. option_map answer_of m ≡ found p us last)
   found-ok sticky e h =
-      IfOk-map r _ _ (λ m g. g ∙ ap (found_by sticky) same ∙ ap (λ b. found_by b (search_index p last)) (sym e)) h
+      let same_answer : found_by sticky index ≡ found p us last = ap (found_by sticky) same ∙ ap (λ b. found_by b (search_index p last)) (sym e) in
+      IfOk-map r (λ m. option_map answer_of m ≡ found_by sticky index) _ (λ m g. g ∙ same_answer) h
 
 -- the match behind a reference
 pub copied-answers : (r : Option (Bor Match)) (m : Option Match) → option_copied r ≡ m → option_map (λ x. answer_of x.now) r ≡ option_map answer_of m

@@ -90,7 +90,7 @@ pub fn findings(
 impl<'p> Search<'p> {
     // What a pattern of the schema says of a text, in the steps that a search may take.
     fn verdict(self, pattern: &str, text: &str) -> Result<Verdict>
-        ensures { IfOk result (IsVerdictOn text.now self.steps) }
+        ensures { IfOk result (IsVerdictOn text.now self.entry.steps) }
     {
         let Some(re) = self.patterns.get(pattern) else {
             bail!("the schema has no pattern {pattern}");

@@ -1,11 +1,11 @@
 -- Where a match stands that a search finds.
 use Rattle.std.proofs.Common.{◌≡◌, ℕ, ◌≤◌, Bool, true, false, not, ◌&&◌, List, length, IsTrue, refl, sym, ◌∙◌, ap, nat_le}
-use Rattle.std.specs.Prelude.{Option, Some, None, IfSome, option_map, if◌then◌else◌, slice_get}
+use Rattle.std.specs.Prelude.{Option, Some, None, Result, IfOk, IfSome, option_map, if◌then◌else◌, slice_get}
 use Rattle.std.proofs.lemmas.Bool.{and_parts, cases_Bool}
 use Rattle.regex_meaning.specs.Answers.{answer_at, first_answer}
 use Rattle.regex_meaning.specs.Laws.{IsRange, is_within_pair}
 use Rattle.regex_meaning.specs.Names.{Answer}
-use Rattle.regex_meaning.specs.Offsets.{IsBoundary}
+use Rattle.regex_meaning.specs.Offsets.{IsBoundary, IsText, units}
 use Rattle.regex_meaning.specs.Text.{Text, is_unit_boundary, ucs2_text, utf16_text}
 use Rattle.regex_meaning.proofs.AnswerLemmas.{first_answer-stands}
 use Rattle.regex_meaning.proofs.TextLemmas.{ucs2_text-IsText, utf16_text-IsText}
@@ -16,6 +16,7 @@ use Rattle.regress_exec.specs.declared.exec.Match.{Match}
 use Rattle.regress_match.specs.Programs.{as_ucs2, as_utf16, ucs2_answer_at, ucs2_answers, unit_tree, utf16_answer_at, utf16_answers}
 use Rattle.regress_match.specs.Replacements.{FitsUnits}
 use Rattle.regress_match.specs.declared.api.regex.Regex.{Regex}
+use Rattle.regress_match.proofs.FlagLemmas.{IfOk-map}
 use Rattle.regress_match.proofs.FoundLemmas.{at-first, first-fits_units, head-first}
 use Rattle.use_regexp.specs.Exec.{StandsFrom, first_match, match_here, start_of}
 use Rattle.use_regexp.specs.declared.pattern.Pattern.{Pattern}
@@ -38,27 +39,26 @@ module _ (re : Regex) (us : List ℕ) (small : AreUnits us) where
       ((and_parts (nat_le end (length us)) (not (is_within_pair us end))
       (sym (unit_boundary-between us end small) ∙ unit_boundary-place_at us unicode end ∙ at)).1)
 
+  -- the first answer from a start on, in a text of these units
+  first-in : (u : Bool) (text : Text) → IsText text → units text ≡ length us → ((end : ℕ) → IsBoundary text end → IsTrue u → is_within_pair us end ≡ false)
+      → (start : ℕ) (m : Answer) → first_answer (unit_tree re).root text start ≡ Some m → Stands us u start m
+  first-in u text is size whole start m e =
+      let stands = first_answer-stands (unit_tree re).root text is start m e in
+      record {
+        fits = first-fits_units (unit_tree re).root text is us size start m e;
+        behind = stands.0;
+        whole = whole m.range.1 stands.1.2;
+      }
+
   first-utf16 : (start : ℕ) (m : Answer) → first_answer (unit_tree re).root (as_utf16 re us) start ≡ Some m → Stands us true start m
   first-utf16 start m e =
       let unicode = (unit_tree re).flags.unicode in
-      let is = utf16_text-IsText us unicode in
-      let stands = first_answer-stands (unit_tree re).root (as_utf16 re us) is start m e in
-      record {
-        fits = first-fits_units (unit_tree re).root (as_utf16 re us) is us (units-utf16 us unicode small) start m e;
-        behind = stands.0;
-        whole = λ _. whole-end m.range.1 stands.1.2;
-      }
+      first-in true (as_utf16 re us) (utf16_text-IsText us unicode) (units-utf16 us unicode small) (λ end at _. whole-end end at) start m e
 
   first-ucs2 : (start : ℕ) (m : Answer) → first_answer (unit_tree re).root (as_ucs2 re us) start ≡ Some m → Stands us false start m
   first-ucs2 start m e =
       let unicode = (unit_tree re).flags.unicode in
-      let is = ucs2_text-IsText us unicode in
-      let stands = first_answer-stands (unit_tree re).root (as_ucs2 re us) is start m e in
-      record {
-        fits = first-fits_units (unit_tree re).root (as_ucs2 re us) is us (ucs2_text-units us unicode) start m e;
-        behind = stands.0;
-        whole = λ no. absurd (cc no);
-      }
+      first-in false (as_ucs2 re us) (ucs2_text-IsText us unicode) (ucs2_text-units us unicode) (λ end at no. absurd (cc no)) start m e
 
   -- the first match from a start on
   first-found : (u : Bool) (start : ℕ) (m : Answer)
@@ -88,38 +88,23 @@ module _ (p : Pattern) (us : List ℕ) (index : ℕ) where
   unfolding match_here
   here-stands small m e = standing m (here-found p.re us small p.flags.unicode (start_of p us index) m e)
 
-  -- what a call answers
-  pub first-stands-if : AreUnits us → (m : Option Match) → option_map answer_of m ≡ first_match p us index → IfSome m (λ f. StandsFrom p us index (answer_of f))
-  first-stands-if small None e = tt
-  first-stands-if small (Some f) e = first-stands small (answer_of f) (sym e)
+-- What the calls of the engine answer, by the flag.
+module _ (p : Pattern) (us : List ℕ) (index start : ℕ) (s : start ≡ start_of p us index) {E : Type 0} (r : Result (Option Match) E) where
+  abbrev list_by : (u : Bool) → (from : ℕ) → List Answer
+  list_by u from = if u then utf16_answers p.re us from else ucs2_answers p.re us from
 
-  pub here-stands-if : AreUnits us → (m : Option Match) → option_map answer_of m ≡ match_here p us index → IfSome m (λ f. StandsFrom p us index (answer_of f))
-  here-stands-if small None e = tt
-  here-stands-if small (Some f) e = here-stands small (answer_of f) (sym e)
+  abbrev here_by : (u : Bool) → (at : ℕ) → Option Answer
+  here_by u at = if u then utf16_answer_at p.re us at else ucs2_answer_at p.re us at
 
--- ---- What the calls of the engine answer, by the flag
-
-module _ (p : Pattern) (us : List ℕ) (index start : ℕ) (s : start ≡ start_of p us index) where
-  abbrev both_first : Bool → List Answer
-  both_first u = if u then utf16_answers p.re us (start_of p us index) else ucs2_answers p.re us (start_of p us index)
-
-  abbrev both_here : Bool → Option Answer
-  both_here u = if u then utf16_answer_at p.re us (start_of p us index) else ucs2_answer_at p.re us (start_of p us index)
-
-  pub first-utf16-is : (answers : List Answer) (got : Option Answer) → p.flags.unicode ≡ true → answers ≡ utf16_answers p.re us start → got ≡ slice_get answers 0
-      → got ≡ first_match p us index
+  pub first-ok : (u : Bool) (answers : List Answer) → p.flags.unicode ≡ u → answers ≡ list_by u start → IfOk r (λ m. option_map answer_of m ≡ slice_get answers 0)
+      → IfOk r (λ m. option_map answer_of m ≡ first_match p us index)
   unfolding first_match
-  first-utf16-is answers got u a g = g ∙ ap (λ (ms : List Answer). slice_get ms 0) (a ∙ ap (utf16_answers p.re us) s ∙ sym (ap both_first u))
+  first-ok u answers e a h =
+      let same : answers ≡ list_by p.flags.unicode (start_of p us index) = a ∙ ap (list_by u) s ∙ ap (λ b. list_by b (start_of p us index)) (sym e) in
+      IfOk-map r (λ m. option_map answer_of m ≡ slice_get answers 0) _ (λ m g. g ∙ ap (λ (ms : List Answer). slice_get ms 0) same) h
 
-  pub first-ucs2-is : (answers : List Answer) (got : Option Answer) → p.flags.unicode ≡ false → answers ≡ ucs2_answers p.re us start → got ≡ slice_get answers 0
-      → got ≡ first_match p us index
-  unfolding first_match
-  first-ucs2-is answers got u a g = g ∙ ap (λ (ms : List Answer). slice_get ms 0) (a ∙ ap (ucs2_answers p.re us) s ∙ sym (ap both_first u))
-
-  pub here-utf16-is : (got : Option Answer) → p.flags.unicode ≡ true → got ≡ utf16_answer_at p.re us start → got ≡ match_here p us index
+  pub here-ok : (u : Bool) → p.flags.unicode ≡ u → IfOk r (λ m. option_map answer_of m ≡ here_by u start) → IfOk r (λ m. option_map answer_of m ≡ match_here p us index)
   unfolding match_here
-  here-utf16-is got u g = g ∙ ap (utf16_answer_at p.re us) s ∙ sym (ap both_here u)
-
-  pub here-ucs2-is : (got : Option Answer) → p.flags.unicode ≡ false → got ≡ ucs2_answer_at p.re us start → got ≡ match_here p us index
-  unfolding match_here
-  here-ucs2-is got u g = g ∙ ap (ucs2_answer_at p.re us) s ∙ sym (ap both_here u)
+  here-ok u e h =
+      let same : here_by u start ≡ here_by p.flags.unicode (start_of p us index) = ap (here_by u) s ∙ ap (λ b. here_by b (start_of p us index)) (sym e) in
+      IfOk-map r (λ m. option_map answer_of m ≡ here_by u start) _ (λ m g. g ∙ same) h

@@ -1,5 +1,5 @@
 -- Indices that cut a pair, and those behind a character.
-use Rattle.std.proofs.Common.{◌≡◌, ℕ, zero, suc, ◌+◌, ◌-◌, ◌<◌, ◌≤◌, ◌⊎◌, inl, inr, Bool, true, false, not, ◌&&◌, List, [], ◌∷◌, length, IsTrue, refl, sym, ap, ap₂, ◌∙◌, arith, add-one, eqb-true, le-leb, nat_eq, slice_index}
+use Rattle.std.proofs.Common.{◌≡◌, ℕ, zero, suc, ◌+◌, ◌-◌, ◌<◌, ◌≤◌, ◌⊎◌, inl, inr, Bool, true, false, not, ◌&&◌, List, [], ◌∷◌, length, IsTrue, refl, sym, subst, ap, ap₂, ◌∙◌, arith, add-one, eqb-true, le-leb, nat_eq, slice_index}
 use Rattle.std.specs.Prelude.{if◌then◌else◌}
 use Rattle.std.proofs.Math.Bool.{and-false}
 use Rattle.std.proofs.lemmas.Bool.{and_parts, cases_Bool, cases_lt, eqb-false, false_from_ne_true}
@@ -141,7 +141,7 @@ next-behind u us start end whole = elim (cases_Bool (nat_eq start end)) [
 ]
 
 -- a search may begin where the character of an index does
-pub start-boundary : (us : List ℕ) → AreUnits us → (i : ℕ)
+start-boundary : (us : List ℕ) → AreUnits us → (i : ℕ)
     → IsTrue (is_unit_boundary us (character_start true us i)) ⊎ (length us < character_start true us i)
 start-boundary us small i = elim (start-cases true us i) [
   | inl cut ↦ rw (cut.1) (inl (boundary (i - 1) (let less = inside us i cut.0 in omega arith) (whole-before us i cut.0)))
@@ -153,3 +153,9 @@ start-boundary us small i = elim (start-cases true us i) [
   where
     boundary : (i : ℕ) → i ≤ length us → is_within_pair us i ≡ false → is_unit_boundary us i ≡ true
     boundary i le whole = unit_boundary-between us i small ∙ ap₂ (λ a b. a && not b) (le-leb i (length us) le) whole
+
+-- the same of a number that is that place
+pub may-begin : (u : Bool) (us : List ℕ) (i start : ℕ) → AreUnits us → start ≡ character_start u us i → u ≡ true
+    → IsTrue (is_unit_boundary us start) ⊎ (length us < start)
+may-begin u us i start small s e =
+    subst (λ at. IsTrue (is_unit_boundary us at) ⊎ (length us < at)) (sym (s ∙ ap (λ u. character_start u us i) e)) (start-boundary us small i)

@@ -1,15 +1,20 @@
 -- Texts that are made piece by piece.
-use Rattle.std.proofs.Common.{◌≡◌, ℕ, List, [], ◌∷◌, ◌++◌, drop, length, map, refl, arith, sym, ap, ◌∙◌, append_assoc}
+use Rattle.std.proofs.Common.{◌≡◌, ℕ, List, [], ◌∷◌, ◌++◌, drop, length, map, refl, arith, sym, subst, ap, ◌∙◌, append_assoc}
 use Rattle.std.specs.Prelude.{slice_range}
 use Rattle.regex_meaning.specs.Names.{Answer}
 use Rattle.regex_meaning.specs.Replace.{replaced}
-use Rattle.use_regexp.specs.Replace.{substituted}
+use Rattle.use_regexp.specs.Replace.{StandInUnits, substituted}
 use Rattle.use_regexp.specs.Template.{substitution}
 
 -- of nothing nothing is made
 pub map-none : {A B : Type 0} (f : A → B) (xs : List A) → length xs ≡ 0 → map f xs ≡ []
 map-none f [] e = refl
 map-none f (x ∷ xs) e = absurd (omega arith)
+
+-- what stands behind the end of one where the next one of the matches that are left was replaced
+pub stand-behind : (us : List ℕ) (from to : ℕ) (left rest : List Answer) (m : Answer) → StandInUnits us from left → left ≡ m ∷ rest → to ≡ m.range.1
+    → StandInUnits us to rest
+stand-behind us from to left rest m stand e t = subst (λ at. StandInUnits us at rest) (sym t) (subst (StandInUnits us from) e stand).2
 
 module _ (us template : List ℕ) where
   -- what is made, with the matches that are left, is the whole: so it stays when one is replaced

@@ -118,6 +118,39 @@ module _ (p : Pattern) (us : List ℕ) where
         last (inl none) = inl none
         last (inr enough) = inr (omega (arith, enough))
 
+  -- ---- A turn of the loop
+
+  -- where it stands: within the text, at an index that cuts no pair, with these pieces
+  pub record IsCutTo (limit from : ℕ) (made : Groups) : Type 0 where
+    pub inside : from ≤ length us
+    pub whole : CutsNone p us from
+    pub split : IsSplitTo limit from made
+
+  pub cut-none : (limit : ℕ) (made : Groups) → made ≡ [] → IsCutTo limit 0 made
+  cut-none limit made none = record { inside = omega arith; whole = λ _. refl; split = split-none limit made none }
+
+  module _ (limit from : ℕ) (made : Groups) (b : IsCutTo limit from made) (got : Option Match) (f : Match) (is : got ≡ Some f) (to : ℕ) (t : to ≡ (answer_of f).range.1)
+      (stands : IfSome got (λ f. IsSeparator p us from (answer_of f))) where
+    stands-there : IsSeparator p us from (answer_of f)
+    stands-there = subst (λ o. IfSome o (λ f. IsSeparator p us from (answer_of f))) is stands
+
+    pub cut-more : (more : Groups) → IfSome got (λ f. separator p us from ≡ Some (answer_of f))
+        → more ≡ made ++ Some (from, (answer_of f).range.0) ∷ (answer_of f).captures → IsCutTo limit to more
+    cut-more more goes n =
+        let s = stands-there in
+        let e : separator p us from ≡ Some (answer_of f) = subst (λ o. IfSome o (λ f. separator p us from ≡ Some (answer_of f))) is goes in
+        record {
+          inside = omega (arith, s.fits.whole, t);
+          whole = subst (CutsNone p us) (sym t) s.whole;
+          split = split-more limit from made b.split to more (answer_of f) e t n;
+        }
+
+    pub cut-smaller : length us - to < length us - from
+    cut-smaller =
+        let s = stands-there in
+        let less = s.goes_on b.whole in
+        omega (arith, less, s.fits.whole, t)
+
   -- there are enough of them, by what they are shown as
   pub enough : {A : Type 0} (f : A → Option (ℕ × ℕ)) (limit from : ℕ) (items list : List A) → list ≡ items → (separator p us from ≡ None) ⊎ (limit ≤ length list)
       → (separator p us from ≡ None) ⊎ (limit ≤ length (map f items))

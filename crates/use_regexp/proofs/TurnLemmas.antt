@@ -1,6 +1,6 @@
 -- Matches that are found one after the other.
 use Rattle.std.proofs.Common.{◌≡◌, ℕ, ◌+◌, ◌-◌, ◌<◌, ◌≤◌, Bool, true, false, ◌||◌, List, [], ◌∷◌, ◌++◌, length, map, refl, sym, subst, ap, ◌∙◌, arith, append_assoc, append-nil}
-use Rattle.std.specs.Prelude.{Option, Some, None, IfSome, option_map, if◌then◌else◌, slice_get}
+use Rattle.std.specs.Prelude.{Option, Some, None, Result, IfOk, IfSome, option_map, if◌then◌else◌, slice_get}
 use Rattle.std.specs.Bool.{MatchBool}
 use Rattle.std.specs.Borrow.{Bor}
 use Rattle.std.specs.Option.{option_copied, option_to_list}
@@ -9,6 +9,7 @@ use Rattle.regex_meaning.specs.Names.{Answer}
 use Rattle.regex_meaning.proofs.UnitLemmas.{AreUnits}
 use Rattle.regress_exec.specs.Answers.{answer_of}
 use Rattle.regress_exec.specs.declared.exec.Match.{Match}
+use Rattle.regress_match.proofs.FlagLemmas.{IfOk-map}
 use Rattle.use_regexp.specs.Exec.{StandsFrom, first_match, found, last_behind, match_here, search_index}
 use Rattle.use_regexp.specs.Loops.{AreFoundInTurn, AreTaken, last_taken, next_last}
 use Rattle.use_regexp.specs.Replace.{StandInUnits}
@@ -23,18 +24,15 @@ global-index p last e = ap (λ (b : Bool). if b || p.flags.sticky then last else
 
 -- ---- A single search
 
-module _ (p : Pattern) (us : List ℕ) (index last : ℕ) (same : index ≡ search_index p last) where
-  abbrev by_flag : Bool → Option Answer
-  by_flag sticky = if sticky then match_here p us (search_index p last) else first_match p us (search_index p last)
+module _ (p : Pattern) (us : List ℕ) (index last : ℕ) (same : index ≡ search_index p last) {E : Type 0} (r : Result (Option Match) E) where
+  abbrev found_by : (sticky : Bool) → (index : ℕ) → Option Answer
+  found_by sticky index = if sticky then match_here p us index else first_match p us index
 
-  pub found-here : (m : Option Match) → p.flags.sticky ≡ true → option_map answer_of m ≡ match_here p us index → option_map answer_of m ≡ found p us last
-  found-here m sticky e = e ∙ ap (match_here p us) same ∙ sym (ap by_flag sticky)
-
-  pub found-first : (m : Option Match) → p.flags.sticky ≡ false → option_map answer_of m ≡ first_match p us index → option_map answer_of m ≡ found p us last
-  found-first m sticky e = e ∙ ap (first_match p us) same ∙ sym (ap by_flag sticky)
-
-  pub stands-there : (m : Option Match) → IfSome m (λ f. StandsFrom p us index (answer_of f)) → IfSome m (λ f. StandsFrom p us (search_index p last) (answer_of f))
-  stands-there m h = subst (λ i. IfSome m (λ f. StandsFrom p us i (answer_of f))) same h
+  pub found-ok : (sticky : Bool) → p.flags.sticky ≡ sticky → IfOk r (λ m. option_map answer_of m ≡ found_by sticky index)
+      → IfOk r (λ m. option_map answer_of m ≡ found p us last)
+  found-ok sticky e h =
+      let same_answer : found_by sticky index ≡ found p us last = ap (found_by sticky) same ∙ ap (λ b. found_by b (search_index p last)) (sym e) in
+      IfOk-map r (λ m. option_map answer_of m ≡ found_by sticky index) _ (λ m g. g ∙ same_answer) h
 
 -- the match behind a reference
 pub copied-answers : (r : Option (Bor Match)) (m : Option Match) → option_copied r ≡ m → option_map (λ x. answer_of x.now) r ≡ option_map answer_of m
@@ -80,6 +78,15 @@ module _ (p : Pattern) (us : List ℕ) where
         by : (b : Bool) → (if b then match_here p us (search_index p last) else first_match p us (search_index p last)) ≡ Some m → StandsFrom p us (search_index p last) m
         by true e = here-stands p us (search_index p last) small m e
         by false e = first-stands p us (search_index p last) small m e
+
+    -- what a call answers
+    pub found-stands-ok : {E : Type 0} (last : ℕ) (r : Result (Option Match) E) → IfOk r (λ m. option_map answer_of m ≡ found p us last)
+        → IfOk r (λ m. IfSome m (λ f. StandsFrom p us (search_index p last) (answer_of f)))
+    found-stands-ok last r h = IfOk-map r _ _ of h
+      where
+        of : (m : Option Match) → option_map answer_of m ≡ found p us last → IfSome m (λ f. StandsFrom p us (search_index p last) (answer_of f))
+        of None e = tt
+        of (Some f) e = found-stands last (answer_of f) (sym e)
 
     stand-in-turn : p.flags.global ≡ true → (ms : List Answer) (last from : ℕ) → from ≤ character_start p.flags.unicode us last → from ≤ length us
         → AreFoundInTurn p us last ms → StandInUnits us from ms

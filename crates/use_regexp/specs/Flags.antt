@@ -21,7 +21,7 @@ flags_in letters = record {
 abbrev pub flags_of : List ℕ → Option Flags
 flags_of letters = if are_flags letters then Some (flags_in letters) else None
 
--- the letters of those that are set, in the order of the standard (21.2.5.3)
+-- the letters of those that are set, in the order of the standard (21.2.5.4)
 abbrev pub letters_of : Flags → List ℕ
 letters_of f =
     letter_if f.global 103 ++ letter_if f.ignore_case 105 ++ letter_if f.multiline 109

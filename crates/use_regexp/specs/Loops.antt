@@ -1,4 +1,4 @@
--- The loop that takes all matches (21.2.5.6 and 21.2.5.8).
+-- The loop that takes all matches (21.2.5.7 and 21.2.5.9).
 use Rattle.std.specs.Prelude.{◌≡◌, ℕ, List, [], ◌∷◌, Option, Some, None, if◌then◌else◌, ◌==◌}
 use Rattle.std.specs.Bool.{MatchBool}
 use Rattle.std.specs.Option.{option_to_list}

@@ -1,4 +1,4 @@
--- Texts with other text in place of matches (21.2.5.8, RegExp.prototype[@@replace]).
+-- Texts with other text in place of matches (21.2.5.9, RegExp.prototype[@@replace]).
 use Rattle.std.specs.Prelude.{◌≡◌, ◌≤◌, ℕ, List, [], ◌∷◌, ◌++◌, IsOk, Result, Ok, Err, Vec, length, map}
 use Rattle.std.specs.Borrow.{Bor}
 use Rattle.regex_meaning.specs.Laws.{Each}

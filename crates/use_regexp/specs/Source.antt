@@ -32,6 +32,6 @@ abbrev pub escaped_source : List ℕ → List ℕ
 escaped_source [] = codes "(?:)"
 escaped_source (c ∷ cs) = escaped_from false false (c ∷ cs)
 
--- the whole as it is written (21.2.5.14)
+-- the whole as it is written (21.2.5.15)
 abbrev pub literal_of : (source : List ℕ) → Flags → List ℕ
 literal_of source flags = 47 ∷ [] ++ escaped_source source ++ 47 ∷ [] ++ letters_of flags

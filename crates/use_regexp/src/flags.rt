@@ -49,7 +49,7 @@ impl Flags {
         }
     }
 
-    /// The letters of those that are set, in the order `g i m s u y` (21.2.5.3).
+    /// The letters of those that are set, in the order `g i m s u y` (21.2.5.4).
     ///
     /// # Errors
     ///

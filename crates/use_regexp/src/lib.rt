@@ -1,6 +1,6 @@
 //! The RegExp object of a script interpreter, over texts of 16-bit units: ECMA-262, 9th edition, 21.2.3 to 21.2.6.
 //!
-//! With the flag `u` pattern and text are UTF-16, and without it each unit is a character. Clauses (21.2.5.6) are those of
+//! With the flag `u` pattern and text are UTF-16, and without it each unit is a character. Clauses (21.2.5.7) are those of
 //! that edition; where a later one is meant, it is said.
 #![tactic(auto)]
 

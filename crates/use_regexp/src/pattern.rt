@@ -67,7 +67,6 @@ impl Pattern {
         index: usize,
     ) -> Result<Option<Match>, SearchError>
         ensures found { IfOk result (λ m. option_map answer_of m ≡ first_match self.now text.now index) }
-        ensures stands { IfOk result (λ m. IfSome m (λ f. StandsFrom self.now text.now index (answer_of f))) }
         ensures refused { IfErr result IsMemory }
     {
         let start = units::character_start(self.flags.unicode, text, index);
@@ -85,7 +84,6 @@ impl Pattern {
         index: usize,
     ) -> Result<Option<Match>, SearchError>
         ensures found { IfOk result (λ m. option_map answer_of m ≡ match_here self.now text.now index) }
-        ensures stands { IfOk result (λ m. IfSome m (λ f. StandsFrom self.now text.now index (answer_of f))) }
         ensures refused { IfErr result IsMemory }
     {
         let start = units::character_start(self.flags.unicode, text, index);
@@ -95,6 +93,7 @@ impl Pattern {
             self.re.match_at_ucs2(text, start)
         }
     }
+
     /// The match that a search finds with this `lastIndex` (21.2.5.2.2, RegExpBuiltinExec): with `g` or `y` the search begins
     /// there, and else at the left end; with `y` no other place is tried. An index within a pair stands, with `u`, for that of
     /// the pair.

@@ -43,14 +43,14 @@ impl RegExp {
         })
     }
 
-    /// The flags (21.2.5.3 and those of each).
+    /// The flags (21.2.5.4 and those of each).
     pub fn flags(&self) -> Flags
         ensures { result ≡ self.now.pattern.flags }
     {
         self.pattern.flags()
     }
 
-    /// The pattern's text that means the same and can stand between slashes (21.2.5.10).
+    /// The pattern's text that means the same and can stand between slashes (21.2.5.11).
     ///
     /// # Errors
     ///
@@ -61,7 +61,7 @@ impl RegExp {
         escaped(alloc, self.pattern.source())
     }
 
-    /// The whole as it is written: `/source/flags` (21.2.5.14).
+    /// The whole as it is written: `/source/flags` (21.2.5.15).
     ///
     /// # Errors
     ///
@@ -100,7 +100,7 @@ impl RegExp {
         Ok(found)
     }
 
-    /// Whether `exec` finds a match; it leaves `lastIndex` as that does (21.2.5.13).
+    /// Whether `exec` finds a match; it leaves `lastIndex` as that does (21.2.5.14).
     ///
     /// # Errors
     ///
@@ -118,7 +118,7 @@ impl RegExp {
     }
 
     /// Where the first match begins, none where there is none: `exec` with a `lastIndex` of 0, which stays as it was
-    /// (21.2.5.9).
+    /// (21.2.5.10).
     ///
     /// # Errors
     ///
@@ -134,7 +134,7 @@ impl RegExp {
         }
     }
 
-    /// With `g` all matches, one after the other from the left end, and else the one of `exec`, if there is one (21.2.5.6,
+    /// With `g` all matches, one after the other from the left end, and else the one of `exec`, if there is one (21.2.5.7,
     /// `[Symbol.match]`). Behind it `lastIndex` is with `g` 0, and else what `exec` leaves.
     ///
     /// # Errors

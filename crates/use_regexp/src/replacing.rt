@@ -16,7 +16,7 @@ use regress_match::{Match, ReplaceError, SearchError};
 use std::alloc::{AllocError, Global};
 
 impl RegExp {
-    /// The text with what a template says in place of the match of `exec`, or with `g` of each match (21.2.5.8,
+    /// The text with what a template says in place of the match of `exec`, or with `g` of each match (21.2.5.9,
     /// `[Symbol.replace]`). Without a match it is the text. Behind it `lastIndex` is as behind `match_text`.
     ///
     /// In a template `$$` stands for `$`, `$&` for the match, `` $` `` for what stands before it and `$'` for what stands
@@ -48,7 +48,7 @@ impl RegExp {
         Ok(made)
     }
 
-    /// The text with what a closure answers in place of the match of `exec`, or with `g` of each match (21.2.5.8). It is called
+    /// The text with what a closure answers in place of the match of `exec`, or with `g` of each match (21.2.5.9). It is called
     /// at one match after the other, and not again after an error. Behind it `lastIndex` is as behind `match_text`.
     ///
     /// # Errors

@@ -13,7 +13,7 @@ use std::alloc::{AllocError, Global};
 
 impl RegExp {
     /// The text in pieces: what stands between the matches, and behind each piece the groups of the match there, none for one
-    /// that did not match; at most so many, where one that is not limited has 2^32 - 1 (21.2.5.11, `[Symbol.split]`). A match
+    /// that did not match; at most so many, where one that is not limited has 2^32 - 1 (21.2.5.12, `[Symbol.split]`). A match
     /// that is empty cuts only between characters. `lastIndex`, `g` and `y` have no say, and nothing changes.
     ///
     /// # Errors

@@ -1,5 +1,5 @@
 -- What is said of a text by a pattern within a limit of steps.
-use Rattle.std.specs.Prelude.{ℕ, Bool, true, false, List, [], ◌∷◌, nat_le}
+use Rattle.std.specs.Prelude.{◌≡◌, ℕ, Bool, true, false, List, [], ◌∷◌, nat_le}
 use Rattle.regex_meaning.specs.Names.{Answer}
 use Rattle.regex_meaning.specs.Steps.{need_from}
 use Rattle.regress_match.specs.Programs.{as_utf8, byte_tree, utf8_answers}
@@ -24,3 +24,7 @@ within false ms = OutOfSteps
 -- A text matches where the list of matches of the pattern's tree is not empty, so wherever in it a match stands.
 abbrev pub verdict_of : Regex → (text : List ℕ) → (steps : ℕ) → Verdict
 verdict_of re text steps = within (nat_le (steps_needed re text) steps) (utf8_answers re text 0)
+
+-- what some pattern says of a text in so many steps
+abbrev pub IsVerdictOn : (text : List ℕ) → (steps : ℕ) → Verdict → Type 0
+IsVerdictOn text steps verdict = (re : Regex) × (verdict ≡ verdict_of re text steps)

@@ -1,5 +1,8 @@
 //! The strings of a document, each with the schemas for it.
 
+ghost use Rattle.std.specs.Prelude.{IfOk};
+ghost use Rattle.use_validator.specs.Judge.{IsVerdictOn};
+
 use crate::judge::{Verdict, judge};
 use crate::pointer::child;
 use crate::schema::Patterns;
@@ -85,8 +88,10 @@ pub fn findings(
 }
 
 impl<'p> Search<'p> {
-    // What a pattern of the schema says of a text.
-    fn verdict(self, pattern: &str, text: &str) -> Result<Verdict> {
+    // What a pattern of the schema says of a text, in the steps that a search may take.
+    fn verdict(self, pattern: &str, text: &str) -> Result<Verdict>
+        ensures { IfOk result (IsVerdictOn text.now self.entry.steps) }
+    {
         let Some(re) = self.patterns.get(pattern) else {
             bail!("the schema has no pattern {pattern}");
         };

@@ -1,10 +1,9 @@
-use Rattle.std.proofs.Common.{◌∙◌, ◌++◌, ap, map, refl, subst, sym}
+use Rattle.std.proofs.Common.{◌∙◌, ◌++◌, ap, map, refl}
 use Rattle.std.proofs.lemmas.List.{take_rest}
 use Rattle.regress_exec.specs.Answers.{answer_of}
 use Rattle.regress_match.proofs.Replacing.{callable-next, callable-rest}
-use Rattle.use_regexp.specs.Replace.{StandInUnits}
 use Rattle.use_regexp.proofs.Answering.{ends, goes-answered, refuses-answered}
-use Rattle.use_regexp.proofs.Replaced.{map-none}
+use Rattle.use_regexp.proofs.Replaced.{map-none, stand-behind}
 use Rattle.use_regexp.proofs.replacing.write_answers.Goals as goal
 
 pub with-requires : goal.with-requires
@@ -19,18 +18,16 @@ returns-in_err-write_answer-clause-refused g c =
 
 pub loop-found-preserved : goal.loop-found-preserved
 loop-found-preserved g c =
-    let text = c.args.text.now in
-    let from = c.loop-found.from in
     let left = map answer_of c.loop-found.rest.now in
     let rest = map answer_of c.in-Some.behind.now in
+    let m = answer_of c.in-Some.found.now in
     let next = ap (map answer_of) c.in-Some.ensures.cases.0 in
-    let stands = subst (StandInUnits text from) next c.loop-found.invariant.stand in
     record {
-      stand = subst (λ at. StandInUnits text at rest) (sym c.in_ok-from.ensures.behind) stands.2;
-      callable = callable-rest _ left rest (answer_of c.in-Some.found.now) c.loop-found.invariant.callable next;
+      stand = stand-behind c.args.text.now c.loop-found.from c.in_ok-from.from left rest m c.loop-found.invariant.stand next c.in_ok-from.ensures.behind;
+      callable = callable-rest _ left rest m c.loop-found.invariant.callable next;
       begun =
-          goes-answered _ text (map answer_of c.args.matches.now) left from c.loop-found.made.items c.loop-found.invariant.begun
-          rest (answer_of c.in-Some.found.now) c.with.result next (_, refl, c.with.ensures)
+          goes-answered _ c.args.text.now (map answer_of c.args.matches.now) left c.loop-found.from c.loop-found.made.items c.loop-found.invariant.begun
+          rest m c.with.result next (_, refl, c.with.ensures)
           c.in_ok-from.from c.reach.new.made.items c.write_answer.new.made.items c.in_ok-from.ensures.made c.in_ok-write_answer.ensures.made c.in_ok-from.ensures.behind;
     }
 

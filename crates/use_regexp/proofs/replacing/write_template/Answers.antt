@@ -1,23 +1,19 @@
-use Rattle.std.proofs.Common.{◌∙◌, ◌++◌, ap, map, subst, sym}
+use Rattle.std.proofs.Common.{◌∙◌, ◌++◌, ap, map}
 use Rattle.std.proofs.lemmas.List.{take_rest}
 use Rattle.regress_exec.specs.Answers.{answer_of}
-use Rattle.use_regexp.specs.Replace.{StandInUnits}
-use Rattle.use_regexp.proofs.Replaced.{map-none, replaced-end, replaced-more}
+use Rattle.use_regexp.proofs.Replaced.{map-none, replaced-end, replaced-more, stand-behind}
 use Rattle.use_regexp.proofs.replacing.write_template.Goals as goal
 
 pub loop-found-preserved : goal.loop-found-preserved
 loop-found-preserved c =
-    let text = c.args.text.now in
-    let from = c.loop-found.from in
-    let left = map answer_of c.loop-found.rest.now in
-    let rest = map answer_of c.in-Some.behind.now in
     let next = ap (map answer_of) c.in-Some.ensures.cases.0 in
-    let stands = subst (StandInUnits text from) next c.loop-found.invariant.stand in
+    let from = c.loop-found.from in
     record {
-      stand = subst (λ at. StandInUnits text at rest) (sym c.in_ok-from.ensures.behind) stands.2;
+      stand = stand-behind c.args.text.now from c.in_ok-from.from _ (map answer_of c.in-Some.behind.now) _ c.loop-found.invariant.stand next c.in_ok-from.ensures.behind;
       whole =
-          replaced-more text c.args.template.now c.loop-found.made.items c.reach.new.made.items c.substitute.new.out.items _ from c.in_ok-from.from left rest
-          (answer_of c.in-Some.found.now) c.loop-found.invariant.whole next c.in_ok-from.ensures.made c.in_ok-substitute.ensures c.in_ok-from.ensures.behind;
+          replaced-more c.args.text.now c.args.template.now c.loop-found.made.items c.reach.new.made.items c.substitute.new.out.items _ from c.in_ok-from.from
+          (map answer_of c.loop-found.rest.now) (map answer_of c.in-Some.behind.now) (answer_of c.in-Some.found.now) c.loop-found.invariant.whole next
+          c.in_ok-from.ensures.made c.in_ok-substitute.ensures c.in_ok-from.ensures.behind;
     }
 
 pub returns : goal.returns

@@ -10,7 +10,7 @@ invariant_of-result c =
     let pattern = c.args.options.now.pattern.now in
     record {
       none_in_lines = λ is. none-in_lines _ pattern c.in_ok-alone.alone c.in_ok-alone.ensures.compiled
-          (subst (λ f. IsLocal f pattern) (c.flags-2.ensures ∙ sym c.flags.ensures) (c.in_ok-is_local.ensures is));
+          (subst (λ f. IsLocal f pattern) (c.flags-then-not-options-2.ensures ∙ sym c.flags.ensures) (c.in_ok-is_local.ensures is));
     }
 
 pub returns-then-not-options-2-clause-searched : goal.returns-then-not-options-2-clause-searched

@@ -1,6 +1,6 @@
 //! A memory of failures, and of keys that find an end.
 
-ghost use Rattle.std.specs.Prelude.{◌≡◌, ◌≤◌, ◌<◌, ◌*◌, ◌^◌, true, option_map, IfOk, IfSome, MatchOption};
+ghost use Rattle.std.specs.Prelude.{◌≡◌, ◌≤◌, ◌<◌, ◌*◌, ◌^◌, ◌↔◌, true, option_map, IfOk, IfSome, IsTrue, MatchOption};
 ghost use Rattle.regress_machine.specs.Machine.{State};
 ghost use Rattle.regress_ledger.specs.Ledger.{bit_of as bit_of_key};
 ghost use Rattle.regress_ledger.specs.Whole.{AreCoded, HasBit};
@@ -83,6 +83,14 @@ impl Memo {
         &self.ledger
     }
 
+    /// Whether ends are remembered.
+    #[inline(always)]
+    pub fn with_ends(&self) -> bool
+        ensures { result ≡ self.now.with_ends }
+    {
+        self.with_ends
+    }
+
     /// The key of a thread that stands at an instruction and an offset, by what loops hold; none where threads are not recorded.
     #[inline(always)]
     pub fn key_at<R: Rounds>(&self, ip: usize, at: usize, rounds: &R) -> Option<Key>
@@ -101,6 +109,17 @@ impl Memo {
             self.ledger.code_at(ip, at, rounds)
         };
         Some(Key { ip, at, code })
+    }
+
+    /// Whether there is such a key: its instruction records, and there are such an offset and such a code.
+    pub fn has(&self, key: Key) -> bool
+        ensures { IsTrue result ↔ HasBit self.now.ledger self.now.places (as_key key) }
+    {
+        let line = self.ledger.line(key.ip);
+        key.ip < self.ledger.lines.len()
+            && line.records
+            && key.at < self.places
+            && key.code < line.codes
     }
 
     /// Whether a key is known to fail.

@@ -8,7 +8,7 @@ use Rattle.regress_linear.specs.Turns.{Key, Entry, tried, noted, tries, keys_in,
 use Rattle.regress_linear.specs.Weights.{Weights, is_one_of}
 use Rattle.regress_linear.specs.Paid.{weight_by, IsPaid, ArePaid}
 use Rattle.regress_linear.specs.Chains.{IsPaidBut, ChainsPay}
-use Rattle.regress_linear.proofs.Turns.{keys-bare, keys-tries, keys-joined}
+use Rattle.regress_linear.proofs.Turns.{keys-bare, keys-joined}
 use Rattle.regress_linear.proofs.Paid.{tries-weigh, one-weighs}
 use Rattle.regress_linear.proofs.Weights.{turns-weighed}
 

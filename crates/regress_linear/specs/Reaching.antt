@@ -1,5 +1,5 @@
 -- Threads that are known to find an end, and records that are reached.
-use Rattle.std.specs.Prelude.{◌≡◌, ◌≤◌, ℕ, Bool, true, false, List, [], ◌∷◌, ◌++◌}
+use Rattle.std.specs.Prelude.{◌≤◌, ℕ, Bool, true, false, List, [], ◌∷◌, ◌++◌}
 use Rattle.regex_meaning.specs.Text.{Text, Direction, moved}
 use Rattle.regex_meaning.specs.Layout.{Program}
 use Rattle.regress_machine.specs.Machine.{State, Thread, running, waiting, Found}

@@ -1,34 +1,32 @@
 -- What a memory knows, as a list of keys.
 use Rattle.std.proofs.Common.{◌≡◌, ◌<◌, ◌≤◌, ℕ, ◌+◌, Bool, true, false, not, ◌&&◌, ◌||◌, List, [], ◌∷◌, ◌⊎◌, Option, Some, None, length, slice_get, if◌then◌else◌, refl, sym, ap, ◌∙◌, subst, arith}
-use Rattle.std.specs.Prelude.{◌==◌, unwrap_or}
+use Rattle.std.specs.Prelude.{nat_le, nat_lt}
 use mathlib.Core.Logic.{inl, inr}
-use Rattle.std.proofs.lemmas.Bool.{both_ways, true≢false, true_from_ne_false, ltb-true, leb-true, cases_lt, or_cases, or_left, or_right, or_from, and_from, not-true, not_from_false}
-use Rattle.std.proofs.lemmas.Option.{slice_get_past}
+use Rattle.std.proofs.lemmas.Bool.{both_ways, true≢false, true_from_ne_false, ltb-true, leb-true, or_cases, or_left, or_right, or_from, and_from, not-true, not_from_false}
 use Rattle.std.proofs.Math.Bool.{or_assoc}
 use Rattle.regex_meaning.proofs.Booleans.{and-left, and-right}
 use Rattle.regex_meaning.specs.Laws.{Each}
 use Rattle.regex_meaning.specs.Text.{Text, Direction}
-use Rattle.regex_meaning.specs.Offsets.{units}
+use Rattle.regex_meaning.specs.Offsets.{place_at, units}
 use Rattle.regex_meaning.specs.Layout.{Program}
-use Rattle.regress_machine.specs.Machine.{State, Thread, running}
+use Rattle.regress_machine.specs.Machine.{State, Thread, running, test_of}
 use Rattle.regress_linear.specs.Account.{Agree, outermost}
 use Rattle.regress_linear.specs.Distinct.{IsIn, IsNew, AreDistinct}
-use Rattle.regress_linear.specs.Codes.{plan_code, plan_codes, key_of, IsStateOf}
-use Rattle.regress_linear.specs.RunKeys.{row_by, run_at, insn_before}
+use Rattle.regress_linear.specs.Codes.{plan_code, plan_codes, key_of, own_row, IsStateOf}
+use Rattle.regress_linear.specs.RunKeys.{row_by, plan_rows, run_at, insn_before}
 use Rattle.regress_linear.specs.Plans.{plan_taken}
 use Rattle.regress_linear.specs.Turns.{Key, IsOf, IsKnown, known_to_fail, known_to_reach, IsMemory}
 use Rattle.regress_linear.specs.Weights.{is_one_of}
 use Rattle.regress_linear.proofs.Codes.{plans-tell}
 use Rattle.regress_linear.proofs.Weights.{in-places}
-use Rattle.regress_ledger.specs.declared.ledger.Line.{Line}
 use Rattle.regress_ledger.specs.declared.ledger.Ledger.{Ledger}
-use Rattle.regress_ledger.specs.Ledger.{no_line, line_of, account_of, questions_of, way_of, recorded}
+use Rattle.regress_ledger.specs.Ledger.{line_of, account_of, questions_of, way_of, recorded}
 use Rattle.regress_ledger.specs.Whole.{HasBit, IsLedgerOf}
 use Rattle.regress_ledger.proofs.WholeLemmas.{recorded-is, not-recorded}
 use Rattle.regress_memo.specs.Room.{Known}
 use Rattle.regress_memo.specs.Memo.{same_key, key_at, has_failure, has_end, knows, IsBegun, NotesFailure, NotesEnd}
 use Rattle.regress_memo.specs.Laws.{ledger_keys, KeyFails, KeyReaches, IsTrueOf, Holds, HasMemory, MemosHold, MemosAreTrue, KeysAreThere}
-use Rattle.regress_memo.proofs.MemoLemmas.{same-is, same-itself, bit-there}
+use Rattle.regress_memo.proofs.MemoLemmas.{same-is, same-itself, bit-there, line-there}
 
 -- ---- Lists
 
@@ -39,10 +37,10 @@ hold-none t places with_ends m b = record {
 }
 
 new-key : (m : Known) (k : Key) → knows m k ≡ false → (memory : List Key) → ((j : Key) → IsIn j memory → knows m j ≡ true) → IsNew k memory
-new-key m k no [] only = tt
-new-key m k no (j ∷ memory) only = (
-  λ same. both_ways (knows m k) no (subst (λ i. knows m i ≡ true) same (only j (inl refl))),
-  new-key m k no memory (λ i h. only i (inr h)),
+new-key m k unknown [] only = tt
+new-key m k unknown (j ∷ memory) only = (
+  λ same. both_ways (knows m k) unknown (subst (λ i. knows m i ≡ true) same (only j (inl refl))),
+  new-key m k unknown memory (λ i h. only i (inr h)),
 )
 
 hold-more : (k : Key) (m n : Known) (memory : List Key) → ((j : Key) → knows n j ≡ (knows m j || same_key j k)) → Holds m memory → Holds n (k ∷ memory)
@@ -68,7 +66,7 @@ or-last false false false = refl
 pub memos-hold : MemosHold
 memos-hold = record {
   begun = hold-none;
-  new = λ m memory k h no. new-key m k no memory h.only;
+  new = λ m memory k h unknown. new-key m k unknown memory h.only;
   failure = λ k m n memory notes h.
       hold-more k m n memory
       (λ j. ap (λ b. b || has_end n j) (notes.failures j) ∙ ap (λ b. (has_failure m j || same_key j k) || b) (notes.ends j)
@@ -81,26 +79,17 @@ memos-hold = record {
 
 -- ---- Keys that there are
 
-line-there : (t : Ledger) (ip : ℕ) → (line_of t ip).records ≡ true → ip < length t.lines.items
-line-there t ip records = elim (cases_lt ip (length t.lines.items)) [
-  | inl less ↦ less
-  | inr past ↦
-      let none : line_of t ip ≡ no_line = ap (λ o. unwrap_or o no_line) (slice_get_past t.lines.items ip past) in
-      let no : (line_of t ip).records ≡ false = ap (λ (x : Line). x.records) none in
-      absurd (both_ways (line_of t ip).records no records)
-]
-
 records-there : (t : Ledger) (ip : ℕ) → (line_of t ip).records ≡ true → is_one_of (recorded t) ip ≡ true
-records-there t ip records = true_from_ne_false (is_one_of (recorded t) ip) (λ no. true≢false (not-recorded t ip no true records))
+records-there t ip records = true_from_ne_false (is_one_of (recorded t) ip) (λ other. true≢false (not-recorded t ip other true records))
 
 module _ (program : Program) (text : Text) (t : Ledger) (of : IsLedgerOf program t) where
   key-has-bit : (d : Direction) (k : Key) (ts : List Thread)
       → IsOf program text (account_of t) (ledger_keys program text t) d k ts → HasBit t (units text + 1) k
   key-has-bit d k ts is =
       let h = is.is_of in
-      let h1 = and-right _ _ h in
-      let records = recorded-is t k.ip (and-left _ _ (and-right _ _ h1)) in
-      let there = line-there t k.ip records in
+      let h1 = and-right (nat_lt k.code (plan_codes (questions_of t) k.ip)) _ h in
+      let records : (line_of t k.ip).records ≡ true = recorded-is t k.ip (and-left _ _ (and-right (nat_le k.at (units text)) _ h1)) in
+      let there : k.ip < length t.lines.items = line-there t k.ip (line_of t k.ip) refl records in
       let code : k.code < plan_codes (questions_of t) k.ip = ltb-true k.code (plan_codes (questions_of t) k.ip) (and-left _ _ h) in
       let within : k.at ≤ units text = leb-true k.at (units text) (and-left _ _ h1) in
       let counted = of.coded.counted k.ip there in
@@ -119,17 +108,18 @@ module _ (program : Program) (text : Text) (t : Ledger) (of : IsLedgerOf program
       → IsOf program text (account_of t) (ledger_keys program text t) d k (running s ∷ [])
   thread-key d s k is no_body way of_program sound = by (line_of t s.ip).records refl is
     where
-      key : Key
-      key = key_of (plan_code (questions_of t)) s
-
       by : (b : Bool) → (line_of t s.ip).records ≡ b → (if b then Some (key_of (plan_code (questions_of t)) s) else None) ≡ Some k
           → IsOf program text (account_of t) (ledger_keys program text t) d k (running s ∷ [])
       by false e h = cc
       by true e h =
-          let same : key_of (plan_code (questions_of t)) s ≡ k = cc in
+          let key = key_of (plan_code (questions_of t)) s in
+          let same : key ≡ k = cc in
+          let rows = plan_rows program text (questions_of t) (way_of t) in
+          let own : rows key ≡ own_row key =
+          ap (λ o. row_by program text (questions_of t) (way_of t) o (test_of program (slice_get program.insns s.ip)) (place_at text s.pos) key) no_body in
           subst (λ j. IsOf program text (account_of t) (ledger_keys program text t) d j (running s ∷ [])) same
-          (plans-tell.has_key program text (account_of t) (questions_of t) (way_of t) (recorded t) _ (plan_taken program) d s
-          (records-there t s.ip e) way of_program sound (ap (λ o. row_by program text (questions_of t) (way_of t) o _ _ _) no_body))
+          (plans-tell.has_key program text (account_of t) (questions_of t) (way_of t) (recorded t) rows (plan_taken program) d s
+          (records-there t s.ip e) way of_program sound own)
 
 pub keys-are-there : KeysAreThere
 keys-are-there = record { has_bit = key-has-bit; inside = key-inside; thread = thread-key }
@@ -224,7 +214,7 @@ chosen-distinct f (k ∷ ks) = by (chosen-distinct (λ i. f i && not (same_key i
         each-in (λ j. j ≡ k → ⊥) (chosen (λ i. f i && not (same_key i k)) ks)
         (λ j x same.
         let r = chosen-are (λ i. f i && not (same_key i k)) ks j x in
-        both_ways (same_key j k) (not-true (same_key j k) (and-right _ _ r.0)) (subst (λ i. same_key i k ≡ true) (sym same) (same-itself k)))
+        both_ways (same_key j k) (not-true (same_key j k) (and-right (f j) (not (same_key j k)) r.0)) (subst (λ i. same_key i k ≡ true) (sym same) (same-itself k)))
 
     by : AreDistinct (chosen (λ i. f i && not (same_key i k)) ks) → AreDistinct (chosen f ks) → (b : Bool)
         → AreDistinct (if b then k ∷ chosen (λ i. f i && not (same_key i k)) ks else chosen f ks)

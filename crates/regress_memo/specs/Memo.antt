@@ -49,11 +49,11 @@ pub record SameKeys (m n : Known) : Type 0 where
   pub places : n.places ≡ m.places
   pub with_ends : n.with_ends ≡ m.with_ends
 
--- nothing is
-pub record IsBegun (t : Ledger) (places : ℕ) (with_ends : Bool) (m : Known) : Type 0 where
+-- nothing is, of the keys of this ledger at so many places
+pub record IsBegun (t : Ledger) (count : ℕ) (wanted : Bool) (m : Known) : Type 0 where
   pub ledger : m.ledger ≡ t
-  pub places : m.places ≡ places
-  pub with_ends : m.with_ends ≡ with_ends
+  pub places : m.places ≡ count
+  pub with_ends : m.with_ends ≡ wanted
   pub failures : (k : Key) → has_failure m k ≡ false
   pub ends : (k : Key) → has_end m k ≡ false
 

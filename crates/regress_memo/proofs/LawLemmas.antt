@@ -1,5 +1,5 @@
 -- What a memory knows, as a list of keys.
-use Rattle.std.proofs.Common.{◌≡◌, ◌<◌, ◌≤◌, ℕ, ◌+◌, Bool, true, false, not, ◌&&◌, ◌||◌, List, [], ◌∷◌, ◌⊎◌, Option, Some, None, length, slice_get, if◌then◌else◌, refl, sym, ap, ◌∙◌, subst, arith}
+use Rattle.std.proofs.Common.{◌≡◌, ◌<◌, ◌≤◌, ℕ, ◌+◌, Bool, true, false, not, ◌&&◌, ◌||◌, List, [], ◌∷◌, Some, None, length, slice_get, if◌then◌else◌, refl, sym, ap, ◌∙◌, subst, arith}
 use Rattle.std.specs.Prelude.{nat_le, nat_lt}
 use mathlib.Core.Logic.{inl, inr}
 use Rattle.std.proofs.lemmas.Bool.{both_ways, true≢false, true_from_ne_false, ltb-true, leb-true, or_cases, or_left, or_right, or_from, and_from, not-true, not_from_false}
@@ -15,7 +15,7 @@ use Rattle.regress_linear.specs.Distinct.{IsIn, IsNew, AreDistinct}
 use Rattle.regress_linear.specs.Codes.{plan_code, plan_codes, key_of, own_row, IsStateOf}
 use Rattle.regress_linear.specs.RunKeys.{row_by, plan_rows, run_at, insn_before}
 use Rattle.regress_linear.specs.Plans.{plan_taken}
-use Rattle.regress_linear.specs.Turns.{Key, IsOf, IsKnown, known_to_fail, known_to_reach, IsMemory}
+use Rattle.regress_linear.specs.Turns.{Key, IsOf, IsKnown, known_to_fail, known_to_reach}
 use Rattle.regress_linear.specs.Weights.{is_one_of}
 use Rattle.regress_linear.proofs.Codes.{plans-tell}
 use Rattle.regress_linear.proofs.Weights.{in-places}

@@ -1,21 +1,20 @@
 -- What a memory is good for: what it knows, as a list of keys of the laws.
-use Rattle.std.specs.Prelude.{◌≡◌, ◌<◌, ◌^◌, ◌+◌, ℕ, Bool, true, false, List, [], ◌∷◌, None, Some, slice_get}
-use Rattle.regex_meaning.specs.Laws.{Each}
+use Rattle.std.specs.Prelude.{◌≡◌, ◌+◌, ℕ, Bool, true, false, List, [], ◌∷◌, None, Some}
 use Rattle.regex_meaning.specs.Text.{Text, Direction}
-use Rattle.regex_meaning.specs.Offsets.{IsText, units}
+use Rattle.regex_meaning.specs.Offsets.{units}
 use Rattle.regex_meaning.specs.Layout.{Program}
 use Rattle.regress_machine.specs.Machine.{State, Thread, running}
-use Rattle.regress_linear.specs.Account.{Agree, ReadsAsBytes, outermost}
+use Rattle.regress_linear.specs.Account.{Agree, outermost}
 use Rattle.regress_linear.specs.Distinct.{IsIn, IsNew}
 use Rattle.regress_linear.specs.Codes.{IsStateOf}
 use Rattle.regress_linear.specs.RunKeys.{plan_keys, run_at, insn_before}
 use Rattle.regress_linear.specs.Plans.{plan_taken}
 use Rattle.regress_linear.specs.Turns.{Key, Keys, IsOf, Fails, Reaches, IsMemory}
 use Rattle.regress_ledger.specs.declared.ledger.Ledger.{Ledger}
-use Rattle.regress_ledger.specs.Ledger.{line_of, account_of, questions_of, way_of, recorded}
+use Rattle.regress_ledger.specs.Ledger.{account_of, questions_of, way_of, recorded}
 use Rattle.regress_ledger.specs.Whole.{HasBit, IsLedgerOf}
 use Rattle.regress_memo.specs.Room.{Known}
-use Rattle.regress_memo.specs.Memo.{key_at, has_bit, has_failure, has_end, knows, IsBegun, NotesFailure, NotesEnd}
+use Rattle.regress_memo.specs.Memo.{key_at, has_failure, has_end, knows, IsBegun, NotesFailure, NotesEnd}
 
 -- ---- Words
 

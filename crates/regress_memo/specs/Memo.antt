@@ -1,5 +1,5 @@
 -- What a memory knows of keys.
-use Rattle.std.specs.Prelude.{◌≡◌, ℕ, Bool, true, false, if◌then◌else◌, ◌&&◌, ◌||◌, ◌==◌, List, length, Option, Some, None, nat_lt}
+use Rattle.std.specs.Prelude.{◌≡◌, ℕ, Bool, false, if◌then◌else◌, ◌&&◌, ◌||◌, ◌==◌, List, length, Option, Some, None, nat_lt}
 use Rattle.regress_machine.specs.Machine.{State}
 use Rattle.regress_linear.specs.Turns.{Key}
 use Rattle.regress_linear.specs.Codes.{plan_code, key_of}

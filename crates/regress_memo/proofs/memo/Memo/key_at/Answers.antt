@@ -1,7 +1,5 @@
-use Rattle.std.proofs.Common.{◌≡◌, ◌<◌, ℕ, Some, ◌∙◌, ap, subst, arith}
+use Rattle.std.proofs.Common.{◌≡◌, ◌<◌, Some, subst, arith}
 use Rattle.std.proofs.lemmas.Bool.{not-false}
-use Rattle.regress_machine.specs.Machine.{State}
-use Rattle.regress_linear.specs.Turns.{Key}
 use Rattle.regress_ledger.specs.Whole.{HasBit}
 use Rattle.regress_memo.specs.Room.{Known}
 use Rattle.regress_memo.specs.Memo.{key_at as key_of_state}

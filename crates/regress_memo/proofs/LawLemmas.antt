@@ -1,19 +1,21 @@
 -- What a memory knows, as a list of keys.
 use Rattle.std.proofs.Common.{◌≡◌, ◌<◌, ◌≤◌, ℕ, ◌+◌, Bool, true, false, not, ◌&&◌, ◌||◌, List, [], ◌∷◌, Some, None, length, slice_get, if◌then◌else◌, refl, sym, ap, ◌∙◌, subst, arith}
-use Rattle.std.specs.Prelude.{nat_le, nat_lt}
+use Rattle.std.specs.Prelude.{◌==◌, ◌*◌, min, nat_le, nat_lt, option_map, unwrap_or}
 use mathlib.Core.Logic.{inl, inr}
 use Rattle.std.proofs.lemmas.Bool.{both_ways, true≢false, true_from_ne_false, ltb-true, leb-true, or_cases, or_left, or_right, or_from, and_from, not-true, not_from_false}
 use Rattle.std.proofs.Math.Bool.{or_assoc}
 use Rattle.regex_meaning.proofs.Booleans.{and-left, and-right}
 use Rattle.regex_meaning.specs.Laws.{Each}
-use Rattle.regex_meaning.specs.Text.{Text, Direction}
-use Rattle.regex_meaning.specs.Offsets.{place_at, units}
+use Rattle.regex_meaning.specs.Text.{Text, Direction, moved}
+use Rattle.regex_meaning.specs.Offsets.{place_at, offset, units}
 use Rattle.regex_meaning.specs.Layout.{Program}
-use Rattle.regress_machine.specs.Machine.{State, Thread, running, test_of}
+use Rattle.regress_machine.specs.Machine.{State, LoopData, Thread, running, test_of}
+use Rattle.regress_machine.proofs.Beside.{moved-zero}
+use Rattle.regress_simulation.specs.Runs.{behind}
 use Rattle.regress_linear.specs.Account.{Agree, outermost}
 use Rattle.regress_linear.specs.Distinct.{IsIn, IsNew, AreDistinct}
-use Rattle.regress_linear.specs.Codes.{plan_code, plan_codes, key_of, own_row, IsStateOf}
-use Rattle.regress_linear.specs.RunKeys.{row_by, plan_rows, run_at, insn_before}
+use Rattle.regress_linear.specs.Codes.{Question, is_empty, how_many, answers, digit, answer, code_of, plan_code, plan_codes, key_of, own_row, IsStateOf}
+use Rattle.regress_linear.specs.RunKeys.{row_by, plan_rows, run_at, insn_before, RunRecords, run_key}
 use Rattle.regress_linear.specs.Plans.{plan_taken}
 use Rattle.regress_linear.specs.Turns.{Key, IsOf, IsKnown, known_to_fail, known_to_reach}
 use Rattle.regress_linear.specs.Weights.{is_one_of}
@@ -30,31 +32,32 @@ use Rattle.regress_memo.proofs.MemoLemmas.{same-is, same-itself, bit-there, line
 
 -- ---- Lists
 
-hold-none : (t : Ledger) (places : ℕ) (with_ends : Bool) (m : Known) → IsBegun t places with_ends m → Holds m []
-hold-none t places with_ends m b = record {
-  only = λ k h. absurd h;
-  all = λ k h. both_ways (knows m k) (or_from (has_failure m k) (has_end m k) (b.failures k) (b.ends k)) h;
-}
+hold-none : (known : Key → Bool) → ((k : Key) → known k ≡ false) → Holds known []
+hold-none known none = record { only = λ k h. absurd h; all = λ k h. both_ways (known k) (none k) h }
 
-new-key : (m : Known) (k : Key) → knows m k ≡ false → (memory : List Key) → ((j : Key) → IsIn j memory → knows m j ≡ true) → IsNew k memory
-new-key m k unknown [] only = tt
-new-key m k unknown (j ∷ memory) only = (
-  λ same. both_ways (knows m k) unknown (subst (λ i. knows m i ≡ true) same (only j (inl refl))),
-  new-key m k unknown memory (λ i h. only i (inr h)),
+new-key : (known : Key → Bool) (k : Key) → known k ≡ false → (memory : List Key) → ((j : Key) → IsIn j memory → known j ≡ true) → IsNew k memory
+new-key known k unknown [] only = tt
+new-key known k unknown (j ∷ memory) only = (
+  λ same. both_ways (known k) unknown (subst (λ i. known i ≡ true) same (only j (inl refl))),
+  new-key known k unknown memory (λ i h. only i (inr h)),
 )
 
-hold-more : (k : Key) (m n : Known) (memory : List Key) → ((j : Key) → knows n j ≡ (knows m j || same_key j k)) → Holds m memory → Holds n (k ∷ memory)
-hold-more k m n memory more h = record { only = only; all = all }
+hold-more : (k : Key) (before after : Key → Bool) (memory : List Key) → ((j : Key) → after j ≡ (before j || same_key j k))
+    → Holds before memory → Holds after (k ∷ memory)
+hold-more k before after memory more h = record { only = only; all = all }
   where
-    only : (j : Key) → IsIn j (k ∷ memory) → knows n j ≡ true
-    only j (inl is) = more j ∙ or_right (knows m j) (same_key j k) (subst (λ i. same_key i k ≡ true) is (same-itself k))
-    only j (inr in_it) = more j ∙ or_left (knows m j) (same_key j k) (h.only j in_it)
+    only : (j : Key) → IsIn j (k ∷ memory) → after j ≡ true
+    only j (inl is) = more j ∙ or_right (before j) (same_key j k) (subst (λ i. same_key i k ≡ true) is (same-itself k))
+    only j (inr in_it) = more j ∙ or_left (before j) (same_key j k) (h.only j in_it)
 
-    all : (j : Key) → knows n j ≡ true → IsIn j (k ∷ memory)
-    all j known = elim (or_cases (knows m j) (same_key j k) (sym (more j) ∙ known)) [
+    all : (j : Key) → after j ≡ true → IsIn j (k ∷ memory)
+    all j known = elim (or_cases (before j) (same_key j k) (sym (more j) ∙ known)) [
       | inl e ↦ inr (h.all j e)
       | inr e ↦ inl (sym (same-is j k e))
     ]
+
+hold-same : (before after : Key → Bool) (memory : List Key) → ((j : Key) → after j ≡ before j) → Holds before memory → Holds after memory
+hold-same before after memory same h = record { only = λ j x. same j ∙ h.only j x; all = λ j known. h.all j (sym (same j) ∙ known) }
 
 or-last : (a b c : Bool) → ((a || c) || b) ≡ ((a || b) || c)
 or-last true b c = refl
@@ -65,14 +68,19 @@ or-last false false false = refl
 
 pub memos-hold : MemosHold
 memos-hold = record {
-  begun = hold-none;
-  new = λ m memory k h unknown. new-key m k unknown memory h.only;
-  failure = λ k m n memory notes h.
-      hold-more k m n memory
+  begun = λ t places with_ends m b. (
+    hold-none (has_failure m) b.failures,
+    hold-none (knows m) (λ k. or_from (has_failure m k) (has_end m k) (b.failures k) (b.ends k)),
+  );
+  new = λ known memory k h unknown. new-key known k unknown memory h.only;
+  failure = λ k m n memory notes h. hold-more k (has_failure m) (has_failure n) memory notes.failures h;
+  known_failure = λ k m n memory notes h.
+      hold-more k (knows m) (knows n) memory
       (λ j. ap (λ b. b || has_end n j) (notes.failures j) ∙ ap (λ b. (has_failure m j || same_key j k) || b) (notes.ends j)
       ∙ or-last (has_failure m j) (has_end m j) (same_key j k)) h;
-  end = λ k m n memory notes h.
-      hold-more k m n memory
+  end = λ k m n memory notes h. hold-same (has_failure m) (has_failure n) memory notes.failures h;
+  known_end = λ k m n memory notes h.
+      hold-more k (knows m) (knows n) memory
       (λ j. ap (λ b. b || has_end n j) (notes.failures j) ∙ ap (λ b. has_failure m j || b) (notes.ends j)
       ∙ sym (or_assoc (has_failure m j) (has_end m j) (same_key j k))) h;
 }
@@ -121,8 +129,34 @@ module _ (program : Program) (text : Text) (t : Ledger) (of : IsLedgerOf program
           (plans-tell.has_key program text (account_of t) (questions_of t) (way_of t) (recorded t) rows (plan_taken program) d s
           (records-there t s.ip e) way of_program sound own)
 
+-- a code asks for the offset and for what loops hold, and for nothing else
+answer-same : (q : Question) (u v : State) → u.pos ≡ v.pos → u.loops ≡ v.loops → answer q u ≡ answer q v
+answer-same (is_empty l) u v pos loops =
+    ap (λ n. unwrap_or (option_map (λ (x : LoopData). digit (x.entry == n)) (slice_get u.loops l)) 0) pos
+    ∙ ap (λ ls. unwrap_or (option_map (λ (x : LoopData). digit (x.entry == v.pos)) (slice_get ls l)) 0) loops
+answer-same (how_many l most) u v pos loops = ap (λ ls. unwrap_or (option_map (λ (x : LoopData). min x.iters most) (slice_get ls l)) 0) loops
+
+code-same : (qs : List Question) (u v : State) → u.pos ≡ v.pos → u.loops ≡ v.loops → code_of qs u ≡ code_of qs v
+code-same [] u v pos loops = refl
+code-same (q ∷ qs) u v pos loops =
+    ap (λ n. n + answers q * code_of qs u) (answer-same q u v pos loops) ∙ ap (λ n. answer q v + answers q * n) (code-same qs u v pos loops)
+
+run-key-is : (program : Program) (text : Text) (t : Ledger) (d : Direction) (test : ℕ → Bool) (greedy : Bool) (s : State) (place : ℕ)
+    → RunRecords program (account_of t) (questions_of t) (way_of t) (recorded t) d test greedy s.ip
+    → key_at t (record s { ip = s.ip + 1; pos = offset text place })
+    ≡ Some (run_key program text (account_of t) (questions_of t) (way_of t) (recorded t) (plan_taken program) d place s)
+run-key-is program text t d test greedy s place r =
+    let u : State = record s { ip = s.ip + 1; pos = offset text place } in
+    let v : State = behind text d place s 0 in
+    let records : (line_of t (s.ip + 1)).records ≡ true = recorded-is t (s.ip + 1) r.records in
+    let pos : offset text place ≡ offset text (moved text d 0 place) = ap (λ p. offset text p) (sym (moved-zero text d place)) in
+    let code : code_of (questions_of t (s.ip + 1)) u ≡ code_of (questions_of t (s.ip + 2)) v =
+    ap (λ qs. code_of qs u) r.asks ∙ code-same (questions_of t (s.ip + 2)) u v pos refl in
+    let make : ℕ → Key = λ c. record { ip = s.ip + 1; at = offset text place; code = c } in
+    ap (λ b. if b then Some (key_of (plan_code (questions_of t)) u) else None) records ∙ ap (λ c. Some (make c)) code
+
 pub keys-are-there : KeysAreThere
-keys-are-there = record { has_bit = key-has-bit; inside = key-inside; thread = thread-key }
+keys-are-there = record { has_bit = key-has-bit; inside = key-inside; thread = thread-key; run = run-key-is }
 
 -- ---- What is known is so
 
@@ -236,21 +270,29 @@ module _ (program : Program) (text : Text) (m : Known) (is : IsTrueOf program te
     | inr e ↦ known_to_reach (is.reaches k e)
   ]
 
-  has-memory : HasMemory program text m
-  has-memory =
+  has-memory : (known : Key → Bool) → ((k : Key) → known k ≡ true → knows m k ≡ true) → HasMemory program text m known
+  has-memory known some =
       let all = (ledger_keys program text m.ledger).all in
       record {
-        memory = chosen (knows m) all;
+        memory = chosen known all;
         holds = record {
-          only = λ k h. (chosen-are (knows m) all k h).0;
-          all = λ k h. in-chosen (knows m) all k h (key-inside program text m.ledger is.of k (known-has-bit k h));
+          only = λ k h. (chosen-are known all k h).0;
+          all = λ k h. in-chosen known all k h (key-inside program text m.ledger is.of k (known-has-bit k (some k h)));
         };
         is = record {
-          known = each-in (IsKnown program text (account_of m.ledger) (ledger_keys program text m.ledger)) (chosen (knows m) all) (λ k h. known-is k (chosen-are (knows m) all k h).0);
-          distinct = chosen-distinct (knows m) all;
-          inside = each-in (λ k. IsIn k all) (chosen (knows m) all) (λ k h. (chosen-are (knows m) all k h).1);
+          known =
+              each-in (IsKnown program text (account_of m.ledger) (ledger_keys program text m.ledger)) (chosen known all)
+              (λ k h. known-is k (some k (chosen-are known all k h).0));
+          distinct = chosen-distinct known all;
+          inside = each-in (λ k. IsIn k all) (chosen known all) (λ k h. (chosen-are known all k h).1);
         };
       }
 
 pub memos-are-true : MemosAreTrue
-memos-are-true = record { begun = true-begun; failure = true-failure; end = true-end; memory = has-memory }
+memos-are-true = record {
+  begun = true-begun;
+  failure = true-failure;
+  end = true-end;
+  failures = λ program text m is. has-memory program text m is (has_failure m) (λ k h. or_left (has_failure m k) (has_end m k) h);
+  all = λ program text m is. has-memory program text m is (knows m) (λ k h. h);
+}

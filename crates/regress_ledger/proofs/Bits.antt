@@ -93,11 +93,15 @@ module _ (t : Ledger) (coded : AreCoded t) where
       let make : ℕ → ℕ → ℕ → Key = λ i a c. record { ip = i; at = a; code = c } in
       ap (λ i. make i j.at j.code) is ∙ ap (λ a. make k.ip a j.code) both.1 ∙ ap (λ c. make k.ip k.at c) both.0
 
-pub keys-have-bits : KeysHaveBits
-keys-have-bits program t of places j k has_j has_k e = elim (cases_lt j.ip k.ip) [
-  | inl less ↦ let before = earlier t of.coded places j k has_j has_k less in absurd (omega (arith, before, e))
+pub bits-apart : (t : Ledger) → AreCoded t → (places : ℕ) (j k : Key) → HasBit t places j → HasBit t places k
+    → bit_of t places j.ip j.at j.code ≡ bit_of t places k.ip k.at k.code → j ≡ k
+bits-apart t coded places j k has_j has_k e = elim (cases_lt j.ip k.ip) [
+  | inl less ↦ let before = earlier t coded places j k has_j has_k less in absurd (omega (arith, before, e))
   | inr ge ↦ elim (cases_lt k.ip j.ip) [
-    | inl more ↦ let before = earlier t of.coded places k j has_k has_j more in absurd (omega (arith, before, e))
-    | inr le ↦ same-key t of.coded places j k has_j has_k (omega (arith, ge, le)) e
+    | inl more ↦ let before = earlier t coded places k j has_k has_j more in absurd (omega (arith, before, e))
+    | inr le ↦ same-key t coded places j k has_j has_k (omega (arith, ge, le)) e
   ]
 ]
+
+pub keys-have-bits : KeysHaveBits
+keys-have-bits program t of places j k has_j has_k e = bits-apart t of.coded places j k has_j has_k e

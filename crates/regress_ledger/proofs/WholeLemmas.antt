@@ -79,6 +79,29 @@ records-of (y ∷ lines) first ip e = by (λ h. later (records-of lines (first +
     by on true r h = here r on (first == ip) refl h
     by on false r h = on h
 
+pub recorded-is : (t : Ledger) (ip : ℕ) → is_one_of (recorded t) ip ≡ true → (line_of t ip).records ≡ true
+recorded-is t ip h =
+    let r = records-of t.lines.items 0 ip h in
+    let at : ip ≡ r.k = let i = r.is in omega (arith, i) in
+    let there : line_of t ip ≡ r.line = ap (λ k. line_of t k) at ∙ ap (λ o. unwrap_or o no_line) r.there in
+    ap (λ (x : Line). x.records) there ∙ r.records
+
+pub not-recorded : (t : Ledger) (ip : ℕ) → is_one_of (recorded t) ip ≡ false → (b : Bool) → (line_of t ip).records ≡ b → b ≡ false
+not-recorded t ip h false e = refl
+not-recorded t ip h true e = by (slice_get t.lines.items ip) refl
+  where
+    by : (o : Option Line) → slice_get t.lines.items ip ≡ o → true ≡ false
+    by None none =
+        let is : line_of t ip ≡ no_line = ap (λ o. unwrap_or o no_line) none in
+        let no : (line_of t ip).records ≡ false = ap (λ (x : Line). x.records) is in cc
+    by (Some x) there =
+        let is : line_of t ip ≡ x = ap (λ o. unwrap_or o no_line) there in
+        let r : x.records ≡ true = sym (ap (λ (x : Line). x.records) is) ∙ e in
+        let one = is-recorded t.lines.items 0 ip x there r in
+        let at : 0 + ip ≡ ip = omega arith in
+        let one_at : is_one_of (recorded t) ip ≡ true = subst (λ n. is_one_of (recorded t) n ≡ true) at one in
+        cc
+
 -- ---- Questions
 
 in-if : (q x : Question) (b : Bool) (qs : List Question) → IsIn q qs → IsIn q (if b then x ∷ qs else qs)
@@ -215,29 +238,6 @@ module _ (t : Ledger) (program : Program) (insns : List declared.Insn) (starts :
         record { recorded = λ e. cc; passed = λ e. omega (arith, no_left, one) }
   ]
 
-  recorded-is : (ip : ℕ) → is_one_of (recorded t) ip ≡ true → (line_of t ip).records ≡ true
-  recorded-is ip h =
-      let r = records-of t.lines.items 0 ip h in
-      let at : ip ≡ r.k = let i = r.is in omega (arith, i) in
-      let there : line_of t ip ≡ r.line = ap (λ k. line_of t k) at ∙ ap (λ o. unwrap_or o no_line) r.there in
-      ap (λ (x : Line). x.records) there ∙ r.records
-
-  not-recorded : (ip : ℕ) → is_one_of (recorded t) ip ≡ false → (b : Bool) → (line_of t ip).records ≡ b → b ≡ false
-  not-recorded ip h false e = refl
-  not-recorded ip h true e = by (slice_get t.lines.items ip) refl
-    where
-      by : (o : Option Line) → slice_get t.lines.items ip ≡ o → true ≡ false
-      by None none =
-          let is : line_of t ip ≡ no_line = ap (λ o. unwrap_or o no_line) none in
-          let no : (line_of t ip).records ≡ false = ap (λ (x : Line). x.records) is in cc
-      by (Some x) there =
-          let is : line_of t ip ≡ x = ap (λ o. unwrap_or o no_line) there in
-          let r : x.records ≡ true = sym (ap (λ (x : Line). x.records) is) ∙ e in
-          let one = is-recorded t.lines.items 0 ip x there r in
-          let at : 0 + ip ≡ ip = omega arith in
-          let one_at : is_one_of (recorded t) ip ≡ true = subst (λ n. is_one_of (recorded t) n ≡ true) at one in
-          cc
-
   pub whole : IsLedgerOf program t
   whole = record {
     starts = starts;
@@ -250,8 +250,8 @@ module _ (t : Ledger) (program : Program) (insns : List declared.Insn) (starts :
     };
     paid = record {
       enough = record { enough = λ ip. enough-at t program (slice_get program.insns ip) ip (have-enough ip) };
-      recorded = λ ip h. (paid-for ip).recorded (recorded-is ip h);
-      passed = λ ip h. (paid-for ip).passed (not-recorded ip h (line_of t ip).records refl);
+      recorded = λ ip h. (paid-for ip).recorded (recorded-is t ip h);
+      passed = λ ip h. (paid-for ip).passed (not-recorded t ip h (line_of t ip).records refl);
     };
     runs = λ ip least most greedy e. subst (λ o. StepHasEnough t program (step_in ip o) ip) e (have-enough ip);
     silent = record { silent_at = λ ip s. silent-at t program (slice_get program.insns ip) ip (steps ip) s };

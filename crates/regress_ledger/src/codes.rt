@@ -134,6 +134,7 @@ impl Ledger {
     }
 
     /// The number of a key among the bits of so many places.
+    #[inline(always)]
     pub fn bit_at(&self, places: usize, ip: usize, at: usize, code: usize) -> usize
         requires coded { AreCoded self.now }
         requires key { HasBit self.now places (record { ip = ip; at = at; code = code }) }

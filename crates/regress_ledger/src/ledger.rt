@@ -68,6 +68,7 @@ pub(crate) enum Said {
 
 impl Ledger {
     /// The line of an instruction; of none, one that says nothing.
+    #[inline(always)]
     pub fn line(&self, ip: usize) -> Line
         ensures { result ≡ line_of self.now ip }
     {
@@ -114,6 +115,7 @@ impl Ledger {
 }
 
 // The line of an instruction that has none.
+#[inline(always)]
 pub(crate) fn none() -> Line
     ensures { result ≡ no_line }
 {

@@ -26,7 +26,7 @@ module _ (program : Program) (w : Weights) (price : ℕ → ℕ) (ips : List ℕ
   abbrev cost : Key → ℕ
   cost k = price k.ip
 
-  tries-weigh : (ts : List Thread) → sum_by (weighs weight) (tries ts) ≡ sum_by (weight_of w) ts
+  pub tries-weigh : (ts : List Thread) → sum_by (weighs weight) (tries ts) ≡ sum_by (weight_of w) ts
   tries-weigh [] = refl
   tries-weigh (t ∷ ts) =
       let x = sum_by-cons (weighs weight) (tried t) (tries ts) in
@@ -34,7 +34,7 @@ module _ (program : Program) (w : Weights) (price : ℕ → ℕ) (ips : List ℕ
       let l = tries-weigh ts in
       omega (arith, x, y, l)
 
-  one-weighs : (e : Entry) → sum_by (weighs weight) (e ∷ []) ≡ weighs weight e
+  pub one-weighs : (e : Entry) → sum_by (weighs weight) (e ∷ []) ≡ weighs weight e
   one-weighs e = let x = sum_by-cons (weighs weight) e [] in omega (arith, x)
 
   module _ (paid : ArePaid program w price ips) (text : Text) (code : State → ℕ) (d : Direction) (s : State) where

@@ -12,6 +12,8 @@ mod ledgers;
 #[cfg(test)]
 mod listing;
 #[cfg(test)]
+mod memos;
+#[cfg(test)]
 mod parts;
 #[cfg(test)]
 mod plans;

@@ -4,6 +4,7 @@ use crate::choices::{write_choices, write_unit_choices};
 use crate::classes::{write_classes, write_unit_classes};
 use crate::ledgers::{write_codes, write_ledger};
 use crate::listing::{write_program, write_units};
+use crate::memos::write_memo;
 use crate::parts::{write_parts, write_shown_names, write_unit_parts};
 use crate::plans::{write_plan, write_unit_plan};
 use crate::predicates::write_predicate;
@@ -43,6 +44,7 @@ fn write_answer(
         "unit_classes" => write_unit_classes(alloc, text, tree),
         "ledger" => write_ledger(alloc, text, tree),
         "codes" => write_codes(alloc, text, tree),
+        "memo" => write_memo(alloc, text, tree),
         _ => text.push_str("no question"),
     }
 }

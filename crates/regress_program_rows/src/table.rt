@@ -12,7 +12,8 @@
 // character decides; and the bytes at which a run ends. Programs for 16-bit units are those of the tree as it is, and so are
 // those for bytes, of which `optimized` asks for that of the optimized tree. Ledgers have each instruction that records with how many codes it has, and what a
 // place pays for all of them; codes are those behind none, one and two iterations of each loop, the last of which has read a
-// character, or has not.
+// character, or has not. Memories of three places have as many keys as codes in all those places, which are noted one by one; one of all places that
+// can be counted has more than can be counted, or no room, if it has keys at all.
 pub(crate) const ROWS: &str = "\
 program goal → Goal
 program cat:3 empty any goal → MatchAny, Goal
@@ -224,4 +225,10 @@ codes /(?:ab)*c/ → one each
 codes /(?:a*){2,}b/ → 2: 0 1 2 3 4 5; 3: 0 1 2 3 4 5
 codes /(?:ab){2,4}/ → 1: 0 0 1 1 2 2
 codes /((a*)*)*b/ → 1: 0 1 0 1 0 1; 5: 0 3 0 3 0 3; 8: 0 3 0 3 0 3; 9: 0 3 0 3 0 3; 11: 0 1 0 1 0 1
+memo /abc/ → 0 fail, 0 find an end, in all places
+memo /a*/ → 3 fail, 3 find an end, refused
+memo /(?:ab)*c/ → 6 fail, 6 find an end, too many
+memo /(?:a*){2,}b/ → 39 fail, 39 find an end, too many
+memo /((a*)*)*b/ → 51 fail, 51 find an end, too many
+memo /(a)\\1/ → none
 ";

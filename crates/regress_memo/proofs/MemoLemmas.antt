@@ -1,0 +1,161 @@
+-- What a memory knows of keys, bit by bit.
+use Rattle.std.proofs.Common.{◌≡◌, ◌<◌, ℕ, Bool, true, false, ◌&&◌, ◌||◌, List, [], Some, None, length, if◌then◌else◌, refl, sym, ap, ◌∙◌, subst, arith}
+use Rattle.std.specs.Prelude.{◌==◌, nat_lt, unwrap_or}
+use mathlib.Core.Logic.{inl, inr}
+use Rattle.std.proofs.lemmas.Bool.{both_ways, cases_lt, ltb-true, lt-ltb, eqb-true, eq-eqb, and_from, and_right, false_from_ne_true}
+use Rattle.std.proofs.lemmas.Option.{slice_get_past}
+use Rattle.regex_meaning.proofs.Booleans.{and-left, and-right, same-truth}
+use Rattle.regress_machine.specs.Machine.{State, LoopData}
+use Rattle.regress_linear.specs.Turns.{Key}
+use Rattle.regress_linear.specs.Codes.{code_of, plan_code, plan_codes, key_of}
+use Rattle.regress_linear.proofs.Codes.{plans-tell}
+use Rattle.regress_ledger.specs.declared.ledger.Line.{Line}
+use Rattle.regress_ledger.specs.declared.ledger.Ledger.{Ledger}
+use Rattle.regress_ledger.specs.Ledger.{no_line, line_of, questions_of, bit_of}
+use Rattle.regress_ledger.specs.Whole.{AreCoded, HasBit}
+use Rattle.regress_ledger.proofs.Bits.{bits-apart}
+use Rattle.regress_memo.specs.Bits.{is_set}
+use Rattle.regress_memo.specs.Room.{Known}
+use Rattle.regress_memo.specs.Memo.{same_key, key_at, has_bit, is_noted, NotesFailure, NotesEnd}
+
+-- ---- Keys
+
+pub same-is : (j k : Key) → same_key j k ≡ true → j ≡ k
+same-is j k h =
+    let ip = eqb-true j.ip k.ip (and-left _ _ h) in
+    let rest = and-right _ _ h in
+    let at = eqb-true j.at k.at (and-left _ _ rest) in
+    let code = eqb-true j.code k.code (and-right _ _ rest) in
+    let make : ℕ → ℕ → ℕ → Key = λ i a c. record { ip = i; at = a; code = c } in
+    ap (λ i. make i j.at j.code) ip ∙ ap (λ a. make k.ip a j.code) at ∙ ap (λ c. make k.ip k.at c) code
+
+pub same-itself : (k : Key) → same_key k k ≡ true
+same-itself k =
+    and_from (k.ip == k.ip) _ (eq-eqb k.ip k.ip refl)
+    (and_from (k.at == k.at) _ (eq-eqb k.at k.at refl) (eq-eqb k.code k.code refl))
+
+-- ---- Bits
+
+module _ (t : Ledger) (places : ℕ) where
+  pub bit-there : (k : Key) → has_bit t places k ≡ true → HasBit t places k
+  bit-there k h =
+      let h1 = and-right _ _ h in
+      let h2 = and-right _ _ h1 in
+      record {
+        there = ltb-true k.ip (length t.lines.items) (and-left _ _ h);
+        records = and-left _ _ h1;
+        at = ltb-true k.at places (and-left _ _ h2);
+        code = ltb-true k.code (line_of t k.ip).codes (and-right _ _ h2);
+      }
+
+  pub bit-is : (k : Key) → HasBit t places k → has_bit t places k ≡ true
+  bit-is k has =
+      and_from (nat_lt k.ip (length t.lines.items)) _ (lt-ltb k.ip (length t.lines.items) has.there)
+      (and_from (line_of t k.ip).records _ has.records
+      (and_from (nat_lt k.at places) _ (lt-ltb k.at places has.at) (lt-ltb k.code (line_of t k.ip).codes has.code)))
+
+  abbrev bit : Key → ℕ
+  bit k = bit_of t places k.ip k.at k.code
+
+  pub none-noted : (words : List ℕ) → ((n : ℕ) → is_set words n ≡ false) → (k : Key) → is_noted t places words k ≡ false
+  none-noted words none k = and_right (has_bit t places k) (is_set words (bit k)) (none (bit k))
+
+  module _ (k : Key) (has : HasBit t places k) where
+    -- a key that has a bit is noted if that is set
+    pub noted-is : (words : List ℕ) → is_set words (bit k) ≡ is_noted t places words k
+    noted-is words = sym (ap (λ b. b && is_set words (bit k)) (bit-is k has))
+
+    module _ (coded : AreCoded t) where
+      -- another key has another bit
+      bit-same : (j : Key) → HasBit t places j → (bit j == bit k) ≡ same_key j k
+      bit-same j has_j =
+          same-truth (bit j == bit k) (same_key j k)
+          (λ e. subst (λ i. same_key i k ≡ true) (sym (bits-apart t coded places j k has_j has (eqb-true (bit j) (bit k) e))) (same-itself k))
+          (λ e. eq-eqb (bit j) (bit k) (ap (λ i. bit i) (same-is j k e)))
+
+      -- where its bit is set besides, one key more is noted
+      pub noted-more : (old new : List ℕ) → ((i : ℕ) → is_set new i ≡ (is_set old i || i == bit k))
+          → (j : Key) → is_noted t places new j ≡ (is_noted t places old j || same_key j k)
+      noted-more old new more j = by (has_bit t places j) refl
+        where
+          by : (b : Bool) → has_bit t places j ≡ b → (b && is_set new (bit j)) ≡ ((b && is_set old (bit j)) || same_key j k)
+          by true e = more (bit j) ∙ ap (λ b. is_set old (bit j) || b) (bit-same j (bit-there j e))
+          by false e =
+              sym (false_from_ne_true (same_key j k)
+              (λ s. both_ways (has_bit t places j) e (bit-is j (subst (λ i. HasBit t places i) (sym (same-is j k s)) has))))
+
+-- ---- Codes
+
+-- a line that says something is there
+pub line-there : (t : Ledger) (ip : ℕ) (x : Line) → x ≡ line_of t ip → x.records ≡ true → ip < length t.lines.items
+line-there t ip x is records = elim (cases_lt ip (length t.lines.items)) [
+  | inl less ↦ less
+  | inr past ↦
+      let none : x ≡ no_line = is ∙ ap (λ o. unwrap_or o no_line) (slice_get_past t.lines.items ip past) in
+      let unset : x.records ≡ false = ap (λ (y : Line). y.records) none in
+      absurd (both_ways x.records unset records)
+]
+
+module _ (t : Ledger) (ip : ℕ) (x : Line) (is : x ≡ line_of t ip) (records : x.records ≡ true) where
+  records-so : (line_of t ip).records ≡ true
+  records-so = ap (λ (y : Line). y.records) (sym is) ∙ records
+
+  -- what a code tells is one of so many
+  code-few : AreCoded t → (s : State) → s.ip ≡ ip → code_of (questions_of t ip) s < x.codes
+  code-few coded s at =
+      let below : code_of (questions_of t ip) s < plan_codes (questions_of t) ip =
+      subst (λ i. code_of (questions_of t i) s < plan_codes (questions_of t) i) at (plans-tell.below (questions_of t) s) in
+      let counted = coded.counted ip (line-there t ip x is records) in
+      let same : x.codes ≡ (line_of t ip).codes = ap (λ (y : Line). y.codes) is in
+      omega (arith, below, counted, same)
+
+  pub one-code : AreCoded t → x.codes ≡ 1 → (s : State) → s.ip ≡ ip → 0 ≡ code_of (questions_of t ip) s
+  one-code coded one s at = let few = code-few coded s at in omega (arith, few, one)
+
+  pub key-is : (s : State) (at code : ℕ) → s.ip ≡ ip → s.pos ≡ at → code ≡ code_of (questions_of t ip) s
+      → Some (record { ip = ip; at = at; code = code }) ≡ key_at t s
+  key-is s at code here there same =
+      let make : ℕ → ℕ → ℕ → Key = λ i a c. record { ip = i; at = a; code = c } in
+      let its : code ≡ code_of (questions_of t s.ip) s = same ∙ ap (λ i. code_of (questions_of t i) s) (sym here) in
+      let so : (line_of t s.ip).records ≡ true = ap (λ i. (line_of t i).records) here ∙ records-so in
+      ap (λ i. Some (make i at code)) (sym here) ∙ ap (λ a. Some (make s.ip a code)) (sym there) ∙ ap (λ c. Some (make s.ip s.pos c)) its
+      ∙ ap (λ b. if b then Some (key_of (plan_code (questions_of t)) s) else None) (sym so)
+
+  pub code-bit : (places at code : ℕ) → code < x.codes → at < places → HasBit t places (record { ip = ip; at = at; code = code })
+  code-bit places at code few within = record {
+    there = line-there t ip x is records;
+    records = records-so;
+    at = within;
+    code = let same : x.codes ≡ (line_of t ip).codes = ap (λ (y : Line). y.codes) is in omega (arith, few, same);
+  }
+
+  -- a code that is so of each state there
+  pub told-bit : AreCoded t → (places at code : ℕ) (loops : List LoopData)
+      → ((s : State) → s.pos ≡ at → s.loops ≡ loops → code ≡ code_of (questions_of t ip) s)
+      → at < places → HasBit t places (record { ip = ip; at = at; code = code })
+  told-bit coded places at code loops told within =
+      let s : State = record { ip = ip; pos = at; groups = []; starts = []; loops = loops } in
+      let is : code ≡ code_of (questions_of t ip) s = told s refl refl in
+      let few = code-few coded s refl in
+      code-bit places at code (omega (arith, is, few)) within
+
+-- ---- Notes
+
+module _ (m : Known) (coded : AreCoded m.ledger) (k : Key) (has : HasBit m.ledger m.places k) (bit : ℕ)
+    (its : bit ≡ bit_of m.ledger m.places k.ip k.at k.code) (new : List ℕ) where
+  pub notes-failure : ((i : ℕ) → is_set new i ≡ (is_set m.failures i || i == bit)) → NotesFailure k m (record m { failures = new })
+  notes-failure more = record {
+    same = record { ledger = refl; places = refl; with_ends = refl };
+    failures = noted-more m.ledger m.places k has coded m.failures new (λ i. more i ∙ ap (λ b. is_set m.failures i || i == b) its);
+    ends = λ j. refl;
+  }
+
+  pub notes-end : m.with_ends ≡ true → ((i : ℕ) → is_set new i ≡ (is_set m.ends i || i == bit)) → NotesEnd k m (record m { ends = new })
+  notes-end wanted more = record {
+    same = record { ledger = refl; places = refl; with_ends = refl };
+    failures = λ j. refl;
+    ends = λ j.
+        let one = noted-more m.ledger m.places k has coded m.ends new (λ i. more i ∙ ap (λ b. is_set m.ends i || i == b) its) j in
+        ap (λ b. b && is_noted m.ledger m.places new j) wanted ∙ one
+        ∙ ap (λ b. (b && is_noted m.ledger m.places m.ends j) || same_key j k) (sym wanted);
+  }

@@ -1,0 +1,36 @@
+use Rattle.std.proofs.Common.{◌≡◌, ◌<◌, Some, subst, arith}
+use Rattle.std.proofs.lemmas.Bool.{not-false}
+use Rattle.regress_ledger.specs.Whole.{HasBit}
+use Rattle.regress_memo.specs.Room.{Known}
+use Rattle.regress_memo.specs.Memo.{key_at as key_of_state}
+use Rattle.regress_memo.proofs.MemoLemmas.{one-code, key-is, code-bit, told-bit}
+use Rattle.regress_memo.proofs.memo.Memo.key_at.Goals as goal
+
+pub returns-then-line-eq1-clause-key : goal.returns-then-line-eq1-clause-key
+returns-then-line-eq1-clause-key g c s here there loops =
+    let t = c.self.inside.ledger in
+    let x = c.line-line.result in
+    let records = not-false x.records c.if-not-line.false in
+    let code = one-code t c.args.ip x c.line-line.ensures records c.self.invariant.coded c.if-line-eq1.true s here in
+    subst (λ (m : Known). Some (record { ip = c.args.ip; at = c.args.at; code = 0 }) ≡ key_of_state m.ledger s) c.self.view_is
+    (key-is t c.args.ip x c.line-line.ensures records s c.args.at 0 here there code)
+
+pub returns-then-line-eq1-clause-bit : goal.returns-then-line-eq1-clause-bit
+returns-then-line-eq1-clause-bit g c =
+    let t = c.self.inside.ledger in
+    let x = c.line-line.result in
+    let records = not-false x.records c.if-not-line.false in
+    let one : x.codes ≡ 1 = c.if-line-eq1.true in
+    let few : 0 < x.codes = omega (arith, one) in
+    subst (λ (m : Known). c.args.at < m.places → HasBit m.ledger m.places (record { ip = c.args.ip; at = c.args.at; code = 0 })) c.self.view_is
+    (code-bit t c.args.ip x c.line-line.ensures records c.self.inside.places c.args.at 0 few)
+
+pub returns-else-line-eq1-clause-bit : goal.returns-else-line-eq1-clause-bit
+returns-else-line-eq1-clause-bit g c =
+    let t = c.self.inside.ledger in
+    let x = c.line-line.result in
+    let records = not-false x.records c.if-not-line.false in
+    let code = c.code_at-code.result in
+    subst (λ (m : Known). c.args.at < m.places → HasBit m.ledger m.places (record { ip = c.args.ip; at = c.args.at; code = code })) c.self.view_is
+    (told-bit t c.args.ip x c.line-line.ensures records c.self.invariant.coded c.self.inside.places c.args.at code
+    (g.R.Rounds.rounds c.args.rounds.now) c.code_at-code.ensures)

@@ -1,0 +1,4 @@
+pub mod Bits
+pub mod Room
+pub mod Memo
+pub mod Laws

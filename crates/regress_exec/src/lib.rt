@@ -3,5 +3,4 @@
 
 pub mod exec;
 pub mod places;
-pub mod reading;
 pub mod searched;

@@ -8,6 +8,7 @@ pub mod further;
 pub mod looks_ahead;
 pub mod planned;
 mod probing;
+pub mod reading;
 pub mod reads;
 pub mod rows;
 pub mod scans;

@@ -1,3 +1,5 @@
+pub mod Beside
+pub mod NextStarts
 pub mod Undoing
 pub mod Fresh
 mod Slots

@@ -19,7 +19,7 @@ use Rattle.regress_exec.specs.Attempts.{IsNextTry, IsVain, NoneBetween, anchors,
 use Rattle.regress_exec.proofs.Skips.{untried}
 use Rattle.regress_exec.proofs.FirstMatch.{read-inside, read-end}
 use Rattle.regress_exec.proofs.Anchored.{ruled-out, anchored-behind, one-on}
-use Rattle.regress_exec.proofs.Readers.{literal-read}
+use Rattle.regress_scan.proofs.Readers.{literal-read}
 use Rattle.regress_machine.specs.Machine.{State, go_if, has_bytes}
 use Rattle.regress_backtrack.specs.Tried.{lets_through, IsFirstTried, IsNextTried}
 

@@ -1,3 +1,4 @@
+pub mod Planning
 pub mod Memory
 pub mod Noted
 pub mod Branches

@@ -13,14 +13,15 @@ ghost use Rattle.regress_backtrack.specs.Memory.{state_of};
 use crate::attempts::attempt;
 pub use crate::limited::LimitedExecutor;
 use crate::memory::Memory;
+use crate::search::{PlannedProgram, PlannedSearch};
+use crate::starts::next_start;
 use crate::steps::Free;
 use regress_exec::exec::{Executor, MatchProducer, SearchError, Searcher};
 use regress_exec::places::Attempts;
 use regress_exec::searched::Searched;
 use regress_input::indexing::{AsciiInput, InputIndexer, Ucs2Input, Utf8Input, Utf16Input};
 use regress_program::insn::{CompiledRegex, CompiledUnits, Program};
-use regress_scan::planned::{At, Planned, PlannedProgram, PlannedSearch, offset_in, position_in};
-use regress_scan::starts::next_start;
+use regress_scan::planned::{At, Planned, offset_in, position_in};
 use std::alloc::AllocError;
 
 /// Runs a program's plan over a text. It keeps one state, and undoes what it did to it when a thread has failed.

@@ -11,6 +11,8 @@ mod loops;
 pub mod memory;
 mod run;
 mod runs;
+pub mod search;
+mod starts;
 pub mod steps;
 mod tried;
 pub mod turn;

@@ -3,10 +3,6 @@ pub mod Searchable
 pub mod FirstMatch
 pub mod Anchored
 pub mod Attempts
-pub mod Readers
-pub mod Reach
-pub mod Passing
-pub mod Literals
 pub mod Groups
 pub mod InTurn
 mod LastMatch

@@ -1,6 +1,5 @@
 pub mod Answers
 pub mod ToCome
-pub mod Passing
 pub mod Attempts
 pub mod InTurn
 pub mod Positions

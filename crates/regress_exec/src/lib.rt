@@ -1,7 +1,6 @@
-//! What all executors share: the iterator over matches, the walk over places, what is searched, and what only reads.
+//! What all executors share: the iterator over matches, the walk over places, and what is searched.
 #![tactic(auto)]
 
 pub mod exec;
 pub mod places;
-pub mod reading;
 pub mod searched;

@@ -10,7 +10,7 @@ ghost use Rattle.regress_program.specs.Insns.{start_of};
 ghost use Rattle.regress_machine.specs.Bytes.{ReadsBytes, reads_bytes};
 ghost use Rattle.regex_meaning.specs.Offsets.{IsBoundary};
 ghost use Rattle.regress_exec.specs.Attempts.{anchors, IsNextTry, tried_next};
-ghost use Rattle.regress_exec.specs.Passing.{IsInBytes};
+ghost use Rattle.regress_program.specs.Texts.{IsInBytes};
 
 use regress_input::indexing::{AsciiInput, InputIndexer, Ucs2Input, Utf8Input, Utf16Input};
 use regress_program::insn::{CompiledRegex, CompiledUnits, Program, StartPredicate};

@@ -3,8 +3,8 @@ use Rattle.std.proofs.Common.{◌≡◌, ◌<◌, ◌^◌, ℕ, ◌+◌, true, f
 use Rattle.std.proofs.lemmas.Bool.{le-leb, lt-leb}
 use Rattle.regex_meaning.specs.Layout.{Program, Insn, Goal, JustFail, Char, CharSet, ByteSet, ByteSeq, AsciiBracket, Bracket, MatchAny, MatchAnyExceptLineTerminator, StartOfLine, EndOfLine, WordBoundary, WordBoundaryUnicodeICase, Alt, Jump, EnterLoop, LoopAgain, ResetCaptureGroup, Loop1CharBody, BeginCaptureGroup, EndCaptureGroup, BackRef, Lookahead, Lookbehind}
 use Rattle.regex_meaning.specs.Layout as layout
-use Rattle.regress_insn.specs.Insns.{insn_of}
-use Rattle.regress_insn.specs.declared.insn.Insn as declared
+use Rattle.regress_plan.specs.Insns.{insn_of}
+use Rattle.regress_plan.specs.declared.insn.Insn as declared
 use Rattle.regress_linear.specs.Account.{Enters, IsRepeated, Looks, IsRightAt}
 use Rattle.regress_linear.specs.Behind.{look_at}
 use Rattle.regress_linear.specs.Behind as behind

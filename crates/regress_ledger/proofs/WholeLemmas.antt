@@ -7,8 +7,8 @@ use Rattle.std.proofs.lemmas.Option.{slice_get_past}
 use Rattle.std.proofs.lemmas.List.{length-map}
 use Rattle.regex_meaning.specs.StartPredicate.{start_arbitrary}
 use Rattle.regex_meaning.specs.Layout.{Program, Insn}
-use Rattle.regress_insn.specs.Insns.{insn_of}
-use Rattle.regress_insn.specs.declared.insn.Insn as declared
+use Rattle.regress_plan.specs.Insns.{insn_of}
+use Rattle.regress_plan.specs.declared.insn.Insn as declared
 use Rattle.regress_linear.specs.Codes.{Question, is_empty, how_many, codes_of, plan_codes}
 use Rattle.regress_linear.specs.Distinct.{IsIn}
 use Rattle.regress_linear.specs.Plans.{IsPlan, plan_taken}

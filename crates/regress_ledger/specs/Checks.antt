@@ -3,7 +3,7 @@ use Rattle.std.specs.Prelude.{◌≡◌, ◌≢◌, ◌≤◌, ◌<◌, ℕ, ◌
 use Rattle.regex_meaning.specs.Text.{rightwards, leftwards}
 use Rattle.regex_meaning.specs.Layout.{Program, Insn, EnterLoop}
 use Rattle.regex_meaning.specs.Layout as layout
-use Rattle.regress_insn.specs.Insns.{loop_fields_of}
+use Rattle.regress_plan.specs.Insns.{loop_fields_of}
 use Rattle.regress_linear.specs.Account.{Leads, none, Decides}
 use Rattle.regress_linear.specs.Codes.{plan_codes}
 use Rattle.regress_linear.specs.Weights.{HasOne, HasTwo, HasRepeated}

@@ -2,7 +2,7 @@
 
 ghost use Rattle.std.specs.Prelude.{◌≡◌, ◌≤◌, ◌<◌, ◌+◌, ◌^◌, ◌||◌, ℕ, Bool, true, false, None, Some, length, map, slice_get};
 ghost use Rattle.regex_meaning.specs.Layout.{Program};
-ghost use Rattle.regress_insn.specs.Insns.{insn_of, loop_fields_of};
+ghost use Rattle.regress_plan.specs.Insns.{insn_of, loop_fields_of};
 ghost use Rattle.regress_linear.specs.Weights.{HasOne, HasTwo};
 ghost use Rattle.regress_ledger.specs.Ledger.{rows_of, line_of, silent_of, weights_of, holds, is_told};
 ghost use Rattle.regress_ledger.specs.Steps.{HasInsns, step_in};
@@ -13,7 +13,7 @@ use crate::edges::{Edge, enters};
 use crate::ledger::{Ledger, Line, Row, Said};
 use crate::steps::{Look, Next, Step, step_at};
 use regex_pattern_front::types::LoopID;
-use regress_insn::insn::{Insn, LoopFields};
+use regress_plan::insn::{Insn, LoopFields};
 
 impl Ledger {
     // Whether it is one of the program with these instructions.

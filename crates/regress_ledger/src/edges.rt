@@ -5,7 +5,7 @@ ghost use Rattle.regress_ledger.specs.Checks.{is_entered};
 
 use crate::steps::{Step, step_at};
 use regex_pattern_front::types::LoopID;
-use regress_insn::insn::{Insn, LoopFields};
+use regress_plan::insn::{Insn, LoopFields};
 
 /// From an instruction to another one: whether a character is read, and which loop is entered.
 #[derive(Clone, Copy)]

@@ -9,7 +9,7 @@ use crate::edges::{Edge, edges, enters, loop_ended};
 use crate::ledger::{Count, Ledger, Line, Row, Said, none, uncounted};
 use crate::steps::{Step, step_at};
 use regex_pattern_front::types::LoopID;
-use regress_insn::insn::{Insn, LoopFields};
+use regress_plan::insn::{Insn, LoopFields};
 use std::alloc::{AllocError, Global};
 
 /// So many passes are made, at most.

@@ -9,7 +9,7 @@ ghost use Rattle.regress_ledger.specs.Checks.{StepHasEnough, IsPaidFor, RunIsWri
 
 use crate::ledger::Ledger;
 use crate::steps::{Bounds, Step, step_at};
-use regress_insn::insn::Insn;
+use regress_plan::insn::Insn;
 
 /// A run with a maximum has fewer characters than so many.
 const MOST_CHARACTERS: usize = 0x1_0000;

@@ -1,10 +1,10 @@
 //! What instructions lead to.
 
 ghost use Rattle.std.specs.Prelude.{◌≡◌, ◌<◌, ◌^◌, ◌+◌, true, None, map, slice_get};
-ghost use Rattle.regress_insn.specs.Insns.{insn_of, literal_of};
+ghost use Rattle.regress_plan.specs.Insns.{insn_of, literal_of};
 ghost use Rattle.regress_ledger.specs.Steps.{step_of, step_in, is_plain, next as next_at};
 
-use regress_insn::insn::{Insn, LoopFields};
+use regress_plan::insn::{Insn, LoopFields};
 
 /// One instruction that an instruction leads to; whether it reads a character, and whether it leaves groups as they are.
 #[derive(Clone, Copy)]

@@ -6,7 +6,7 @@ use crate::edges::{Edge, edges, loop_ended};
 use crate::ledger::Ledger;
 use crate::maker::PASSES;
 use crate::steps::{Bounds, Step, step_at};
-use regress_insn::insn::Insn;
+use regress_plan::insn::Insn;
 use std::alloc::{AllocError, Global};
 
 /// No more stands ready than so much.

@@ -6,8 +6,8 @@ use Rattle.regex_meaning.specs.Text.{Text, Direction}
 use Rattle.regex_meaning.specs.Offsets.{IsText, units}
 use Rattle.regex_meaning.specs.Layout.{Program, Insn}
 use Rattle.regex_meaning.specs.Tree.{Tree}
-use Rattle.regress_exec.specs.Passing.{IsInBytes}
-use Rattle.regress_exec.proofs.Literals.{literal-reads}
+use Rattle.regress_program.specs.Texts.{IsInBytes}
+use Rattle.regress_scan.proofs.Literals.{literal-reads}
 use Rattle.regress_program.specs.Code.{compiled}
 use Rattle.regress_machine.specs.Bytes.{ReadsBytes, reads_bytes}
 use Rattle.regress_machine.specs.Machine as machine

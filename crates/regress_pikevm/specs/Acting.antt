@@ -7,14 +7,14 @@ use Rattle.regex_pattern_front.specs.declared.ir.Regex.{Regex}
 use Rattle.regex_pattern_front.specs.TreeOf.{tree_of}
 use Rattle.regress_input.specs.Reading.{heading}
 use Rattle.regress_program.specs.Code.{compiled}
-use Rattle.regress_insn.specs.Insns.{insn_of}
-use Rattle.regress_insn.specs.declared.insn.Insn.{Insn}
+use Rattle.regress_plan.specs.Insns.{insn_of}
+use Rattle.regress_plan.specs.declared.insn.Insn.{Insn}
 use Rattle.regress_machine.specs.Machine as machine
 use Rattle.regress_machine.specs.Machine.{Found, Next, act, act_on, read_group, scan, with_some}
 use Rattle.regress_machine.specs.Finds.{end_of}
 use Rattle.regress_machine.specs.Turns.{behind_at, end_of_search, IsReached}
 use Rattle.regress_exec.specs.Attempts.{search_from}
-use Rattle.regress_exec.specs.Passing.{test_in}
+use Rattle.regress_scan.specs.Passing.{test_in}
 use Rattle.regress_pikevm.specs.declared.pikevm.runs.Run.{Run}
 use Rattle.regress_pikevm.specs.declared.pikevm.states.State.{State}
 use Rattle.regress_pikevm.specs.States.{groups_of, range_of, state_of}

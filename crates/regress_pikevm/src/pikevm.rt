@@ -14,6 +14,7 @@ ghost use Rattle.regress_pikevm.specs.Acting.{end_with, search_at, turn_at, HasR
 ghost use Rattle.regress_pikevm.specs.States.{groups_of, next_of, waiting_of, to_try, preferred_last, TakesUp};
 
 mod actions;
+mod passing;
 mod runs;
 mod states;
 

@@ -13,7 +13,7 @@ use Rattle.regex_meaning.specs.Units.{Encoding, spelled_in}
 use Rattle.regex_meaning.specs.Layout.{Program, Insn, Char, CharSet, ByteSet, AsciiBracket, Bracket, MatchAny, MatchAnyExceptLineTerminator, StartOfLine, WordBoundary, WordBoundaryUnicodeICase, Jump, EnterLoop, Loop1CharBody, ResetCaptureGroup, BeginCaptureGroup, EndCaptureGroup, Lookahead, Lookbehind}
 use Rattle.regex_meaning.proofs.Options.{some-same}
 use Rattle.regress_machine.specs.Machine.{test_of}
-use Rattle.regress_insn.specs.Insns.{insn_of}
+use Rattle.regress_plan.specs.Insns.{insn_of}
 use Rattle.regress_simulation.specs.Excluded.{may_at}
 use Rattle.regress_simulation.specs.Tables.{is_character, first_key}
 use Rattle.regress_simulation.specs.Prefixes.{Allowed, may_stand}

@@ -1,3 +1,4 @@
+pub mod Insns
 pub mod Keys
 pub mod Classes
 pub mod Plans

@@ -14,3 +14,4 @@ pub mod Filing
 pub mod Walked
 pub mod Goals
 pub mod Tallies
+pub mod Texts

@@ -12,4 +12,4 @@ pub use crate::insn::predicates::StartPredicate;
 pub use crate::insn::programs::Program;
 pub(crate) use crate::insn::runs::{Run, placed};
 pub use regex_pattern_front::types::MAX_CHAR_SET_LENGTH;
-pub use regress_insn::insn::{Insn, LoopFields, MAX_BYTE_SEQ_LENGTH};
+pub use regress_plan::insn::{Insn, LoopFields, MAX_BYTE_SEQ_LENGTH};

@@ -1,3 +1,7 @@
+pub mod Readers
+pub mod Reach
+pub mod Passing
+pub mod Literals
 pub mod Advancing
 pub mod Allowing
 pub mod Choosing

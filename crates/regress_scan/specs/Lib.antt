@@ -1,6 +1,6 @@
+pub mod Passing
 pub mod Searching
 pub mod Ranges
-pub mod Planning
 pub mod Probing
 pub mod Reading
 pub mod Starts

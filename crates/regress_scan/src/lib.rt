@@ -1,4 +1,4 @@
-//! Reading a text by a plan: characters of a class, runs of them, and where a search tries.
+//! Reading a text: where an instruction leads, and by a plan characters of a class, runs of them, and where a search tries.
 #![tactic(auto)]
 
 pub mod characters;
@@ -8,6 +8,7 @@ pub mod further;
 pub mod looks_ahead;
 pub mod planned;
 mod probing;
+pub mod reading;
 pub mod reads;
 pub mod rows;
 pub mod scans;

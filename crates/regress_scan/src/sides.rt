@@ -7,7 +7,7 @@ ghost use Rattle.regex_meaning.specs.Outcomes.{anchor_holds, is_at_word_boundary
 ghost use Rattle.regress_input.specs.Reading.{place};
 
 use crate::planned::position;
-use regress_exec::reading::{at_line_end, at_line_start, at_word_boundary};
+use crate::reading::{at_line_end, at_line_start, at_word_boundary};
 use regress_input::indexing::InputIndexer;
 use regress_plan::ops::Edge;
 

@@ -2,15 +2,12 @@
 
 ghost use Rattle.std.specs.Prelude.{◌≡◌, ◌<◌, false, IfSome};
 ghost use Rattle.regex_meaning.specs.Offsets.{IsBoundary, units};
-ghost use Rattle.regress_exec.specs.Attempts.{IsNextTry};
 ghost use Rattle.regress_input.specs.Reading.{is_of_bytes};
-ghost use Rattle.regress_machine.specs.Finds.{CanSearch};
 ghost use Rattle.regress_plan.specs.Before.{HasLeadKeys};
 ghost use Rattle.regress_plan.specs.Prefixes.{IsInAscii, IsLiteral, IsRare, AreKnown, IsPrefilter};
 ghost use Rattle.regress_plan.specs.Keys.{is_wide};
 ghost use Rattle.regress_plan.specs.Plans.{numbered};
 ghost use Rattle.regress_simulation.specs.Tables.{Table};
-ghost use Rattle.regress_scan.specs.Searching.{program_of};
 ghost use Rattle.regress_scan.specs.Starts.{IsFirstAllowed, IsFirstWhere, IsFirstFitting, IsFirstTry, IsFoundIn, AllowsLeads, IsPast, IsPastFirst, few_allowed, tries_at};
 
 use crate::characters::key_here;
@@ -278,9 +275,9 @@ fn next_behind<W: Planned>(planned: &W, before: Before, from: usize) -> Option<u
 
 // ---- By the plan
 
-// The first place from one on where it says to try.
+/// The first place from one on where it says to try.
 #[inline(always)]
-fn first_try<W: Planned>(planned: &W, from: usize) -> Option<usize>
+pub fn first_try<W: Planned>(planned: &W, from: usize) -> Option<usize>
     requires { IsBoundary (W.searching planned.now).text from }
     ensures { IsFirstTry (W.searching planned.now) from result }
 {
@@ -298,16 +295,4 @@ fn first_try<W: Planned>(planned: &W, from: usize) -> Option<usize>
         Start::Behind(before) => next_behind(planned, *before, from),
         Start::Prefix { prefix, prefilter } => first_filtered(planned, prefix, prefilter, from),
     }
-}
-
-/// The first place to try from one on, by the plan; none where no match begins from there on.
-#[inline(always)]
-pub fn next_start<W: Planned>(planned: &W, from: usize) -> Option<usize>
-    requires at { IsBoundary (W.searching planned.now).text from }
-    requires can { let w = W.searching planned.now in CanSearch (program_of w) w.tree w.text }
-    ensures first { IsFirstTry (W.searching planned.now) from result }
-    ensures next { let w = W.searching planned.now in IsNextTry w.tree w.text from result }
-{
-    planned.is_of_program();
-    first_try(planned, from)
 }

@@ -8,7 +8,7 @@ ghost use Rattle.regress_match.specs.Refusals.{IsMemory};
 ghost use Rattle.regress_match.specs.Replacements.{FitsText, FitsUnits};
 
 use crate::api::{Match, Regex, SearchError};
-use crate::backends::{
+use crate::executors::{
     DefaultAsciiExecutor, DefaultExecutor, DefaultUcs2Executor, DefaultUtf16Executor,
 };
 use regress_exec::exec::Searcher;

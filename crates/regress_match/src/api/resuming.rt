@@ -7,7 +7,7 @@ ghost use Rattle.regress_match.specs.Refusals.{IsMemory};
 ghost use Rattle.regress_match.specs.Resuming.{GoesFrom};
 
 use crate::api::{Match, Regex, SearchError};
-use crate::backends::{
+use crate::executors::{
     DefaultExecutor, DefaultUcs2Executor, DefaultUtf16Executor, LimitedExecutor,
 };
 use regress_exec::exec::{MatchProducer, Searcher};

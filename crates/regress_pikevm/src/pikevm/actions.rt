@@ -10,17 +10,18 @@ ghost use Rattle.regress_machine.specs.Machine.{running, waiting, goes, asks, at
 ghost use Rattle.regress_pikevm.specs.Acting.{turn_at, turn_by, turn_again, turn_back};
 ghost use Rattle.regress_pikevm.specs.States.{state_of, loop_of, next_of};
 ghost use Rattle.regress_machine.specs.Turns.{opened, closed, reset, entered_at, CanTake, is_reader};
-ghost use Rattle.regress_exec.specs.Passing.{IsSpelledFor};
+ghost use Rattle.regress_scan.specs.Passing.{IsSpelledFor};
 
+use super::passing;
 use super::runs::{Run, scan};
 use super::states::{LoopData, State, Turn, copy_of};
-use regress_exec::reading::{self, stands_again};
 use regress_exec::searched::Searched;
 use regress_input::cursor::Direction;
 use regress_input::front::{CaptureGroupID, LoopID};
 use regress_input::indexing::InputIndexer;
 use regress_input::position::PositionType;
 use regress_program::insn::{Insn, LoopFields};
+use regress_scan::reading::stands_again;
 use std::alloc::AllocError;
 
 /// What the instruction at the state does.
@@ -116,7 +117,7 @@ fn read<Input: InputIndexer, Dir: Direction>(
     ensures { let s = searched.now in next_of Input.Position.offset result
         ≡ turn_by Input.Position.offset s.program.now (Input.text s.input) Dir.FORWARD insn state }
 {
-    if reading::passes(searched, insn, dir, &mut state.pos) {
+    if passing::passes(searched, insn, dir, &mut state.pos) {
         state.ip += 1;
         Turn::Go(state)
     } else {

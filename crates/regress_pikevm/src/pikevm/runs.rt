@@ -4,12 +4,12 @@ ghost use Rattle.std.specs.Prelude.{◌≡◌, ◌<◌, ◌^◌, ◌+◌, ℕ, I
 ghost use Rattle.regex_meaning.specs.Offsets.{IsBoundary};
 ghost use Rattle.regress_program.specs.Insns.{insn_of};
 ghost use Rattle.regress_machine.specs.Turns.{behind_at, CanTake};
-ghost use Rattle.regress_exec.specs.Passing.{IsSpelledFor, test_in};
+ghost use Rattle.regress_scan.specs.Passing.{IsSpelledFor, test_in};
 ghost use Rattle.regress_pikevm.specs.Acting.{turn_over, HasReached, HasKept};
 ghost use Rattle.regress_pikevm.specs.States.{state_of, next_of};
 
+use super::passing;
 use super::states::{State, Turn, copy_of};
-use regress_exec::reading;
 use regress_exec::searched::Searched;
 use regress_input::cursor::Direction;
 use regress_input::indexing::InputIndexer;
@@ -78,7 +78,7 @@ fn reached<Input: InputIndexer, Dir: Direction>(
         if count == run.max_iters {
             return Ok((count, states));
         }
-        if !reading::accepts_next(searched, body, dir, &mut at) {
+        if !passing::accepts_next(searched, body, dir, &mut at) {
             return Ok((count + 1, states));
         }
         count += 1;

@@ -17,7 +17,7 @@ use crate::emit::emitter::{Emitter, Mode};
 use regex_pattern_front::bytesearch::AsciiBitmap;
 use regex_pattern_front::codepointset::Interval;
 use regex_pattern_front::types::BracketContents;
-use regress_insn::insn::Insn;
+use regress_plan::insn::Insn;
 use std::alloc::AllocError;
 
 impl Emitter {

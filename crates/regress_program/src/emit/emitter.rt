@@ -16,7 +16,7 @@ use crate::emit::leaves::{anchor_insn, byte_set_insn, char_set_insn, word_bounda
 use regex_pattern_front::ir::{Node, Quantifier};
 use regex_pattern_front::optimizer::reads_one_character;
 use regex_pattern_front::types::{BracketContents, CaptureGroupID, LoopID};
-use regress_insn::insn::{Insn, LoopFields};
+use regress_plan::insn::{Insn, LoopFields};
 use std::alloc::{AllocError, Global};
 use std::ops::Range;
 

@@ -7,7 +7,7 @@ ghost use Rattle.regress_program.specs.Insns.{insn_of};
 
 use regex_pattern_front::bytesearch::ByteArraySet;
 use regex_pattern_front::ir::AnchorType;
-use regress_insn::insn::Insn;
+use regress_plan::insn::Insn;
 
 // One character of a set: its members, the first one again where there are fewer than four.
 pub(crate) fn char_set_insn(members: &[u32]) -> Insn

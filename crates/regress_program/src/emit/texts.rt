@@ -11,7 +11,7 @@ ghost use Rattle.regress_program.specs.Emitting.{IsEmitted, state_of, with_insn,
 use crate::emit::emitter::{Emitter, Mode};
 use crate::emit::leaves::spelling_insn;
 use regex_pattern_front::folding::expand_code_point;
-use regress_insn::insn::{Insn, MAX_BYTE_SEQ_LENGTH, byte_seq};
+use regress_plan::insn::{Insn, MAX_BYTE_SEQ_LENGTH, byte_seq};
 use std::alloc::AllocError;
 
 // How many chunks a byte sequence has.

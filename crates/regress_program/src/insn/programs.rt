@@ -12,7 +12,7 @@ use crate::carried::Carried;
 use crate::insn::names::GroupNames;
 use regex_pattern_front::flags::Flags;
 use regex_pattern_front::types::BracketContents;
-use regress_insn::insn::Insn;
+use regress_plan::insn::Insn;
 use regress_plan::keys::Units;
 use regress_plan::plan::{Code, Plan};
 use std::alloc::{AllocError, Global};

@@ -2,7 +2,7 @@ use Rattle.std.proofs.Common.{◌+◌, Some, sym, subst}
 use Rattle.std.specs.Prelude.{option_map}
 use Rattle.regex_pattern_front.specs.TreeOf.{tree_of}
 use Rattle.regress_exec.specs.Attempts.{IsNextTry}
-use Rattle.regress_scan.proofs.Allowing.{next-further}
+use Rattle.regress_backtrack.proofs.NextStarts.{next-further}
 use Rattle.regress_backtrack.proofs.InPlace.{can-be, search-planned, next-tree}
 use Rattle.regress_backtrack.proofs.classicalbacktrack.BacktrackExecutorAttempts.place_behind.Goals as goal
 

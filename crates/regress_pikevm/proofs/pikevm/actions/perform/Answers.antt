@@ -8,7 +8,7 @@ use Rattle.regress_program.specs.Insns.{insn_of}
 use Rattle.regress_machine.specs.Machine.{act_on, again_at, with_some, test_of, scan}
 use Rattle.regress_pikevm.specs.States.{state_of, next_of}
 use Rattle.regress_machine.specs.Turns.{CanTake}
-use Rattle.regress_exec.proofs.Literals.{literal-reads}
+use Rattle.regress_scan.proofs.Literals.{literal-reads}
 use Rattle.regress_machine.proofs.Fetched.{again-some, fetched-some}
 use Rattle.regress_pikevm.proofs.Fetching.{insn-behind, fits-behind}
 use Rattle.regress_pikevm.proofs.pikevm.actions.perform.Goals as goal

@@ -4,7 +4,7 @@ use Rattle.regress_input.specs.Reading.{led_to, heading}
 use Rattle.regress_program.specs.Code.{compiled}
 use Rattle.regress_program.specs.Insns.{insn_of}
 use Rattle.regress_pikevm.specs.States.{state_of}
-use Rattle.regress_exec.proofs.Passing.{turn-leads, turn-passes}
+use Rattle.regress_scan.proofs.Passing.{turn-leads, turn-passes}
 use Rattle.regress_pikevm.proofs.pikevm.actions.read.Goals as goal
 
 pub passes-requires-clause-can : goal.passes-requires-clause-can

@@ -3,7 +3,7 @@ use Rattle.regress_input.specs.Reading.{led_to, heading}
 use Rattle.regress_machine.specs.Machine.{read_group}
 use Rattle.regress_pikevm.specs.States.{range_of, state_of}
 use Rattle.regress_machine.specs.Turns.{CanTake}
-use Rattle.regress_exec.proofs.Readers.{nothing-read, group-read}
+use Rattle.regress_scan.proofs.Readers.{nothing-read, group-read}
 use Rattle.regress_pikevm.proofs.pikevm.actions.read_again.Goals as goal
 
 pub returns-in_default : goal.returns-in_default

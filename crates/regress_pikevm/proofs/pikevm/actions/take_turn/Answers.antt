@@ -7,7 +7,7 @@ use Rattle.regress_program.specs.Insns.{insn_of}
 use Rattle.regress_machine.specs.Machine.{act_on}
 use Rattle.regress_pikevm.specs.States.{state_of, next_of}
 use Rattle.regress_machine.specs.Turns.{CanTake}
-use Rattle.regress_exec.proofs.Literals.{literal-reads}
+use Rattle.regress_scan.proofs.Literals.{literal-reads}
 use Rattle.regress_pikevm.proofs.Fetching.{insn-here, fits-here}
 use Rattle.regress_pikevm.proofs.pikevm.actions.take_turn.Goals as goal
 

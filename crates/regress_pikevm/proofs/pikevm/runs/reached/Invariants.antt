@@ -6,7 +6,7 @@ use Rattle.regress_program.specs.Code.{compiled}
 use Rattle.regress_program.specs.Insns.{insn_of}
 use Rattle.regress_machine.specs.Machine.{test_of}
 use Rattle.regress_pikevm.specs.States.{state_of}
-use Rattle.regress_exec.proofs.Reach.{IsReaching}
+use Rattle.regress_scan.proofs.Reach.{IsReaching}
 use Rattle.regress_pikevm.proofs.pikevm.runs.reached.Given as goal
 
 abbrev pub invariant-characters : goal.invariant-characters

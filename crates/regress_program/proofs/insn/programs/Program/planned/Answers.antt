@@ -2,7 +2,7 @@ use Rattle.std.proofs.Common.{List, length, ap, arith}
 use Rattle.std.proofs.lemmas.List.{length-map}
 use Rattle.regex_meaning.specs.Layout.{Insn}
 use Rattle.regex_pattern_front.specs.TreeOf.{tree_of}
-use Rattle.regress_insn.specs.Insns.{insn_of}
+use Rattle.regress_plan.specs.Insns.{insn_of}
 use Rattle.regress_program.proofs.CodeLemmas.{compiled-length}
 use Rattle.regress_program.proofs.insn.programs.Program.planned.Goals as goal
 

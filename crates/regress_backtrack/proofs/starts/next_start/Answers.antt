@@ -1,5 +1,5 @@
-use Rattle.regress_scan.proofs.Allowing.{first-tried}
-use Rattle.regress_scan.proofs.starts.next_start.Goals as goal
+use Rattle.regress_backtrack.proofs.NextStarts.{first-tried}
+use Rattle.regress_backtrack.proofs.starts.next_start.Goals as goal
 
 pub returns-clause-next : goal.returns-clause-next
 returns-clause-next g c =

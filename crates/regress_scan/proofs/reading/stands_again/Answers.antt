@@ -1,8 +1,8 @@
 use Rattle.std.proofs.Common.{◌<◌, ap, sym, ◌∙◌, arith}
 use Rattle.regress_input.specs.Reading.{heading, past_spelled, characters_between}
-use Rattle.regress_exec.specs.Passing.{same_as}
-use Rattle.regress_exec.proofs.Readers.{nothing-again, none-between, spelled-plain}
-use Rattle.regress_exec.proofs.reading.stands_again.Goals as goal
+use Rattle.regress_scan.specs.Passing.{same_as}
+use Rattle.regress_scan.proofs.Readers.{nothing-again, none-between, spelled-plain}
+use Rattle.regress_scan.proofs.reading.stands_again.Goals as goal
 
 pub returns-then-pos_to_offset : goal.returns-then-pos_to_offset
 returns-then-pos_to_offset g c =

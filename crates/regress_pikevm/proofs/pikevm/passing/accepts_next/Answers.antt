@@ -1,7 +1,7 @@
 use Rattle.std.proofs.Common.{ap, sym, ◌∙◌, option_map}
 use Rattle.regress_input.specs.Reading.{heading}
-use Rattle.regress_exec.proofs.Readers.{read-scalar}
-use Rattle.regress_exec.proofs.reading.accepts_next.Goals as goal
+use Rattle.regress_scan.proofs.Readers.{read-scalar}
+use Rattle.regress_pikevm.proofs.pikevm.passing.accepts_next.Goals as goal
 
 pub accepts-requires-clause-scalar : goal.accepts-requires-clause-scalar
 accepts-requires-clause-scalar g c = λ literal.

@@ -1,22 +1,21 @@
 //! Instructions that only read the text, or look at what stands beside a position.
 
-ghost use Rattle.std.specs.Prelude.{◌≡◌, ◌≤◌, IsTrue, IsSome, Some, option_map, nat_eq, encode_utf8_all, [], ◌∷◌};
+ghost use Rattle.std.specs.Prelude.{◌≡◌, IsTrue, IsSome, Some, option_map, nat_eq, encode_utf8_all, [], ◌∷◌};
 ghost use lib.Pointwise.{pointwise};
 ghost use Rattle.regex_meaning.specs.Text.{is_scalar, is_word_char};
 ghost use Rattle.regex_meaning.specs.Tree.{start_of_line, end_of_line};
 ghost use Rattle.regex_meaning.specs.Outcomes.{anchor_holds, is_at_word_boundary, is_edge, is_some_and, differ};
-ghost use Rattle.regex_meaning.specs.Offsets.{IsBoundary, units};
+ghost use Rattle.regex_meaning.specs.Offsets.{IsBoundary};
 ghost use Rattle.regex_meaning.specs.Layout.{ByteSeq, Bracket};
 ghost use Rattle.regex_pattern_front.specs.TreeOf.{tree_of};
 ghost use Rattle.regress_input.specs.Reading.{led_to, place};
 ghost use Rattle.regress_program.specs.Code.{compiled};
 ghost use Rattle.regress_program.specs.Insns.{insn_of};
 ghost use Rattle.regress_machine.specs.Machine.{test_of};
-ghost use Rattle.regress_exec.specs.Passing.{IsSpelledFor, HasPassed, led_by, past_accepted, past_again, test_in};
+ghost use Rattle.regress_scan.specs.Passing.{past_again, test_in};
 ghost use Rattle.regress_machine.specs.Turns.{is_literal};
 
-use crate::searched::Searched;
-use regress_input::cursor::{self, Direction};
+use regress_input::cursor::Direction;
 use regress_input::front::ByteSet;
 use regress_input::indexing::{CharProperties, ElementType, InputIndexer};
 use regress_input::matchers;
@@ -25,9 +24,9 @@ use regress_program::insn::{Insn, Program};
 
 // ---- One character
 
-// The bytes of an instruction that has some.
+/// The bytes of an instruction that has some.
 #[inline(always)]
-fn literal(insn: &Insn) -> &[u8]
+pub fn literal(insn: &Insn) -> &[u8]
     requires { IsTrue (is_literal (insn_of insn.now)) }
     ensures { insn_of insn.now ≡ ByteSeq result.now }
 {
@@ -82,46 +81,6 @@ pub fn accepts<Input: InputIndexer>(insn: Insn, program: &Program, c: Input::Ele
         Insn::MatchAnyExceptLineTerminator => !Input::CharProps::is_line_terminator(c),
         _ => spells(code, literal(&insn)),
     }
-}
-
-/// Whether the next character in the direction is accepted by the instruction, which reads one. Then the position is
-/// past it, and else it is not specified.
-#[inline(always)]
-pub fn accepts_next<Input: InputIndexer, Dir: Direction>(
-    searched: &Searched<'_, Input>,
-    insn: Insn,
-    dir: Dir,
-    pos: &mut Input::Position,
-) -> bool
-    requires test { IsSome (test_in searched.now.program.now insn) }
-    requires at { IsBoundary (Input.text searched.now.input) (Input.Position.offset pos.old) }
-    requires bytes { IsSpelledFor insn (Input.text searched.now.input) Input.Units.ARE_BYTES }
-    ensures { let s = searched.now in let at = Input.Position.offset in
-        HasPassed (Input.text s.input) Dir.FORWARD s.program.now insn (at pos.old) result (at pos.new) }
-{
-    match cursor::next(&searched.input, dir, pos) {
-        Some(c) => accepts::<Input>(insn, searched.program, c),
-        None => false,
-    }
-}
-
-// The same at what may be no boundary, or for an instruction that may read none: then it is not asked.
-#[inline(always)]
-fn reads_one<Input: InputIndexer, Dir: Direction>(
-    searched: &Searched<'_, Input>,
-    insn: Insn,
-    dir: Dir,
-    pos: &mut Input::Position,
-) -> bool
-    requires can { let s = searched.now in
-        IsSome (past_accepted (Input.text s.input) Dir.FORWARD
-        s.program.now insn (Input.Position.offset pos.old)) }
-    requires bytes { IsSpelledFor insn (Input.text searched.now.input) Input.Units.ARE_BYTES }
-    ensures { let s = searched.now in let at = Input.Position.offset in
-        Some (led_to result (at pos.new))
-        ≡ past_accepted (Input.text s.input) Dir.FORWARD s.program.now insn (at pos.old) }
-{
-    accepts_next(searched, insn, dir, pos)
 }
 
 // ---- Places
@@ -202,25 +161,6 @@ pub fn at_word_boundary<Input: InputIndexer>(
 
 // ---- More than one character
 
-// Whether the bytes of the instruction stand on the direction's side of any offset. Then the position is behind them,
-// and else it is not specified.
-#[inline(always)]
-fn reads_literal<Input: InputIndexer, Dir: Direction>(
-    searched: &Searched<'_, Input>,
-    insn: Insn,
-    dir: Dir,
-    pos: &mut Input::Position,
-) -> bool
-    requires literal { IsTrue (is_literal (insn_of insn)) }
-    requires bytes { IsSpelledFor insn (Input.text searched.now.input) Input.Units.ARE_BYTES }
-    requires inside { Input.Position.offset pos.old ≤ units (Input.text searched.now.input) }
-    ensures { let s = searched.now in let at = Input.Position.offset in
-        Some (led_to result (at pos.new))
-        ≡ led_by s.program.now (Input.text s.input) Dir.FORWARD insn (at pos.old) }
-{
-    searched.input.match_bytes(dir, pos, literal(&insn))
-}
-
 /// Whether the characters between two boundaries stand once more on the direction's side. Then the position is behind
 /// them, and else it is not specified. There are none where the second boundary is the first one or before it.
 #[inline(always)]
@@ -245,45 +185,5 @@ pub fn stands_again<Input: InputIndexer, Dir: Direction>(
         matchers::backref_icase(input, dir, start..end, pos)
     } else {
         matchers::backref(input, dir, start..end, pos)
-    }
-}
-
-// ---- All of them
-
-/// Whether an instruction that only reads or looks holds at a position. Then the position is where it leads, and else
-/// it is not specified.
-#[inline(always)]
-pub fn passes<Input: InputIndexer, Dir: Direction>(
-    searched: &Searched<'_, Input>,
-    insn: Insn,
-    dir: Dir,
-    pos: &mut Input::Position,
-) -> bool
-    requires can { let s = searched.now in
-        IsSome (led_by s.program.now (Input.text s.input)
-        Dir.FORWARD insn (Input.Position.offset pos.old)) }
-    requires bytes { IsSpelledFor insn (Input.text searched.now.input) Input.Units.ARE_BYTES }
-    requires inside { Input.Position.offset pos.old ≤ units (Input.text searched.now.input) }
-    ensures { let s = searched.now in let at = Input.Position.offset in
-        Some (led_to result (at pos.new))
-        ≡ led_by s.program.now (Input.text s.input) Dir.FORWARD insn (at pos.old) }
-{
-    let input = &searched.input;
-    match insn {
-        Insn::StartOfLine { multiline } => at_line_start(input, multiline, *pos),
-        Insn::EndOfLine { multiline } => at_line_end(input, multiline, *pos),
-        Insn::WordBoundary { invert } => at_word_boundary(input, invert, false, *pos),
-        Insn::WordBoundaryUnicodeICase { invert } => at_word_boundary(input, invert, true, *pos),
-        Insn::JustFail => false,
-        Insn::Char(_) => reads_one(searched, insn, dir, pos),
-        Insn::CharSet(_) => reads_one(searched, insn, dir, pos),
-        Insn::ByteSet2(_) => reads_one(searched, insn, dir, pos),
-        Insn::ByteSet3(_) => reads_one(searched, insn, dir, pos),
-        Insn::ByteSet4(_) => reads_one(searched, insn, dir, pos),
-        Insn::AsciiBracket(_) => reads_one(searched, insn, dir, pos),
-        Insn::Bracket(_) => reads_one(searched, insn, dir, pos),
-        Insn::MatchAny => reads_one(searched, insn, dir, pos),
-        Insn::MatchAnyExceptLineTerminator => reads_one(searched, insn, dir, pos),
-        _ => reads_literal(searched, insn, dir, pos),
     }
 }

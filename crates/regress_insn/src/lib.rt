@@ -1,4 +1,0 @@
-//! The instructions of programs.
-#![tactic(auto)]
-
-pub mod insn;

@@ -47,37 +47,29 @@ module _ {A : Type 0} (own : Node → A) where
     gathered-optimized (loop_1_char_body q loopee) = rw (keeps (loop_1_char_body q loopee), gathered-optimized loopee)
     gathered-optimized _ = refl
 
-own_goals-optimized : (n : Node) → own_goals (optimized n) ≡ own_goals n
+own-optimized : (n : Node)
+    → (own_goals (optimized n) ≡ own_goals n) × (own_id (optimized n) ≡ own_id n) × (own_name (optimized n) ≡ own_name n)
+    × (is_of_bytes (optimized n) ≡ is_of_bytes n)
 unfolding optimized
-own_goals-optimized (loop q s e loopee) = loop-keeps own_goals q s e loopee refl refl
-own_goals-optimized _ = refl
+own-optimized (loop q s e loopee) = (
+  loop-keeps own_goals q s e loopee refl refl,
+  loop-keeps own_id q s e loopee refl refl,
+  loop-keeps own_name q s e loopee refl refl,
+  loop-keeps is_of_bytes q s e loopee refl refl,
+)
+own-optimized _ = (refl, refl, refl, refl)
 
 goal_count-optimized : (n : Node) → goal_count (optimized n) ≡ goal_count n
-goal_count-optimized = gathered-optimized own_goals ◌+◌ own_goals-optimized
-
-own_id-optimized : (n : Node) → own_id (optimized n) ≡ own_id n
-unfolding optimized
-own_id-optimized (loop q s e loopee) = loop-keeps own_id q s e loopee refl refl
-own_id-optimized _ = refl
+goal_count-optimized = gathered-optimized own_goals ◌+◌ (λ n. (own-optimized n).0)
 
 pub group_ids-optimized : (n : Node) → group_ids (optimized n) ≡ group_ids n
-group_ids-optimized = gathered-optimized own_id ◌++◌ own_id-optimized
-
-own_name-optimized : (n : Node) → own_name (optimized n) ≡ own_name n
-unfolding optimized
-own_name-optimized (loop q s e loopee) = loop-keeps own_name q s e loopee refl refl
-own_name-optimized _ = refl
+group_ids-optimized = gathered-optimized own_id ◌++◌ (λ n. (own-optimized n).1)
 
 pub named_ids-optimized : (n : Node) → named_ids (optimized n) ≡ named_ids n
-named_ids-optimized = gathered-optimized own_name ◌++◌ own_name-optimized
-
-is_of_bytes-optimized : (n : Node) → is_of_bytes (optimized n) ≡ is_of_bytes n
-unfolding optimized
-is_of_bytes-optimized (loop q s e loopee) = loop-keeps is_of_bytes q s e loopee refl refl
-is_of_bytes-optimized _ = refl
+named_ids-optimized = gathered-optimized own_name ◌++◌ (λ n. (own-optimized n).2)
 
 pub reads_bytes-optimized : (n : Node) → reads_bytes (optimized n) ≡ reads_bytes n
-reads_bytes-optimized = gathered-optimized is_of_bytes ◌||◌ is_of_bytes-optimized
+reads_bytes-optimized = gathered-optimized is_of_bytes ◌||◌ (λ n. (own-optimized n).3)
 
 names_by_id-optimized : (n : Node) → names_by_id (optimized n) ≡ names_by_id n
 names_by_id-optimized n = ap by_id (named_ids-optimized n)

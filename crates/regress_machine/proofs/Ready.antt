@@ -193,48 +193,39 @@ of_left test node a b holds h = and-right (test node) (every test a) (and-left (
 of_right : (test : Node → Bool) (node a b : Node) → Holds node a b → every test node ≡ true → every test b ≡ true
 of_right test node a b holds h = and-right (test node && every test a) (every test b) (sym (holds test) ∙ h)
 
+-- of a node inside another one
+sound_part : (text : Text) (n : ℕ) (node a : Node) → ((test : Node → Bool) → every test node ≡ true → every test a ≡ true)
+    → (reads_bytes a ≡ true → reads_bytes node ≡ true) → AllBelow n (group_ids a) → Distinct (group_ids a) → Sound text n node → Sound text n a
+sound_part text n node a holds reads below distinct s = record {
+  names = holds names_the_groups_inside s.names;
+  refers = holds (refers_to_a_group n) s.refers;
+  bodies = holds has_one_character_body s.bodies;
+  sequences = holds has_text_in_sequence s.sequences;
+  sets = holds fits_instructions s.sets;
+  bytes = λ h. s.bytes (reads h);
+  below = below;
+  distinct = distinct;
+}
+
 sound_left : (text : Text) (n : ℕ) (node a b : Node) → Holds node a b → group_ids node ≡ group_ids a ++ group_ids b
     → reads_bytes node ≡ (reads_bytes a || reads_bytes b) → Sound text n node → Sound text n a
-sound_left text n node a b holds ids reads s = record {
-  names = of_left names_the_groups_inside node a b holds s.names;
-  refers = of_left (refers_to_a_group n) node a b holds s.refers;
-  bodies = of_left has_one_character_body node a b holds s.bodies;
-  sequences = of_left has_text_in_sequence node a b holds s.sequences;
-  sets = of_left fits_instructions node a b holds s.sets;
-  bytes = λ h. s.bytes (reads ∙ or_left (reads_bytes a) (reads_bytes b) h);
-  below = λ id h. s.below id (ap (λ (l : List ℕ). contains l id) ids ∙ contains-left (group_ids a) (group_ids b) id h);
-  distinct = distinct-left (group_ids a) (group_ids b) (subst Distinct ids s.distinct);
-}
+sound_left text n node a b holds ids reads s =
+    sound_part text n node a (λ test. of_left test node a b holds) (λ h. reads ∙ or_left (reads_bytes a) (reads_bytes b) h)
+    (λ id h. s.below id (ap (λ (l : List ℕ). contains l id) ids ∙ contains-left (group_ids a) (group_ids b) id h))
+    (distinct-left (group_ids a) (group_ids b) (subst Distinct ids s.distinct)) s
 
 sound_right : (text : Text) (n : ℕ) (node a b : Node) → Holds node a b → group_ids node ≡ group_ids a ++ group_ids b
     → reads_bytes node ≡ (reads_bytes a || reads_bytes b) → Sound text n node → Sound text n b
-sound_right text n node a b holds ids reads s = record {
-  names = of_right names_the_groups_inside node a b holds s.names;
-  refers = of_right (refers_to_a_group n) node a b holds s.refers;
-  bodies = of_right has_one_character_body node a b holds s.bodies;
-  sequences = of_right has_text_in_sequence node a b holds s.sequences;
-  sets = of_right fits_instructions node a b holds s.sets;
-  bytes = λ h. s.bytes (reads ∙ or_right (reads_bytes a) (reads_bytes b) h);
-  below = λ id h. s.below id (ap (λ (l : List ℕ). contains l id) ids ∙ contains-right (group_ids a) (group_ids b) id h);
-  distinct = distinct-right (group_ids a) (group_ids b) (subst Distinct ids s.distinct);
-}
+sound_right text n node a b holds ids reads s =
+    sound_part text n node b (λ test. of_right test node a b holds) (λ h. reads ∙ or_right (reads_bytes a) (reads_bytes b) h)
+    (λ id h. s.below id (ap (λ (l : List ℕ). contains l id) ids ∙ contains-right (group_ids a) (group_ids b) id h))
+    (distinct-right (group_ids a) (group_ids b) (subst Distinct ids s.distinct)) s
 
 -- of a node that holds one other
 sound_inside : (text : Text) (n : ℕ) (node a : Node) → ((test : Node → Bool) → every test node ≡ (test node && every test a))
     → reads_bytes node ≡ reads_bytes a → AllBelow n (group_ids a) → Distinct (group_ids a) → Sound text n node → Sound text n a
-sound_inside text n node a holds reads below distinct s = record {
-  names = inside names_the_groups_inside s.names;
-  refers = inside (refers_to_a_group n) s.refers;
-  bodies = inside has_one_character_body s.bodies;
-  sequences = inside has_text_in_sequence s.sequences;
-  sets = inside fits_instructions s.sets;
-  bytes = λ h. s.bytes (reads ∙ h);
-  below = below;
-  distinct = distinct;
-}
-  where
-    inside : (test : Node → Bool) → every test node ≡ true → every test a ≡ true
-    inside test h = and-right (test node) (every test a) (sym (holds test) ∙ h)
+sound_inside text n node a holds reads below distinct s =
+    sound_part text n node a (λ test h. and-right (test node) (every test a) (sym (holds test) ∙ h)) (λ h. reads ∙ h) below distinct s
 
 below_named : (first end n : ℕ) (contents : Node) → encloses first end contents ≡ true → AllBelow n (group_ids contents) → AreBelow first (end - first) n
 below_named first end n contents h below i le less =

@@ -14,33 +14,32 @@ use Rattle.regex_pattern_front.specs.ClassReads.{closing, with_same_fold}
 
 -- ---- Letters
 
+-- one of these letters is moved, and any other number stays
+abbrev Moves : (first last d moved there : ℕ) → Type 0
+Moves first last d moved there = ((first ≤ d) × (d ≤ last) × (there ≡ moved)) ⊎ (((d < first) ⊎ (last < d)) × (there ≡ d))
+
+moves : (first last d moved : ℕ) → Moves first last d moved (if is_in_range first last d then moved else d)
+moves first last d moved =
+    elim (cases_lt d first) [
+      | inl low ↦ inr (inl low, rw (lt-leb first d low) refl)
+      | inr h ↦
+          elim (cases_lt last d) [
+            | inl high ↦ inr (inr high, rw (le-leb first d h, lt-leb d last high) refl)
+            | inr k ↦ inl (h, k, rw (le-leb first d h, le-leb d last k) refl)
+          ]
+    ]
+
 abbrev UpperCases : ℕ → Type 0
-UpperCases d = ((97 ≤ d) × (d ≤ 122) × (to_uppercase d ≡ d - 32)) ⊎ (((d < 97) ⊎ (122 < d)) × (to_uppercase d ≡ d))
+UpperCases d = Moves 97 122 d (d - 32) (to_uppercase d)
 
 abbrev LowerCases : ℕ → Type 0
-LowerCases d = ((65 ≤ d) × (d ≤ 90) × (to_lowercase d ≡ d + 32)) ⊎ (((d < 65) ⊎ (90 < d)) × (to_lowercase d ≡ d))
+LowerCases d = Moves 65 90 d (d + 32) (to_lowercase d)
 
 pub upper_cases : (d : ℕ) → UpperCases d
-upper_cases d =
-    elim (cases_lt d 97) [
-      | inl low ↦ inr (inl low, rw (lt-leb 97 d low) refl)
-      | inr h ↦
-          elim (cases_lt 122 d) [
-            | inl high ↦ inr (inr high, rw (le-leb 97 d h, lt-leb d 122 high) refl)
-            | inr k ↦ inl (h, k, rw (le-leb 97 d h, le-leb d 122 k) refl)
-          ]
-    ]
+upper_cases d = moves 97 122 d (d - 32)
 
 pub lower_cases : (d : ℕ) → LowerCases d
-lower_cases d =
-    elim (cases_lt d 65) [
-      | inl low ↦ inr (inl low, rw (lt-leb 65 d low) refl)
-      | inr h ↦
-          elim (cases_lt 90 d) [
-            | inl high ↦ inr (inr high, rw (le-leb 65 d h, lt-leb d 90 high) refl)
-            | inr k ↦ inl (h, k, rw (le-leb 65 d h, le-leb d 90 k) refl)
-          ]
-    ]
+lower_cases d = moves 65 90 d (d + 32)
 
 -- without `unicode` a fold is no lowercase letter
 AnUpper : ℕ → Type 0

@@ -6,7 +6,7 @@ use Rattle.std.proofs.lemmas.List.Folds.{list_any-append}
 use Rattle.std.specs.Prelude.{count_by, ◌&&◌, ◌||◌, ◌==◌, if◌then◌else◌, IsTrue}
 use Rattle.std.specs.List.{list_all}
 use Rattle.regex_meaning.specs.Lists.{contains, numbers_from}
-use Rattle.regex_meaning.specs.Tree.{Node, empty, goal, char, char_set, byte_set, byte_sequence, cat, end_of_cat, alt, bracket, string_set, match_any, match_any_except_line_terminator, anchor, word_boundary, capture_group, back_ref, lookaround, loop, loop_1_char_body, group_ids, every}
+use Rattle.regex_meaning.specs.Tree.{Node, char, char_set, byte_set, byte_sequence, cat, alt, bracket, match_any, match_any_except_line_terminator, capture_group, back_ref, lookaround, loop, loop_1_char_body, group_ids, every}
 use Rattle.regex_meaning.specs.Text.{Text}
 use Rattle.regex_meaning.specs.WellFormed.{IsWellFormed, encloses, names_the_groups_inside, refers_to_a_group, is_one_character, has_one_character_body, has_text_in_sequence, fits_instructions}
 use Rattle.regex_meaning.proofs.WellFormedLemmas.{clauses}
@@ -207,19 +207,20 @@ sound_part text n node a holds reads below distinct s = record {
   distinct = distinct;
 }
 
-sound_left : (text : Text) (n : ℕ) (node a b : Node) → Holds node a b → group_ids node ≡ group_ids a ++ group_ids b
-    → reads_bytes node ≡ (reads_bytes a || reads_bytes b) → Sound text n node → Sound text n a
-sound_left text n node a b holds ids reads s =
-    sound_part text n node a (λ test. of_left test node a b holds) (λ h. reads ∙ or_left (reads_bytes a) (reads_bytes b) h)
-    (λ id h. s.below id (ap (λ (l : List ℕ). contains l id) ids ∙ contains-left (group_ids a) (group_ids b) id h))
-    (distinct-left (group_ids a) (group_ids b) (subst Distinct ids s.distinct)) s
+-- of one that holds two, each
+module _ (text : Text) (n : ℕ) (node a b : Node) (holds : Holds node a b) (ids : group_ids node ≡ group_ids a ++ group_ids b)
+    (reads : reads_bytes node ≡ (reads_bytes a || reads_bytes b)) (s : Sound text n node) where
+  sound_left : Sound text n a
+  sound_left =
+      sound_part text n node a (λ test. of_left test node a b holds) (λ h. reads ∙ or_left (reads_bytes a) (reads_bytes b) h)
+      (λ id h. s.below id (ap (λ (l : List ℕ). contains l id) ids ∙ contains-left (group_ids a) (group_ids b) id h))
+      (distinct-left (group_ids a) (group_ids b) (subst Distinct ids s.distinct)) s
 
-sound_right : (text : Text) (n : ℕ) (node a b : Node) → Holds node a b → group_ids node ≡ group_ids a ++ group_ids b
-    → reads_bytes node ≡ (reads_bytes a || reads_bytes b) → Sound text n node → Sound text n b
-sound_right text n node a b holds ids reads s =
-    sound_part text n node b (λ test. of_right test node a b holds) (λ h. reads ∙ or_right (reads_bytes a) (reads_bytes b) h)
-    (λ id h. s.below id (ap (λ (l : List ℕ). contains l id) ids ∙ contains-right (group_ids a) (group_ids b) id h))
-    (distinct-right (group_ids a) (group_ids b) (subst Distinct ids s.distinct)) s
+  sound_right : Sound text n b
+  sound_right =
+      sound_part text n node b (λ test. of_right test node a b holds) (λ h. reads ∙ or_right (reads_bytes a) (reads_bytes b) h)
+      (λ id h. s.below id (ap (λ (l : List ℕ). contains l id) ids ∙ contains-right (group_ids a) (group_ids b) id h))
+      (distinct-right (group_ids a) (group_ids b) (subst Distinct ids s.distinct)) s
 
 -- of a node that holds one other
 sound_inside : (text : Text) (n : ℕ) (node a : Node) → ((test : Node → Bool) → every test node ≡ (test node && every test a))
@@ -250,27 +251,16 @@ of_one test _ one h = cc
 
 module _ (text : Text) (n : ℕ) where
   pub ready : (node : Node) → Sound text n node → Ready text n node
-  ready empty s = tt
-  ready goal s = tt
-  ready (char c) s = tt
-  ready (char_set members) s = tt
   ready (byte_set members) s = (s.bytes refl, s.sets)
   ready (byte_sequence bytes) s = (s.bytes refl, s.sequences)
   ready (cat first rest) s = (
     ready first (sound_left text n (cat first rest) first rest (λ test. refl) refl refl s),
     ready rest (sound_right text n (cat first rest) first rest (λ test. refl) refl refl s),
   )
-  ready end_of_cat s = tt
   ready (alt left right) s = (
     ready left (sound_left text n (alt left right) left right (λ test. refl) refl refl s),
     ready right (sound_right text n (alt left right) left right (λ test. refl) refl refl s),
   )
-  ready (bracket contents) s = tt
-  ready (string_set strings icase) s = tt
-  ready match_any s = tt
-  ready match_any_except_line_terminator s = tt
-  ready (anchor type multiline) s = tt
-  ready (word_boundary invert unicode_icase) s = tt
   ready (capture_group id name contents) s = (
     s.below id (or_left (nat_eq id id) (contains (group_ids contents) id) (eq-eqb id id refl)),
     s.distinct.0,
@@ -292,6 +282,7 @@ module _ (text : Text) (n : ℕ) where
         s.bytes,
         ready loopee inside,
       )
+  ready _ s = tt
 
 pub root_ready : (text : Text) (root : Node) → IsWellFormed root → (IsTrue (reads_bytes root) → ReadsBytes text) → Ready text (length (group_ids root)) root
 root_ready text root well_formed bytes =

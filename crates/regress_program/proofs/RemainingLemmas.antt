@@ -281,3 +281,15 @@ pub row-sets : (first : ir.Node) (others nodes : List ir.Node) → nodes ≡ fir
 row-sets first others nodes is sets =
     let both : (every fits_instructions (node_of first) && every fits_instructions (cat_of others)) ≡ true = ap (λ x. every fits_instructions (cat_of x)) (sym is) ∙ sets in
     (and-left _ _ both, and-right _ _ both)
+
+-- ---- What comes as a whole
+
+pub put-whole : (r : Rest) (rest : List Rest) (s t : State) → t ≡ with_left r s → 1 ≤ load_of r
+    → HasBegun (with_left r) (load_of r) (record { state = s; rest = rest }) (record { state = t; rest = rest })
+put-whole r rest s t is some = begun-whole (with_left r) (load_of r) rest s t is (rw is (grows-left r s)) some
+
+pub jump-room : (place : ℕ) (s : State) → Fits (with_jump place s) → length s.insns < 2 ^ 32
+jump-room place s f = omega (arith, f.insns, length-set s.insns place (Jump (length s.insns)))
+
+pub end-room : (place : ℕ) (x y : Insn) (s : State) → Fits (with_insn_at place y (with_insn x s)) → length s.insns + 1 < 2 ^ 32
+end-room place x y s f = omega (arith, f.insns, length-set (with_insn x s).insns place y, length-append s.insns (x ∷ []))

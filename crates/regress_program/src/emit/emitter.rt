@@ -164,7 +164,11 @@ impl Emitter {
     }
 
     // The clearing of the groups from the first up to the end, which is not counted in.
-    pub(crate) fn put_resets(&mut self, start: CaptureGroupID, end: CaptureGroupID) -> Result<(), AllocError>
+    pub(crate) fn put_resets(
+        &mut self,
+        start: CaptureGroupID,
+        end: CaptureGroupID,
+    ) -> Result<(), AllocError>
         ensures { OnOk result (state_of self.new ≡ with_insns (resets start end) (state_of self.old)) }
     {
         for id in start..end {

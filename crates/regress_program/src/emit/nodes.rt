@@ -50,11 +50,7 @@ impl Emitter {
     }
 
     // What comes next of what is left, or its beginning: then what of it is left comes before the rest.
-    fn put_next<'a>(
-        &mut self,
-        next: Rest<'a>,
-        rest: &mut Vec<Rest<'a>>,
-    ) -> Result<(), AllocError>
+    fn put_next<'a>(&mut self, next: Rest<'a>, rest: &mut Vec<Rest<'a>>) -> Result<(), AllocError>
         requires { CanPut next (state_of self.old) }
         ensures { OnOk result (HasPut next.entry (work self.old rest.old) (work self.new rest.new)) }
     {
@@ -286,11 +282,7 @@ impl Emitter {
 }
 
 // The first node of a row, and those behind it.
-fn begin_row<'a>(
-    mode: Mode,
-    nodes: &'a [Node],
-    rest: &mut Vec<Rest<'a>>,
-) -> Result<(), AllocError>
+fn begin_row<'a>(mode: Mode, nodes: &'a [Node], rest: &mut Vec<Rest<'a>>) -> Result<(), AllocError>
     requires sets { IsTrue (every fits_instructions (cat_of nodes.now)) }
     ensures { OnOk result (SplitsRow mode nodes.now rest.old.items rest.new.items) }
 {

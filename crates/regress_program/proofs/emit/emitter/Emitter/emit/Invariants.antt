@@ -5,7 +5,7 @@ use Rattle.regress_program.proofs.emit.emitter.Emitter.emit.Given as goal
 
 abbrev pub invariant-loop-next : goal.invariant-loop-next
 invariant-loop-next l = record {
-  code : with_all l.rest.items (state_of l.self) ≡ with_code l.mode.unicode l.mode.behind (shaped_in l.mode l.node) (state_of l.initial.self);
+  code : with_all l.rest.items (state_of l.self) ≡ with_code l.fn.mode.unicode l.fn.mode.behind (shaped_in l.fn.mode l.fn.node) (state_of l.fn.self);
   ready : are_ready (length (state_of l.self).insns) l.rest.items ≡ true;
 }
 

@@ -21,3 +21,5 @@ mod predicates;
 mod rows;
 #[cfg(test)]
 mod table;
+#[cfg(test)]
+mod verdicts;

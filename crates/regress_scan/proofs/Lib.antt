@@ -1,6 +1,7 @@
 pub mod Advancing
 pub mod Allowing
 pub mod Choosing
+pub mod Verdicts
 pub mod StopSets
 pub mod Behind
 pub mod FurtherPlaces

@@ -2,7 +2,7 @@
 //! group matched.
 //!
 //! Such a pattern has no match in a line where it has none in a text with this line, so that texts are searched first.
-#![tactic(auto, unfolding(regex_pattern_front::specs::TreeOf::node_of, regress_program::proofs::Weights::weight))]
+#![tactic(auto, unfolding(regex_pattern_front::specs::TreeOf::node_of, regress_program::specs::Weights::weight))]
 
 ghost use Rattle.std.specs.Prelude.{◌≡◌, IfOk, IsTrue, chars};
 ghost use Rattle.regex_pattern_front.specs.TreeOf.{node_of};

@@ -1,5 +1,5 @@
 -- What is still to be put behind a program that is being made.
-use Rattle.std.proofs.Common.{◌≡◌, ℕ, ◌+◌, ◌*◌, ◌-◌, ◌<◌, ◌≤◌, ◌^◌, Bool, true, false, ◌&&◌, List, [], ◌∷◌, ◌++◌, length, refl, sym, ap, ◌∙◌, arith, length-append, length-set, le_refl}
+use Rattle.std.proofs.Common.{◌≡◌, ℕ, ◌+◌, ◌*◌, ◌-◌, ◌<◌, ◌≤◌, ◌^◌, Bool, true, ◌&&◌, List, [], ◌∷◌, ◌++◌, length, refl, sym, ap, ◌∙◌, arith, length-append, length-set, le_refl}
 use Rattle.std.specs.Prelude.{nat_lt}
 use Rattle.std.proofs.lemmas.Bool.{and_from, lt-ltb, ltb-true}
 use Rattle.regex_meaning.specs.Tree.{Quantifier, Lookaround, Node as TreeNode, alt, lookaround, loop, every}
@@ -10,13 +10,14 @@ use Rattle.regress_plan.specs.declared.insn.LoopFields.{LoopFields}
 use Rattle.regex_pattern_front.specs.TreeOf.{node_of}
 use Rattle.regex_pattern_front.specs.declared.ir.Node as ir
 use Rattle.regress_program.specs.Weights.{weight}
-use Rattle.regress_program.specs.Code.{size, loop_count, resets}
-use Rattle.regress_program.specs.Emitting.{State, HasRoom, lookaround_of, shaped, with_code, with_insn, with_insns, with_insn_at, with_loop}
-use Rattle.regress_program.specs.Nodes.{cat_of}
+use Rattle.regress_program.specs.Code.{resets}
+use Rattle.regress_program.specs.Emitting.{State, HasRoom, shaped, with_code, with_insn, with_insns, with_insn_at, with_loop}
+use Rattle.regress_program.specs.Nodes.{cat_of, is_leaf}
 use Rattle.regress_program.specs.Remaining.{Work, Fits, CanPut, HasBegun, with_arm_end, with_jump, with_others, with_lookaround_end, with_loop_end, with_left, with_all, is_ready, are_ready, load, load_of, load_of_all}
 use Rattle.regress_program.specs.declared.emit.nodes.Rest.{Rest}
 use Rattle.regress_program.specs.declared.emit.nodes.Rest.TheVariants.{Node, Row, Others, Jump as JumpLeft, GroupEnd, LookaroundEnd, LoopEnd}
-use Rattle.regress_program.proofs.EmitLemmas.{length-with_code, with_code-alt, with_code-loop, with_code-lookaround, with_code-cat, with_code-end_of_cat}
+use Rattle.regress_program.proofs.EmitLemmas.{length-with_code, with_code-alt, with_code-loop, with_code-lookaround, with_code-cat, with_code-end_of_cat, room-first, room-rest}
+use Rattle.regress_program.proofs.ShapedLemmas.{shaped-leaf}
 use Rattle.regex_meaning.proofs.Booleans.{and-left, and-right}
 
 -- ---- The last one first
@@ -183,6 +184,9 @@ begun-two effect cost rest mid left a b s t first second put g ready_a ready_b l
   less = omega (arith, less, ap load_of_all second, load-last mid b, ap load_of_all first, load-last rest a);
 }
 
+pub begun-cheap : (effect : State → State) (low high : ℕ) (before after : Work) → HasBegun effect low before after → low ≤ high → HasBegun effect high before after
+begun-cheap effect low high before after b h = record { code = b.code; ready = b.ready; less = omega (arith, b.less, h) }
+
 -- ---- What they come to
 
 pub put-alternatives : (u d : Bool) (a b : TreeNode) (branch : ℕ) (s t : State) → t ≡ with_insn (Alt 0) s → branch ≡ length s.insns
@@ -281,6 +285,34 @@ pub row-sets : (first : ir.Node) (others nodes : List ir.Node) → nodes ≡ fir
 row-sets first others nodes is sets =
     let both : (every fits_instructions (node_of first) && every fits_instructions (cat_of others)) ≡ true = ap (λ x. every fits_instructions (cat_of x)) (sym is) ∙ sets in
     (and-left _ _ both, and-right _ _ both)
+
+-- a leaf at its beginning
+
+pub row-room-first : (narrow : Bool) (first : ir.Node) (others nodes : List ir.Node) (s : State) → nodes ≡ first ∷ others → is_leaf (node_of first) ≡ true
+    → HasRoom s (shaped narrow (cat_of nodes)) → HasRoom s (node_of first)
+unfolding shaped
+row-room-first narrow first others nodes s is leaf room =
+    rw (shaped-leaf narrow (node_of first) leaf) at (room-first s (shaped narrow (node_of first)) (shaped narrow (cat_of others)) (rw is at room))
+
+pub row-room-rest : (u d narrow : Bool) (first : ir.Node) (others nodes : List ir.Node) (s t : State) → nodes ≡ first ∷ others → is_leaf (node_of first) ≡ true
+    → HasRoom s (shaped narrow (cat_of nodes)) → t ≡ with_code u d (node_of first) s → HasRoom t (shaped narrow (cat_of others))
+unfolding shaped
+row-room-rest u d narrow first others nodes s t is leaf room e =
+    room-rest u d s t (shaped narrow (node_of first)) (shaped narrow (cat_of others)) (rw is at room)
+    (e ∙ ap (λ n. with_code u d n s) (sym (shaped-leaf narrow (node_of first) leaf)))
+
+pub row-code : (u d narrow : Bool) (first : ir.Node) (others nodes : List ir.Node) (s t end : State) → nodes ≡ first ∷ others → is_leaf (node_of first) ≡ true
+    → t ≡ with_code u d (node_of first) s → with_code u d (shaped narrow (cat_of nodes)) s ≡ end → with_code u d (shaped narrow (cat_of others)) t ≡ end
+row-code u d narrow first others nodes s t end is leaf e code =
+    ap (with_code u d (shaped narrow (cat_of others))) (e ∙ ap (λ n. with_code u d n s) (sym (shaped-leaf narrow (node_of first) leaf)))
+    ∙ put-row u d narrow first others nodes s is ∙ code
+
+pub row-light : (narrow : Bool) (first : ir.Node) (others nodes : List ir.Node) (most : ℕ) → nodes ≡ first ∷ others
+    → weight (shaped narrow (cat_of nodes)) ≤ most → weight (shaped narrow (cat_of others)) ≤ most
+unfolding shaped weight
+row-light narrow first others nodes most is light =
+    let same : weight (shaped narrow (cat_of nodes)) ≡ weight (shaped narrow (node_of first)) + weight (shaped narrow (cat_of others)) + 1 = ap (λ x. weight (shaped narrow (cat_of x))) is in
+    omega (arith, same, light)
 
 -- ---- What comes as a whole
 

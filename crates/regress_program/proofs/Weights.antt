@@ -1,6 +1,6 @@
 -- Weights of nodes in rows.
-pub use Rattle.regress_program.specs.Weights.{weight}
-use Rattle.std.proofs.Common.{◌≡◌, ℕ, zero, suc, ◌+◌, ◌<◌, List, [], ◌∷◌, length, get_or, slice_get, Some, ap, arith}
+unfoldable pub use Rattle.regress_program.specs.Weights.{weight}
+use Rattle.std.proofs.Common.{◌≡◌, ℕ, zero, suc, ◌<◌, List, [], ◌∷◌, length, get_or, slice_get, Some, ap, arith}
 use Rattle.regex_pattern_front.specs.TreeOf.{node_of}
 use Rattle.regex_pattern_front.specs.declared.ir.Node as declared
 use Rattle.regress_program.specs.Nodes.{cat_of}

@@ -121,11 +121,11 @@ abbrev pub BeginsOthers : Mode → (branch : ℕ) → TreeNode → (before after
 BeginsOthers mode branch others before after =
     HasBegun (with_others mode.unicode mode.behind branch others) (load others + 2) before after
 
--- the nodes of a row, behind any program
-abbrev pub SplitsRow : Mode → List ir.Node → (before after : List Rest) → Type 0
-SplitsRow mode nodes before after =
+-- the nodes of a row
+abbrev pub BeginsRow : Mode → List ir.Node → (before after : Work) → Type 0
+BeginsRow mode nodes before after =
     let row = shaped mode.narrow (cat_of nodes) in
-    (s : State) → HasBegun (with_code mode.unicode mode.behind row) (5 * weight row + 1) (record { state = s; rest = before }) (record { state = s; rest = after })
+    HasBegun (with_code mode.unicode mode.behind row) (5 * weight row + 1) before after
 
 abbrev pub work : {A : Type 0} → Emitter → Vec Rest A → Work
 work e rest = record { state = state_of e; rest = rest.items }

@@ -1,13 +1,13 @@
 //! Nodes inside one another: what is still to be put waits on the heap, so that they take no stack.
 #![tactic(auto, using(std::proofs::lemmas::Grind::common_steps), unfolding(regex_pattern_front::specs::TreeOf::node_of, crate::specs::Emitting::shaped))]
 
-ghost use Rattle.std.specs.Prelude.{◌≡◌, ◌+◌, ◌<◌, ◌^◌, [], length, OnOk, IsTrue};
+ghost use Rattle.std.specs.Prelude.{◌≡◌, ◌+◌, ◌<◌, ◌^◌, [], length, not, OnOk, IsTrue};
 ghost use Rattle.regex_meaning.specs.Tree.{alt, capture_group, lookaround, loop as loop_of, loop_1_char_body, every};
 ghost use Rattle.regex_meaning.specs.WellFormed.{fits_instructions};
 ghost use Rattle.regex_pattern_front.specs.TreeOf.{node_of, quantifier_of};
-ghost use Rattle.regress_program.specs.Nodes.{cat_of};
+ghost use Rattle.regress_program.specs.Nodes.{cat_of, is_leaf};
 ghost use Rattle.regress_program.specs.Emitting.{HasRoom, shaped, shaped_in, state_of, IsEmitted, lookaround_of};
-ghost use Rattle.regress_program.specs.Remaining.{CanPut, Fits, HasPut, Begins, BeginsOthers, SplitsRow, work, with_others, with_lookaround_end, with_loop_end};
+ghost use Rattle.regress_program.specs.Remaining.{CanPut, Fits, HasPut, Begins, BeginsOthers, BeginsRow, work, with_others, with_lookaround_end, with_loop_end};
 
 use crate::emit::emitter::{Emitter, Lookaround, Mode};
 use regex_pattern_front::ir::{Node, Quantifier};
@@ -15,6 +15,9 @@ use regex_pattern_front::types::CaptureGroupID;
 use regress_plan::insn::{Insn, LoopFields};
 use std::alloc::AllocError;
 use std::ops::Range;
+
+// There is room for so many parts at first.
+const FEW: usize = 16;
 
 // What is still to be put behind the code so far.
 #[derive(Clone, Copy)]
@@ -41,7 +44,7 @@ impl Emitter {
         requires room { HasRoom (state_of self.old) (shaped_in mode node.now) }
         ensures { OnOk result (IsEmitted mode (shaped_in mode node.now) self.old self.new) }
     {
-        let mut rest = Vec::new(*self.insns.allocator());
+        let mut rest = Vec::with_capacity(*self.insns.allocator(), FEW)?;
         rest.push(Rest::Node(mode, node))?;
         while let Some(next) = rest.pop() {
             self.put_next(next, &mut rest)?;
@@ -56,7 +59,7 @@ impl Emitter {
     {
         match next {
             Rest::Node(mode, node) => self.begin(mode, node, rest),
-            Rest::Row(mode, nodes) => begin_row(mode, nodes, rest),
+            Rest::Row(mode, nodes) => self.begin_row(mode, nodes, rest),
             Rest::Others(mode, branch, others) => self.begin_others(mode, branch, others, rest),
             Rest::Jump(place) => {
                 let target = self.next();
@@ -81,10 +84,7 @@ impl Emitter {
         ensures { OnOk result (Begins mode (shaped_in mode node.now) (work self.old rest.old) (work self.new rest.new)) }
     {
         match node {
-            Node::Cat(nodes) => {
-                rest.push(Rest::Row(mode, nodes))?;
-                Ok(())
-            }
+            Node::Cat(nodes) => self.begin_row(mode, nodes, rest),
             Node::Alt(left, right) => self.begin_alternatives(mode, left, right, rest),
             Node::CaptureGroup { id, contents, .. } => self.begin_group(mode, *id, contents, rest),
             Node::LookaroundAssertion {
@@ -113,6 +113,30 @@ impl Emitter {
             }
             _ => self.emit_leaf(mode, node),
         }
+    }
+
+    // The nodes of a row up to the first that holds others, of which it is left with those behind it.
+    fn begin_row<'a>(
+        &mut self,
+        mode: Mode,
+        nodes: &'a [Node],
+        rest: &mut Vec<Rest<'a>>,
+    ) -> Result<(), AllocError>
+        requires sets { IsTrue (every fits_instructions (cat_of nodes.now)) }
+        requires room { HasRoom (state_of self.old) (shaped mode.narrow (cat_of nodes.now)) }
+        ensures { OnOk result (BeginsRow mode nodes.now (work self.old rest.old) (work self.new rest.new)) }
+    {
+        let mut left = nodes;
+        while let Some((first, others)) = left.split_first() {
+            if holds_nodes(first) {
+                rest.push(Rest::Row(mode, others))?;
+                rest.push(Rest::Node(mode, first))?;
+                return Ok(());
+            }
+            self.emit_leaf(mode, first)?;
+            left = others;
+        }
+        Ok(())
     }
 
     // A branch to the other alternatives, which is written again once it is known where they are, and then the first one.
@@ -281,15 +305,17 @@ impl Emitter {
     }
 }
 
-// The first node of a row, and those behind it.
-fn begin_row<'a>(mode: Mode, nodes: &'a [Node], rest: &mut Vec<Rest<'a>>) -> Result<(), AllocError>
-    requires sets { IsTrue (every fits_instructions (cat_of nodes.now)) }
-    ensures { OnOk result (SplitsRow mode nodes.now rest.old.items rest.new.items) }
+// Whether a node holds others.
+fn holds_nodes(node: &Node) -> bool
+    ensures { result ≡ not (is_leaf (node_of node.now)) }
 {
-    let Some((first, others)) = nodes.split_first() else {
-        return Ok(());
-    };
-    rest.push(Rest::Row(mode, others))?;
-    rest.push(Rest::Node(mode, first))?;
-    Ok(())
+    match node {
+        Node::Cat(_) => true,
+        Node::Alt(..) => true,
+        Node::CaptureGroup { .. } => true,
+        Node::LookaroundAssertion { .. } => true,
+        Node::Loop { .. } => true,
+        Node::Loop1CharBody { .. } => true,
+        _ => false,
+    }
 }

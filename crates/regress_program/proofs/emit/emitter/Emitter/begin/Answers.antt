@@ -1,18 +1,17 @@
-use Rattle.std.proofs.Common.{◌≡◌, ◌+◌, ◌*◌, ◌∙◌, ap, [], sym, arith, IsTrue}
+use Rattle.std.proofs.Common.{◌≡◌, ◌+◌, ◌*◌, ◌∙◌, ap, [], sym, arith}
 use Rattle.std.proofs.lemmas.Result.{IfOk-weaker}
-use Rattle.regex_meaning.specs.Tree.{capture_group, every}
-use Rattle.regex_meaning.specs.WellFormed.{fits_instructions}
+use Rattle.regex_meaning.specs.Tree.{capture_group}
 use Rattle.regex_pattern_front.specs.TreeOf.{node_of}
 use Rattle.regress_program.specs.Nodes.{cat_of}
 use Rattle.regress_program.specs.Code.{code_of, loop_count, brackets_of}
 use Rattle.regress_program.specs.Weights.{weight}
 use Rattle.regress_program.specs.Emitting.{HasRoom, shaped, state_of, with_code}
-use Rattle.regress_program.specs.Remaining.{load, load_of, is_ready, with_left}
+use Rattle.regress_program.specs.Remaining.{load}
 use Rattle.regress_program.proofs.EmitLemmas.{room-unnamed}
 use Rattle.regress_program.proofs.LeafLemmas.{leaf-left}
 use Rattle.regress_program.proofs.NodeLemmas.{node_of-Cat}
 use Rattle.regress_program.proofs.ShapedLemmas.{shaped-leaf}
-use Rattle.regress_program.proofs.RemainingLemmas.{begun-whole, begun-one, grows-code, grows-same}
+use Rattle.regress_program.proofs.RemainingLemmas.{begun-cheap, begun-whole, grows-code}
 use Rattle.regress_program.proofs.emit.emitter.Emitter.begin.Goals as goal
 
 pub begin_group-requires-clause-room : goal.begin_group-requires-clause-room
@@ -23,17 +22,23 @@ begin_group-requires-clause-room c =
     let room : HasRoom (state_of c.args.self.now) (capture_group c.in-CaptureGroup.id [] (shaped c.args.mode.narrow inside)) = room-unnamed _ _ _ _ (rw is at c.requires.room) in
     rw c.deref-in-CaptureGroup.ensures room
 
-pub returns-in_ok-push-in-Cat : goal.returns-in_ok-push-in-Cat
-unfolding with_left is_ready load_of
-returns-in_ok-push-in-Cat c =
-    let m = c.args.mode in
-    let n = shaped m.narrow (node_of c.args.node.now) in
-    let s = state_of c.args.self.now in
+pub begin_row-requires-clause-sets : goal.begin_row-requires-clause-sets
+begin_row-requires-clause-sets c =
     let same : node_of c.args.node.now ≡ cat_of c.deref.result.now = ap node_of c.in-Cat.is ∙ node_of-Cat c.in-Cat.nodes ∙ ap cat_of (sym c.deref.ensures.value) in
-    let sets : IsTrue (every fits_instructions (cat_of c.deref.result.now)) = rw same at c.requires.sets in
-    begun-one (with_code m.unicode m.behind n) (load n) c.args.rest.now.items c.push.new.self.items _ s s c.in_ok-push-in-Cat.ensures.items
-    (ap (λ x. with_code m.unicode m.behind (shaped m.narrow x) s) (sym same)) (grows-same s) sets
-    (omega (arith, ap (λ x. weight (shaped m.narrow x)) same))
+    rw same at c.requires.sets
+
+pub begin_row-requires-clause-room : goal.begin_row-requires-clause-room
+begin_row-requires-clause-room c =
+    let same : node_of c.args.node.now ≡ cat_of c.deref.result.now = ap node_of c.in-Cat.is ∙ node_of-Cat c.in-Cat.nodes ∙ ap cat_of (sym c.deref.ensures.value) in
+    rw same at c.requires.room
+
+pub returns-in-Cat : goal.returns-in-Cat
+returns-in-Cat c =
+    let m = c.args.mode in
+    let row = shaped m.narrow (cat_of c.deref.result.now) in
+    let same : node_of c.args.node.now ≡ cat_of c.deref.result.now = ap node_of c.in-Cat.is ∙ node_of-Cat c.in-Cat.nodes ∙ ap cat_of (sym c.deref.ensures.value) in
+    rw same
+    (IfOk-weaker c.begin_row.result _ _ (λ _ b. begun-cheap (with_code m.unicode m.behind row) (5 * weight row + 1) (load row) _ _ b (omega arith)) c.begin_row.ensures)
 
 pub returns-in-CaptureGroup : goal.returns-in-CaptureGroup
 unfolding node_of shaped code_of loop_count brackets_of weight

@@ -1,4 +1,4 @@
-use Rattle.std.proofs.Common.{◌≡◌, ℕ, ◌+◌, ◌*◌, ◌<◌, ◌∙◌, ap, [], refl, sym, true, ◌&&◌, arith, length, IsTrue}
+use Rattle.std.proofs.Common.{arith, length}
 use Rattle.std.specs.Prelude.{nat_lt}
 use Rattle.std.proofs.lemmas.Bool.{and_from}
 use Rattle.regex_meaning.specs.Tree.{alt, every}

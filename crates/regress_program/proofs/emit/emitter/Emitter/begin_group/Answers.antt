@@ -1,6 +1,4 @@
-use Rattle.std.proofs.Common.{◌≡◌, ℕ, ◌+◌, ◌*◌, ◌<◌, ◌∙◌, ap, [], refl, sym, true, ◌&&◌, arith, length, IsTrue}
-use Rattle.std.specs.Prelude.{nat_lt}
-use Rattle.std.proofs.lemmas.Bool.{and_from}
+use Rattle.std.proofs.Common.{[], refl, arith}
 use Rattle.regex_meaning.specs.Tree.{capture_group}
 use Rattle.regex_meaning.specs.Layout.{BeginCaptureGroup, EndCaptureGroup}
 use Rattle.regex_pattern_front.specs.TreeOf.{node_of}

@@ -1,8 +1,5 @@
-use Rattle.std.proofs.Common.{◌≡◌, ℕ, ◌+◌, ◌*◌, ◌<◌, ◌∙◌, ap, [], refl, sym, true, ◌&&◌, arith, length, IsTrue}
-use Rattle.std.specs.Prelude.{nat_lt}
-use Rattle.std.proofs.lemmas.Bool.{and_from}
+use Rattle.std.proofs.Common.{refl, arith}
 use Rattle.regex_meaning.specs.Tree.{loop}
-use Rattle.regex_meaning.specs.Layout.{EnterLoop}
 use Rattle.regex_pattern_front.specs.TreeOf.{node_of, quantifier_of}
 use Rattle.regress_plan.specs.declared.insn.LoopFields.{LoopFields}
 use Rattle.regress_program.specs.Weights.{weight}

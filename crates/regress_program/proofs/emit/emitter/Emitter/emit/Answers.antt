@@ -1,4 +1,4 @@
-use Rattle.std.proofs.Common.{◌≡◌, ◌∙◌, ◌∷◌, [], ap, refl, sym, true, ◌&&◌, length, arith}
+use Rattle.std.proofs.Common.{◌∙◌, ap, refl, true, length}
 use Rattle.std.proofs.lemmas.Bool.{and_from}
 use Rattle.regex_meaning.specs.Tree.{every}
 use Rattle.regex_meaning.specs.WellFormed.{fits_instructions}
@@ -12,7 +12,7 @@ pub loop-next-init : goal.loop-next-init
 unfolding with_left is_ready
 loop-next-init c =
     let s = state_of c.args.self.now in
-    let items = rw c.new-rest.ensures.items at c.in_ok-push.ensures.items in
+    let items = rw c.in_ok-rest.ensures.items at c.in_ok-push.ensures.items in
     record {
       code = ap (λ x. with_all x s) items;
       ready = ap (are_ready (length s.insns)) items ∙ and_from (every fits_instructions (node_of c.args.node.now)) true c.requires.sets refl;

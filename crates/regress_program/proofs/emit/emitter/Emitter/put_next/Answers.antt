@@ -1,9 +1,10 @@
-use Rattle.std.proofs.Common.{◌≡◌, ◌+◌, ◌∙◌, ap, sym, arith, length}
+use Rattle.std.proofs.Common.{◌∙◌, ap, arith, length}
 use Rattle.std.proofs.lemmas.Bool.{ltb-true}
 use Rattle.std.proofs.lemmas.Result.{IfOk-weaker}
 use Rattle.regex_meaning.specs.Layout.{Goal, Jump as JumpInsn, LoopAgain}
 use Rattle.regex_meaning.proofs.Booleans.{and-left, and-right}
 use Rattle.regex_pattern_front.specs.TreeOf.{node_of}
+use Rattle.regress_program.specs.Nodes.{cat_of}
 use Rattle.regress_program.specs.Emitting.{shaped, state_of, with_insn_at}
 use Rattle.regress_program.specs.Remaining.{is_ready, load_of, with_left}
 use Rattle.regress_program.specs.declared.emit.nodes.Rest.TheVariants.{Jump, GroupEnd, LookaroundEnd, LoopEnd}
@@ -20,9 +21,15 @@ begin-requires-clause-room c =
     let m = c.in-Node.mode in
     room-of m.unicode m.behind (shaped m.narrow (node_of c.in-Node.node.now)) (state_of c.args.self.now) (rw c.in-Node.is at c.requires.room)
 
-pub begin_row-requires : goal.begin_row-requires
+pub begin_row-requires-clause-sets : goal.begin_row-requires-clause-sets
 unfolding is_ready
-begin_row-requires c = record { sets = rw c.in-Row.is at c.requires.ready }
+begin_row-requires-clause-sets c = rw c.in-Row.is at c.requires.ready
+
+pub begin_row-requires-clause-room : goal.begin_row-requires-clause-room
+unfolding with_left
+begin_row-requires-clause-room c =
+    let m = c.in-Row.mode in
+    room-of m.unicode m.behind (shaped m.narrow (cat_of c.in-Row.nodes.now)) (state_of c.args.self.now) (rw c.in-Row.is at c.requires.room)
 
 pub begin_others-requires-clause-branch : goal.begin_others-requires-clause-branch
 unfolding is_ready
@@ -69,7 +76,7 @@ returns-in-Node c = rw c.in-Node.is c.begin.ensures
 
 pub returns-in-Row : goal.returns-in-Row
 unfolding with_left load_of
-returns-in-Row c = rw c.in-Row.is (IfOk-weaker c.begin_row.result _ _ (λ _ split. split (state_of c.args.self.now)) c.begin_row.ensures)
+returns-in-Row c = rw c.in-Row.is c.begin_row.ensures
 
 pub returns-in-Others : goal.returns-in-Others
 unfolding with_left load_of

@@ -1,5 +1,6 @@
 -- What a local tree finds in a part of a text it finds in the text.
-use Rattle.std.proofs.Common.{◌≡◌, ◌⊎◌, ℕ, zero, suc, ◌+◌, ◌-◌, ◌<◌, ◌≤◌, Bool, true, false, not, ◌&&◌, List, [], ◌∷◌, ◌++◌, length, map, Option, Some, None, refl, ap, sym, ◌∙◌, filter, flat_map, arith, subst, option_map, option_and_then, append-nil, append_assoc, chars, get_or, lit<}
+use Rattle.std.proofs.Common.{◌≡◌, ◌⊎◌, ℕ, zero, suc, ◌+◌, ◌-◌, ◌<◌, ◌≤◌, Bool, true, false, not, ◌&&◌, List, [], ◌∷◌, ◌++◌, length, map, Option, Some, None, refl, ap, sym, ◌∙◌, filter, flat_map, arith, subst, option_map, option_and_then, append-nil, append_assoc, get_or, lit<}
+use Rattle.std.specs.Str.{chars}
 use Rattle.std.specs.Prelude.{if◌then◌else◌, nat_le, nat_lt, ◌==◌, slice_get, is_some, IsUtf8, eqb, All}
 use Rattle.std.specs.List.{join_with_byte, slice_split, position_or_len, before_first, after_first}
 use Rattle.std.specs.Option.{option_or}

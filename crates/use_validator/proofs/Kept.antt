@@ -1,6 +1,6 @@
 -- Programs that are kept by the texts of their patterns.
 use Rattle.std.proofs.Common.{◌≡◌, ℕ, List, [], ◌∷◌, Option, Some, None, String, Global, Ordering, Less, Equal, Greater, string_bytes, string_cmp, nat_cmp, is_eq, cond, Bool, true, false, bytes_eq, Bor, refl, sym, ap, ◌∙◌, subst}
-use Rattle.std.specs.Prelude.{IfSome, option_copied}
+use Rattle.std.specs.Prelude.{IfSome, OnErr, OnOk, Result, Ok, Err, option_copied}
 use Rattle.std.proofs.Math.Logic.{∥∥₁_map}
 use Rattle.std.proofs.lemmas.Map.Text.{is_eq-slice_cmp}
 use Rattle.std.proofs.lemmas.Slice.Eq.{bytes_eq-Decides}
@@ -31,8 +31,14 @@ module _ (k : String Global) (re : Regex) (is : IsProgramOf (string_bytes k) re)
   insert-keeps [] h = (is, tt)
   insert-keeps (e ∷ es) h = put-in (string_cmp k e.0) e es (insert_entry string_cmp es k re) refl h (insert-keeps es h.1)
 
-  pub kept-more : (es next : List Entry) → AreOfTheirTexts es → next ≡ insert_entry string_cmp es k re → AreOfTheirTexts next
+  kept-more : (es next : List Entry) → AreOfTheirTexts es → next ≡ insert_entry string_cmp es k re → AreOfTheirTexts next
   kept-more es next h e = ∥∥₁_map h (λ all. subst AreProgramsOf (sym e) (insert-keeps es all))
+
+  -- what an insertion leaves, done or refused
+  pub kept-after : {T E : Type 0} (result : Result T E) (es next : List Entry) → AreOfTheirTexts es
+      → OnOk result (next ≡ insert_entry string_cmp es k re) → OnErr result (next ≡ es) → AreOfTheirTexts next
+  kept-after (Ok x) es next h more same = kept-more es next h more
+  kept-after (Err e) es next h more same = subst AreOfTheirTexts (sym same) h
 
 -- ---- The one with a text
 

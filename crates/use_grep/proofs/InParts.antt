@@ -226,8 +226,8 @@ module _ (shift : ℕ) (s t : Text) (part : IsPart shift s t) (u : Bool) where
       let before : slice_get s.characters place ≡ None = get-past s.characters place (omega arith) in
       let after : slice_get s.characters (suc place) ≡ None = get-past s.characters (suc place) (omega arith) in
       let never : true ≡ false = sym h
-          ∙ ap (λ o. differ (is_some_and o is_word) (is_some_and (slice_get s.characters (suc place)) is_word)) before
-          ∙ ap (λ o. is_some_and o is_word) after in
+      ∙ ap (λ o. differ (is_some_and o is_word) (is_some_and (slice_get s.characters (suc place)) is_word)) before
+      ∙ ap (λ o. is_some_and o is_word) after in
       absurd (cc)
 
   boundary-among : (place : ℕ) → is_at_word_boundary s u place ≡ true → is_at_word_boundary t u (shift + place) ≡ true
@@ -408,7 +408,7 @@ module _ (u : Bool) (t : Text) where
       let long : length before ≡ suc (length h.0) = ap length h.1 ∙ omega (arith, one) in
       ap (λ n. is_some_and (character_before t n) (is_word_char u)) long
       ∙ ap (λ (cs : List ℕ). is_some_and (slice_get cs (length h.0)) (is_word_char u))
-          (whole ∙ ap (λ (cs : List ℕ). cs ++ more) h.1 ∙ append_assoc h.0 (10 ∷ []) more)
+      (whole ∙ ap (λ (cs : List ℕ). cs ++ more) h.1 ∙ append_assoc h.0 (10 ∷ []) more)
       ∙ ap (λ o. is_some_and o (is_word_char u)) (get-at h.0 (10 ∷ more))
       ∙ no-word u
 
@@ -461,10 +461,12 @@ more-begin text = inr (chars text, chars-append (10 ∷ []) text one_break ∙ a
 
 more-end : (first before : List ℕ) → EndInBreak before → EndInBreak (first ++ (chars (10 ∷ []) ++ before))
 more-end first before (inl none) = inr (first, ap (λ cs. first ++ (chars (10 ∷ []) ++ cs)) none ∙ ap (λ cs. first ++ cs) (append-nil (chars (10 ∷ [])) ∙ break-char))
-more-end first before (inr h) = inr (first ++ (chars (10 ∷ []) ++ h.0),
+more-end first before (inr h) = inr (
+  first ++ (chars (10 ∷ []) ++ h.0),
   ap (λ cs. first ++ (chars (10 ∷ []) ++ cs)) h.1
-  ∙ ap (λ cs. first ++ cs) (sym (append_assoc (chars (10 ∷ [])) h.0 (10 ∷ [])))
-  ∙ sym (append_assoc first (chars (10 ∷ []) ++ h.0) (10 ∷ [])))
+      ∙ ap (λ cs. first ++ cs) (sym (append_assoc (chars (10 ∷ [])) h.0 (10 ∷ [])))
+      ∙ sym (append_assoc first (chars (10 ∷ []) ++ h.0) (10 ∷ [])),
+)
 
 stands-later : (line first text : List ℕ) → IsUtf8 first → StandsIn line text → StandsIn line (first ++ (10 ∷ text))
 stands-later line first text is st = record {

@@ -27,8 +27,8 @@ push_match-requires-clause-before c = (takes-next _ _ _ _ _ _ c.in_ok-found.foun
 pub push_match-requires-clause-fits : goal.push_match-requires-clause-fits
 push_match-requires-clause-fits c = (takes-next _ _ _ _ _ _ c.in_ok-found.found c.loop-item.invariant.reached c.in-Some.ensures.steps c.in_ok-found.was).fits
 
-pub loop-item-preserved : goal.loop-item-preserved
-loop-item-preserved c =
+pub loop-item-preserved-in_ok-from : goal.loop-item-preserved-in_ok-from
+loop-item-preserved-in_ok-from c =
     let line = c.args.line.now in
     let takes = takes-next line _ _ c.loop-item.item-iterator c.next.new.self _ c.in_ok-found.found c.loop-item.invariant.reached c.in-Some.ensures.steps c.in_ok-found.was in
     record {

@@ -6,6 +6,7 @@ pub mod Advancing
 pub mod Allowing
 pub mod Choosing
 pub mod StopSets
+pub mod Barred
 pub mod Behind
 pub mod FurtherPlaces
 pub mod LazyClass

@@ -5,7 +5,7 @@ ghost use Rattle.std.proofs.Props.{props};
 ghost use Rattle.regress_plan.specs.Prefixes.{allowed_of, fits, IsRare, IsLiteral};
 ghost use Rattle.regress_scan.specs.Fitting.{FindsFit};
 
-use crate::planned::Planned;
+use crate::kept::Kept;
 use memchr::memchr;
 use regress_input::front::ByteSearcher;
 use regress_plan::prefix::{Literal, Prefix, Rare, is_clear};
@@ -35,22 +35,22 @@ impl ByteSearcher for Fitting<'_> {
 
 /// The first units of a match, of which some in a row are known, and what looks for these.
 #[derive(Drop)]
-pub(crate) struct InRow<'p, W: Planned> {
-    pub(crate) planned: &'p W,
+pub(crate) struct InRow<'k, 'p> {
+    pub(crate) kept: Kept<'k>,
     pub(crate) prefix: &'p Prefix,
     pub(crate) literal: &'p Literal,
     ghost some: { 0 < prefix.now.len },
     ghost is_literal: { IsLiteral prefix.now literal.now } by { Prim.hlevel props },
 }
 
-impl<W: Planned> ByteSearcher for InRow<'_, W> {
+impl ByteSearcher for InRow<'_, '_> {
     ghost use Rattle.regress_plan.specs.Prefixes.{allowed_of, fits};
 
     ghost stands_at = { λ f bytes index. fits (allowed_of f.prefix.now) bytes index f.prefix.now.len };
 
     #[inline(always)]
     fn find_in(&self, bytes: &[u8]) -> Option<usize> {
-        find_literal(self.planned, self.prefix, self.literal, bytes)
+        find_literal(&self.kept, self.prefix, self.literal, bytes)
     }
 }
 
@@ -97,8 +97,8 @@ fn find_rare(prefix: &Prefix, rare: Rare, bytes: &[u8]) -> Option<usize>
 
 // The same, by units in a row that alone may stand where they stand.
 #[inline(always)]
-fn find_literal<W: Planned>(
-    planned: &W,
+fn find_literal(
+    kept: &Kept<'_>,
     prefix: &Prefix,
     literal: &Literal,
     bytes: &[u8],
@@ -110,7 +110,7 @@ fn find_literal<W: Planned>(
     let needle = &literal.units[..literal.len];
     let mut at = 0;
     'places: while at + literal.ahead < bytes.len() {
-        let Some(more) = planned.find_row(needle, &bytes[at + literal.ahead..]) else {
+        let Some(more) = kept.find(needle, &bytes[at + literal.ahead..]) else {
             return None;
         };
         at += more;

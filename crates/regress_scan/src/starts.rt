@@ -183,7 +183,7 @@ fn next_in_row<W: Planned>(
     ensures { IsFirstFitting (W.searching planned.now) prefix.now from result }
 {
     let in_row = InRow {
-        planned,
+        kept: planned.kept(),
         prefix,
         literal,
     };

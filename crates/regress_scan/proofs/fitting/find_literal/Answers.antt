@@ -4,19 +4,19 @@ use Rattle.regress_scan.proofs.FirstUnits.{needle-short, literal-past, literal-n
 use Rattle.regress_scan.proofs.fitting.find_literal.Goals as goal
 
 pub returns-in_default : goal.returns-in_default
-returns-in_default g c = λ k less.
+returns-in_default c = λ k less.
     literal-none c.args.prefix.now c.args.literal.now c.requires.literal c.requires.some c.args.bytes.now (λ i. (c.type_inv.bytes i).fits) c.places.at _ _
     (take_rest c.args.bytes.now (c.places.at + c.args.literal.now.ahead)) refl (needle-short c.args.literal.now) c.places.invariant.1
     c.in_default.ensures k
 
 pub fits_at-requires : goal.fits_at-requires
-fits_at-requires g c =
+fits_at-requires c =
     literal-inside c.args.prefix.now c.args.literal.now c.requires.literal c.requires.some c.args.bytes.now (λ i. (c.type_inv.bytes i).fits) c.places.at _ _
     (take_rest c.args.bytes.now (c.places.at + c.args.literal.now.ahead)) refl (needle-short c.args.literal.now) c.places.invariant.1
     c.in-Some.more c.in-Some.ensures c.places-test.true
 
 pub returns-then-fits_at : goal.returns-then-fits_at
-returns-then-fits_at g c = record {
+returns-then-fits_at c = record {
   within =
       literal-within c.args.prefix.now c.args.literal.now c.requires.literal c.requires.some c.args.bytes.now (λ i. (c.type_inv.bytes i).fits) c.places.at _ _
       (take_rest c.args.bytes.now (c.places.at + c.args.literal.now.ahead)) refl (needle-short c.args.literal.now) c.places.invariant.1
@@ -29,7 +29,7 @@ returns-then-fits_at g c = record {
 }
 
 pub places-preserved : goal.places-preserved
-places-preserved g c =
+places-preserved c =
     let inside = literal-inside c.args.prefix.now c.args.literal.now c.requires.literal c.requires.some c.args.bytes.now (λ i. (c.type_inv.bytes i).fits) c.places.at _ _
     (take_rest c.args.bytes.now (c.places.at + c.args.literal.now.ahead)) refl (needle-short c.args.literal.now) c.places.invariant.1
     c.in-Some.more c.in-Some.ensures c.places-test.true in (
@@ -40,7 +40,7 @@ places-preserved g c =
     )
 
 pub returns : goal.returns
-returns g c = λ k less.
+returns c = λ k less.
     literal-past c.args.prefix.now c.args.literal.now c.requires.literal c.requires.some c.args.bytes.now (λ i. (c.type_inv.bytes i).fits) c.places.at _ _
     (take_rest c.args.bytes.now (c.places.at + c.args.literal.now.ahead)) refl (needle-short c.args.literal.now) c.places.invariant.1
     (omega (arith, c.places-test.false)) k

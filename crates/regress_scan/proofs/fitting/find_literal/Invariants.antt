@@ -3,7 +3,7 @@ use Rattle.regress_plan.specs.Prefixes.{allowed_of, fits}
 use Rattle.regress_scan.proofs.fitting.find_literal.Given as goal
 
 abbrev pub invariant-places : goal.invariant-places
-invariant-places g l = (l.at ≤ length l.bytes + 1) × ((k : ℕ) → k < l.at → fits (allowed_of l.prefix) l.bytes k l.prefix.len ≡ false)
+invariant-places l = (l.at ≤ length l.bytes + 1) × ((k : ℕ) → k < l.at → fits (allowed_of l.prefix) l.bytes k l.prefix.len ≡ false)
 
 abbrev pub decreases-places : goal.decreases-places
-decreases-places g l = length l.bytes + 1 - l.at
+decreases-places l = length l.bytes + 1 - l.at

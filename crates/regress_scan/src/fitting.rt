@@ -97,12 +97,7 @@ fn find_rare(prefix: &Prefix, rare: Rare, bytes: &[u8]) -> Option<usize>
 
 // The same, by units in a row that alone may stand where they stand.
 #[inline(always)]
-fn find_literal(
-    kept: &Kept<'_>,
-    prefix: &Prefix,
-    literal: &Literal,
-    bytes: &[u8],
-) -> Option<usize>
+fn find_literal(kept: &Kept<'_>, prefix: &Prefix, literal: &Literal, bytes: &[u8]) -> Option<usize>
     requires some { 0 < prefix.now.len }
     requires literal { IsLiteral prefix.now literal.now }
     ensures { FindsFit prefix.now bytes.now result }

@@ -7,6 +7,7 @@ pub mod Allowing
 pub mod Choosing
 pub mod Verdicts
 pub mod StopSets
+pub mod Barred
 pub mod Behind
 pub mod FurtherPlaces
 pub mod LazyClass

@@ -5,18 +5,17 @@ ghost use Rattle.std.proofs.Props.{props};
 ghost use Rattle.regress_plan.specs.Prefixes.{allowed_of, fits, IsRare, IsLiteral};
 ghost use Rattle.regress_scan.specs.Fitting.{FindsFit};
 
-use memchr::{memchr, memmem};
+use crate::kept::Kept;
+use memchr::memchr;
 use regress_input::front::ByteSearcher;
 use regress_plan::prefix::{Literal, Prefix, Rare, is_clear};
 
-/// The first units of a match, of which some in a row or one may be known.
+/// The first units of a match, of which one may be known.
 #[derive(Clone, Copy)]
 pub(crate) struct Fitting<'p> {
     pub(crate) prefix: &'p Prefix,
-    pub(crate) literal: Option<&'p Literal>,
     pub(crate) rare: Option<Rare>,
     ghost some: { 0 < prefix.now.len },
-    ghost is_literal: { IfSome literal (λ l. IsLiteral prefix.now l.now) } by { Prim.hlevel props },
     ghost is_rare: { IfSome rare (λ r. IsRare prefix.now r) } by { Prim.hlevel props },
 }
 
@@ -27,13 +26,31 @@ impl ByteSearcher for Fitting<'_> {
 
     #[inline(always)]
     fn find_in(&self, bytes: &[u8]) -> Option<usize> {
-        if let Some(literal) = self.literal {
-            return find_literal(self.prefix, literal, bytes);
-        }
         match self.rare {
             Some(rare) => find_rare(self.prefix, rare, bytes),
             None => find_fitting(self.prefix, bytes),
         }
+    }
+}
+
+/// The first units of a match, of which some in a row are known, and what looks for these.
+#[derive(Drop)]
+pub(crate) struct InRow<'k, 'p> {
+    pub(crate) kept: Kept<'k>,
+    pub(crate) prefix: &'p Prefix,
+    pub(crate) literal: &'p Literal,
+    ghost some: { 0 < prefix.now.len },
+    ghost is_literal: { IsLiteral prefix.now literal.now } by { Prim.hlevel props },
+}
+
+impl ByteSearcher for InRow<'_, '_> {
+    ghost use Rattle.regress_plan.specs.Prefixes.{allowed_of, fits};
+
+    ghost stands_at = { λ f bytes index. fits (allowed_of f.prefix.now) bytes index f.prefix.now.len };
+
+    #[inline(always)]
+    fn find_in(&self, bytes: &[u8]) -> Option<usize> {
+        find_literal(&self.kept, self.prefix, self.literal, bytes)
     }
 }
 
@@ -80,7 +97,7 @@ fn find_rare(prefix: &Prefix, rare: Rare, bytes: &[u8]) -> Option<usize>
 
 // The same, by units in a row that alone may stand where they stand.
 #[inline(always)]
-fn find_literal(prefix: &Prefix, literal: &Literal, bytes: &[u8]) -> Option<usize>
+fn find_literal(kept: &Kept<'_>, prefix: &Prefix, literal: &Literal, bytes: &[u8]) -> Option<usize>
     requires some { 0 < prefix.now.len }
     requires literal { IsLiteral prefix.now literal.now }
     ensures { FindsFit prefix.now bytes.now result }
@@ -88,7 +105,7 @@ fn find_literal(prefix: &Prefix, literal: &Literal, bytes: &[u8]) -> Option<usiz
     let needle = &literal.units[..literal.len];
     let mut at = 0;
     'places: while at + literal.ahead < bytes.len() {
-        let Some(more) = memmem::find(&bytes[at + literal.ahead..], needle) else {
+        let Some(more) = kept.find(needle, &bytes[at + literal.ahead..]) else {
             return None;
         };
         at += more;

@@ -12,7 +12,8 @@ ghost use Rattle.regress_scan.specs.Starts.{IsFirstAllowed, IsFirstWhere, IsFirs
 
 use crate::characters::key_here;
 use crate::few::Few;
-use crate::fitting::Fitting;
+use crate::fitting::{Fitting, InRow};
+use crate::kept::LONG;
 use crate::planned::{Planned, offset_in, position_in, text_end};
 use crate::probing::next_probed;
 use regress_input::front::ByteSearcher;
@@ -22,9 +23,6 @@ use regress_plan::first_set::FirstSet;
 use regress_plan::plan::Start;
 use regress_plan::prefilters::{Known, Prefilter};
 use regress_plan::prefix::{Literal, Prefix, Rare};
-
-/// In a text of so many units, or fewer, a literal is not looked for: to make that search takes as long as to go over them.
-const LONG: usize = 1024;
 
 /// What may stand next where a search starts. Contracts see the table.
 pub(crate) trait MayStand {
@@ -152,29 +150,44 @@ pub(crate) fn next_of_few<W: Planned>(planned: &W, few: Few, from: usize) -> Opt
 
 // ---- By the first units of a match
 
-// The first place from one on where they fit, which is looked for in bytes: by those in a row that are known, by one that
-// is seldom, or by bits.
+// The first place from one on where they fit, which is looked for in bytes: by one that is seldom, or by bits.
 #[inline(never)]
 fn next_fitting<W: Planned>(
     planned: &W,
     prefix: &Prefix,
-    literal: Option<&Literal>,
     rare: Option<Rare>,
     from: usize,
 ) -> Option<usize>
     requires at { IsBoundary (W.searching planned.now).text from }
     requires bytes { is_wide (W.searching planned.now).encoding ≡ false }
     requires prefix { (0 < prefix.now.len) × IsInAscii prefix.now }
-    requires literal { IfSome literal (λ l. IsLiteral prefix.now l.now) }
     requires rare { IfSome rare (λ r. IsRare prefix.now r) }
     ensures { IsFirstFitting (W.searching planned.now) prefix.now from result }
 {
-    let fitting = Fitting {
+    let fitting = Fitting { prefix, rare };
+    find(planned, &fitting, from)
+}
+
+// The same, by those in a row that are known.
+#[inline(never)]
+fn next_in_row<W: Planned>(
+    planned: &W,
+    prefix: &Prefix,
+    literal: &Literal,
+    from: usize,
+) -> Option<usize>
+    requires at { IsBoundary (W.searching planned.now).text from }
+    requires bytes { is_wide (W.searching planned.now).encoding ≡ false }
+    requires prefix { (0 < prefix.now.len) × IsInAscii prefix.now }
+    requires literal { IsLiteral prefix.now literal.now }
+    ensures { IsFirstFitting (W.searching planned.now) prefix.now from result }
+{
+    let in_row = InRow {
+        kept: planned.kept(),
         prefix,
         literal,
-        rare,
     };
-    find(planned, &fitting, from)
+    find(planned, &in_row, from)
 }
 
 // The same, by units that are known: in a long text by those in a row.
@@ -188,7 +201,7 @@ fn next_known<W: Planned>(planned: &W, prefix: &Prefix, known: &Known, from: usi
     ensures { IsFirstFitting (W.searching planned.now) prefix.now from result }
 {
     if text_end(planned).saturating_sub(from) > LONG {
-        return next_fitting(planned, prefix, Some(&known.literal), None, from);
+        return next_in_row(planned, prefix, &known.literal, from);
     }
     next_in_short(planned, prefix, known, from)
 }
@@ -213,7 +226,7 @@ fn next_in_short<W: Planned>(
             return next_probed(planned, prefix, probes, from);
         }
     }
-    next_fitting(planned, prefix, None, known.rare, from)
+    next_fitting(planned, prefix, known.rare, from)
 }
 
 // The same, by what is looked for first.
@@ -233,7 +246,7 @@ fn first_filtered<W: Planned>(
     match prefilter {
         Prefilter::Probes(probes) => next_probed(planned, prefix, probes, from),
         Prefilter::Known(known) => next_known(planned, prefix, known, from),
-        Prefilter::Absent => next_fitting(planned, prefix, None, None, from),
+        Prefilter::Absent => next_fitting(planned, prefix, None, from),
     }
 }
 

@@ -4,9 +4,10 @@
 ghost use Rattle.std.specs.Prelude.{◌≡◌, ◌&&◌, ◌+◌, ◌-◌, ◌<◌, ◌^◌, [], true, length, IfOk, OnOk, IsTrue, if◌then◌else◌};
 ghost use Rattle.regex_meaning.specs.Tree.{empty, alt, capture_group, lookaround, loop as loop_of, loop_1_char_body, every};
 ghost use Rattle.regex_meaning.specs.WellFormed.{fits_instructions};
-ghost use Rattle.regex_meaning.specs.Layout.{lookaround_insn};
+ghost use Rattle.regex_meaning.specs.Layout.{EnterLoop, lookaround_insn};
 ghost use Rattle.regex_pattern_front.specs.Optimized.{reads_one_character as is_one_character};
 ghost use Rattle.regex_pattern_front.specs.TreeOf.{node_of, quantifier_of};
+ghost use Rattle.regress_plan.specs.Insns.{loop_fields_of};
 ghost use Rattle.regress_program.specs.Insns.{insn_of};
 ghost use Rattle.regress_program.specs.Code.{resets};
 ghost use Rattle.regress_program.specs.Nodes.{cat_of, is_leaf};
@@ -348,13 +349,13 @@ impl Emitter {
             greedy: quant.greedy,
             exit: 0,
         };
-        self.put(Insn::EnterLoop(fields))?;
+        self.put(head_insn(fields))?;
         self.add_loop();
         self.put_resets(groups.start, groups.end)?;
         self.emit(mode, loopee)?;
         self.put(Insn::LoopAgain { begin })?;
         fields.exit = self.next();
-        self.set(begin as usize, Insn::EnterLoop(fields));
+        self.set(begin as usize, head_insn(fields));
         Ok(())
     }
 
@@ -421,5 +422,25 @@ impl Emitter {
         ensures { state_of self.new ≡ with_insn_at place (insn_of insn) (state_of self.old) }
     {
         self.insns[place] = insn;
+    }
+}
+
+// The head of a loop.
+fn head_insn(fields: LoopFields) -> Insn
+    ensures { insn_of result ≡ EnterLoop (loop_fields_of fields) }
+{
+    let LoopFields {
+        greedy,
+        loop_id,
+        exit,
+        min_iters,
+        max_iters,
+    } = fields;
+    Insn::EnterLoop {
+        greedy,
+        loop_id,
+        exit,
+        min_iters,
+        max_iters,
     }
 }

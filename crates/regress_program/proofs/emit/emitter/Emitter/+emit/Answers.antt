@@ -1,4 +1,4 @@
-use Rattle.std.proofs.Common.{◌≡◌, ℕ, ◌+◌, ◌<◌, ◌∙◌, ap, [], ◌∷◌, sym, refl, IsTrue, true, false, ◌&&◌, rules, arith, drop, length}
+use Rattle.std.proofs.Common.{◌≡◌, ℕ, ◌+◌, ◌<◌, ◌∙◌, ap, [], ◌∷◌, sym, subst, refl, IsTrue, true, false, ◌&&◌, rules, arith, drop, length}
 use Rattle.std.proofs.lemmas.List.{length-map}
 use Rattle.regex_meaning.specs.Tree.{empty, cat, alt, every, capture_group, loop, loop_1_char_body}
 use Rattle.regex_pattern_front.specs.Optimized.{reads_one_character}
@@ -7,7 +7,7 @@ use Rattle.regex_pattern_front.specs.TreeOf.{node_of, quantifier_of}
 use Rattle.regress_program.specs.Insns.{insn_of}
 use Rattle.regress_program.specs.Nodes.{cat_of}
 use Rattle.regex_meaning.specs.WellFormed.{fits_instructions}
-use Rattle.regress_program.specs.Emitting.{HasRoom, shaped, state_of, with_code, lookaround_of, with_arm, jump_behind, with_jumps}
+use Rattle.regress_program.specs.Emitting.{HasRoom, shaped, state_of, with_code, with_insn, with_insn_at, lookaround_of, with_arm, jump_behind, with_jumps}
 use Rattle.regress_program.proofs.LeafLemmas.{leaf-left}
 use Rattle.regress_program.proofs.ShapedLemmas.{shaped-leaf}
 use Rattle.regress_program.proofs.NodeLemmas.{node_of-Cat, cat_of-drop}
@@ -248,10 +248,13 @@ emit_loop-returns t c =
     let head = λ (exit : ℕ). EnterLoop (record { loop_id = s0.loops; min_iters = q.min; max_iters = c.unwrap_or.result; greedy = q.greedy; exit = exit }) in
     let is_head = λ (exit : ℕ). ap (λ (m : ℕ). EnterLoop (record { loop_id = s0.loops; min_iters = q.min; max_iters = m; greedy = q.greedy; exit = exit })) c.unwrap_or.ensures in
     let begin : c.next-begin.result ≡ length s0.insns = c.next-begin.ensures in
+    let put : state_of c.put.new.self ≡ with_insn (head 0) s0 = subst (λ i. state_of c.put.new.self ≡ with_insn i s0) c.head_insn.ensures c.in_ok-put.ensures in
+    let set : state_of c.set.new.self ≡ with_insn_at c.next-begin.result (head c.next.result) (state_of c.put-2.new.self) =
+    subst (λ i. state_of c.set.new.self ≡ with_insn_at c.next-begin.result i (state_of c.put-2.new.self)) c.head_insn-2.ensures c.set.ensures in
     with_code-loop c.args.mode.unicode c.args.mode.behind q c.args.groups.now.start c.args.groups.now.end (shaped c.args.mode.narrow (node_of c.args.loopee.now)) head
     s0 (state_of c.put.new.self) (state_of c.add_loop.new.self) (state_of c.put_resets.new.self) (state_of c.emit.new.self) (state_of c.put-2.new.self) (state_of c.set.new.self)
-    (head 0) is_head c.in_ok-put.ensures c.add_loop.ensures c.in_ok-put_resets.ensures c.in_ok-emit.ensures
-    (rw (← begin) c.in_ok-put-2.ensures) (rw (← begin, ← c.next.ensures) c.set.ensures)
+    (head 0) is_head put c.add_loop.ensures c.in_ok-put_resets.ensures c.in_ok-emit.ensures
+    (rw (← begin) c.in_ok-put-2.ensures) (rw (← begin, ← c.next.ensures) set)
 
 pub emit-emit_group-requires : goal.emit-emit_group-requires
 unfolding node_of weight shaped

@@ -1,6 +1,6 @@
 -- A program that is being made.
 use Rattle.std.specs.Prelude.{◌≡◌, ℕ, ◌+◌, ◌<◌, ◌^◌, Bool, ◌&&◌, if◌then◌else◌, List, [], ◌∷◌, ◌++◌, map, length, slice_set, Vec}
-use Rattle.regex_meaning.specs.Tree.{BracketContents, Lookaround, Node, cat, alt, capture_group, lookaround, loop, loop_1_char_body}
+use Rattle.regex_meaning.specs.Tree.{BracketContents, Lookaround, Node, cat, alt, capture_group, lookaround, loop, loop_1_char_body, Tree}
 use Rattle.regex_meaning.specs.Layout.{Insn}
 use Rattle.regex_pattern_front.specs.Optimized.{reads_one_character}
 use Rattle.regex_pattern_front.specs.TreeOf.{contents_of, node_of}
@@ -78,6 +78,10 @@ shaped narrow node = node
 -- the same of a declared node, in a mode
 abbrev pub shaped_in : Mode → ir.Node → Node
 shaped_in mode node = shaped mode.narrow (node_of node)
+
+-- the tree whose code that is
+abbrev pub shaped_tree : (narrow : Bool) → Tree → Tree
+shaped_tree narrow tree = record { root = shaped narrow tree.root; flags = tree.flags }
 
 -- The numbers of what the node adds can be held.
 pub record HasRoom (s : State) (node : Node) : Type 0 where

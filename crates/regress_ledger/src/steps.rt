@@ -85,22 +85,7 @@ fn other_step(insn: &Insn, ip: usize) -> Step
             reads: false,
             silent: true,
         }),
-        Insn::EnterLoop {
-            greedy,
-            loop_id,
-            exit,
-            min_iters,
-            max_iters,
-        } => {
-            let fields = LoopFields {
-                greedy: *greedy,
-                loop_id: *loop_id,
-                exit: *exit,
-                min_iters: *min_iters,
-                max_iters: *max_iters,
-            };
-            Step::Enter(fields)
-        }
+        Insn::EnterLoop { .. } => Step::Enter(insn.loop_fields()),
         Insn::LoopAgain { begin } => Step::Again(*begin as usize),
         Insn::Loop1CharBody {
             min_iters,

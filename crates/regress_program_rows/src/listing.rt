@@ -57,22 +57,7 @@ fn write_insn(text: &mut String, insn: &Insn) -> Result<(), AllocError> {
         Insn::Goal => text.push_str("Goal"),
         Insn::Alt { secondary } => write_word(text, "Alt", &[*secondary as usize]),
         Insn::Jump { target } => write_word(text, "Jump", &[*target as usize]),
-        Insn::EnterLoop {
-            greedy,
-            loop_id,
-            exit,
-            min_iters,
-            max_iters,
-        } => {
-            let fields = LoopFields {
-                greedy: *greedy,
-                loop_id: *loop_id,
-                exit: *exit,
-                min_iters: *min_iters,
-                max_iters: *max_iters,
-            };
-            write_head(text, &fields)
-        }
+        Insn::EnterLoop { .. } => write_head(text, &insn.loop_fields()),
         Insn::LoopAgain { begin } => write_word(text, "LoopAgain", &[*begin as usize]),
         Insn::Loop1CharBody {
             min_iters,

@@ -67,22 +67,7 @@ fn perform<Input: InputIndexer, Dir: Direction>(
             Ok(Turn::Go(state))
         }
         Insn::Alt { secondary } => fork(secondary, state),
-        Insn::EnterLoop {
-            greedy,
-            loop_id,
-            exit,
-            min_iters,
-            max_iters,
-        } => {
-            let fields = LoopFields {
-                greedy: greedy,
-                loop_id: loop_id,
-                exit: exit,
-                min_iters: min_iters,
-                max_iters: max_iters,
-            };
-            begin_iteration(fields, state.ip, 0, state)
-        }
+        Insn::EnterLoop { .. } => begin_iteration(insn.loop_fields(), state.ip, 0, state),
         Insn::LoopAgain { begin } => end_body(insns[begin as usize], begin as usize, state),
         Insn::Loop1CharBody {
             min_iters,
@@ -331,20 +316,8 @@ fn end_body<P: PositionType>(
         ≡ again_at (Some (insn_of head)) begin (state_of P.offset state)) }
 {
     match head {
-        Insn::EnterLoop {
-            greedy,
-            loop_id,
-            exit,
-            min_iters,
-            max_iters,
-        } => {
-            let fields = LoopFields {
-                greedy,
-                loop_id,
-                exit,
-                min_iters,
-                max_iters,
-            };
+        Insn::EnterLoop { .. } => {
+            let fields = head.loop_fields();
             let last = state.loops[fields.loop_id as usize];
             end_iteration(fields, begin, last, state)
         }

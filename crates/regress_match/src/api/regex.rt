@@ -7,7 +7,6 @@ ghost use Rattle.regress_exec.specs.Answers.{answer_of};
 ghost use Rattle.regress_match.specs.Refusals.{IsMemory, Refuses};
 ghost use Rattle.regress_match.specs.Replacements.{FitsText, StandFrom};
 ghost use Rattle.regress_match.specs.Searches.{YieldsMatches};
-ghost use Rattle.regress_program.specs.Running.{tree_to_run};
 
 use crate::api::diagnosis::code_points;
 use crate::api::{Error, Flags};

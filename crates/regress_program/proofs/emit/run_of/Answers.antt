@@ -1,4 +1,4 @@
-use Rattle.std.proofs.Common.{◌∙◌, ap, sym, map}
+use Rattle.std.proofs.Common.{◌∙◌, ap, sym, map, true}
 use Rattle.regex_pattern_front.specs.TreeOf.{tree_of, contents_of}
 use Rattle.regress_plan.specs.Plans.{HasCode}
 use Rattle.regress_program.specs.Insns.{insn_of}

@@ -71,7 +71,7 @@ named_ids-optimized = gathered-optimized own_name ◌++◌ (λ n. (own-optimized
 pub reads_bytes-optimized : (n : Node) → reads_bytes (optimized n) ≡ reads_bytes n
 reads_bytes-optimized = gathered-optimized is_of_bytes ◌||◌ (λ n. (own-optimized n).3)
 
-names_by_id-optimized : (n : Node) → names_by_id (optimized n) ≡ names_by_id n
+pub names_by_id-optimized : (n : Node) → names_by_id (optimized n) ≡ names_by_id n
 names_by_id-optimized n = ap by_id (named_ids-optimized n)
   where
     by_id : List (ℕ × List ℕ) → List (List ℕ)

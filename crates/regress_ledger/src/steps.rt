@@ -85,7 +85,7 @@ fn other_step(insn: &Insn, ip: usize) -> Step
             reads: false,
             silent: true,
         }),
-        Insn::EnterLoop(fields) => Step::Enter(*fields),
+        Insn::EnterLoop { .. } => Step::Enter(insn.loop_fields()),
         Insn::LoopAgain { begin } => Step::Again(*begin as usize),
         Insn::Loop1CharBody {
             min_iters,

@@ -1,9 +1,6 @@
 -- What is emitted.
-use Rattle.std.proofs.Common.{◌≡◌, ℕ, ◌+◌, ◌-◌, ◌<◌, ◌≤◌, ◌^◌, Bool, true, false, ◌&&◌, List, [], ◌∷◌, ◌++◌, length, refl, sym, ap, ◌∙◌, arith, append_assoc, append-nil, length-append, length-set, slice_set}
-use Rattle.std.specs.Prelude.{nat_lt}
-use Rattle.std.proofs.Math.Bool.{and_assoc}
+use Rattle.std.proofs.Common.{◌≡◌, ℕ, ◌+◌, ◌-◌, ◌<◌, ◌^◌, Bool, true, false, List, [], ◌∷◌, ◌++◌, length, refl, sym, ap, ◌∙◌, arith, append_assoc, append-nil, length-append, slice_set}
 use Rattle.std.proofs.Math.Seq.{set-append_seam}
-use Rattle.std.proofs.lemmas.Bool.{and_from, lt-ltb, ltb-true}
 use Rattle.std.proofs.lemmas.List.{length-map, length-reverse}
 use Rattle.regex_meaning.specs.Lists.{numbers_from}
 use Rattle.regex_meaning.specs.Tree.{BracketContents, Quantifier, Lookaround, Node, empty, goal, char, char_set, byte_set, byte_sequence, cat, end_of_cat, alt, bracket, string_set, match_any, match_any_except_line_terminator, anchor, word_boundary, capture_group, back_ref, lookaround, loop, loop_1_char_body}
@@ -11,8 +8,7 @@ use Rattle.regex_meaning.specs.Outcomes.{most_of, in_intervals}
 use Rattle.regex_meaning.specs.StartPredicate.{bytes_where}
 use Rattle.regex_meaning.specs.Layout.{Insn, AsciiBracket, Bracket, is_ascii_set, Alt, Jump, EnterLoop, LoopAgain, Loop1CharBody, Goal, BeginCaptureGroup, lookaround_insn, EndCaptureGroup, ByteSeq, ResetCaptureGroup, ordered, chunks}
 use Rattle.regress_program.specs.Code.{size, strings_size, loop_count, brackets_of, string_code, strings_code, resets, code_of}
-use Rattle.regress_program.specs.Emitting.{State, HasRoom, with_code, with_insn, with_insns, with_insn_at, with_loop, with_bracket, jump_behind, with_arm, with_jumps, are_below}
-use Rattle.regex_meaning.proofs.Booleans.{and-left, and-right}
+use Rattle.regress_program.specs.Emitting.{State, HasRoom, with_code, with_insn, with_insns, with_insn_at, with_loop, with_bracket}
 use Rattle.regex_meaning.proofs.Lists.{length-numbers_from}
 
 -- ---- States
@@ -196,136 +192,13 @@ room-rest u d s t a b r e = record { insns = omega (arith, r.insns, ap (λ x. le
 length-with_insn : (x : Insn) (s : State) → length (with_insn x s).insns ≡ length s.insns + 1
 length-with_insn x s = length-append s.insns (x ∷ [])
 
-pub room-left : (s t : State) (x : Insn) (a b : Node) → HasRoom s (alt a b) → t ≡ with_insn x s → HasRoom t a
-unfolding size loop_count
-room-left s t x a b r e = record { insns = omega (arith, r.insns, ap (λ y. length y.insns) e, length-with_insn x s); loops = omega (arith, r.loops, ap (λ y. y.loops) e) }
-
 -- the length before the right arm
 pub length-left : (u d : Bool) (a : Node) (s s1 s2 s3 : State) (x y : Insn)
     → s1 ≡ with_insn x s → s2 ≡ with_code u d a s1 → s3 ≡ with_insn y s2 → length s3.insns ≡ length s.insns + size a + 2
 length-left u d a s s1 s2 s3 x y e1 e2 e3 =
     omega (arith, ap (λ z. length z.insns) e1, length-with_insn x s, ap (λ z. length z.insns) e2, length-with_code u d a s1, ap (λ z. length z.insns) e3, length-with_insn y s2)
 
-pub second_fits : (u d : Bool) (a b : Node) (s s1 s2 s3 : State) (x y : Insn) → HasRoom s (alt a b)
-    → s1 ≡ with_insn x s → s2 ≡ with_code u d a s1 → s3 ≡ with_insn y s2 → length s3.insns < 2 ^ 32
-unfolding size
-second_fits u d a b s s1 s2 s3 x y r e1 e2 e3 = omega (arith, r.insns, length-left u d a s s1 s2 s3 x y e1 e2 e3)
-
--- ---- A choice of many
-
-length-with_insn_at : (place : ℕ) (x : Insn) (s : State) → length (with_insn_at place x s).insns ≡ length s.insns
-length-with_insn_at place x s = length-set s.insns place x
-
--- the length behind the jump
-length-with_arm : (u d : Bool) (a : Node) (s : State) → length (with_arm u d a s).insns ≡ length s.insns + size a + 2
-length-with_arm u d a s =
-    let s1 = with_insn (Alt 0) s in
-    let s2 = with_code u d a s1 in
-    omega (arith, length-with_insn_at (length s.insns) (Alt (jump_behind a s + 1)) (with_insn (Jump 0) s2), length-left u d a s s1 s2 (with_insn (Jump 0) s2) (Alt 0) (Jump 0) refl refl refl)
-
-pub arm-done : (u d : Bool) (a : Node) (s s1 s2 s3 s4 : State) (branch second : ℕ)
-    → s1 ≡ with_insn (Alt 0) s → s2 ≡ with_code u d a s1 → s3 ≡ with_insn (Jump 0) s2 → branch ≡ length s.insns → second ≡ length s3.insns
-    → s4 ≡ with_insn_at branch (Alt second) s3 → s4 ≡ with_arm u d a s
-arm-done u d a s s1 s2 s3 s4 branch second e1 e2 e3 b t e4 =
-    let place : second ≡ jump_behind a s + 1 = omega (arith, t, length-left u d a s s1 s2 s3 (Alt 0) (Jump 0) e1 e2 e3) in
-    let inside : s3 ≡ with_insn (Jump 0) (with_code u d a (with_insn (Alt 0) s)) = e3 ∙ ap (with_insn (Jump 0)) (e2 ∙ ap (with_code u d a) e1) in
-    e4 ∙ ap (λ n. with_insn_at n (Alt second) s3) b ∙ ap (λ n. with_insn_at (length s.insns) (Alt n) s3) place
-    ∙ ap (with_insn_at (length s.insns) (Alt (jump_behind a s + 1))) inside
-
-pub jump-place : (u d : Bool) (a : Node) (s s1 s2 : State) (x : Insn) → s1 ≡ with_insn x s → s2 ≡ with_code u d a s1 → length s2.insns ≡ jump_behind a s
-jump-place u d a s s1 s2 x e1 e2 = omega (arith, ap (λ z. length z.insns) e1, length-with_insn x s, ap (λ z. length z.insns) e2, length-with_code u d a s1)
-
-pub jump-fits : (u d : Bool) (a b : Node) (s s1 s2 : State) (x : Insn) → HasRoom s (alt a b) → s1 ≡ with_insn x s → s2 ≡ with_code u d a s1 → length s2.insns < 2 ^ 32
-unfolding size
-jump-fits u d a b s s1 s2 x r e1 e2 = omega (arith, r.insns, jump-place u d a s s1 s2 x e1 e2)
-
--- an arm needs room for itself alone
-pub room-arm : (s : State) (a b : Node) → HasRoom s (alt a b) → HasRoom s (alt a empty)
-unfolding size loop_count
-room-arm s a b r = record { insns = omega (arith, r.insns); loops = omega (arith, r.loops) }
-
-pub room-others : (u d : Bool) (a b : Node) (s t : State) → HasRoom s (alt a b) → t ≡ with_arm u d a s → HasRoom t b
-unfolding size loop_count
-room-others u d a b s t r e = record { insns = omega (arith, r.insns, ap (λ w. length w.insns) e, length-with_arm u d a s); loops = omega (arith, r.loops, ap (λ w. w.loops) e) }
-
--- the jump once more, where the others stand behind it
-pub with_code-arm : (u d : Bool) (a b : Node) (s : State)
-    → with_insn_at (jump_behind a s) (Jump (length (with_code u d b (with_arm u d a s)).insns)) (with_code u d b (with_arm u d a s)) ≡ with_code u d (alt a b) s
-with_code-arm u d a b s =
-    let s1 = with_insn (Alt 0) s in
-    let s2 = with_code u d a s1 in
-    let s3 = with_insn (Jump 0) s2 in
-    let s4 = with_arm u d a s in
-    let s5 = with_code u d b s4 in
-    let second : jump_behind a s + 1 ≡ length s3.insns = omega (arith, length-left u d a s s1 s2 s3 (Alt 0) (Jump 0) refl refl refl) in
-    with_code-alt u d a b s s1 s2 s3 s4 s5 (with_insn_at (jump_behind a s) (Jump (length s5.insns)) s5) (Alt 0) (Jump 0) refl refl refl
-    (ap (λ n. with_insn_at (length s.insns) (Alt n) s3) second) refl
-    (ap (λ n. with_insn_at n (Jump (length s5.insns)) s5) (sym (jump-place u d a s s1 s2 (Alt 0) refl refl)))
-
-with_jumps-last : (places : List ℕ) (place : ℕ) (s : State)
-    → with_jumps (places ++ place ∷ []) s ≡ with_jumps places (with_insn_at place (Jump (length s.insns)) s)
-with_jumps-last [] place s = refl
-with_jumps-last (p ∷ places) place s =
-    let t = with_insn_at place (Jump (length s.insns)) s in
-    ap (with_insn_at p (Jump (length s.insns))) (with_jumps-last places place s)
-    ∙ ap (λ n. with_insn_at p (Jump n) (with_jumps places t)) (sym (length-with_insn_at place (Jump (length s.insns)) s))
-
-pub with_jumps-next : (before after : List ℕ) (place target : ℕ) (s t all : State) → before ≡ after ++ place ∷ [] → target ≡ length s.insns
-    → t ≡ with_insn_at place (Jump target) s → with_jumps before s ≡ all → with_jumps after t ≡ all
-with_jumps-next before after place target s t all b e f h =
-    ap (with_jumps after) (f ∙ ap (λ n. with_insn_at place (Jump n) s) e) ∙ sym (with_jumps-last after place s) ∙ sym (ap (λ ps. with_jumps ps s) b) ∙ h
-
--- the first arm
-pub first-arm : (u d : Bool) (a b : Node) (s t : State) (places : List ℕ) (place : ℕ) → t ≡ with_arm u d a s → place ≡ jump_behind a s → places ≡ place ∷ []
-    → with_jumps places (with_code u d b t) ≡ with_code u d (alt a b) s
-first-arm u d a b s t places place e f g =
-    ap (λ ps. with_jumps ps (with_code u d b t)) (g ∙ ap (λ p. p ∷ []) f) ∙ ap (λ w. with_jumps (jump_behind a s ∷ []) (with_code u d b w)) e ∙ with_code-arm u d a b s
-
--- one arm more
-pub next-arm : (u d : Bool) (a b : Node) (s t all : State) (before after : List ℕ) (place : ℕ) → t ≡ with_arm u d a s → place ≡ jump_behind a s
-    → after ≡ before ++ place ∷ [] → with_jumps before (with_code u d (alt a b) s) ≡ all → with_jumps after (with_code u d b t) ≡ all
-next-arm u d a b s t all before after place e f g h =
-    ap (λ ps. with_jumps ps (with_code u d b t)) g ∙ with_jumps-last before place (with_code u d b t)
-    ∙ ap (with_jumps before) (first-arm u d a b s t (place ∷ []) place e f refl) ∙ h
-
--- ---- Places
-
-pub below-more : (places : List ℕ) (m n : ℕ) → m ≤ n → are_below m places ≡ true → are_below n places ≡ true
-below-more [] m n h b = refl
-below-more (p ∷ places) m n h b =
-    let here : p < m = ltb-true p m (and-left (nat_lt p m) (are_below m places) b) in
-    and_from (nat_lt p n) (are_below n places) (lt-ltb p n (omega arith)) (below-more places m n h (and-right (nat_lt p m) (are_below m places) b))
-
-below-append : (xs ys : List ℕ) (n : ℕ) → are_below n (xs ++ ys) ≡ (are_below n xs && are_below n ys)
-below-append [] ys n = refl
-below-append (x ∷ xs) ys n = ap (λ b. nat_lt x n && b) (below-append xs ys n) ∙ sym (and_assoc (nat_lt x n) (are_below n xs) (are_below n ys))
-
-pub below-last : (before after : List ℕ) (place n : ℕ) → before ≡ after ++ place ∷ [] → are_below n before ≡ true → (are_below n after ≡ true) × (place < n)
-below-last before after place n e b =
-    let both : (are_below n after && are_below n (place ∷ [])) ≡ true = sym (below-append after (place ∷ []) n) ∙ sym (ap (are_below n) e) ∙ b in
-    let last = and-right (are_below n after) (are_below n (place ∷ [])) both in
-    (and-left (are_below n after) (are_below n (place ∷ [])) both, ltb-true place n (and-left (nat_lt place n) true last))
-
--- places before the end of the code so far, and one more arm
-pub below-arm : (u d : Bool) (a : Node) (s t : State) (before after : List ℕ) (place : ℕ) → t ≡ with_arm u d a s → place ≡ jump_behind a s
-    → after ≡ before ++ place ∷ [] → are_below (length s.insns) before ≡ true → are_below (length t.insns) after ≡ true
-below-arm u d a s t before after place e f g h =
-    let len : length t.insns ≡ length s.insns + size a + 2 = ap (λ w. length w.insns) e ∙ length-with_arm u d a s in
-    let here : are_below (length t.insns) (place ∷ []) ≡ true = and_from (nat_lt place (length t.insns)) true (lt-ltb place (length t.insns) (omega (arith, len, f))) refl in
-    ap (are_below (length t.insns)) g ∙ below-append before (place ∷ []) (length t.insns)
-    ∙ and_from (are_below (length t.insns) before) (are_below (length t.insns) (place ∷ [])) (below-more before (length s.insns) (length t.insns) (omega (arith, len)) h) here
-
--- the last of the alternatives, and room for the end
-pub last-fits : (u d : Bool) (n : Node) (s t : State) → HasRoom s n → t ≡ with_code u d n s → length t.insns < 2 ^ 32
-last-fits u d n s t r e = omega (arith, r.insns, ap (λ w. length w.insns) e, length-with_code u d n s)
-
-pub below-code : (u d : Bool) (n : Node) (s t : State) (places : List ℕ) → t ≡ with_code u d n s → are_below (length s.insns) places ≡ true → are_below (length t.insns) places ≡ true
-below-code u d n s t places e = below-more places (length s.insns) (length t.insns) (omega (arith, ap (λ w. length w.insns) e, length-with_code u d n s))
-
 -- ---- A part between a head and a tail
-
-with_insn_state : (x : Insn) (s t : State) → t ≡ with_insn x s → (t.loops ≡ s.loops) × (t.brackets ≡ s.brackets)
-with_insn_state x s t e = (ap (λ r. r.loops) e, ap (λ r. r.brackets) e)
 
 -- the code of a node behind one instruction
 after_head : (u d : Bool) (n : Node) (s s1 s2 : State) (x : Insn) → s1 ≡ with_insn x s → s2 ≡ with_code u d n s1
@@ -435,56 +308,13 @@ with_code-loop u d q g e n head s s1 s2 s3 s4 s5 s6 x is_head e1 e2 e3 e4 e5 e6 
 
 -- ---- Room inside
 
-pub room-group : (id : ℕ) (name : List ℕ) (n : Node) (s t : State) (x : Insn) → HasRoom s (capture_group id name n) → t ≡ with_insn x s → HasRoom t n
-unfolding size loop_count
-room-group id name n s t x r e = record {
-  insns = omega (arith, r.insns, ap (λ y. length y.insns) e, length-with_insn x s);
-  loops = omega (arith, r.loops, ap (λ y. y.loops) e);
-}
-
-pub room-lookaround : (l : Lookaround) (n : Node) (s t : State) (x : Insn) → HasRoom s (lookaround l n) → t ≡ with_insn x s → HasRoom t n
-unfolding size loop_count
-room-lookaround l n s t x r e = record {
-  insns = omega (arith, r.insns, ap (λ y. length y.insns) e, length-with_insn x s);
-  loops = omega (arith, r.loops, ap (λ y. y.loops) e);
-}
-
-pub room-loop_1_char_body : (q : Quantifier) (n : Node) (s t : State) (x : Insn) → HasRoom s (loop_1_char_body q n) → t ≡ with_insn x s → HasRoom t n
-unfolding size loop_count
-room-loop_1_char_body q n s t x r e = record {
-  insns = omega (arith, r.insns, ap (λ y. length y.insns) e, length-with_insn x s);
-  loops = omega (arith, r.loops, ap (λ y. y.loops) e);
-}
-
-pub room-loop : (q : Quantifier) (g h : ℕ) (n : Node) (s s1 s2 s3 : State) (x : Insn) → HasRoom s (loop q g h n)
-    → s1 ≡ with_insn x s → s2 ≡ with_loop s1 → s3 ≡ with_insns (resets g h) s2 → HasRoom s3 n
-unfolding size loop_count
-room-loop q g h n s s1 s2 s3 x r e1 e2 e3 = record {
-  insns = omega (arith, r.insns, length-resets_done g h s s1 s2 s3 x e1 e2 e3);
-  loops = omega (arith, r.loops, ap (λ y. y.loops) e1, ap (λ y. y.loops) e2, ap (λ y. y.loops) e3);
-}
-
 pub loop_fits : (q : Quantifier) (g h : ℕ) (n : Node) (s s1 : State) (x : Insn) → HasRoom s (loop q g h n) → s1 ≡ with_insn x s → s1.loops + 1 < 2 ^ 16
 unfolding loop_count
 loop_fits q g h n s s1 x r e = omega (arith, r.loops, ap (λ y. y.loops) e)
 
-pub end_of_lookaround_fits : (l : Lookaround) (u : Bool) (n : Node) (s s1 s2 s3 : State) (x y : Insn) → HasRoom s (lookaround l n)
-    → s1 ≡ with_insn x s → s2 ≡ with_code u l.backwards n s1 → s3 ≡ with_insn y s2 → length s3.insns < 2 ^ 32
-unfolding size
-end_of_lookaround_fits l u n s s1 s2 s3 x y r e1 e2 e3 = omega (arith, r.insns, length-between u l.backwards n s s1 s2 s3 x y e1 e2 e3)
-
-pub end_of_loop_fits : (u d : Bool) (q : Quantifier) (g h : ℕ) (n : Node) (s s1 s2 s3 s4 s5 : State) (x y : Insn) → HasRoom s (loop q g h n)
-    → s1 ≡ with_insn x s → s2 ≡ with_loop s1 → s3 ≡ with_insns (resets g h) s2 → s4 ≡ with_code u d n s3 → s5 ≡ with_insn y s4 → length s5.insns < 2 ^ 32
-unfolding size
-end_of_loop_fits u d q g h n s s1 s2 s3 s4 s5 x y r e1 e2 e3 e4 e5 = omega (arith, r.insns, length-loop u d n g h s s1 s2 s3 s4 s5 x y e1 e2 e3 e4 e5)
-
 pub room-unnamed : (id : ℕ) (name : List ℕ) (n : Node) (s : State) → HasRoom s (capture_group id name n) → HasRoom s (capture_group id [] n)
 unfolding size loop_count
 room-unnamed id name n s r = record { insns = r.insns; loops = r.loops }
-
-pub code-unnamed : (u d : Bool) (id : ℕ) (name : List ℕ) (n : Node) (s : State) → with_code u d (capture_group id [] n) s ≡ with_code u d (capture_group id name n) s
-unfolding code_of loop_count brackets_of
-code-unnamed u d id name n s = refl
 
 -- ---- Brackets
 

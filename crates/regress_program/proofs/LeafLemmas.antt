@@ -10,7 +10,7 @@ use Rattle.regex_pattern_front.specs.declared.ir.Node.TheFolds.{ind-Node}
 use denote.Hole.Carrier.{roll}
 use Rattle.regex_pattern_front.proofs.NodeLemmas.{HasNone}
 use Rattle.regress_program.specs.Ids.{is_sound_by_itself}
-use Rattle.regress_program.specs.Nodes.{cat_of, is_leaf}
+use Rattle.regress_program.specs.Nodes.{cat_of, is_leaf, is_narrowed}
 use Rattle.regex_meaning.specs.WellFormed.{ends_in_goal}
 use Rattle.regex_pattern_front.specs.declared.ir.Quantifier.{Quantifier}
 use Rattle.std.specs.declared.ops.Range.{Range}
@@ -71,6 +71,19 @@ bytes-rolled _ h k = refl
 
 pub bytes-other : (n : Node) → ((v : Vec ℕ Global) → n ≡ ByteSet v → ⊥) → ((v : Vec ℕ Global) → n ≡ ByteSequence v → ⊥) → is_of_bytes (node_of n) ≡ false
 bytes-other = ind-Node (λ n. ((v : Vec ℕ Global) → n ≡ ByteSet v → ⊥) → ((v : Vec ℕ Global) → n ≡ ByteSequence v → ⊥) → is_of_bytes (node_of n) ≡ false) (λ x y is. bytes-rolled x)
+
+narrowed-rolled : (x : Node-F Node) → ((loopee : Box Node Global) (q : Quantifier) (groups : Range ℕ) → roll-Node x ≡ Loop loopee q groups → ⊥) → is_narrowed (node_of (roll-Node x)) ≡ false
+unfolding node_of roll-Node roll
+narrowed-rolled (Node-F.Loop loopee q groups) h = absurd (h loopee q groups (sym (rolls-Loop loopee q groups)))
+narrowed-rolled (Node-F.Cat v) h = ap is_narrowed (node_of-Cat v) ∙ of_nodes v.items
+  where
+    of_nodes : (ns : List Node) → is_narrowed (cat_of ns) ≡ false
+    of_nodes [] = refl
+    of_nodes (m ∷ ms) = refl
+narrowed-rolled _ h = refl
+
+pub narrowed-other : (n : Node) → ((loopee : Box Node Global) (q : Quantifier) (groups : Range ℕ) → n ≡ Loop loopee q groups → ⊥) → is_narrowed (node_of n) ≡ false
+narrowed-other = ind-Node (λ n. ((loopee : Box Node Global) (q : Quantifier) (groups : Range ℕ) → n ≡ Loop loopee q groups → ⊥) → is_narrowed (node_of n) ≡ false) (λ x y is. narrowed-rolled x)
 
 names-rolled : (x : Node-F Node) → ((id : ℕ) (contents : Box Node Global) (name : Option (String Global)) → roll-Node x ≡ CaptureGroup id contents name → ⊥) → is_nameless (node_of (roll-Node x)) ≡ true
 unfolding node_of roll-Node roll

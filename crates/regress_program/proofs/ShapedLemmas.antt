@@ -1,10 +1,11 @@
 -- Nodes whose loops over one character are narrow.
-use Rattle.std.proofs.Common.{◌≡◌, ◌+◌, ◌-◌, ◌≤◌, Bool, true, false, ◌&&◌, refl, ap, arith, le_refl}
-use Rattle.std.specs.Prelude.{if◌then◌else◌}
-use Rattle.regex_meaning.specs.Tree.{Node, cat, alt, capture_group, lookaround, loop, loop_1_char_body}
+use Rattle.std.proofs.Common.{◌≡◌, ◌+◌, ◌-◌, ◌≤◌, Bool, true, false, ◌&&◌, refl, sym, ap, ◌∙◌, arith, le_refl, true≢false}
+use Rattle.std.specs.Prelude.{if◌then◌else◌, not}
+use Rattle.std.proofs.lemmas.Bool.{and_parts}
+use Rattle.regex_meaning.specs.Tree.{Node, cat, alt, capture_group, lookaround, loop, loop_1_char_body, every}
 use Rattle.regex_pattern_front.specs.Optimized.{reads_one_character, optimized}
 use Rattle.regress_program.specs.Code.{size, loop_count, brackets_of}
-use Rattle.regress_program.specs.Nodes.{is_leaf}
+use Rattle.regress_program.specs.Nodes.{is_leaf, is_narrowed}
 use Rattle.regress_program.specs.Emitting.{shaped}
 
 pub shaped-leaf : (narrow : Bool) (n : Node) → is_leaf n ≡ true → shaped narrow n ≡ n
@@ -53,6 +54,34 @@ shaped-narrow (loop q s e loopee) = go (reads_one_character loopee) (shaped-one 
     go false one below = ap (loop q s e) below
 shaped-narrow (loop_1_char_body q loopee) = rw (shaped-narrow loopee) refl
 shaped-narrow _ = refl
+
+abbrev stays : Node → Bool
+stays n = every (λ m. not (is_narrowed m)) n
+
+-- where no loop is to be optimized, the node is as it was
+pub optimized-same : (n : Node) → every (λ m. not (is_narrowed m)) n ≡ true → optimized n ≡ n
+unfolding optimized
+optimized-same (cat first rest) h =
+    let both = and_parts (stays first) (stays rest) h in
+    let head : optimized first ≡ first = optimized-same first both.0 in
+    let tail : optimized rest ≡ rest = optimized-same rest both.1 in
+    ap (λ n. cat n (optimized rest)) head ∙ ap (cat first) tail
+optimized-same (alt left right) h =
+    let both = and_parts (stays left) (stays right) h in
+    let head : optimized left ≡ left = optimized-same left both.0 in
+    let tail : optimized right ≡ right = optimized-same right both.1 in
+    ap (λ n. alt n (optimized right)) head ∙ ap (alt left) tail
+optimized-same (capture_group id name contents) h = ap (capture_group id name) (optimized-same contents h)
+optimized-same (lookaround l contents) h = ap (lookaround l) (optimized-same contents h)
+optimized-same (loop q s e loopee) h =
+    let both = and_parts (not (reads_one_character loopee)) (stays loopee) h in
+    go (reads_one_character loopee) both.0 (optimized-same loopee both.1)
+  where
+    go : (r : Bool) → not r ≡ true → optimized loopee ≡ loopee → (if r then loop_1_char_body q loopee else loop q s e (optimized loopee)) ≡ loop q s e loopee
+    go true none same = absurd (true≢false (sym none))
+    go false none same = ap (loop q s e) same
+optimized-same (loop_1_char_body q loopee) h = ap (loop_1_char_body q) (optimized-same loopee h)
+optimized-same _ h = refl
 
 -- ---- Narrow loops take no more room
 

@@ -1,8 +1,7 @@
 -- A program that is being made.
-use Rattle.std.specs.Prelude.{◌≡◌, ℕ, ◌+◌, ◌<◌, ◌^◌, Bool, ◌&&◌, if◌then◌else◌, List, [], ◌∷◌, ◌++◌, map, length, slice_set, nat_lt, Vec}
-use Rattle.std.specs.List.{list_all}
-use Rattle.regex_meaning.specs.Tree.{BracketContents, Lookaround, Node, cat, alt, capture_group, lookaround, loop, loop_1_char_body}
-use Rattle.regex_meaning.specs.Layout.{Insn, Alt, Jump}
+use Rattle.std.specs.Prelude.{◌≡◌, ℕ, ◌+◌, ◌<◌, ◌^◌, Bool, ◌&&◌, if◌then◌else◌, List, [], ◌∷◌, ◌++◌, map, length, slice_set, Vec}
+use Rattle.regex_meaning.specs.Tree.{BracketContents, Lookaround, Node, cat, alt, capture_group, lookaround, loop, loop_1_char_body, Tree}
+use Rattle.regex_meaning.specs.Layout.{Insn}
 use Rattle.regex_pattern_front.specs.Optimized.{reads_one_character}
 use Rattle.regex_pattern_front.specs.TreeOf.{contents_of, node_of}
 use Rattle.regress_program.specs.Insns.{insn_of}
@@ -55,23 +54,6 @@ with_code unicode behind node s = record {
 abbrev pub IsEmitted : Mode → Node → (before after : Emitter) → Type 0
 IsEmitted mode node before after = state_of after ≡ with_code mode.unicode mode.behind node (state_of before)
 
--- where the jump behind an alternative comes to stand
-abbrev pub jump_behind : (arm : Node) → State → ℕ
-jump_behind arm s = length s.insns + size arm + 1
-
--- the code of an alternative that others follow, whose jump is still blank
-abbrev pub with_arm : (unicode behind : Bool) → (arm : Node) → State → State
-with_arm unicode behind arm s =
-    with_insn_at (length s.insns) (Alt (jump_behind arm s + 1)) (with_insn (Jump 0) (with_code unicode behind arm (with_insn (Alt 0) s)))
-
--- jumps at these places to what comes next
-abbrev pub with_jumps : (places : List ℕ) → State → State
-with_jumps [] s = s
-with_jumps (place ∷ places) s = with_insn_at place (Jump (length s.insns)) (with_jumps places s)
-
-abbrev pub are_below : (end : ℕ) → List ℕ → Bool
-are_below end places = list_all (λ place. nat_lt place end) places
-
 -- the strings of a set
 abbrev pub code_points_of : {R : Type 0} → List (Vec ℕ R) → List (List ℕ)
 code_points_of strings = map (λ s. s.items) strings
@@ -96,6 +78,10 @@ shaped narrow node = node
 -- the same of a declared node, in a mode
 abbrev pub shaped_in : Mode → ir.Node → Node
 shaped_in mode node = shaped mode.narrow (node_of node)
+
+-- the tree whose code that is
+abbrev pub shaped_tree : (narrow : Bool) → Tree → Tree
+shaped_tree narrow tree = record { root = shaped narrow tree.root; flags = tree.flags }
 
 -- The numbers of what the node adds can be held.
 pub record HasRoom (s : State) (node : Node) : Type 0 where

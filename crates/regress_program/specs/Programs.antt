@@ -1,5 +1,7 @@
 -- What a program's fields are.
 use Rattle.std.specs.Prelude.{◌≡◌, map, Bool, true, false, IsTrue}
+use Rattle.std.specs.Arc.{arc_value}
+use Rattle.regex_meaning.specs.Tree.{Tree}
 use Rattle.regex_meaning.specs.WellFormed.{is_well_formed}
 use Rattle.regex_pattern_front.specs.TreeOf.{tree_of, flags_of, contents_of}
 use Rattle.regex_meaning.specs.Layout.{Program, reads_bytes}
@@ -11,14 +13,19 @@ use Rattle.regress_program.specs.declared.insn.predicates.StartPredicate.{StartP
 use Rattle.regress_program.specs.Predicates.{IsStartOf}
 use Rattle.regress_program.specs.Code.{compiled}
 use Rattle.regress_program.specs.Running.{planned_tree, tree_to_run}
+use Rattle.regress_program.specs.declared.insn.emitted.Emitted.{Emitted}
 use Rattle.regress_program.specs.declared.insn.runs.Run.{Run}
 use Rattle.regress_program.specs.declared.insn.programs.Program.TheInside.{Inside}
 
+-- what was emitted is the tree's code
+pub record IsCodeIn (tree : Tree) (code : Emitted) : Type 0 where
+  pub insns : map insn_of code.insns.items ≡ (compiled tree).insns
+  pub brackets : map contents_of code.brackets.items ≡ (compiled tree).brackets
+  pub loops : code.loops ≡ (compiled tree).loops
+
 -- the fields are those of the tree's code, and the tree is well formed
 pub record IsProgram (p : Inside) : Type 0 where
-  pub insns : map insn_of p.insns.items ≡ (compiled (tree_of p.tree.value)).insns
-  pub brackets : map contents_of p.brackets.items ≡ (compiled (tree_of p.tree.value)).brackets
-  pub loops : p.loops ≡ (compiled (tree_of p.tree.value)).loops
+  pub code : IsCodeIn (tree_of p.tree.value) (arc_value p.code)
   pub groups : p.groups ≡ (compiled (tree_of p.tree.value)).groups
   pub flags : flags_of p.flags ≡ (compiled (tree_of p.tree.value)).flags
   pub group_names : p.group_names ≡ (compiled (tree_of p.tree.value)).group_names

@@ -1,12 +1,15 @@
 //! From trees to programs.
 
-ghost use Rattle.std.specs.Prelude.{◌≡◌, false, length, IfOk, OnOk, IfErr};
+ghost use Rattle.std.specs.Prelude.{◌≡◌, ◌<◌, ◌^◌, true, false, length, IfOk, OnOk, IfErr};
+ghost use Rattle.std.specs.Arc.{arc_value};
 ghost use Rattle.regex_meaning.specs.Tree.{group_ids};
 ghost use Rattle.regex_meaning.specs.Layout.{IsByteCodeOf, IsUnitCodeOf};
-ghost use Rattle.regex_pattern_front.specs.TreeOf.{node_of, tree_of};
-ghost use Rattle.regress_program.specs.Code.{compiled};
-ghost use Rattle.regress_program.specs.Emitting.{nothing, shaped, state_of, with_code};
-ghost use Rattle.regress_program.specs.Programs.{IsRunOf};
+ghost use Rattle.regex_pattern_front.specs.TreeOf.{tree_of};
+ghost use Rattle.regex_pattern_front.specs.declared.ir.Regex.{Regex};
+ghost use Rattle.regress_program.specs.Code.{compiled, size};
+ghost use Rattle.regress_program.specs.Emitting.{shaped_tree};
+ghost use Rattle.regress_program.specs.Programs.{IsCodeIn, IsRunOf};
+ghost use Rattle.regress_program.specs.Running.{tree_to_run};
 ghost use Rattle.regress_program.specs.Refusals.{IsRefused, IsRefusedInUnits, IsRefusedWith, FitsLimits};
 
 mod brackets;
@@ -22,18 +25,20 @@ mod walk;
 mod wellformed;
 
 use crate::carried::Carried;
-use crate::emit::bytes::reads_bytes;
+use crate::emit::bytes::{narrows_nothing, reads_bytes};
 use crate::emit::emitter::{Emitter, Mode};
 use crate::emit::names::names_by_id;
 use crate::emit::tally::Tally;
 pub use crate::emit::wellformed::is_well_formed;
-use crate::insn::{CompiledRegex, CompiledUnits, GroupNames, Program, Run, placed};
+use crate::insn::{CompiledRegex, CompiledUnits, Emitted, GroupNames, Program, Run, placed};
 use crate::startpredicate::predicate_for_re;
 use regex_pattern_front::ir;
+use regex_pattern_front::optimizer::optimize;
 use regex_pattern_front::types::{LoopID, MAX_CAPTURE_GROUPS};
 use regress_plan::keys::Units;
 use regress_plan::plan::{Code, Plan};
 use std::alloc::{AllocError, Global};
+use std::sync::Arc;
 use thiserror::Error;
 
 /// Why a tree is not compiled.
@@ -83,14 +88,8 @@ pub fn emit(alloc: Global, re: &ir::Regex) -> Result<CompiledRegex, EmitError>
     ensures refused { IfErr result (λ e. IsRefused e (tree_of re.now)) }
 {
     let program = compile(alloc, re, false)?;
-    let start_pred = predicate_for_re(alloc, re)?;
-    let plan = program.planned(Units::Bytes)?;
-    let plan = placed(alloc, plan)?;
-    Ok(CompiledRegex {
-        program,
-        start_pred,
-        plan,
-    })
+    let cr = for_bytes(alloc, re, program)?;
+    Ok(cr)
 }
 
 /// The program of a tree for texts of 16-bit units, or the first cause for which there is none.
@@ -106,40 +105,113 @@ pub fn emit_units(alloc: Global, re: &ir::Regex) -> Result<CompiledUnits, EmitEr
     ensures refused { IfErr result (λ e. IsRefusedInUnits e (tree_of re.now)) }
 {
     let program = compile(alloc, re, reads_bytes(&re.node))?;
-    let run = run_of(alloc, re, &program)?;
+    let code = code_to_run(alloc, re, &program)?;
+    let run = run_of(alloc, &code, program.groups())?;
     Ok(CompiledUnits { program, run })
 }
 
-// What is run in place of a tree's program: a plan of the tree with narrow loops over one character, whose code is dropped,
-// or of the program itself where nothing is to be optimized.
-fn run_of(alloc: Global, re: &ir::Regex, program: &Program) -> Result<Run, AllocError>
+/// The programs of a parsed tree: that for texts of 16-bit units is of the tree, that for texts in bytes of the tree that
+/// is run in its place; or the first cause for which there are none. What is the same in both they share.
+///
+/// # Errors
+///
+/// Those of `emit_units`.
+pub fn emit_both(alloc: Global, re: ir::Regex) -> Result<(CompiledRegex, CompiledUnits), EmitError>
+    ensures units { IfOk result (λ both. both.1 ≡ re) }
+    ensures bytes { IfOk result (λ both. tree_of both.0 ≡ tree_to_run (tree_of re)) }
+    ensures unit_code { OnOk result (IsUnitCodeOf (compiled (tree_of re)) (tree_of re)) }
+    ensures byte_code { OnOk result (let run = tree_to_run (tree_of re) in IsByteCodeOf (compiled run) run) }
+    ensures refused { IfErr result (λ e. IsRefusedInUnits e (tree_of re)) }
+{
+    let program = compile(alloc, &re, reads_bytes(&re.node))?;
+    let code = code_to_run(alloc, &re, &program)?;
+    let run = run_of(alloc, &code, program.groups())?;
+    let tree = to_run(re);
+    let optimized = program.with_code(code, &tree)?;
+    let cr = for_bytes(alloc, &tree, optimized)?;
+    Ok((cr, CompiledUnits { program, run }))
+}
+
+// The program of a tree for texts in bytes, of what programs of both kinds hold.
+fn for_bytes(alloc: Global, re: &ir::Regex, program: Program) -> Result<CompiledRegex, AllocError>
+    requires fits { size (tree_of re.now).root < 2 ^ 32 }
+    requires same { program ≡ re.now }
+    ensures { IfOk result (λ p. p ≡ re.now) }
+{
+    let start_pred = predicate_for_re(alloc, re)?;
+    let plan = program.planned(Units::Bytes)?;
+    let plan = placed(alloc, plan)?;
+    Ok(CompiledRegex {
+        program,
+        start_pred,
+        plan,
+    })
+}
+
+// The tree that is run in place of one.
+fn to_run(mut tree: ir::Regex) -> ir::Regex
+    ensures { tree_of result ≡ tree_to_run (tree_of tree) }
+{
+    if tree.flags.no_opt {
+        return tree;
+    }
+    optimize(&mut tree);
+    tree
+}
+
+// The code of the tree that is run in place of one with this program, which is the program's where these are the same.
+fn code_to_run(
+    alloc: Global,
+    re: &ir::Regex,
+    program: &Program,
+) -> Result<Arc<Emitted, Global>, AllocError>
     requires fits { FitsLimits (tree_of re.now) }
     requires same { program.now ≡ re.now }
-    ensures { IfOk result (IsRunOf re.now) }
+    ensures { IfOk result (λ code. IsCodeIn (tree_to_run (tree_of re.now)) (arc_value code)) }
+{
+    if is_run_itself(re) {
+        return program.code();
+    }
+    emitted(alloc, re, true, program.insns().len())
+}
+
+// Whether a tree is run itself, since nothing of it is to be optimized.
+fn is_run_itself(re: &ir::Regex) -> bool
+    ensures itself { result ≡ true → tree_to_run (tree_of re.now) ≡ tree_of re.now }
+    ensures optimized { result ≡ false → re.now.flags.no_opt ≡ false }
 {
     if re.flags.no_opt {
-        let plan = program.planned(Units::Wide)?;
-        let loops = program.loops();
-        let plan = placed(alloc, plan)?;
-        return Ok(Run { plan, loops });
+        return true;
     }
-    let narrow = emitted(alloc, re, true, program.insns().len())?;
+    narrows_nothing(&re.node)
+}
+
+// What is run in place of a tree with so many groups, of whose place this code is.
+fn run_of(alloc: Global, code: &Emitted, groups: u32) -> Result<Run, AllocError>
+    requires { length code.now.insns.items < 2 ^ 32 }
+    ensures { IfOk result (λ run. (re : Regex) → IsCodeIn (tree_to_run (tree_of re)) code.now
+        → groups ≡ (compiled (tree_of re)).groups → IsRunOf re run) }
+{
+    let loops = code.loops;
     let code = Code {
-        insns: &narrow.insns,
-        brackets: &narrow.brackets,
-        groups: program.groups(),
+        insns: &code.insns,
+        brackets: &code.brackets,
+        groups,
     };
     let plan = Plan::new(alloc, code, Units::Wide)?;
-    let loops = u32::from(narrow.loops);
     let plan = placed(alloc, plan)?;
     Ok(Run { plan, loops })
 }
 
 // The code of a tree, which has so many instructions; loops over one character are narrow in it or not.
-fn emitted(alloc: Global, re: &ir::Regex, narrow: bool, room: usize) -> Result<Emitter, AllocError>
+fn emitted(
+    alloc: Global,
+    re: &ir::Regex,
+    narrow: bool,
+    room: usize,
+) -> Result<Arc<Emitted, Global>, AllocError>
     requires { FitsLimits (tree_of re.now) }
-    ensures { IfOk result (λ e. state_of e
-        ≡ with_code re.now.flags.unicode false (shaped narrow (node_of re.now.node)) nothing) }
+    ensures { IfOk result (λ code. IsCodeIn (shaped_tree narrow (tree_of re.now)) (arc_value code)) }
 {
     let mut emitter = Emitter::new(alloc, room)?;
     let mode = Mode {
@@ -148,7 +220,8 @@ fn emitted(alloc: Global, re: &ir::Regex, narrow: bool, room: usize) -> Result<E
         behind: false,
     };
     emitter.emit(mode, &re.node)?;
-    Ok(emitter)
+    let code = emitter.end();
+    Ok(Arc::new(alloc, code)?)
 }
 
 // What programs of both kinds hold, or why there is none; `bytes_in_units` says whether the tree is for 16-bit units
@@ -163,16 +236,10 @@ fn compile(alloc: Global, re: &ir::Regex, bytes_in_units: bool) -> Result<Progra
         groups,
         insns: room,
     } = check_limits(re, bytes_in_units)?;
-    let Emitter {
-        insns,
-        brackets,
-        loops,
-    } = emitted(alloc, re, false, room)?;
+    let code = emitted(alloc, re, false, room)?;
     let group_names = GroupNames::shared(names_by_id(alloc, &re.node, groups)?)?;
     Ok(Program {
-        insns,
-        brackets,
-        loops: u32::from(loops),
+        code,
         groups,
         group_names,
         flags: re.flags,

@@ -1,12 +1,14 @@
 //! Instructions, and programs made of them.
 
 mod compiled;
+mod emitted;
 mod names;
 mod predicates;
 mod programs;
 mod runs;
 
 pub use crate::insn::compiled::{CompiledRegex, CompiledUnits};
+pub(crate) use crate::insn::emitted::Emitted;
 pub use crate::insn::names::GroupNames;
 pub use crate::insn::predicates::StartPredicate;
 pub use crate::insn::programs::Program;

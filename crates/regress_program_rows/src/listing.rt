@@ -57,7 +57,7 @@ fn write_insn(text: &mut String, insn: &Insn) -> Result<(), AllocError> {
         Insn::Goal => text.push_str("Goal"),
         Insn::Alt { secondary } => write_word(text, "Alt", &[*secondary as usize]),
         Insn::Jump { target } => write_word(text, "Jump", &[*target as usize]),
-        Insn::EnterLoop(fields) => write_head(text, fields),
+        Insn::EnterLoop { .. } => write_head(text, &insn.loop_fields()),
         Insn::LoopAgain { begin } => write_word(text, "LoopAgain", &[*begin as usize]),
         Insn::Loop1CharBody {
             min_iters,

@@ -7,17 +7,14 @@ ghost use Rattle.regress_exec.specs.Answers.{answer_of};
 ghost use Rattle.regress_match.specs.Refusals.{IsMemory, Refuses};
 ghost use Rattle.regress_match.specs.Replacements.{FitsText, StandFrom};
 ghost use Rattle.regress_match.specs.Searches.{YieldsMatches};
-ghost use Rattle.regress_program.specs.Running.{tree_to_run};
 
 use crate::api::diagnosis::code_points;
 use crate::api::{Error, Flags};
 use crate::executors::{DefaultAsciiExecutor, DefaultExecutor, LimitedExecutor, search_from};
-use regex_pattern_front::ir;
-use regex_pattern_front::optimizer::optimize;
 use regex_pattern_front::parse::try_parse;
 use regress_exec::exec;
 use regress_exec::exec::{Match, MatchProducer, SearchError};
-use regress_program::emit::{emit, emit_units};
+use regress_program::emit::emit_both;
 use regress_program::insn::{CompiledRegex, CompiledUnits};
 use std::alloc::{AllocError, Global};
 
@@ -30,17 +27,6 @@ pub type AsciiMatches<'r, 't> = exec::Matches<DefaultAsciiExecutor<'r, 't>>;
 /// The matches of a pattern in a text in UTF-8, found in a limited number of steps. Contracts see the answers still to
 /// come, and whether the limit comes after them in place of the end.
 pub type LimitedMatches<'r, 't> = exec::Matches<LimitedExecutor<'r, 't>>;
-
-// The tree that is run in place of a parsed one.
-fn to_run(mut tree: ir::Regex) -> ir::Regex
-    ensures { tree_of result ≡ tree_to_run (tree_of tree) }
-{
-    if tree.flags.no_opt {
-        return tree;
-    }
-    optimize(&mut tree);
-    tree
-}
 
 /// A pattern that is compiled.
 #[derive(Drop)]
@@ -104,9 +90,7 @@ impl Regex {
         ensures refused { IfErr result (Refuses (flags_of flags) pattern.now) }
     {
         let parsed = try_parse(alloc, pattern, flags.for_front())?;
-        let units = emit_units(alloc, &parsed)?;
-        let tree = to_run(parsed);
-        let cr = emit(alloc, &tree)?;
+        let (cr, units) = emit_both(alloc, parsed)?;
         Ok(Regex { cr, units })
     }
 

@@ -67,7 +67,7 @@ fn perform<Input: InputIndexer, Dir: Direction>(
             Ok(Turn::Go(state))
         }
         Insn::Alt { secondary } => fork(secondary, state),
-        Insn::EnterLoop(fields) => begin_iteration(fields, state.ip, 0, state),
+        Insn::EnterLoop { .. } => begin_iteration(insn.loop_fields(), state.ip, 0, state),
         Insn::LoopAgain { begin } => end_body(insns[begin as usize], begin as usize, state),
         Insn::Loop1CharBody {
             min_iters,
@@ -316,7 +316,8 @@ fn end_body<P: PositionType>(
         ≡ again_at (Some (insn_of head)) begin (state_of P.offset state)) }
 {
     match head {
-        Insn::EnterLoop(fields) => {
+        Insn::EnterLoop { .. } => {
+            let fields = head.loop_fields();
             let last = state.loops[fields.loop_id as usize];
             end_iteration(fields, begin, last, state)
         }

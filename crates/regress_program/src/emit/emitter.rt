@@ -1,19 +1,21 @@
 //! The code of a node, put behind the code so far.
 #![tactic(auto, using(std::proofs::lemmas::Grind::common_steps), unfolding(regex_pattern_front::specs::TreeOf::node_of, crate::specs::Code::code_of, crate::specs::Emitting::shaped, crate::specs::Code::loop_count, crate::specs::Code::brackets_of, crate::specs::Code::size))]
 
-ghost use Rattle.std.specs.Prelude.{◌≡◌, ◌&&◌, ◌+◌, ◌-◌, ◌<◌, ◌^◌, [], true, length, IfOk, OnOk, IsTrue, if◌then◌else◌};
-ghost use Rattle.regex_meaning.specs.Tree.{empty, alt, capture_group, lookaround, loop as loop_of, loop_1_char_body, every};
+ghost use Rattle.std.specs.Prelude.{◌≡◌, ◌&&◌, ◌+◌, ◌-◌, ◌<◌, ◌^◌, true, length, map, IfOk, OnOk, IsTrue, if◌then◌else◌};
+ghost use Rattle.regex_meaning.specs.Tree.{every};
 ghost use Rattle.regex_meaning.specs.WellFormed.{fits_instructions};
-ghost use Rattle.regex_meaning.specs.Layout.{lookaround_insn};
+ghost use Rattle.regex_meaning.specs.Layout.{EnterLoop, lookaround_insn};
 ghost use Rattle.regex_pattern_front.specs.Optimized.{reads_one_character as is_one_character};
-ghost use Rattle.regex_pattern_front.specs.TreeOf.{node_of, quantifier_of};
+ghost use Rattle.regex_pattern_front.specs.TreeOf.{contents_of, node_of};
+ghost use Rattle.regress_plan.specs.Insns.{loop_fields_of};
 ghost use Rattle.regress_program.specs.Insns.{insn_of};
 ghost use Rattle.regress_program.specs.Code.{resets};
-ghost use Rattle.regress_program.specs.Nodes.{cat_of, is_leaf};
-ghost use Rattle.regress_program.specs.Emitting.{HasRoom, shaped, state_of, with_code, with_insn, with_insns, with_insn_at, with_loop, nothing, shaped_in, IsEmitted, lookaround_of, with_arm, jump_behind, with_jumps, are_below};
+ghost use Rattle.regress_program.specs.Nodes.{is_leaf};
+ghost use Rattle.regress_program.specs.Emitting.{HasRoom, state_of, with_insn, with_insns, with_insn_at, with_loop, nothing, IsEmitted, lookaround_of};
 
 use crate::emit::leaves::{anchor_insn, byte_set_insn, char_set_insn, word_boundary_insn};
-use regex_pattern_front::ir::{Node, Quantifier};
+use crate::insn::Emitted;
+use regex_pattern_front::ir::Node;
 use regex_pattern_front::optimizer::reads_one_character;
 use regex_pattern_front::types::{BracketContents, CaptureGroupID, LoopID};
 use regress_plan::insn::{Insn, LoopFields};
@@ -121,6 +123,24 @@ impl Emitter {
         })
     }
 
+    // What was emitted.
+    pub(crate) fn end(self) -> Emitted
+        ensures insns { map insn_of result.insns.items ≡ (state_of self).insns }
+        ensures brackets { map contents_of result.brackets.items ≡ (state_of self).brackets }
+        ensures loops { result.loops ≡ (state_of self).loops }
+    {
+        let Emitter {
+            insns,
+            brackets,
+            loops,
+        } = self;
+        Emitted {
+            insns,
+            brackets,
+            loops: u32::from(loops),
+        }
+    }
+
     // The code of a node that holds no other.
     pub(crate) fn emit_leaf(&mut self, mode: Mode, node: &Node) -> Result<(), AllocError>
         requires leaf { is_leaf (node_of node.now) ≡ true }
@@ -207,5 +227,25 @@ impl Emitter {
         ensures { state_of self.new ≡ with_insn_at place (insn_of insn) (state_of self.old) }
     {
         self.insns[place] = insn;
+    }
+}
+
+// The head of a loop.
+pub(crate) fn head_insn(fields: LoopFields) -> Insn
+    ensures { insn_of result ≡ EnterLoop (loop_fields_of fields) }
+{
+    let LoopFields {
+        greedy,
+        loop_id,
+        exit,
+        min_iters,
+        max_iters,
+    } = fields;
+    Insn::EnterLoop {
+        greedy,
+        loop_id,
+        exit,
+        min_iters,
+        max_iters,
     }
 }

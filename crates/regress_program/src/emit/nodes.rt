@@ -9,7 +9,7 @@ ghost use Rattle.regress_program.specs.Nodes.{cat_of, is_leaf};
 ghost use Rattle.regress_program.specs.Emitting.{HasRoom, shaped, shaped_in, state_of, IsEmitted, lookaround_of};
 ghost use Rattle.regress_program.specs.Remaining.{CanPut, Fits, HasPut, Begins, BeginsOthers, BeginsRow, work, with_others, with_lookaround_end, with_loop_end};
 
-use crate::emit::emitter::{Emitter, Lookaround, Mode};
+use crate::emit::emitter::{Emitter, Lookaround, Mode, head_insn};
 use regex_pattern_front::ir::{Node, Quantifier};
 use regex_pattern_front::types::CaptureGroupID;
 use regress_plan::insn::{Insn, LoopFields};
@@ -263,7 +263,7 @@ impl Emitter {
             greedy: quant.greedy,
             exit: 0,
         };
-        self.put(Insn::EnterLoop(fields))?;
+        self.put(head_insn(fields))?;
         self.add_loop();
         self.put_resets(groups.start, groups.end)?;
         rest.push(Rest::LoopEnd(fields, begin))?;
@@ -278,7 +278,7 @@ impl Emitter {
     {
         self.put(Insn::LoopAgain { begin })?;
         fields.exit = self.next();
-        self.set(begin as usize, Insn::EnterLoop(fields));
+        self.set(begin as usize, head_insn(fields));
         Ok(())
     }
 

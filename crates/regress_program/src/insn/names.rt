@@ -75,6 +75,7 @@ impl GroupNames {
     /// # Errors
     ///
     /// Where there is no memory for a list of its own.
+    #[inline(always)]
     pub fn clone(&self) -> Result<Self, AllocError>
         ensures { IfOk result (λ copy. copy ≡ self.now) }
     {

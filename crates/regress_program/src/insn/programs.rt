@@ -7,24 +7,28 @@ ghost use Rattle.regress_program.specs.Insns.{insn_of};
 ghost use Rattle.regress_program.specs.Code.{size, compiled};
 ghost use Rattle.regress_plan.specs.Keys.{wide_of};
 ghost use Rattle.regress_plan.specs.Plans.{IsPlanOf};
+ghost use Rattle.regress_program.specs.Programs.{IsCodeIn};
+ghost use Rattle.regress_program.specs.Running.{tree_to_run};
+ghost use Rattle.std.specs.Arc.{arc_value};
 
 use crate::carried::Carried;
+use crate::insn::emitted::Emitted;
 use crate::insn::names::GroupNames;
 use regex_pattern_front::flags::Flags;
+use regex_pattern_front::ir;
 use regex_pattern_front::types::BracketContents;
 use regress_plan::insn::Insn;
 use regress_plan::keys::Units;
 use regress_plan::plan::{Code, Plan};
 use std::alloc::{AllocError, Global};
 use std::marker::Model;
+use std::sync::Arc;
 
 /// What programs for bytes and for 16-bit units have in common: the code of a well-formed pattern tree, and what
 /// stands beside it. Only the compiler makes one. Contracts see the tree.
 #[derive(Drop)]
 pub struct Program {
-    pub(crate) insns: Vec<Insn>,
-    pub(crate) brackets: Vec<BracketContents>,
-    pub(crate) loops: u32,
+    pub(crate) code: Arc<Emitted, Global>,
     pub(crate) groups: u32,
     pub(crate) group_names: GroupNames,
     pub(crate) flags: Flags,
@@ -54,7 +58,7 @@ impl Program {
         ensures code { map insn_of result.now ≡ (compiled (tree_of self.now)).insns }
         ensures well_formed { IsTrue (is_well_formed (tree_of self.now).root) }
     {
-        &self.insns
+        &self.code.insns
     }
 
     /// The brackets, which instructions name by index.
@@ -62,7 +66,7 @@ impl Program {
     pub fn brackets(&self) -> &[BracketContents]
         ensures { map contents_of result.now ≡ (compiled (tree_of self.now)).brackets }
     {
-        &self.brackets
+        &self.code.brackets
     }
 
     /// How many loops there are, whose numbers are those below it.
@@ -70,7 +74,7 @@ impl Program {
     pub fn loops(&self) -> u32
         ensures { result ≡ (compiled (tree_of self.now)).loops }
     {
-        self.loops
+        self.code.loops
     }
 
     /// How many capturing groups there are.
@@ -121,19 +125,42 @@ impl Program {
         Plan::new(self.allocator(), code, units)
     }
 
-    /// The same program once more.
+    // Its code, which is shared.
+    pub(crate) fn code(&self) -> Result<Arc<Emitted, Global>, AllocError>
+        ensures { IfOk result (λ code. IsCodeIn (tree_of self.now) (arc_value code)) }
+    {
+        Ok(self.code.clone()?)
+    }
+
+    // The program of the tree that is run in place of this program's, which has this code.
+    pub(crate) fn with_code(
+        &self,
+        code: Arc<Emitted, Global>,
+        tree: &ir::Regex,
+    ) -> Result<Program, AllocError>
+        requires run { tree_of tree.now ≡ tree_to_run (tree_of self.now) }
+        requires code { IsCodeIn (tree_of tree.now) (arc_value code) }
+        ensures { IfOk result (λ p. p ≡ tree.now) }
+    {
+        Ok(Program {
+            code,
+            groups: self.groups,
+            group_names: self.group_names.clone()?,
+            flags: self.flags,
+            tree: Carried::of(tree),
+        })
+    }
+
+    /// The same program once more, which shares its instructions.
     ///
     /// # Errors
     ///
-    /// Where there is no memory for the copy.
+    /// Where a count of owners is at its most.
     pub fn clone(&self) -> Result<Self, AllocError>
         ensures { IfOk result (λ p. p ≡ self.now) }
     {
-        let alloc = self.allocator();
         Ok(Program {
-            insns: Vec::from_slice(alloc, &self.insns)?,
-            brackets: copy_of_brackets(alloc, &self.brackets)?,
-            loops: self.loops,
+            code: self.code.clone()?,
             groups: self.groups,
             group_names: self.group_names.clone()?,
             flags: self.flags,
@@ -144,7 +171,7 @@ impl Program {
     /// The allocator that the program's parts are made with.
     #[inline(always)]
     pub fn allocator(&self) -> Global {
-        *self.insns.allocator()
+        *self.code.insns.allocator()
     }
 
     /// The flags of the pattern.
@@ -154,17 +181,4 @@ impl Program {
     {
         self.flags
     }
-}
-
-fn copy_of_brackets(
-    alloc: Global,
-    brackets: &[BracketContents],
-) -> Result<Vec<BracketContents>, AllocError>
-    ensures { IfOk result (λ copy. copy.items ≡ brackets.now) }
-{
-    let mut copy = Vec::with_capacity(alloc, brackets.len())?;
-    for contents in brackets {
-        copy.push(contents.clone()?)?;
-    }
-    Ok(copy)
 }

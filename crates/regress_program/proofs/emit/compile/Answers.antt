@@ -1,8 +1,9 @@
-use Rattle.std.proofs.Common.{◌≡◌, ◌∙◌, ap, false, arith, refl, subst}
+use Rattle.std.proofs.Common.{◌∙◌, refl, subst}
+use Rattle.std.specs.Arc.{arc_value}
 use Rattle.regex_meaning.proofs.WellFormedLemmas.{clauses}
-use Rattle.regex_pattern_front.specs.TreeOf.{node_of}
+use Rattle.regex_pattern_front.specs.TreeOf.{node_of, tree_of}
 use Rattle.regress_program.specs.Code.{compiled}
-use Rattle.regress_program.specs.Emitting.{state_of, nothing, with_code}
+use Rattle.regress_program.specs.Programs.{IsCodeIn}
 use Rattle.regress_program.proofs.ShapedLemmas.{shaped-plain}
 use Rattle.regress_program.proofs.emit.compile.Goals as goal
 
@@ -16,12 +17,8 @@ invariant_of-result c =
     let root = node_of re.node in
     let fits = c.in_ok-groups.ensures.fits in
     let of = c.of.ensures in
-    let made : state_of c.in_ok-insns.field-0 ≡ with_code re.flags.unicode false root nothing =
-    subst (λ n. state_of c.in_ok-insns.field-0 ≡ with_code re.flags.unicode false n nothing) (shaped-plain root) c.in_ok-insns.ensures in
     record {
-      insns = rw of (ap (λ s. s.insns) made);
-      brackets = rw of (ap (λ s. s.brackets) made);
-      loops = rw of (omega (arith, c.from.ensures, ap (λ s. s.loops) made));
+      code = rw of (subst (λ n. IsCodeIn (record { root = n; flags = (tree_of re).flags }) (arc_value c.in_ok-code.code)) (shaped-plain root) c.in_ok-code.ensures);
       groups = rw of c.in_ok-groups.ensures.groups;
       flags = rw of refl;
       group_names = rw of (c.in_ok-group_names.ensures ∙ c.in_ok-names_by_id.ensures);

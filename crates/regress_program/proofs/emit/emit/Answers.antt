@@ -1,20 +1,9 @@
 use Rattle.regex_pattern_front.specs.TreeOf.{tree_of}
-use Rattle.regress_program.specs.Code.{compiled}
 use Rattle.regress_program.proofs.CodeLemmas.{compiled-is_code}
 use Rattle.regress_program.proofs.emit.emit.Goals as goal
 
-pub invariant_of-result : goal.invariant_of-result
-unfolding compiled
-invariant_of-result c = record {
-  starts = record {
-    predicate = rw c.in_ok-program.ensures.tree c.in_ok-start_pred.ensures.predicate;
-    short = c.in_ok-start_pred.ensures.short;
-  };
-  planned = c.in_ok-plan-2.ensures _ _ c.in_ok-plan.ensures;
-}
-
-pub planned-requires : goal.planned-requires
-planned-requires c = rw c.in_ok-program.ensures.tree c.in_ok-program.ensures.fits.insns
+pub for_bytes-requires-clause-fits : goal.for_bytes-requires-clause-fits
+for_bytes-requires-clause-fits c = c.in_ok-program.ensures.fits.insns
 
 pub returns-clause-code : goal.returns-clause-code
 returns-clause-code c = compiled-is_code (tree_of c.args.re.now) c.in_ok-program.ensures.fits.well_formed

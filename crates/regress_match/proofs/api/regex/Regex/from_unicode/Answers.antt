@@ -1,4 +1,4 @@
-use Rattle.std.proofs.Common.{◌≡◌, ◌∙◌, ap, sym, subst, IsTrue}
+use Rattle.std.proofs.Common.{◌∙◌, ap, sym, subst, IsTrue}
 use Rattle.regex_meaning.specs.Layout.{IsByteCodeOf, IsUnitCodeOf}
 use Rattle.regex_meaning.specs.Tree.{Tree}
 use Rattle.regex_meaning.specs.WellFormed.{IsWellFormed}
@@ -6,27 +6,26 @@ use Rattle.regex_pattern_front.specs.Optimized.{has_plain_loops}
 use Rattle.regex_pattern_front.specs.TreeOf.{tree_of, flags_of}
 use Rattle.regress_program.specs.Code.{compiled}
 use Rattle.regress_program.specs.Running.{tree_to_run}
-use Rattle.regress_program.specs.Refusals.{IsRefused, IsRefusedInUnits, IsRefusedWith}
+use Rattle.regress_program.specs.Refusals.{IsRefusedInUnits, IsRefusedWith}
 use Rattle.std.specs.Prelude.{Err}
 use Rattle.regex_grammar.specs.Grammar.{Parses}
 use Rattle.regex_grammar.specs.Standing.{NoTree}
 use Rattle.regress_match.specs.Refusals.{of_emit, of_parse}
-use Rattle.regress_match.proofs.RefusalLemmas.{parse-refuses, emit-refuses, err-refused, memory-refuses, reads-not, run-refused}
+use Rattle.regress_match.proofs.RefusalLemmas.{parse-refuses, emit-refuses, err-refused, reads-not}
 use Rattle.regress_match.proofs.api.regex.Regex.from_unicode.Goals as goal
 
 pub returns-clause-compiled : goal.returns-clause-compiled
 returns-clause-compiled c =
     let parsed = c.in_ok-parsed.ensures in
-    let units = c.in_ok-units.ensures in
-    let bytes = c.in_ok-cr.ensures in
+    let both = c.in_ok-cr.ensures in
     record {
-      parsed = subst (Parses _ _) (sym (ap tree_of units.tree)) (subst (λ f. Parses f c.args.pattern.now (tree_of c.in_ok-parsed.parsed)) c.for_front.ensures parsed.tree);
-      flags = ap (λ t. (tree_of t).flags) units.tree ∙ ap flags_of parsed.flags ∙ c.for_front.ensures;
-      well_formed = subst (λ t. IsWellFormed (tree_of t).root) (sym units.tree) parsed.well_formed;
-      plain = subst (λ t. IsTrue (has_plain_loops (tree_of t).root)) (sym units.tree) parsed.plain;
-      units = subst (λ t. IsUnitCodeOf (compiled (tree_of t)) (tree_of t)) (sym units.tree) units.code;
-      optimized = ap tree_of bytes.tree ∙ c.to_run-tree.ensures ∙ ap (λ t. tree_to_run (tree_of t)) (sym units.tree);
-      bytes = subst (λ t. IsByteCodeOf (compiled (tree_of t)) (tree_of t)) (sym bytes.tree) bytes.code;
+      parsed = subst (Parses _ _) (sym (ap tree_of both.units)) (subst (λ f. Parses f c.args.pattern.now (tree_of c.in_ok-parsed.parsed)) c.for_front.ensures parsed.tree);
+      flags = ap (λ t. (tree_of t).flags) both.units ∙ ap flags_of parsed.flags ∙ c.for_front.ensures;
+      well_formed = subst (λ t. IsWellFormed (tree_of t).root) (sym both.units) parsed.well_formed;
+      plain = subst (λ t. IsTrue (has_plain_loops (tree_of t).root)) (sym both.units) parsed.plain;
+      units = subst (λ t. IsUnitCodeOf (compiled (tree_of t)) (tree_of t)) (sym both.units) both.unit_code;
+      optimized = both.bytes ∙ ap (λ t. tree_to_run (tree_of t)) (sym both.units);
+      bytes = subst (λ (t : Tree). IsByteCodeOf (compiled t) t) (sym both.bytes) both.byte_code;
     }
 
 pub returns-in_err-parsed-clause-refused : goal.returns-in_err-parsed-clause-refused
@@ -36,23 +35,14 @@ returns-in_err-parsed-clause-refused c =
     (parse-refuses _ _ e (λ is. subst (λ f. NoTree f c.args.pattern.now) c.for_front.ensures
     (c.in_err-parsed.ensures.refused (ap Err is))))
 
-pub returns-in_err-units-clause-refused : goal.returns-in_err-units-clause-refused
-returns-in_err-units-clause-refused c =
+pub returns-in_err-cr-clause-refused : goal.returns-in_err-cr-clause-refused
+returns-in_err-cr-clause-refused c =
     let tree = tree_of c.in_ok-parsed.parsed in
     let parsed = c.in_ok-parsed.ensures in
-    let e = c.in_err-units.field-0.0 in
-    let refused = c.in_err-units.ensures.refused in
-    err-refused c.from_residual-in_err-units.result (of_emit e) _ _ (λ x h. h) c.from_residual-in_err-units.ensures.1
+    let e = c.in_err-cr.field-0.0 in
+    let refused = c.in_err-cr.ensures.refused in
+    err-refused c.from_residual-in_err-cr.result (of_emit e) _ _ (λ x h. h) c.from_residual-in_err-cr.ensures.1
     (emit-refuses _ _ tree (subst (λ f. Parses f c.args.pattern.now tree) c.for_front.ensures parsed.tree) e
     (λ is. subst (λ x. IsRefusedInUnits x tree) is refused parsed.well_formed)
     (λ is. reads-not tree.root parsed.characters (subst (λ x. IsRefusedInUnits x tree) is refused).1)
     (subst (λ b. IsRefusedWith b e tree) parsed.characters refused))
-
-pub returns-in_err-cr-clause-refused : goal.returns-in_err-cr-clause-refused
-returns-in_err-cr-clause-refused c =
-    let tree = tree_of c.in_ok-parsed.parsed in
-    let e = c.in_err-cr.field-0.0 in
-    let is_run : tree_of c.to_run-tree.result ≡ tree_to_run tree = c.to_run-tree.ensures in
-    let memory = run-refused tree e c.in_ok-units.ensures.fits (subst (IsRefused e) is_run c.in_err-cr.ensures.refused) in
-    err-refused c.from_residual-in_err-cr.result (of_emit e) _ _ (λ x h. h) c.from_residual-in_err-cr.ensures.1
-    (memory-refuses _ _ e memory)

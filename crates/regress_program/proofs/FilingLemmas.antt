@@ -1,17 +1,22 @@
 -- Names in the places of their ids are the names by id.
-use Rattle.std.proofs.Common.{◌≡◌, ℕ, ◌+◌, ◌<◌, ◌≤◌, Bool, true, false, IsTrue, List, [], ◌∷◌, ◌++◌, length, map, get_or, set, take, drop, replicate, refl, sym, ap, ◌∙◌, arith, get_or-set_same, get_or-set_other}
+use Rattle.std.proofs.Common.{◌≡◌, ℕ, ◌+◌, ◌*◌, ◌<◌, ◌≤◌, Bool, true, false, IsTrue, List, [], ◌∷◌, ◌++◌, length, map, get_or, set, take, drop, replicate, refl, sym, ap, ◌∙◌, arith, get_or-set_same, get_or-set_other}
 use Rattle.std.specs.Prelude.{if◌then◌else◌, nat_eq, ◌==◌, count_by}
 use Rattle.std.specs.List.{AllZip}
 use Rattle.std.proofs.lemmas.Bool.{eqb-true, eq-eqb}
 use Rattle.std.proofs.lemmas.List.{length-map, length-set, length-replicate, get_or-replicate, ext_get_or, take-append-le, take_all, map-set, set_past}
 use Rattle.regex_meaning.specs.Lists.{numbers_from}
-use Rattle.regex_meaning.specs.Tree.{Node, alt, group_ids}
+use Rattle.regex_meaning.specs.Tree.{Node, group_ids, cat, alt, capture_group, lookaround, loop, loop_1_char_body}
 use Rattle.regex_meaning.specs.Names.{named_ids, name_of, names_by_id}
 use Rattle.regex_meaning.specs.WellFormed.{each_id_stands_once}
 use Rattle.regex_meaning.proofs.Sound.{all-contains}
 use Rattle.regex_grammar.proofs.Parts.{contains-numbers_from}
 use Rattle.regex_grammar.proofs.Names.{ids_of, named_ids-ids, at-number}
-use Rattle.regress_program.specs.Filing.{filed, is_unnamed}
+use Rattle.regex_pattern_front.specs.TreeOf.{node_of}
+use Rattle.regex_pattern_front.specs.declared.ir.Node as ir
+use Rattle.regress_program.specs.Nodes.{cat_of, is_leaf}
+use Rattle.regress_program.specs.Weights.{weight}
+use Rattle.regress_program.specs.Filing.{HasFiled, filed, filed_all, is_unnamed, load, load_in, load_of_all, load_of_row, named_in}
+use Rattle.regress_program.specs.declared.emit.names.Unfiled.{Unfiled}
 use Rattle.regress_program.proofs.IdLemmas.{false_is_true, count_by-first}
 use Rattle.regex_meaning.proofs.Booleans.{same-truth}
 use Rattle.regex_meaning.proofs.Lists.{length-numbers_from}
@@ -22,14 +27,108 @@ pub filed-append : (named others : List (ℕ × List ℕ)) (names : List (List �
 filed-append [] others names = refl
 filed-append (n ∷ named) others names = filed-append named others (set names n.0 n.1)
 
--- the names of an alternative, and those of the others
-pub filed-next : (left right : Node) (before after : List (List ℕ)) → after ≡ filed (named_ids left) before
-    → filed (named_ids right) after ≡ filed (named_ids (alt left right)) before
-filed-next left right before after e = ap (filed (named_ids right)) e ∙ sym (filed-append (named_ids left) (named_ids right) before)
-
 pub length-filed : (named : List (ℕ × List ℕ)) (names : List (List ℕ)) → length (filed named names) ≡ length names
 length-filed [] names = refl
 length-filed (n ∷ named) names = length-filed named (set names n.0 n.1) ∙ length-set names n.0 n.1
+
+-- ---- What is still to be filed
+
+filed-last : (rest : List Unfiled) (next : Unfiled) (names : List (List ℕ)) → filed_all (rest ++ next ∷ []) names ≡ filed_all rest (filed (named_in next) names)
+filed-last [] next names = refl
+filed-last (x ∷ rest) next names = ap (filed (named_in x)) (filed-last rest next names)
+
+load-last : (rest : List Unfiled) (next : Unfiled) → load_of_all (rest ++ next ∷ []) ≡ load_of_all rest + load_in next
+load-last [] next = omega arith
+load-last (x ∷ rest) next = omega (arith, load-last rest next)
+
+pub next-filed : (rest left more : List Unfiled) (next : Unfiled) (old new end : List (List ℕ)) → rest ≡ left ++ next ∷ [] → filed_all rest old ≡ end
+    → HasFiled (named_in next) (load_in next) old new left more → filed_all more new ≡ end
+next-filed rest left more next old new end is all h = h.names ∙ sym (filed-last left next old) ∙ ap (λ x. filed_all x old) (sym is) ∙ all
+
+pub next-less : (rest left more : List Unfiled) (next : Unfiled) (old new : List (List ℕ)) → rest ≡ left ++ next ∷ []
+    → HasFiled (named_in next) (load_in next) old new left more → load_of_all more < load_of_all rest
+next-less rest left more next old new is h = omega (arith, h.less, ap load_of_all is, load-last left next)
+
+pub files-none : (named : List (ℕ × List ℕ)) (cost : ℕ) (names : List (List ℕ)) (rest : List Unfiled) → named ≡ [] → 1 ≤ cost
+    → HasFiled named cost names names rest rest
+files-none named cost names rest none some = record {
+  names = ap (λ x. filed_all rest (filed x names)) (sym none);
+  less = omega (arith, some);
+}
+
+pub files-one : (named : List (ℕ × List ℕ)) (cost : ℕ) (old new : List (List ℕ)) (rest left : List Unfiled) (a : Unfiled) → left ≡ rest ++ a ∷ []
+    → filed (named_in a) new ≡ filed named old → load_in a < cost → HasFiled named cost old new rest left
+files-one named cost old new rest left a is same light = record {
+  names = ap (λ x. filed_all x new) is ∙ filed-last rest a new ∙ ap (filed_all rest) same;
+  less = omega (arith, light, ap load_of_all is, load-last rest a);
+}
+
+pub files-two : (named : List (ℕ × List ℕ)) (cost : ℕ) (names : List (List ℕ)) (rest mid left : List Unfiled) (a b : Unfiled) → mid ≡ rest ++ a ∷ [] → left ≡ mid ++ b ∷ []
+    → named ≡ named_in b ++ named_in a → load_in a + load_in b < cost → HasFiled named cost names names rest left
+files-two named cost names rest mid left a b first second both light = record {
+  names =
+      ap (λ x. filed_all x names) second ∙ filed-last mid b names ∙ ap (λ x. filed_all x (filed (named_in b) names)) first
+      ∙ filed-last rest a (filed (named_in b) names)
+      ∙ ap (filed_all rest) (sym (filed-append (named_in b) (named_in a) names) ∙ ap (λ x. filed x names) (sym both));
+  less = omega (arith, light, ap load_of_all second, load-last mid b, ap load_of_all first, load-last rest a);
+}
+
+-- what stands inside a node without a name
+pub files-inside : (whole inner : Node) (names : List (List ℕ)) (rest left : List Unfiled) (a : Unfiled) → left ≡ rest ++ a ∷ []
+    → named_in a ≡ named_ids inner → load_in a ≡ load inner → named_ids whole ≡ named_ids inner → weight whole ≡ weight inner + 1
+    → HasFiled (named_ids whole) (load whole) names names rest left
+files-inside whole inner names rest left a is given light same more =
+    files-one (named_ids whole) (load whole) names names rest left a is (ap (λ x. filed x names) (given ∙ sym same)) (omega (arith, light, more))
+
+pub files-alternatives : (whole first others a b : Node) (names : List (List ℕ)) (before after : List Unfiled) → a ≡ first → b ≡ others
+    → named_ids whole ≡ named_ids first ++ named_ids others → weight whole ≡ weight first + weight others + 1
+    → HasFiled (named_ids a ++ named_ids b) (load a + load b + 1) names names before after → HasFiled (named_ids whole) (load whole) names names before after
+files-alternatives whole first others a b names before after is_a is_b both more h = record {
+  names =
+      h.names
+      ∙ ap (λ x. filed_all before (filed x names)) (ap (λ n. named_ids n ++ named_ids b) is_a ∙ ap (λ n. named_ids first ++ named_ids n) is_b ∙ sym both);
+  less = omega (arith, h.less, more, ap weight is_a, ap weight is_b);
+}
+
+pub files-group : (whole inner a : Node) (id : ℕ) (name : List ℕ) (old new : List (List ℕ)) (before after : List Unfiled) → a ≡ inner
+    → named_ids whole ≡ (id, name) ∷ named_ids inner → weight whole ≡ weight inner + 1
+    → HasFiled ((id, name) ∷ named_ids a) (load a + 1) old new before after → HasFiled (named_ids whole) (load whole) old new before after
+files-group whole inner a id name old new before after is_a all more h = record {
+  names = h.names ∙ ap (λ x. filed_all before (filed x old)) (ap (λ n. (id, name) ∷ named_ids n) is_a ∙ sym all);
+  less = omega (arith, h.less, more, ap weight is_a);
+}
+
+pub leaf-names : (n : Node) → is_leaf n ≡ true → named_ids n ≡ []
+leaf-names (cat a b) h = cc
+leaf-names (alt a b) h = cc
+leaf-names (capture_group id name n) h = cc
+leaf-names (lookaround l n) h = cc
+leaf-names (loop q s e n) h = cc
+leaf-names (loop_1_char_body q n) h = cc
+leaf-names n h = refl
+
+-- ---- Rows
+
+pub files-cheap : (named : List (ℕ × List ℕ)) (low high : ℕ) (old new : List (List ℕ)) (before after : List Unfiled) → HasFiled named low old new before after → low ≤ high
+    → HasFiled named high old new before after
+files-cheap named low high old new before after h more = record { names = h.names; less = omega (arith, h.less, more) }
+
+pub row-none : (nodes : List ir.Node) → length nodes ≡ 0 → named_ids (cat_of nodes) ≡ []
+row-none [] e = refl
+row-none (n ∷ nodes) e = absurd (omega (arith, e))
+
+pub row-names : (first : ir.Node) (others nodes : List ir.Node) → nodes ≡ first ∷ others → named_ids (cat_of nodes) ≡ named_ids (node_of first) ++ named_ids (cat_of others)
+row-names first others nodes e = ap (λ x. named_ids (cat_of x)) e
+
+-- one that holds no others has no name
+pub row-skips : (first : ir.Node) (others nodes : List ir.Node) → nodes ≡ first ∷ others → is_leaf (node_of first) ≡ true → named_ids (cat_of others) ≡ named_ids (cat_of nodes)
+row-skips first others nodes e leaf = sym (row-names first others nodes e ∙ ap (λ x. x ++ named_ids (cat_of others)) (leaf-names (node_of first) leaf))
+
+pub row-load : (first : ir.Node) (others nodes : List ir.Node) → nodes ≡ first ∷ others → load_of_row others + (3 * weight (node_of first) + 2) < load_of_row nodes
+unfolding weight
+row-load first others nodes e =
+    let same : weight (cat_of nodes) ≡ weight (node_of first) + weight (cat_of others) + 1 = ap (λ x. weight (cat_of x)) e in
+    omega (arith, same)
 
 -- ---- One name
 

@@ -137,10 +137,24 @@ impl Ids {
     }
 
     // Sees the ids inside a node. Whether none of them was seen or stands twice, and each loop and each lookaround names
-    // those inside it. Along the last node inside each node it is a loop, and what it finds out stands in one place: so
-    // deep nesting costs little stack.
+    // those inside it.
     #[cycle(gather)]
+    #[inline(never)]
     fn gather(&mut self, bits: &mut [u64], root: &Node) -> bool
+        ensures found { result ≡ ids_stand (is_seen bits.old) (node_of root.now) }
+        ensures span { IsTrue result
+            → AddsSpan (group_ids (node_of root.now)) self.old.inside self.new.inside }
+        ensures seen { IsTrue result → AddsSeen (group_ids (node_of root.now)) bits.old bits.new }
+    {
+        self.gather_along(bits, root)
+    }
+
+    // The same as a part of whoever calls it. Along the last node inside each node it is a loop, and what it finds out
+    // stands in one place; the alternatives behind an arm, the nodes behind one of its row and what a loop or a lookaround
+    // has to name wait in one frame: so deep nesting costs little stack.
+    #[cycle(gather)]
+    #[inline(always)]
+    fn gather_along(&mut self, bits: &mut [u64], root: &Node) -> bool
         ensures found { result ≡ ids_stand (is_seen bits.old) (node_of root.now) }
         ensures span { IsTrue result
             → AddsSpan (group_ids (node_of root.now)) self.old.inside self.new.inside }
@@ -151,7 +165,7 @@ impl Ids {
             match rest {
                 Node::Cat(nodes) => return self.gather_row(bits, nodes),
                 Node::Alt(left, right) => {
-                    if !self.gather(bits, left) {
+                    if !self.gather_arm(bits, left) {
                         return false;
                     }
                     rest = right;
@@ -184,8 +198,48 @@ impl Ids {
         }
     }
 
+    // Those of an alternative before others.
     #[cycle(gather)]
-    #[inline(never)]
+    #[inline(always)]
+    fn gather_arm(&mut self, bits: &mut [u64], arm: &Node) -> bool
+        ensures found { result ≡ ids_stand (is_seen bits.old) (node_of arm.now) }
+        ensures span { IsTrue result
+            → AddsSpan (group_ids (node_of arm.now)) self.old.inside self.new.inside }
+        ensures seen { IsTrue result → AddsSeen (group_ids (node_of arm.now)) bits.old bits.new }
+    {
+        match arm {
+            Node::Cat(nodes) => self.gather_row(bits, nodes),
+            _ => self.gather_part(bits, arm),
+        }
+    }
+
+    // Those of a node that is not the last, or in a row.
+    #[cycle(gather)]
+    #[inline(always)]
+    fn gather_part(&mut self, bits: &mut [u64], node: &Node) -> bool
+        ensures found { result ≡ ids_stand (is_seen bits.old) (node_of node.now) }
+        ensures span { IsTrue result
+            → AddsSpan (group_ids (node_of node.now)) self.old.inside self.new.inside }
+        ensures seen { IsTrue result → AddsSeen (group_ids (node_of node.now)) bits.old bits.new }
+    {
+        match node {
+            Node::LookaroundAssertion {
+                start_group,
+                end_group,
+                contents,
+                ..
+            } => self.gather_enclosed(bits, *start_group, *end_group, contents),
+            Node::Loop {
+                loopee,
+                enclosed_groups,
+                ..
+            } => self.gather_enclosed(bits, enclosed_groups.start, enclosed_groups.end, loopee),
+            _ => self.gather(bits, node),
+        }
+    }
+
+    #[cycle(gather)]
+    #[inline(always)]
     fn gather_row(&mut self, bits: &mut [u64], nodes: &[Node]) -> bool
         ensures found { result ≡ ids_stand (is_seen bits.old) (cat_of nodes.now) }
         ensures span { IsTrue result
@@ -193,7 +247,7 @@ impl Ids {
         ensures seen { IsTrue result → AddsSeen (group_ids (cat_of nodes.now)) bits.old bits.new }
     {
         for node in nodes {
-            if !self.gather(bits, node) {
+            if !self.gather_part(bits, node) {
                 return false;
             }
         }
@@ -218,7 +272,7 @@ impl Ids {
     {
         let before = self.inside;
         self.inside = Span::NONE;
-        if !self.gather(bits, contents) {
+        if !self.gather_along(bits, contents) {
             return false;
         }
         let inside = self.inside;

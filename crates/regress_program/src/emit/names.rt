@@ -1,20 +1,23 @@
 //! The names of groups, filed by id.
 #![tactic(auto, unfolding(regex_pattern_front::specs::TreeOf::node_of, crate::specs::Weights::weight))]
 
-ghost use Rattle.std.specs.Prelude.{◌≡◌, ◌∷◌, [], length, map, set, replicate, string_bytes, IfOk, OnOk, IsTrue, ◌==◌};
+ghost use Rattle.std.specs.Prelude.{◌≡◌, ◌+◌, ◌∷◌, ◌++◌, [], length, map, set, replicate, string_bytes, IfOk, OnOk, IsTrue, ◌==◌};
 ghost use Rattle.std.proofs.Common.{refl};
-ghost use Rattle.regex_meaning.specs.Tree.{alt, group_ids};
+ghost use Rattle.regex_meaning.specs.Tree.{group_ids};
 ghost use Rattle.regex_meaning.specs.WellFormed.{each_id_stands_once};
 ghost use Rattle.regex_meaning.specs.Names.{named_ids, names_by_id as names_of_tree};
 ghost use Rattle.regex_pattern_front.specs.TreeOf.{node_of, name_of};
-ghost use Rattle.regress_program.specs.Nodes.{cat_of};
-ghost use Rattle.regress_program.specs.Filing.{AreFiled, is_nameless, is_unnamed as is_node_unnamed};
+ghost use Rattle.regress_program.specs.Filing.{AreFiled, Files, FilesBoth, FilesRow, is_nameless, is_unnamed as is_node_unnamed, load, load_in, named_in};
 ghost use Rattle.regress_program.specs.Walked.{passes};
 
+use crate::emit::nodes::holds_nodes;
 use crate::emit::walk::{Visitor, walk};
 use regex_pattern_front::ir::Node;
 use regex_pattern_front::types::CaptureGroupID;
 use std::alloc::{AllocError, Global};
+
+// There is room for so many parts at first.
+const FEW: usize = 16;
 
 // The names of a tree with so many groups, by id, empty where there is none; no list where no group has a name.
 pub(crate) fn names_by_id(
@@ -45,74 +48,123 @@ fn no_names(alloc: Global, count: u32) -> Result<Vec<String>, AllocError>
     Ok(names)
 }
 
-// The names inside a node, each put in the place of its id.
-#[cycle(file)]
-fn file(alloc: Global, node: &Node, names: &mut [String]) -> Result<(), AllocError>
+// What is still to be filed.
+#[derive(Clone, Copy)]
+pub(crate) enum Unfiled<'a> {
+    Node(&'a Node),
+    // Nodes in a row.
+    Row(&'a [Node]),
+}
+
+// The names inside a node, each put in the place of its id. What is still to be filed waits on the heap, so that nodes
+// inside one another take no stack.
+fn file(alloc: Global, root: &Node, names: &mut [String]) -> Result<(), AllocError>
     ensures long { length names.new ≡ length names.old }
-    ensures filed { OnOk result (AreFiled (named_ids (node_of node.now)) names.old names.new) }
+    ensures filed { OnOk result (AreFiled (named_ids (node_of root.now)) names.old names.new) }
+{
+    let mut rest = Vec::with_capacity(alloc, FEW)?;
+    rest.push(Unfiled::Node(root))?;
+    while let Some(next) = rest.pop() {
+        file_next(alloc, next, names, &mut rest)?;
+    }
+    Ok(())
+}
+
+// What comes next of what is left, or its own name: then what there is inside it comes before the rest.
+fn file_next<'a>(
+    alloc: Global,
+    next: Unfiled<'a>,
+    names: &mut [String],
+    rest: &mut Vec<Unfiled<'a>>,
+) -> Result<(), AllocError>
+    ensures long { length names.new ≡ length names.old }
+    ensures filed { OnOk result (Files (named_in next.entry) (load_in next.entry)
+        names.old names.new rest.old.items rest.new.items) }
+{
+    match next {
+        Unfiled::Node(node) => file_node(alloc, node, names, rest),
+        Unfiled::Row(nodes) => file_row(nodes, rest),
+    }
+}
+
+// Of a node its own name is filed, and what it holds is left.
+fn file_node<'a>(
+    alloc: Global,
+    node: &'a Node,
+    names: &mut [String],
+    rest: &mut Vec<Unfiled<'a>>,
+) -> Result<(), AllocError>
+    ensures long { length names.new ≡ length names.old }
+    ensures filed { OnOk result (Files (named_ids (node_of node.now)) (load (node_of node.now))
+        names.old names.new rest.old.items rest.new.items) }
 {
     match node {
-        Node::Cat(nodes) => file_all(alloc, nodes, names),
-        Node::Alt(left, right) => file_alternatives(alloc, left, right, names),
+        Node::Cat(nodes) => file_row(nodes, rest),
+        Node::Alt(left, right) => file_both(left, right, rest),
         Node::CaptureGroup { id, contents, name } => {
-            file_group(alloc, *id, name, contents, names)
+            file_group(alloc, *id, name, contents, names, rest)
         }
-        Node::LookaroundAssertion { contents, .. } => file(alloc, contents, names),
-        Node::Loop { loopee, .. } | Node::Loop1CharBody { loopee, .. } => {
-            file(alloc, loopee, names)
-        }
+        Node::LookaroundAssertion { contents, .. } => leave(Unfiled::Node(contents), rest),
+        Node::Loop { loopee, .. } => leave(Unfiled::Node(loopee), rest),
+        Node::Loop1CharBody { loopee, .. } => leave(Unfiled::Node(loopee), rest),
         _ => Ok(()),
     }
 }
 
-#[cycle(file)]
-fn file_all(alloc: Global, nodes: &[Node], names: &mut [String]) -> Result<(), AllocError>
-    ensures long { length names.new ≡ length names.old }
-    ensures filed { OnOk result (AreFiled (named_ids (cat_of nodes.now)) names.old names.new) }
-{
-    for node in nodes {
-        file(alloc, node, names)?;
-    }
-    Ok(())
-}
-
-// The names inside alternatives, of which the others may be alternatives again.
-#[cycle(file)]
-fn file_alternatives(
-    alloc: Global,
-    first: &Node,
-    others: &Node,
-    names: &mut [String],
+// Of two nodes the first comes before the other.
+fn file_both<'a>(
+    first: &'a Node,
+    others: &'a Node,
+    rest: &mut Vec<Unfiled<'a>>,
 ) -> Result<(), AllocError>
-    ensures long { length names.new ≡ length names.old }
-    ensures filed { let both = alt (node_of first.now) (node_of others.now) in
-        OnOk result (AreFiled (named_ids both) names.old names.new) }
+    ensures { OnOk result (FilesBoth first.now others.now rest.old.items rest.new.items) }
 {
-    file(alloc, first, names)?;
-    let mut rest = others;
-    while let Node::Alt(left, right) = rest {
-        file(alloc, left, names)?;
-        rest = right;
-    }
-    file(alloc, rest, names)?;
+    leave(Unfiled::Node(others), rest)?;
+    leave(Unfiled::Node(first), rest)?;
     Ok(())
 }
 
-#[cycle(file)]
-fn file_group(
+// The name of a group is filed, and what is inside is left.
+fn file_group<'a>(
     alloc: Global,
     id: CaptureGroupID,
     name: &Option<String>,
-    contents: &Node,
+    contents: &'a Node,
     names: &mut [String],
+    rest: &mut Vec<Unfiled<'a>>,
 ) -> Result<(), AllocError>
     ensures long { length names.new ≡ length names.old }
     ensures filed { let named = (id, name_of name.now) ∷ named_ids (node_of contents.now) in
-        OnOk result (AreFiled named names.old names.new) }
+        OnOk result (Files named (load (node_of contents.now) + 1)
+        names.old names.new rest.old.items rest.new.items) }
 {
     let copy = copied(alloc, name)?;
     put(names, id, copy);
-    file(alloc, contents, names)?;
+    leave(Unfiled::Node(contents), rest)?;
+    Ok(())
+}
+
+// Of a row the first node that holds others is left, and those behind it.
+fn file_row<'a>(nodes: &'a [Node], rest: &mut Vec<Unfiled<'a>>) -> Result<(), AllocError>
+    ensures { OnOk result (FilesRow nodes.now rest.old.items rest.new.items) }
+{
+    let mut left = nodes;
+    while let Some((first, others)) = left.split_first() {
+        if holds_nodes(first) {
+            leave(Unfiled::Row(others), rest)?;
+            leave(Unfiled::Node(first), rest)?;
+            return Ok(());
+        }
+        left = others;
+    }
+    Ok(())
+}
+
+// This comes before the rest.
+fn leave<'a>(next: Unfiled<'a>, rest: &mut Vec<Unfiled<'a>>) -> Result<(), AllocError>
+    ensures { OnOk result (rest.new.items ≡ rest.old.items ++ next.entry ∷ []) }
+{
+    rest.push(next)?;
     Ok(())
 }
 

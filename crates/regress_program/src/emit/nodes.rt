@@ -306,7 +306,7 @@ impl Emitter {
 }
 
 // Whether a node holds others.
-fn holds_nodes(node: &Node) -> bool
+pub(crate) fn holds_nodes(node: &Node) -> bool
     ensures { result ≡ not (is_leaf (node_of node.now)) }
 {
     match node {

@@ -37,7 +37,7 @@ pub(crate) fn walk<V: Visitor>(visitor: &mut V, root: &Node) -> bool
         match rest {
             Node::Cat(nodes) => return walk_row(visitor, nodes),
             Node::Alt(left, right) => {
-                if !walk(visitor, left) {
+                if !walk_arm(visitor, left) {
                     return false;
                 }
                 rest = right;
@@ -52,7 +52,22 @@ pub(crate) fn walk<V: Visitor>(visitor: &mut V, root: &Node) -> bool
     false
 }
 
+// An alternative before others. A row is nothing but its nodes, which are visited as a part of whoever calls this: so a
+// level of nesting takes one frame.
 #[cycle(walk)]
+#[inline(always)]
+fn walk_arm<V: Visitor>(visitor: &mut V, arm: &Node) -> bool
+    ensures goes_on { result ≡ is_some (walked V.step (node_of arm.now) visitor.old) }
+    ensures walked { IsTrue result → walked V.step (node_of arm.now) visitor.old ≡ Some visitor.new }
+{
+    match arm {
+        Node::Cat(nodes) => walk_row(visitor, nodes),
+        _ => walk(visitor, arm),
+    }
+}
+
+#[cycle(walk)]
+#[inline(always)]
 fn walk_row<V: Visitor>(visitor: &mut V, nodes: &[Node]) -> bool
     ensures goes_on { result ≡ is_some (walked V.step (cat_of nodes.now) visitor.old) }
     ensures walked { IsTrue result → walked V.step (cat_of nodes.now) visitor.old ≡ Some visitor.new }

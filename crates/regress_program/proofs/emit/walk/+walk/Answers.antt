@@ -39,6 +39,22 @@ walk-returns-clause-goes_on g t c =
     let step = g.V.Visitor.step in
     walk-stops step (node_of c.loop-rest.rest.now) c.loop-rest.visitor (sym c.loop-rest-test.false ∙ c.visit.ensures.goes_on) ∙ ap is_some c.loop-rest.invariant.walked
 
+pub walk_arm-walk_row-requires : goal.walk_arm-walk_row-requires
+walk_arm-walk_row-requires g t c κs inside =
+    let is : node_of c.args.arm.now ≡ cat_of c.deref.result.now = ap node_of c.in-Cat.is ∙ node_of-Cat c.in-Cat.nodes ∙ ap cat_of (sym c.deref.ensures.value) in
+    let same : weight (node_of c.args.arm.now) ≡ weight (cat_of c.deref.result.now) = ap weight is in
+    (search rules, inside)
+
+pub walk_arm-returns-in-Cat-clause-goes_on : goal.walk_arm-returns-in-Cat-clause-goes_on
+walk_arm-returns-in-Cat-clause-goes_on g t c =
+    let is : node_of c.args.arm.now ≡ cat_of c.deref.result.now = ap node_of c.in-Cat.is ∙ node_of-Cat c.in-Cat.nodes ∙ ap cat_of (sym c.deref.ensures.value) in
+    rw is c.walk_row.ensures.goes_on
+
+pub walk_arm-returns-in-Cat-clause-walked : goal.walk_arm-returns-in-Cat-clause-walked
+walk_arm-returns-in-Cat-clause-walked g t c went =
+    let is : node_of c.args.arm.now ≡ cat_of c.deref.result.now = ap node_of c.in-Cat.is ∙ node_of-Cat c.in-Cat.nodes ∙ ap cat_of (sym c.deref.ensures.value) in
+    rw is (c.walk_row.ensures.walked went)
+
 pub walk_row-walk-requires : goal.walk_row-walk-requires
 walk_row-walk-requires g t c κs inside =
     let nodes = c.args.nodes.now in

@@ -6,10 +6,13 @@ use Rattle.regress_program.proofs.Weights.{weight}
 use Rattle.regress_program.proofs.emit.walk.+walk.Given as goal
 
 abbrev pub decreases-walk : goal.decreases-walk
-decreases-walk g l = 2 * weight (node_of l.root.now) + 1
+decreases-walk g l = 3 * weight (node_of l.root.now) + 1
+
+abbrev pub decreases-walk_arm : goal.decreases-walk_arm
+decreases-walk_arm g l = 3 * weight (node_of l.arm.now) + 2
 
 abbrev pub decreases-walk_row : goal.decreases-walk_row
-decreases-walk_row g l = 2 * weight (cat_of l.nodes.now)
+decreases-walk_row g l = 3 * weight (cat_of l.nodes.now)
 
 abbrev pub invariant-walk-loop-rest : goal.invariant-walk-loop-rest
 invariant-walk-loop-rest g l = record {

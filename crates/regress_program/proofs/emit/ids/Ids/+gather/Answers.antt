@@ -13,70 +13,70 @@ use Rattle.regress_program.proofs.IdLemmas.{left-same, left-next, left-fails, le
 use Rattle.regress_program.proofs.Weights.{weight, weight-child}
 use Rattle.regress_program.proofs.emit.ids.Ids.+gather.Goals as goal
 
-pub gather-gather_row-requires : goal.gather-gather_row-requires
-gather-gather_row-requires t c =
+pub gather_along-gather_row-requires : goal.gather_along-gather_row-requires
+gather_along-gather_row-requires t c =
     let is : node_of c.loop-rest.rest.now ≡ cat_of c.deref.result.now = ap node_of c.in-Cat.is ∙ node_of-Cat c.in-Cat.nodes ∙ ap cat_of (sym c.deref.ensures.value) in
     let same : weight (node_of c.loop-rest.rest.now) ≡ weight (cat_of c.deref.result.now) = ap weight is in
     let within = c.loop-rest.invariant.within in
     search rules
 
-pub gather-returns-in-Cat-clause-found : goal.gather-returns-in-Cat-clause-found
-gather-returns-in-Cat-clause-found t c =
+pub gather_along-returns-in-Cat-clause-found : goal.gather_along-returns-in-Cat-clause-found
+gather_along-returns-in-Cat-clause-found t c =
     let is : node_of c.loop-rest.rest.now ≡ cat_of c.deref.result.now = ap node_of c.in-Cat.is ∙ node_of-Cat c.in-Cat.nodes ∙ ap cat_of (sym c.deref.ensures.value) in
     let l = left-same _ _ _ _ _ _ (node_of c.loop-rest.rest.now) (cat_of c.deref.result.now) is c.loop-rest.invariant.left in
     c.gather_row.ensures.found ∙ l.found
 
-pub gather-returns-in-Cat-clause-span : goal.gather-returns-in-Cat-clause-span
-gather-returns-in-Cat-clause-span t c went =
+pub gather_along-returns-in-Cat-clause-span : goal.gather_along-returns-in-Cat-clause-span
+gather_along-returns-in-Cat-clause-span t c went =
     let is : node_of c.loop-rest.rest.now ≡ cat_of c.deref.result.now = ap node_of c.in-Cat.is ∙ node_of-Cat c.in-Cat.nodes ∙ ap cat_of (sym c.deref.ensures.value) in
     let l = left-same _ _ _ _ _ _ (node_of c.loop-rest.rest.now) (cat_of c.deref.result.now) is c.loop-rest.invariant.left in
     c.gather_row.ensures.span went ∙ l.span
 
-pub gather-returns-in-Cat-clause-seen : goal.gather-returns-in-Cat-clause-seen
-gather-returns-in-Cat-clause-seen t c went k =
+pub gather_along-returns-in-Cat-clause-seen : goal.gather_along-returns-in-Cat-clause-seen
+gather_along-returns-in-Cat-clause-seen t c went k =
     let is : node_of c.loop-rest.rest.now ≡ cat_of c.deref.result.now = ap node_of c.in-Cat.is ∙ node_of-Cat c.in-Cat.nodes ∙ ap cat_of (sym c.deref.ensures.value) in
     let l = left-same _ _ _ _ _ _ (node_of c.loop-rest.rest.now) (cat_of c.deref.result.now) is c.loop-rest.invariant.left in
     c.gather_row.ensures.seen went k ∙ l.seen k
 
-pub gather-returns-then-not-gather-clause-found : goal.gather-returns-then-not-gather-clause-found
+pub gather_along-returns-then-not-gather_arm-clause-found : goal.gather_along-returns-then-not-gather_arm-clause-found
 unfolding node_of
-gather-returns-then-not-gather-clause-found t c =
+gather_along-returns-then-not-gather_arm-clause-found t c =
     let a = node_of c.in-Alt.left.value in
     let b = node_of c.in-Alt.right.value in
     let f = is_seen c.loop-rest.bits in
     let is : node_of c.loop-rest.rest.now ≡ alt a b = ap node_of c.in-Alt.is in
     let l = left-same _ _ _ _ f (as_span c.loop-rest.self.inside) (node_of c.loop-rest.rest.now) (alt a b) is c.loop-rest.invariant.left in
     let node : node_of c.deref-in-Alt.result.now ≡ a = ap node_of c.deref-in-Alt.ensures in
-    let fails : false ≡ ids_stand f a = sym c.if-not-gather.true ∙ c.gather.ensures.found ∙ ap (ids_stand f) node in
+    let fails : false ≡ ids_stand f a = sym c.if-not-gather_arm.true ∙ c.gather_arm.ensures.found ∙ ap (ids_stand f) node in
     left-fails _ _ _ _ f (as_span c.loop-rest.self.inside) (group_ids a) (group_ids b) (every names_the_groups_inside a) (every names_the_groups_inside b) l fails
 
-pub gather-loop-rest-preserved-in-Alt : goal.gather-loop-rest-preserved-in-Alt
+pub gather_along-loop-rest-preserved-in-Alt : goal.gather_along-loop-rest-preserved-in-Alt
 unfolding node_of weight
-gather-loop-rest-preserved-in-Alt t c =
+gather_along-loop-rest-preserved-in-Alt t c =
     let a = node_of c.in-Alt.left.value in
     let b = node_of c.in-Alt.right.value in
     let f = is_seen c.loop-rest.bits in
-    let g = is_seen c.gather.new.bits in
+    let g = is_seen c.gather_arm.new.bits in
     let s = as_span c.loop-rest.self.inside in
-    let t = as_span c.gather.new.self.inside in
+    let t = as_span c.gather_arm.new.self.inside in
     let is : node_of c.loop-rest.rest.now ≡ alt a b = ap node_of c.in-Alt.is in
     let next : node_of c.deref-rest.result.now ≡ b = ap node_of c.deref-rest.ensures in
     let smaller : weight (node_of c.loop-rest.rest.now) ≡ weight a + weight b + 1 = ap weight is in
     let l = left-same _ _ _ _ f s (node_of c.loop-rest.rest.now) (alt a b) is c.loop-rest.invariant.left in
-    let went = sym c.if-not-gather.false in
+    let went = sym c.if-not-gather_arm.false in
     let node : node_of c.deref-in-Alt.result.now ≡ a = ap node_of c.deref-in-Alt.ensures in
-    let found : true ≡ ids_stand f a = went ∙ c.gather.ensures.found ∙ ap (ids_stand f) node in
-    let span : t ≡ joined s (span_of (group_ids a)) = c.gather.ensures.span (sym went) ∙ ap (λ n. joined s (span_of (group_ids n))) node in
-    let seen : (k : ℕ) → g k ≡ (f k || contains (group_ids a) k) = λ k. c.gather.ensures.seen (sym went) k ∙ ap (λ n. f k || contains (group_ids n) k) node in
+    let found : true ≡ ids_stand f a = went ∙ c.gather_arm.ensures.found ∙ ap (ids_stand f) node in
+    let span : t ≡ joined s (span_of (group_ids a)) = c.gather_arm.ensures.span (sym went) ∙ ap (λ n. joined s (span_of (group_ids n))) node in
+    let seen : (k : ℕ) → g k ≡ (f k || contains (group_ids a) k) = λ k. c.gather_arm.ensures.seen (sym went) k ∙ ap (λ n. f k || contains (group_ids n) k) node in
     record {
       within = omega (arith, ap weight next, smaller, c.loop-rest.invariant.within);
       left = left-same _ _ _ _ g t b (node_of c.deref-rest.result.now) (sym next)
           (left-next _ _ _ _ f g s t (group_ids a) (group_ids b) (every names_the_groups_inside a) (every names_the_groups_inside b) l found span seen);
     }
 
-pub gather-loop-rest-preserved-in-CaptureGroup : goal.gather-loop-rest-preserved-in-CaptureGroup
+pub gather_along-loop-rest-preserved-in-CaptureGroup : goal.gather_along-loop-rest-preserved-in-CaptureGroup
 unfolding node_of weight
-gather-loop-rest-preserved-in-CaptureGroup t c =
+gather_along-loop-rest-preserved-in-CaptureGroup t c =
     let id = c.in-CaptureGroup.id in
     let n = node_of c.in-CaptureGroup.contents.value in
     let f = is_seen c.loop-rest.bits in
@@ -94,8 +94,8 @@ gather-loop-rest-preserved-in-CaptureGroup t c =
           (λ k. c.see.ensures.seen k ∙ one_contained f id k));
     }
 
-pub gather-returns-in_default : goal.gather-returns-in_default
-gather-returns-in_default t c =
+pub gather_along-returns-in_default : goal.gather_along-returns-in_default
+gather_along-returns-in_default t c =
     let d = c.in_default in
     let leaf = leaf-left c.loop-rest.rest.now d.not-Cat d.not-Alt d.not-CaptureGroup d.not-LookaroundAssertion d.not-Loop d.not-Loop1CharBody in
     let f = is_seen c.loop-rest.bits in
@@ -107,21 +107,42 @@ gather-returns-in_default t c =
       seen = λ h. left-seen _ _ _ _ f s l;
     }
 
+pub gather_arm-gather_row-requires : goal.gather_arm-gather_row-requires
+gather_arm-gather_row-requires t c =
+    let is : node_of c.args.arm.now ≡ cat_of c.deref.result.now = ap node_of c.in-Cat.is ∙ node_of-Cat c.in-Cat.nodes ∙ ap cat_of (sym c.deref.ensures.value) in
+    let same : weight (node_of c.args.arm.now) ≡ weight (cat_of c.deref.result.now) = ap weight is in
+    search rules
+
+pub gather_arm-returns-in-Cat-clause-found : goal.gather_arm-returns-in-Cat-clause-found
+gather_arm-returns-in-Cat-clause-found t c =
+    let is : node_of c.args.arm.now ≡ cat_of c.deref.result.now = ap node_of c.in-Cat.is ∙ node_of-Cat c.in-Cat.nodes ∙ ap cat_of (sym c.deref.ensures.value) in
+    rw is c.gather_row.ensures.found
+
+pub gather_arm-returns-in-Cat-clause-span : goal.gather_arm-returns-in-Cat-clause-span
+gather_arm-returns-in-Cat-clause-span t c went =
+    let is : node_of c.args.arm.now ≡ cat_of c.deref.result.now = ap node_of c.in-Cat.is ∙ node_of-Cat c.in-Cat.nodes ∙ ap cat_of (sym c.deref.ensures.value) in
+    rw is (c.gather_row.ensures.span went)
+
+pub gather_arm-returns-in-Cat-clause-seen : goal.gather_arm-returns-in-Cat-clause-seen
+gather_arm-returns-in-Cat-clause-seen t c went =
+    let is : node_of c.args.arm.now ≡ cat_of c.deref.result.now = ap node_of c.in-Cat.is ∙ node_of-Cat c.in-Cat.nodes ∙ ap cat_of (sym c.deref.ensures.value) in
+    rw is (c.gather_row.ensures.seen went)
+
 pub gather_enclosed-returns-clause-found : goal.gather_enclosed-returns-clause-found
 gather_enclosed-returns-clause-found t c =
     let n = node_of c.args.contents.now in
-    let i = c.gather.new.self.inside in
-    let went = sym c.if-not-gather.false in
-    let span : as_span i ≡ span_of (group_ids n) = c.gather.ensures.span (sym went) ∙ joined-none (group_ids n) in
+    let i = c.gather_along.new.self.inside in
+    let went = sym c.if-not-gather_along.false in
+    let span : as_span i ≡ span_of (group_ids n) = c.gather_along.ensures.span (sym went) ∙ joined-none (group_ids n) in
     fills-encloses n (is_seen c.args.bits.now) c.args.start c.args.end i.count i.low i.high c.fills.result (every names_the_groups_inside n) c.ranges.start.fits c.ranges.end.fits
-    (went ∙ c.gather.ensures.found) (ap (λ s. s.count) span) (ap (λ s. s.low) span) (ap (λ s. s.high) span) c.fills.ensures
+    (went ∙ c.gather_along.ensures.found) (ap (λ s. s.count) span) (ap (λ s. s.low) span) (ap (λ s. s.high) span) c.fills.ensures
 
-pub gather_row-gather-requires : goal.gather_row-gather-requires
-gather_row-gather-requires t c =
+pub gather_row-gather_part-requires : goal.gather_row-gather_part-requires
+gather_row-gather_part-requires t c =
     let smaller : weight (node_of c.node-item.result) < weight (cat_of c.args.nodes.now) = weight-child _ _ _ c.loop-node-test.true c.node-item.is in search rules
 
-pub gather_row-returns-then-not-gather-clause-found : goal.gather_row-returns-then-not-gather-clause-found
-gather_row-returns-then-not-gather-clause-found t c =
+pub gather_row-returns-then-not-gather_part-clause-found : goal.gather_row-returns-then-not-gather_part-clause-found
+gather_row-returns-then-not-gather_part-clause-found t c =
     let nodes = c.args.nodes.now in
     let n = node_of c.node-item.result in
     let rest = cat_of (drop (c.loop-node.node-index + 1) nodes) in
@@ -129,7 +150,7 @@ gather_row-returns-then-not-gather-clause-found t c =
     let f = is_seen c.loop-node.bits in
     let s = as_span c.loop-node.self.inside in
     let l = left-same _ _ _ _ f s (cat_of (drop c.loop-node.node-index nodes)) (cat n rest) next c.loop-node.invariant in
-    left-fails _ _ _ _ f s (group_ids n) (group_ids rest) (every names_the_groups_inside n) (every names_the_groups_inside rest) l (sym c.if-not-gather.true ∙ c.gather.ensures.found)
+    left-fails _ _ _ _ f s (group_ids n) (group_ids rest) (every names_the_groups_inside n) (every names_the_groups_inside rest) l (sym c.if-not-gather_part.true ∙ c.gather_part.ensures.found)
 
 pub gather_row-loop-node-preserved : goal.gather_row-loop-node-preserved
 gather_row-loop-node-preserved t c =
@@ -138,13 +159,13 @@ gather_row-loop-node-preserved t c =
     let rest = cat_of (drop (c.loop-node.node-index + 1) nodes) in
     let next = cat_of-drop nodes c.loop-node.node-index c.node-item.result c.loop-node-test.true c.node-item.is in
     let f = is_seen c.loop-node.bits in
-    let g = is_seen c.gather.new.bits in
+    let g = is_seen c.gather_part.new.bits in
     let s = as_span c.loop-node.self.inside in
-    let t = as_span c.gather.new.self.inside in
+    let t = as_span c.gather_part.new.self.inside in
     let l = left-same _ _ _ _ f s (cat_of (drop c.loop-node.node-index nodes)) (cat n rest) next c.loop-node.invariant in
-    let went = sym c.if-not-gather.false in
-    left-next _ _ _ _ f g s t (group_ids n) (group_ids rest) (every names_the_groups_inside n) (every names_the_groups_inside rest) l (went ∙ c.gather.ensures.found)
-    (c.gather.ensures.span (sym went)) (c.gather.ensures.seen (sym went))
+    let went = sym c.if-not-gather_part.false in
+    left-next _ _ _ _ f g s t (group_ids n) (group_ids rest) (every names_the_groups_inside n) (every names_the_groups_inside rest) l (went ∙ c.gather_part.ensures.found)
+    (c.gather_part.ensures.span (sym went)) (c.gather_part.ensures.seen (sym went))
 
 pub gather_row-returns-clause-span : goal.gather_row-returns-clause-span
 gather_row-returns-clause-span t c h =

@@ -10,23 +10,32 @@ use Rattle.regress_program.proofs.Weights.{weight}
 use Rattle.regress_program.proofs.emit.ids.Ids.+gather.Given as goal
 
 abbrev pub decreases-gather : goal.decreases-gather
-decreases-gather l = 2 * weight (node_of l.root.now) + 1
+decreases-gather l = 4 * weight (node_of l.root.now) + 2
+
+abbrev pub decreases-gather_along : goal.decreases-gather_along
+decreases-gather_along l = 4 * weight (node_of l.root.now) + 1
+
+abbrev pub decreases-gather_arm : goal.decreases-gather_arm
+decreases-gather_arm l = 4 * weight (node_of l.arm.now) + 4
+
+abbrev pub decreases-gather_part : goal.decreases-gather_part
+decreases-gather_part l = 4 * weight (node_of l.node.now) + 3
 
 abbrev pub decreases-gather_row : goal.decreases-gather_row
-decreases-gather_row l = 2 * weight (cat_of l.nodes.now)
+decreases-gather_row l = 4 * weight (cat_of l.nodes.now)
 
 abbrev pub decreases-gather_enclosed : goal.decreases-gather_enclosed
-decreases-gather_enclosed l = 2 * (weight (node_of l.contents.now) + 1)
+decreases-gather_enclosed l = 4 * weight (node_of l.contents.now) + 2
 
-abbrev pub invariant-gather-loop-rest : goal.invariant-gather-loop-rest
-invariant-gather-loop-rest l = record {
+abbrev pub invariant-gather_along-loop-rest : goal.invariant-gather_along-loop-rest
+invariant-gather_along-loop-rest l = record {
   within : weight (node_of l.rest) ≤ weight (node_of l.root);
   left : IsLeft (is_seen l.fn.bits) (as_span l.fn.self.inside) (group_ids (node_of l.root)) (every names_the_groups_inside (node_of l.root))
       (is_seen l.bits) (as_span l.self.inside) (group_ids (node_of l.rest)) (every names_the_groups_inside (node_of l.rest));
 }
 
-abbrev pub decreases-gather-loop-rest : goal.decreases-gather-loop-rest
-decreases-gather-loop-rest l = weight (node_of l.rest)
+abbrev pub decreases-gather_along-loop-rest : goal.decreases-gather_along-loop-rest
+decreases-gather_along-loop-rest l = weight (node_of l.rest)
 
 abbrev pub invariant-gather_row-loop-node : goal.invariant-gather_row-loop-node
 invariant-gather_row-loop-node l =

@@ -1,8 +1,8 @@
 -- Nodes as trees.
-use Rattle.std.proofs.Common.{◌≡◌, Bool, false, List, [], ◌∷◌, ℕ, suc, ◌<◌, ap, ◌∙◌, refl, arith, length, get_or, sym, Vec, Global, Box, Option, String}
+use Rattle.std.proofs.Common.{◌≡◌, Bool, false, List, [], ◌∷◌, ℕ, zero, suc, ◌+◌, ◌-◌, ◌<◌, ap, ◌∙◌, refl, arith, length, get_or, sym, Vec, Global, Box, Option, String}
 use Rattle.regex_meaning.specs.Tree as tree
 use Rattle.regex_pattern_front.specs.TreeOf.{node_of, nodes_of, cat_of}
-use Rattle.regex_pattern_front.specs.Optimized.{reads_one_character, optimized, narrowed, turned_back}
+use Rattle.regex_pattern_front.specs.Optimized.{reads_one_character, optimized, narrowed, behind_first, with_first, turned_back}
 use Rattle.regex_pattern_front.specs.declared.ir.Node.{Node, Row_of-Node, end_of-Node, more_of-Node, items-the_row-Node, items_hidden-the_row-Node-0, Cat'}
 use Rattle.regex_pattern_front.specs.declared.ir.Node.TheVariants.{Char, CharSet, ByteSet, Cat, Alt, Bracket, MatchAny, MatchAnyExceptLineTerminator, CaptureGroup, LookaroundAssertion, Loop, Loop1CharBody, rolls-Cat, rolls-Alt, rolls-CaptureGroup, rolls-LookaroundAssertion, rolls-Loop, rolls-Loop1CharBody}
 use Rattle.regex_pattern_front.specs.declared.ir.Node.TheOpen.{Node-F}
@@ -97,19 +97,43 @@ narrowed-rolled _ h = refl
 pub narrowed-other : (n : Node) → ((l : Box Node Global) (q : Quantifier) (groups : Range ℕ) → n ≡ Loop l q groups → ⊥) → node_of n ≡ narrowed (node_of n)
 narrowed-other = ind-Node (λ n. ((l : Box Node Global) (q : Quantifier) (groups : Range ℕ) → n ≡ Loop l q groups → ⊥) → node_of n ≡ narrowed (node_of n)) (λ x y is. narrowed-rolled x)
 
-turned-Cat : (rest : tree.Node) (v : Vec Node Global) → turned_back (node_of (Cat v)) rest ≡ rest
-turned-Cat rest v = rw (node_of-Cat v) (of v.items)
+-- where there are no alternatives there is no first one
+abbrev pub HasNoFirst : (node rest : tree.Node) → Type 0
+HasNoFirst node rest = record {
+  from : node ≡ behind_first node;
+  to : rest ≡ with_first node rest;
+}
+
+unturned-Cat : (rest : tree.Node) (v : Vec Node Global) → HasNoFirst (node_of (Cat v)) rest
+unturned-Cat rest v = rw (node_of-Cat v) (of v.items)
   where
-    of : (xs : List Node) → turned_back (cat_of xs) rest ≡ rest
-    of [] = refl
-    of (x ∷ xs) = refl
+    of : (xs : List Node) → HasNoFirst (cat_of xs) rest
+    of [] = record { from = refl; to = refl }
+    of (x ∷ xs) = record { from = refl; to = refl }
 
-turned-rolled : (rest : tree.Node) (x : Node-F Node) → ((l r : Box Node Global) → roll-Node x ≡ Alt l r → ⊥) → turned_back (node_of (roll-Node x)) rest ≡ rest
+unturned-rolled : (rest : tree.Node) (x : Node-F Node) → ((l r : Box Node Global) → roll-Node x ≡ Alt l r → ⊥) → HasNoFirst (node_of (roll-Node x)) rest
 unfolding node_of roll-Node roll
-turned-rolled rest (Node-F.Cat v) h = turned-Cat rest v
-turned-rolled rest (Node-F.Alt l r) h = absurd (h l r (sym (rolls-Alt l r)))
-turned-rolled rest _ h = refl
+unturned-rolled rest (Node-F.Cat v) h = unturned-Cat rest v
+unturned-rolled rest (Node-F.Alt l r) h = absurd (h l r (sym (rolls-Alt l r)))
+unturned-rolled rest _ h = record { from = refl; to = refl }
 
--- nothing was turned
-pub turned-other : (rest : tree.Node) (n : Node) → ((l r : Box Node Global) → n ≡ Alt l r → ⊥) → turned_back (node_of n) rest ≡ rest
-turned-other rest = ind-Node (λ n. ((l r : Box Node Global) → n ≡ Alt l r → ⊥) → turned_back (node_of n) rest ≡ rest) (λ x y is. turned-rolled rest x)
+pub unturned : (rest : tree.Node) (n : Node) → ((l r : Box Node Global) → n ≡ Alt l r → ⊥) → HasNoFirst (node_of n) rest
+unturned rest = ind-Node (λ n. ((l r : Box Node Global) → n ≡ Alt l r → ⊥) → HasNoFirst (node_of n) rest) (λ x y is. unturned-rolled rest x)
+
+-- ---- Alternatives that were turned
+
+pub turned-step : (count : ℕ) (done rest : tree.Node) → 0 < count
+    → turned_back (count - 1) (behind_first done) (with_first done rest) ≡ turned_back count done rest
+turned-step zero done rest h = absurd (omega (arith, h))
+turned-step (suc count) done rest h =
+    let less : suc count - 1 ≡ count = omega arith in
+    ap (λ n. turned_back n (behind_first done) (with_first done rest)) less
+
+pub turned-all : (count : ℕ) (done rest : tree.Node) → count ≡ 0 → turned_back count done rest ≡ tree.alt done rest
+turned-all count done rest h = rw h refl
+
+pub turned-one : (count : ℕ) (left done rest : tree.Node)
+    → turned_back (count + 1) (tree.alt left done) rest ≡ turned_back count done (tree.alt left rest)
+turned-one count left done rest =
+    let more : count + 1 ≡ suc count = omega arith in
+    ap (λ n. turned_back n (tree.alt left done) rest) more

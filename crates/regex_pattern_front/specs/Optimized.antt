@@ -1,5 +1,5 @@
 -- The tree with loops over one character.
-use Rattle.std.specs.Prelude.{◌≡◌, ℕ, Bool, true, false, IsTrue, if◌then◌else◌}
+use Rattle.std.specs.Prelude.{◌≡◌, ℕ, zero, suc, Bool, true, false, IsTrue, if◌then◌else◌}
 use Rattle.regex_meaning.specs.Tree.{Node, group_ids, char, char_set, byte_set, cat, alt, bracket, match_any, match_any_except_line_terminator, capture_group, lookaround, loop, loop_1_char_body}
 use Rattle.regex_meaning.specs.Text.{Text, Direction}
 use Rattle.regex_meaning.specs.Outcomes.{Groups, outcomes}
@@ -33,10 +33,20 @@ abbrev pub narrowed : Node → Node
 narrowed (loop q start_group end_group loopee) = loop_1_char_body q loopee
 narrowed node = node
 
--- alternatives that were turned to look at the one before, the last of them first, as they were, with what stands behind
-abbrev pub turned_back : (done rest : Node) → Node
-turned_back (alt left before) rest = turned_back before (alt left rest)
-turned_back _ rest = rest
+-- what stands behind the first of alternatives
+abbrev pub behind_first : Node → Node
+behind_first (alt left right) = right
+behind_first node = node
+
+-- the first of alternatives before what stands elsewhere
+abbrev pub with_first : (row rest : Node) → Node
+with_first (alt left right) rest = alt left rest
+with_first _ rest = rest
+
+-- so many alternatives that were turned to look at the one before, the last of them first, as they were, before the others
+abbrev pub turned_back : (count : ℕ) (done rest : Node) → Node
+turned_back zero done rest = alt done rest
+turned_back (suc count) done rest = turned_back count (behind_first done) (with_first done rest)
 
 -- optimizing keeps a tree well formed
 abbrev pub OptimizedIsWellFormed : Type 0

@@ -2,7 +2,9 @@
 
 ghost use Rattle.std.specs.Prelude.{◌≡◌};
 ghost use Rattle.regex_pattern_front.specs.TreeOf.{cat_of, node_of};
-ghost use Rattle.regex_pattern_front.specs.Optimized.{reads_one_character, optimized, narrowed, turned_back};
+ghost use Rattle.regex_pattern_front.specs.declared.ir.Node.TheVariants.{Alt};
+ghost use Rattle.regex_pattern_front.specs.Optimized.{reads_one_character, optimized, narrowed, behind_first, with_first, turned_back};
+ghost use Rattle.regex_meaning.specs.Tree.{alt};
 ghost use Rattle.regex_pattern_front.specs.Optimized.{OptimizedIsWellFormed, OptimizedHasSameOutcomes, OptimizedHasSameAnswers, OptimizedHasSameGroups, OptimizedHasSameNames};
 
 use crate::ir::{Node, Regex};
@@ -23,10 +25,7 @@ fn optimize_node(node: &mut Node)
 {
     match node {
         Node::Cat(children) => optimize_all(children),
-        Node::Alt(left, right) => {
-            optimize_node(left);
-            optimize_row(right);
-        }
+        Node::Alt(left, right) => optimize_row(left, right),
         Node::CaptureGroup { contents, .. } => optimize_node(contents),
         Node::LookaroundAssertion { contents, .. } => optimize_node(contents),
         Node::Loop { loopee, .. } => {
@@ -50,31 +49,48 @@ fn optimize_all(nodes: &mut Vec<Node>)
     }
 }
 
-// Alternatives, in a loop: on the way there each is turned to look at the one before it, and on the way back as it was.
-// What moves on the way back stays out of the frames that nested alternatives take.
+// Two alternatives, of which the second may be more of them, in a loop: on the way there each is turned to look at the one
+// before it, and on the way back as it was. How many were turned is all that the frames of nested ones hold of that, so
+// what is moved stays out of them (a row of more than can be counted is a row in a row).
 #[cycle(optimize)]
 #[inline(never)]
-fn optimize_row(row: &mut Node)
-    ensures { node_of row.new ≡ optimized (node_of row.old) }
+fn optimize_row(first: &mut Node, rest: &mut Node)
+    ensures { alt (node_of first.new) (node_of rest.new) ≡ optimized (alt (node_of first.old) (node_of rest.old)) }
 {
-    let mut done = Node::Empty;
-    while let Node::Alt(left, right) = row {
+    optimize_node(first);
+    let mut turned = 0;
+    while let Node::Alt(left, _) = rest {
+        if turned == usize::MAX {
+            break;
+        }
         optimize_node(left);
-        mem::swap(&mut **right, &mut done);
-        mem::swap(row, &mut done);
+        turn(rest, first);
+        turned += 1;
     }
-    optimize_node(row);
-    turn_back(&mut done, row);
+    optimize_node(rest);
+    turn_back(first, rest, turned);
 }
 
-// The alternatives of a row that was turned round, and those behind them.
-#[inline(never)]
-fn turn_back(done: &mut Node, rest: &mut Node)
-    ensures { node_of rest.new ≡ turned_back (node_of done.old) (node_of rest.old) }
+// So many alternatives of a row that was turned round, before those behind them.
+fn turn_back(done: &mut Node, rest: &mut Node, mut turned: usize)
+    ensures { alt (node_of done.new) (node_of rest.new) ≡ turned_back turned (node_of done.old) (node_of rest.old) }
 {
-    while let Node::Alt(_, right) = done {
-        mem::swap(&mut **right, rest);
-        mem::swap(done, rest);
+    while turned > 0 {
+        turn(done, rest);
+        turned -= 1;
+    }
+}
+
+// Moves the first of alternatives before what stands in another place.
+#[inline(never)]
+fn turn(from: &mut Node, to: &mut Node)
+    ensures from { node_of from.new ≡ behind_first (node_of from.old) }
+    ensures to { node_of to.new ≡ with_first (node_of from.old) (node_of to.old) }
+    ensures part { (left right : _) → from.old ≡ Alt left right → from.new ≡ right.value }
+{
+    if let Node::Alt(_, right) = from {
+        mem::swap(&mut **right, to);
+        mem::swap(from, to);
     }
 }
 

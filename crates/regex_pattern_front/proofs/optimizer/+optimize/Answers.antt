@@ -26,13 +26,13 @@ unfolding node_of optimized
 optimize_node-returns-in-Alt t c =
     let left : c.deref_mut.result.now ≡ c.in-Alt.left.value = c.deref_mut.ensures.value ∙ ap (λ (b : Box Node Global). b.value) c.in-Alt.left-is in
     let right : c.deref_mut-in-Alt.result.now ≡ c.in-Alt.right.value = c.deref_mut-in-Alt.ensures.value ∙ ap (λ (b : Box Node Global). b.value) c.in-Alt.right-is in
-    rw (c.in-Alt.is, c.optimize_node.ensures, c.optimize_row.ensures, left, right)
+    rw c.in-Alt.is (rw (left, right) at c.optimize_row.ensures)
 
 pub optimize_node-returns-in-CaptureGroup : goal.optimize_node-returns-in-CaptureGroup
 unfolding node_of optimized out-Node out
 optimize_node-returns-in-CaptureGroup t c =
     let inside : c.deref_mut-in-CaptureGroup.result.now ≡ c.in-CaptureGroup.contents.value = c.deref_mut-in-CaptureGroup.ensures.value ∙ ap (λ (b : Box Node Global). b.value) c.in-CaptureGroup.contents-is in
-    rw (c.in-CaptureGroup.is, c.optimize_node-in-CaptureGroup.ensures, inside)
+    rw (c.in-CaptureGroup.is, c.optimize_node.ensures, inside)
 
 pub optimize_node-returns-in-LookaroundAssertion : goal.optimize_node-returns-in-LookaroundAssertion
 unfolding node_of optimized out-Node out
@@ -74,19 +74,13 @@ optimize_node-returns-in_default t c =
       not_Loop1CharBody = d.not-Loop1CharBody;
     })
 
-pub optimize_row-loop-row-init : goal.optimize_row-loop-row-init
-unfolding node_of
-optimize_row-loop-row-init t c = record { deep = omega arith; turned = refl }
+pub optimize_row-loop-rest-init : goal.optimize_row-loop-rest-init
+unfolding optimized
+optimize_row-loop-rest-init t c = record { deep = omega arith; turned = rw c.optimize_node.ensures refl }
 
-pub optimize_row-loop-row-preserved : goal.optimize_row-loop-row-preserved
-unfolding node_of optimized the_depth depth fold
-optimize_row-loop-row-preserved t c =
-    let left : c.deref_mut.result.now ≡ c.in-Alt.left.value = c.deref_mut.ensures.value ∙ ap (λ (b : Box Node Global). b.value) c.in-Alt.left-is in
-    let right : c.deref_mut-in-Alt.result.now ≡ c.in-Alt.right.value = c.deref_mut-in-Alt.ensures.value ∙ ap (λ (b : Box Node Global). b.value) c.in-Alt.right-is in
-    let smaller : size-Node c.in-Alt.right.value < size-Node c.loop-row.row = rw c.in-Alt.is (search rules) in
-    record {
-      deep = rw (c.swap-in-Alt.ensures.x_after, c.swap.ensures.y_after, right) (omega (arith, smaller, c.loop-row.invariant.deep));
-      turned =
-          rw (c.swap-in-Alt.ensures.x_after, c.swap-in-Alt.ensures.y_after, c.swap.ensures.y_after, c.swap.ensures.x_after, c.optimize_node.ensures, left, right)
-          (rw c.in-Alt.is at c.loop-row.invariant.turned);
-    }
+pub optimize_row-loop-rest-smaller : goal.optimize_row-loop-rest-smaller
+optimize_row-loop-rest-smaller t c = ?
+
+pub optimize_row-loop-rest-preserved : goal.optimize_row-loop-rest-preserved
+unfolding node_of optimized
+optimize_row-loop-rest-preserved t c = ?

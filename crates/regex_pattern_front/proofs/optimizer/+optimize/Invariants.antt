@@ -1,4 +1,5 @@
-use Rattle.std.proofs.Common.{◌≡◌, ℕ, ◌+◌, ◌*◌, ◌<◌, ◌≤◌, get_or}
+use Rattle.std.proofs.Common.{◌≡◌, ℕ, ◌+◌, ◌*◌, ◌<◌, ◌≤◌, max, get_or}
+use Rattle.regex_meaning.specs.Tree.{alt}
 use Rattle.regex_pattern_front.specs.TreeOf.{node_of}
 use Rattle.regex_pattern_front.specs.Optimized.{optimized, turned_back}
 use Rattle.regex_pattern_front.specs.declared.ir.Node.{size-Node}
@@ -11,18 +12,18 @@ abbrev pub decreases-optimize_all : goal.decreases-optimize_all
 decreases-optimize_all l = 2 * goal.size-optimize_all l + 1
 
 abbrev pub decreases-optimize_row : goal.decreases-optimize_row
-decreases-optimize_row l = 2 * goal.size-optimize_row l + 1
+decreases-optimize_row l = 2 * max (size-Node l.first.now) (size-Node l.rest.now) + 1
 
 abbrev pub invariant-optimize_all-loop-i : goal.invariant-optimize_all-loop-i
 invariant-optimize_all-loop-i l =
     goal.unvisited-optimize_all-loop-i l
     × ((k : ℕ) (d : _) → k < l.i → node_of (get_or l.nodes.items k d) ≡ optimized (node_of (get_or l.initial.nodes.items k d)))
 
-abbrev pub invariant-optimize_row-loop-row : goal.invariant-optimize_row-loop-row
-invariant-optimize_row-loop-row l = record {
-  deep : size-Node l.row ≤ size-Node l.fn.row;
-  turned : turned_back (node_of l.done) (optimized (node_of l.row)) ≡ optimized (node_of l.fn.row);
+abbrev pub invariant-optimize_row-loop-rest : goal.invariant-optimize_row-loop-rest
+invariant-optimize_row-loop-rest l = record {
+  deep : size-Node l.rest ≤ size-Node l.fn.rest;
+  turned : turned_back l.turned (node_of l.first) (optimized (node_of l.rest)) ≡ optimized (alt (node_of l.fn.first) (node_of l.fn.rest));
 }
 
-abbrev pub decreases-optimize_row-loop-row : goal.decreases-optimize_row-loop-row
-decreases-optimize_row-loop-row l = size-Node l.row
+abbrev pub decreases-optimize_row-loop-rest : goal.decreases-optimize_row-loop-rest
+decreases-optimize_row-loop-rest l = size-Node l.rest

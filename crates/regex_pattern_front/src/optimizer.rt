@@ -59,7 +59,7 @@ fn optimize_row(first: &mut Node, rest: &mut Node)
 {
     optimize_node(first);
     let mut turned = 0;
-    while let Node::Alt(left, _) = rest {
+    while let Node::Alt(left, _right) = rest {
         if turned == usize::MAX {
             break;
         }

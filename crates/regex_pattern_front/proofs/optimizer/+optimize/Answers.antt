@@ -1,4 +1,5 @@
 use Rattle.std.proofs.Common.{◌≡◌, ◌<◌, ◌∙◌, true, false, refl, ap, arith, rules, Box, Vec, Global}
+use Rattle.regex_meaning.specs.Tree.{alt}
 use Rattle.regex_pattern_front.specs.TreeOf.{cat_of, node_of}
 use Rattle.regex_pattern_front.specs.declared.ir.Node.{Node, size-Node}
 use Rattle.regex_pattern_front.specs.declared.ir.Node.TheViews.{out-Node}
@@ -6,7 +7,7 @@ use Rattle.regex_pattern_front.specs.declared.ir.Node.TheBlock.{hidden-the_row-N
 use denote.Hole.Carrier.{fold, out}
 use denote.Hole.Rolled.{depth}
 use Rattle.regex_pattern_front.specs.Optimized.{optimized, reads_one_character}
-use Rattle.regex_pattern_front.proofs.NodeLemmas.{optimized-children, optimized-leaf, node_of-Cat}
+use Rattle.regex_pattern_front.proofs.NodeLemmas.{optimized-children, optimized-leaf, node_of-Cat, turned-one}
 use Rattle.regex_pattern_front.proofs.optimizer.+optimize.Goals as goal
 
 pub optimize_all-returns : goal.optimize_all-returns
@@ -78,9 +79,30 @@ pub optimize_row-loop-rest-init : goal.optimize_row-loop-rest-init
 unfolding optimized
 optimize_row-loop-rest-init t c = record { deep = omega arith; turned = rw c.optimize_node.ensures refl }
 
+-- what stands behind the first alternative is next, whatever became of the first
+next : (t : _) (c : goal.optimize_row-After-turn t) → c.turn.new.from ≡ c.in-Alt._right.value
+unfolding out-Node out
+next t c = c.turn.ensures.part (record c.in-Alt.left { value = c.optimize_node-in-Alt.new.node }) c.in-Alt._right (rw c.in-Alt.is refl)
+
+less : (t : _) (c : goal.optimize_row-After-turn t) → size-Node c.turn.new.from < size-Node c.loop-rest.rest
+unfolding the_depth depth fold
+less t c =
+    let inside : size-Node c.in-Alt._right.value < size-Node c.loop-rest.rest = rw c.in-Alt.is (search rules) in
+    rw (next t c) inside
+
 pub optimize_row-loop-rest-smaller : goal.optimize_row-loop-rest-smaller
-optimize_row-loop-rest-smaller t c = ?
+optimize_row-loop-rest-smaller t c = less t c
 
 pub optimize_row-loop-rest-preserved : goal.optimize_row-loop-rest-preserved
 unfolding node_of optimized
-optimize_row-loop-rest-preserved t c = ?
+optimize_row-loop-rest-preserved t c =
+    let now = c.loop-rest in
+    let left : c.deref_mut.result.now ≡ c.in-Alt.left.value = c.deref_mut.ensures.value ∙ ap (λ (b : Box Node Global). b.value) c.in-Alt.left-is in
+    let to : node_of c.turn.new.to ≡ alt (optimized (node_of c.in-Alt.left.value)) (node_of now.first) =
+    c.turn.ensures.to ∙ ap (λ n. alt n (node_of now.first)) (c.optimize_node-in-Alt.ensures ∙ ap (λ n. optimized (node_of n)) left) in
+    record {
+      deep = omega (arith, less t c, now.invariant.deep);
+      turned =
+          rw (to, next t c, turned-one now.turned (optimized (node_of c.in-Alt.left.value)) (node_of now.first) (optimized (node_of c.in-Alt._right.value)))
+          (rw c.in-Alt.is at now.invariant.turned);
+    }

@@ -49,9 +49,9 @@ fn optimize_all(nodes: &mut Vec<Node>)
     }
 }
 
-// Two alternatives, of which the second may be more of them, in a loop: on the way there each is turned to look at the one
-// before it, and on the way back as it was. How many were turned is all that the frames of nested ones hold of that, so
-// what is moved stays out of them (a row of more than can be counted is a row in a row).
+// Two alternatives, the second of which may be alternatives again, in a loop: on the way there each is turned to look at
+// the one before it, and on the way back as it was. How many were turned is all that its frame holds of that, and what
+// moves nodes has returned before, so nested ones take little stack. A row longer than that counts is a row in a row.
 #[cycle(optimize)]
 #[inline(never)]
 fn optimize_row(first: &mut Node, rest: &mut Node)

@@ -1,4 +1,4 @@
-use Rattle.std.proofs.Common.{◌≡◌, ◌∙◌, sym, arith}
+use Rattle.std.proofs.Common.{◌∙◌, sym, arith}
 use Rattle.regex_pattern_front.specs.TreeOf.{node_of}
 use Rattle.regex_pattern_front.proofs.NodeLemmas.{turned-all, turned-step}
 use Rattle.regex_pattern_front.proofs.optimizer.turn_back.Goals as goal

@@ -14,6 +14,7 @@ ghost use Rattle.regress_backtrack.specs.Memory.{state_of};
 use crate::attempts::attempt;
 pub use crate::limited::LimitedExecutor;
 use crate::memory::Memory;
+use crate::remembering::{Course, Forgets};
 use crate::steps::{Free, Unbound};
 use regress_exec::exec::{Executor, MatchProducer, SearchError, Searcher};
 use regress_exec::places::Attempts;
@@ -31,7 +32,7 @@ pub struct BacktrackExecutor<'r, Input: InputIndexer> {
     // with the groups of the last attempt that found an end
     pub(crate) memory: Memory,
     // So much work is done in all attempts until one is made once more.
-    free: Free,
+    free: Course<Free, Forgets>,
     // What the last attempt came to that was made once more. A position shows the text's lifetime in this type, which
     // calls that are generic in the executor need to have.
     came: Result<Option<Input::Position>, SearchError>,
@@ -60,7 +61,10 @@ impl<'r, Input: InputIndexer> BacktrackExecutor<'r, Input> {
         BacktrackExecutor {
             search,
             memory: Memory::new(alloc),
-            free: Free::up_to(work),
+            free: Course {
+                steps: Free::up_to(work),
+                memo: Forgets,
+            },
             came: Ok(None),
         }
     }
@@ -80,7 +84,11 @@ impl<'r, Input: InputIndexer> BacktrackExecutor<'r, Input> {
         ensures cause { Tells self.new.came false }
         ensures same { self.new.search ≡ self.old.search }
     {
-        self.came = attempt(&self.search, pos, &mut self.memory, &mut Unbound);
+        let mut course = Course {
+            steps: Unbound,
+            memo: Forgets,
+        };
+        self.came = attempt(&self.search, pos, &mut self.memory, &mut course);
     }
 }
 
@@ -119,12 +127,12 @@ impl<'r, Input: InputIndexer> Attempts for BacktrackExecutor<'r, Input> {
 
     #[inline(always)]
     fn attempt(&mut self, pos: Input::Position) -> Result<Option<Input::Position>, SearchError> {
-        if self.free.is_spent() {
+        if self.free.steps.is_spent() {
             self.attempt_again(pos);
             return self.came;
         }
         let end = attempt(&self.search, pos, &mut self.memory, &mut self.free);
-        if end.is_ok() || !self.free.is_spent() {
+        if end.is_ok() || !self.free.steps.is_spent() {
             return end;
         }
         self.attempt_again(pos);

@@ -87,7 +87,7 @@ impl Steps for Free {
 
     #[inline(always)]
     fn read(&mut self, units: usize) {
-        self.work = self.work.wrapping_sub(units as i64);
+        self.work = self.work.wrapping_sub((units % 0x4000_0000_0000_0000) as i64);
     }
 
     #[inline(always)]

@@ -15,6 +15,8 @@ use crate::attempts::attempt;
 pub use crate::limited::LimitedExecutor;
 use crate::memory::Memory;
 use crate::remembering::{Course, Forgets};
+use regress_ledger::ledger::Ledger;
+use regress_memo::memo::Memo;
 use crate::search::{PlannedProgram, PlannedSearch};
 use crate::starts::next_start;
 use crate::steps::{Free, Unbound};
@@ -24,7 +26,8 @@ use regress_exec::searched::Searched;
 use regress_input::indexing::{AsciiInput, InputIndexer, Ucs2Input, Utf8Input, Utf16Input};
 use regress_program::insn::{CompiledRegex, CompiledUnits, Program};
 use regress_scan::planned::{At, Planned, offset_in, position_in};
-use std::alloc::AllocError;
+use regress_plan::insn::Insn;
+use std::alloc::{AllocError, Global};
 
 /// Runs a program's plan over a text. It keeps one state, and undoes what it did to it when a thread has failed.
 #[derive(Drop)]
@@ -34,6 +37,9 @@ pub struct BacktrackExecutor<'r, Input: InputIndexer> {
     pub(crate) memory: Memory,
     // So much work is done in all attempts until one is made once more.
     free: Course<Free, Forgets>,
+    // Behind that it is remembered what failed, where there is a ledger and memory for it.
+    remembering: Course<Unbound, Option<Box<Memo>>>,
+    began: bool,
     // What the last attempt came to that was made once more. A position shows the text's lifetime in this type, which
     // calls that are generic in the executor need to have.
     came: Result<Option<Input::Position>, SearchError>,
@@ -66,7 +72,27 @@ impl<'r, Input: InputIndexer> BacktrackExecutor<'r, Input> {
                 steps: Free::up_to(work),
                 memo: Forgets,
             },
+            remembering: Course {
+                steps: Unbound,
+                memo: None,
+            },
+            began: false,
             came: Ok(None),
+        }
+    }
+
+    // Begins to remember what fails, unless it has. Where that is refused, nothing is remembered.
+    fn begin_to_remember(&mut self) {
+        if self.began {
+            return;
+        }
+        self.began = true;
+        let alloc = self.search.searched.program.allocator();
+        let places = self.search.searched.input.unit_count() + 1;
+        let insns = self.search.program.insns();
+        let loops = self.search.program.loops() as usize;
+        if let Ok(memo) = memo_of(alloc, insns, loops, places) {
+            self.remembering.memo = memo;
         }
     }
 
@@ -85,12 +111,21 @@ impl<'r, Input: InputIndexer> BacktrackExecutor<'r, Input> {
         ensures cause { Tells self.new.came false }
         ensures same { self.new.search ≡ self.old.search }
     {
-        let mut course = Course {
-            steps: Unbound,
-            memo: Forgets,
-        };
-        self.came = attempt(&self.search, pos, &mut self.memory, &mut course);
+        self.begin_to_remember();
+        self.came = attempt(&self.search, pos, &mut self.memory, &mut self.remembering);
     }
+}
+
+// A memory in which nothing is known yet, of a program with these instructions, where it has a ledger.
+fn memo_of(alloc: Global, insns: &[Insn], loops: usize, places: usize) -> Result<Option<Box<Memo>>, AllocError> {
+    let Some(ledger) = Ledger::new(alloc, insns, loops)? else {
+        return Ok(None);
+    };
+    let Some(memo) = Memo::new(alloc, ledger, places, false)? else {
+        return Ok(None);
+    };
+    let memo = Box::new(alloc, memo)?;
+    Ok(Some(memo))
 }
 
 // The first position to try from one on, by the plan.

@@ -9,6 +9,7 @@ pub mod here;
 mod limited;
 mod loops;
 pub mod memory;
+pub mod memos;
 mod records;
 pub mod remembering;
 mod run;

@@ -543,6 +543,15 @@ impl Memory {
         self.groups
     }
 
+    /// How many loops there are.
+    #[inline(always)]
+    pub fn loop_count(&self) -> usize
+        ensures loops { self.now.groups + result ≡ length self.now.slots }
+        ensures length { result ≡ length (state_of self.now 0 0).loops }
+    {
+        self.slots.len() - self.groups
+    }
+
     /// A group's range, if it has one.
     #[inline(always)]
     pub fn range_of(&self, id: usize) -> Option<(usize, usize)>

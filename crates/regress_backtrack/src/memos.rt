@@ -1,0 +1,174 @@
+//! Failures that a memory of keys remembers, by the ledger of a program.
+
+ghost use Rattle.std.specs.Prelude.{◌≡◌, ◌≤◌, ◌<◌, ◌∷◌, [], true, None, IsTrue};
+ghost use Rattle.regex_meaning.specs.Offsets.{units};
+ghost use Rattle.regress_linear.specs.Codes.{IsStateOf};
+ghost use Rattle.regress_linear.specs.RunKeys.{run_at, insn_before};
+ghost use Rattle.regress_machine.specs.Machine.{State};
+ghost use Rattle.regress_memo.specs.Memo.{has_failure};
+ghost use Rattle.regress_scan.specs.Searching.{program_of};
+ghost use Rattle.regress_backtrack.specs.Memory.{state_of};
+ghost use Rattle.regress_backtrack.specs.Memos.{terms_of};
+
+use crate::here::Here;
+use crate::memory::Memory;
+use crate::remembering::{Key, Remembers};
+use regex_pattern_front::types::LoopID;
+use regress_ledger::codes::{Round, Rounds};
+use regress_memo::memo::{Key as Known, Memo};
+use regress_plan::ops::Op;
+use regress_scan::planned::{Planned, text_end};
+
+impl Rounds for Memory {
+    ghost rounds = { λ m. (state_of m 0 0).loops };
+
+    #[inline(always)]
+    fn round(&self, id: LoopID) -> Option<Round> {
+        let id = usize::from(id);
+        if id >= self.loop_count() {
+            return None;
+        }
+        let held = self.loop_data(id);
+        Some(Round {
+            iters: held.from,
+            entry: held.at,
+        })
+    }
+}
+
+// Whether an operation stands behind a run: then it is its body, which no thread comes to.
+#[inline(always)]
+fn is_body<W: Planned>(planned: &W, ip: usize) -> bool
+    ensures { let program = program_of (W.searching planned.now) in
+        result ≡ false → run_at (insn_before program ip) ≡ None }
+{
+    if ip == 0 {
+        return false;
+    }
+    planned.is_of_program();
+    match planned.op_at(ip - 1) {
+        Some(Op::PossessiveRun(_) | Op::Run(_) | Op::LazyRun(_)) => true,
+        _ => false,
+    }
+}
+
+// Whether there are as many groups and loops as the program has.
+#[inline(always)]
+fn is_laid_out<W: Planned>(planned: &W, memory: &Memory) -> bool
+    ensures { result ≡ true → (ip at : ℕ)
+        → IsStateOf (program_of (W.searching planned.now)) (state_of memory.now ip at) }
+{
+    memory.group_count() == planned.program().groups() as usize
+        && memory.loop_count() == planned.loops() as usize
+}
+
+impl Remembers for Memo {
+    ghost ON = { true };
+
+    const ON: bool = true;
+
+    ghost terms = { λ m. terms_of m.ledger };
+
+    ghost failed = { λ m. has_failure m };
+
+    #[inline(always)]
+    fn key_at<W: Planned>(
+        &self,
+        planned: &W,
+        forward: bool,
+        here: Here,
+        memory: &Memory,
+    ) -> Option<Key> {
+        let line = self.ledger().line(here.ip);
+        if !line.records || line.forward != forward || is_body(planned, here.ip) {
+            return None;
+        }
+        if !is_laid_out(planned, memory) {
+            return None;
+        }
+        let end = text_end(planned);
+        if !self.ledger().is_sound(here.ip, here.at, end, memory) {
+            return None;
+        }
+        let key = Memo::key_at(self, here.ip, here.at, memory)?;
+        stored(key)
+    }
+
+    #[inline(always)]
+    fn has_failed(&self, key: Key) -> bool {
+        let key = known(key);
+        self.has(key) && self.fails(key)
+    }
+
+    #[inline(always)]
+    fn fail(&mut self, key: Key) {
+        let key = known(key);
+        if self.has(key) {
+            self.note_failure(key);
+        }
+    }
+}
+
+// A key as a mark holds it.
+#[inline(always)]
+fn stored(key: Known) -> Option<Key> {
+    match u32::try_from(key.ip) {
+        Ok(ip) => Some(Key {
+            ip,
+            at: key.at,
+            code: key.code,
+        }),
+        Err(_) => None,
+    }
+}
+
+// A key as a memory knows it.
+#[inline(always)]
+fn known(key: Key) -> Known {
+    Known {
+        ip: key.ip as usize,
+        at: key.at,
+        code: key.code,
+    }
+}
+
+/// Nothing is remembered where there is no memory.
+impl<M: Remembers> Remembers for Option<Box<M>> {
+    ghost ON = { M.ON };
+
+    const ON: bool = M::ON;
+
+    ghost terms = { terms_in M.Remembers };
+
+    ghost failed = { failed_in M.Remembers };
+
+    #[inline(always)]
+    fn key_at<W: Planned>(
+        &self,
+        planned: &W,
+        forward: bool,
+        here: Here,
+        memory: &Memory,
+    ) -> Option<Key> {
+        match self {
+            Some(memo) => memo.key_at(planned, forward, here, memory),
+            None => None,
+        }
+    }
+
+    #[inline(always)]
+    fn has_failed(&self, key: Key) -> bool {
+        match self {
+            Some(memo) => memo.has_failed(key),
+            None => false,
+        }
+    }
+
+    #[inline(always)]
+    fn fail(&mut self, key: Key) {
+        match self {
+            Some(memo) => memo.fail(key),
+            None => {}
+        }
+    }
+}

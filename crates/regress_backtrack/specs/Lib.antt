@@ -19,3 +19,4 @@ pub mod Attempted
 pub mod Recorded
 pub mod Remembered
 pub mod Course
+pub mod Memos

@@ -1,14 +1,13 @@
 //! Failures that a memory of keys remembers, by the ledger of a program.
 
-ghost use Rattle.std.specs.Prelude.{◌≡◌, ◌≤◌, ◌<◌, ◌∷◌, [], true, None, IsTrue};
-ghost use Rattle.regex_meaning.specs.Offsets.{units};
+ghost use Rattle.std.specs.Prelude.{◌≡◌, true, false, None, option_map, unwrap_or};
 ghost use Rattle.regress_linear.specs.Codes.{IsStateOf};
 ghost use Rattle.regress_linear.specs.RunKeys.{run_at, insn_before};
-ghost use Rattle.regress_machine.specs.Machine.{State};
 ghost use Rattle.regress_memo.specs.Memo.{has_failure};
 ghost use Rattle.regress_scan.specs.Searching.{program_of};
 ghost use Rattle.regress_backtrack.specs.Memory.{state_of};
 ghost use Rattle.regress_backtrack.specs.Memos.{terms_of};
+ghost use Rattle.regress_backtrack.specs.Remembered.{no_terms};
 
 use crate::here::Here;
 use crate::memory::Memory;
@@ -138,9 +137,9 @@ impl<M: Remembers> Remembers for Option<Box<M>> {
 
     const ON: bool = M::ON;
 
-    ghost terms = { terms_in M.Remembers };
+    ghost terms = { λ o. unwrap_or (option_map (λ memo. M.terms memo.value) o) no_terms };
 
-    ghost failed = { failed_in M.Remembers };
+    ghost failed = { λ o k. unwrap_or (option_map (λ memo. M.failed memo.value k) o) false };
 
     #[inline(always)]
     fn key_at<W: Planned>(

@@ -38,3 +38,5 @@ pub mod Courses
 pub mod Marked
 pub mod Dropped
 pub mod Striding
+pub mod MemoKeys
+pub mod Rightness

@@ -9,25 +9,30 @@ ghost use Rattle.regress_exec.specs.Attempts.{IsNextTry, ends_with, end_from, ti
 ghost use Rattle.regress_exec.specs.Spends.{Spends, Tells};
 ghost use Rattle.regress_machine.specs.Finds.{CanSearch};
 ghost use Rattle.regress_scan.specs.Searching.{program_of};
+ghost use Rattle.regress_memo.specs.Memo.{has_failure};
+ghost use Rattle.regress_program.specs.Code.{compiled};
+ghost use Rattle.regress_backtrack.proofs.Rightness.{is-right-prop};
 ghost use Rattle.regress_backtrack.specs.Memory.{state_of};
+ghost use Rattle.regress_backtrack.specs.Memos.{terms_of};
+ghost use Rattle.regress_backtrack.specs.Planning.{run_in};
+ghost use Rattle.regress_backtrack.specs.Remembered.{IsRightOf, terms_in, failed_in};
 
 use crate::attempts::attempt;
 pub use crate::limited::LimitedExecutor;
 use crate::memory::Memory;
+use crate::memos::begin_memory;
 use crate::remembering::{Course, Forgets};
-use regress_ledger::ledger::Ledger;
-use regress_memo::memo::Memo;
 use crate::search::{PlannedProgram, PlannedSearch};
 use crate::starts::next_start;
 use crate::steps::{Free, Unbound};
 use regress_exec::exec::{Executor, MatchProducer, SearchError, Searcher};
 use regress_exec::places::Attempts;
 use regress_exec::searched::Searched;
+use regress_memo::memo::Memo;
 use regress_input::indexing::{AsciiInput, InputIndexer, Ucs2Input, Utf8Input, Utf16Input};
 use regress_program::insn::{CompiledRegex, CompiledUnits, Program};
 use regress_scan::planned::{At, Planned, offset_in, position_in};
-use regress_plan::insn::Insn;
-use std::alloc::{AllocError, Global};
+use std::alloc::AllocError;
 
 /// Runs a program's plan over a text. It keeps one state, and undoes what it did to it when a thread has failed.
 #[derive(Drop)]
@@ -43,18 +48,25 @@ pub struct BacktrackExecutor<'r, Input: InputIndexer> {
     // What the last attempt came to that was made once more. A position shows the text's lifetime in this type, which
     // calls that are generic in the executor need to have.
     came: Result<Option<Input::Position>, SearchError>,
+    // What is known to fail does.
+    ghost right: { IsRightOf (compiled (run_in search.program)) (Input.text search.searched.input)
+        (terms_in (λ memo. terms_of memo.value.ledger) remembering.memo)
+        (failed_in (λ memo. has_failure memo.value) remembering.memo) }
+        by { is-right-prop _ _ _ _ },
 }
 
 // So much work for each offset of a text is more than most searches do.
-const WORK_FOR_EACH: i64 = 16;
+const WORK_FOR_EACH: u64 = 16;
+
+const MOST_WORK: u64 = 0x7FFF_FFFF_FFFF_FFFF;
 
 // How much work a search of so many units may do at first.
 #[inline(always)]
-fn work_at_first(units: usize) -> i64 {
+fn work_at_first(units: usize) -> u64 {
     if units < 0x0400_0000_0000_0000 {
-        (units as i64 + 1) * WORK_FOR_EACH
+        (units as u64 + 1) * WORK_FOR_EACH
     } else {
-        i64::MAX
+        MOST_WORK
     }
 }
 
@@ -82,16 +94,15 @@ impl<'r, Input: InputIndexer> BacktrackExecutor<'r, Input> {
     }
 
     // Begins to remember what fails, unless it has. Where that is refused, nothing is remembered.
-    fn begin_to_remember(&mut self) {
+    fn begin_to_remember(&mut self)
+        ensures { self.new.search ≡ self.old.search }
+    {
         if self.began {
             return;
         }
         self.began = true;
         let alloc = self.search.searched.program.allocator();
-        let places = self.search.searched.input.unit_count() + 1;
-        let insns = self.search.program.insns();
-        let loops = self.search.program.loops() as usize;
-        if let Ok(memo) = memo_of(alloc, insns, loops, places) {
+        if let Ok(memo) = begin_memory(alloc, &self.search, self.search.program.insns()) {
             self.remembering.memo = memo;
         }
     }
@@ -114,18 +125,6 @@ impl<'r, Input: InputIndexer> BacktrackExecutor<'r, Input> {
         self.begin_to_remember();
         self.came = attempt(&self.search, pos, &mut self.memory, &mut self.remembering);
     }
-}
-
-// A memory in which nothing is known yet, of a program with these instructions, where it has a ledger.
-fn memo_of(alloc: Global, insns: &[Insn], loops: usize, places: usize) -> Result<Option<Box<Memo>>, AllocError> {
-    let Some(ledger) = Ledger::new(alloc, insns, loops)? else {
-        return Ok(None);
-    };
-    let Some(memo) = Memo::new(alloc, ledger, places, false)? else {
-        return Ok(None);
-    };
-    let memo = Box::new(alloc, memo)?;
-    Ok(Some(memo))
 }
 
 // The first position to try from one on, by the plan.

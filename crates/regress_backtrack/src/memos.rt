@@ -1,22 +1,26 @@
 //! Failures that a memory of keys remembers, by the ledger of a program.
 
-ghost use Rattle.std.specs.Prelude.{◌≡◌, true, false, None, option_map, unwrap_or};
+ghost use Rattle.std.specs.Prelude.{◌≡◌, ℕ, true, false, None, IfOk, IfSome, map};
 ghost use Rattle.regress_linear.specs.Codes.{IsStateOf};
 ghost use Rattle.regress_linear.specs.RunKeys.{run_at, insn_before};
-ghost use Rattle.regress_memo.specs.Memo.{has_failure};
+ghost use Rattle.regress_memo.specs.Memo.{has_failure, as_key as key_known};
+ghost use Rattle.regress_plan.specs.Insns.{insn_of};
 ghost use Rattle.regress_scan.specs.Searching.{program_of};
 ghost use Rattle.regress_backtrack.specs.Memory.{state_of};
-ghost use Rattle.regress_backtrack.specs.Memos.{terms_of};
-ghost use Rattle.regress_backtrack.specs.Remembered.{no_terms};
+ghost use Rattle.regress_backtrack.specs.Memos.{terms_of, is_run};
+ghost use Rattle.regress_backtrack.specs.Remembered.{as_key, terms_in, failed_in, IsRight};
 
 use crate::here::Here;
 use crate::memory::Memory;
 use crate::remembering::{Key, Remembers};
 use regex_pattern_front::types::LoopID;
 use regress_ledger::codes::{Round, Rounds};
+use regress_ledger::ledger::Ledger;
 use regress_memo::memo::{Key as Known, Memo};
+use regress_plan::insn::Insn;
 use regress_plan::ops::Op;
 use regress_scan::planned::{Planned, text_end};
+use std::alloc::{AllocError, Global};
 
 impl Rounds for Memory {
     ghost rounds = { λ m. (state_of m 0 0).loops };
@@ -46,8 +50,22 @@ fn is_body<W: Planned>(planned: &W, ip: usize) -> bool
     }
     planned.is_of_program();
     match planned.op_at(ip - 1) {
-        Some(Op::PossessiveRun(_) | Op::Run(_) | Op::LazyRun(_)) => true,
-        _ => false,
+        Some(op) => !is_no_run(op),
+        None => false,
+    }
+}
+
+// Whether an operation is no run.
+#[inline(always)]
+fn is_no_run(op: &Op) -> bool
+    ensures { result ≡ true → is_run op.now ≡ false }
+{
+    match op {
+        Op::Goal | Op::Fail | Op::Unit(_) | Op::Char(_) | Op::Bytes(_) | Op::One(_) => true,
+        Op::LineStart { .. } | Op::LineEnd { .. } | Op::WordEdge(_) => true,
+        Op::Go(_) | Op::Either(_) | Op::Enter(_) | Op::LoopEnd(_) => true,
+        Op::Open(_) | Op::Close(_) | Op::Reset(_) | Op::Same(_) | Op::Look(_) => true,
+        Op::PossessiveRun(_) | Op::Run(_) | Op::LazyRun(_) => false,
     }
 }
 
@@ -110,7 +128,9 @@ impl Remembers for Memo {
 
 // A key as a mark holds it.
 #[inline(always)]
-fn stored(key: Known) -> Option<Key> {
+fn stored(key: Known) -> Option<Key>
+    ensures { IfSome result (λ k. as_key k ≡ key_known key) }
+{
     match u32::try_from(key.ip) {
         Ok(ip) => Some(Key {
             ip,
@@ -123,7 +143,9 @@ fn stored(key: Known) -> Option<Key> {
 
 // A key as a memory knows it.
 #[inline(always)]
-fn known(key: Key) -> Known {
+fn known(key: Key) -> Known
+    ensures { key_known result ≡ as_key key }
+{
     Known {
         ip: key.ip as usize,
         at: key.at,
@@ -137,9 +159,9 @@ impl<M: Remembers> Remembers for Option<Box<M>> {
 
     const ON: bool = M::ON;
 
-    ghost terms = { λ o. unwrap_or (option_map (λ memo. M.terms memo.value) o) no_terms };
+    ghost terms = { terms_in (λ memo. M.terms memo.value) };
 
-    ghost failed = { λ o k. unwrap_or (option_map (λ memo. M.failed memo.value k) o) false };
+    ghost failed = { failed_in (λ memo. M.failed memo.value) };
 
     #[inline(always)]
     fn key_at<W: Planned>(
@@ -170,4 +192,25 @@ impl<M: Remembers> Remembers for Option<Box<M>> {
             None => {}
         }
     }
+}
+
+/// A memory of what is searched, whose instructions these are. Nothing is known yet; there is none where the program has no
+/// ledger, or where its keys cannot be counted.
+pub(crate) fn begin_memory<W: Planned>(
+    alloc: Global,
+    planned: &W,
+    insns: &[Insn],
+) -> Result<Option<Box<Memo>>, AllocError>
+    requires { map insn_of insns.now ≡ (program_of (W.searching planned.now)).insns }
+    ensures { IfOk result (λ found. IsRight (W.searching planned.now)
+        (terms_in (λ memo. terms_of memo.value.ledger) found) (failed_in (λ memo. has_failure memo.value) found)) }
+{
+    let Some(ledger) = Ledger::new(alloc, insns, planned.loops() as usize)? else {
+        return Ok(None);
+    };
+    let Some(memo) = Memo::new(alloc, ledger, text_end(planned) + 1, false)? else {
+        return Ok(None);
+    };
+    let memo = Box::new(alloc, memo)?;
+    Ok(Some(memo))
 }

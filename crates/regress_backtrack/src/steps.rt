@@ -37,9 +37,10 @@ pub trait Steps: Copy {
         ensures stopped { OnErr result (IsTaken COUNTS 1 (budget self.old) (budget self.new)
             ⊎ IsRefused COUNTS 1 (budget self.old) (budget self.new)) };
 
-    /// So many units are read in one turn, which is work.
-    fn read(&mut self, units: usize)
-        ensures { budget self.new ≡ budget self.old };
+    /// So many units are read in one turn, which is work. If too much was done, the search stops.
+    fn read(&mut self, units: usize) -> Result<(), Stop>
+        ensures same { budget self.new ≡ budget self.old }
+        ensures uncounted { OnErr result (COUNTS ≡ false) };
 
     /// Whether steps were refused.
     fn is_out(&self) -> bool
@@ -89,8 +90,9 @@ impl Steps for Free {
     }
 
     #[inline(always)]
-    fn read(&mut self, units: usize) {
+    fn read(&mut self, units: usize) -> Result<(), Stop> {
         self.work = self.work.wrapping_sub(units as u64);
+        if self.is_spent() { Err(Stop) } else { Ok(()) }
     }
 
     #[inline(always)]
@@ -121,7 +123,9 @@ impl Steps for Unbound {
     }
 
     #[inline(always)]
-    fn read(&mut self, _units: usize) {}
+    fn read(&mut self, _units: usize) -> Result<(), Stop> {
+        Ok(())
+    }
 
     #[inline(always)]
     fn is_out(&self) -> bool {
@@ -161,7 +165,9 @@ impl Steps for Limited {
     }
 
     #[inline(always)]
-    fn read(&mut self, _units: usize) {}
+    fn read(&mut self, _units: usize) -> Result<(), Stop> {
+        Ok(())
+    }
 
     #[inline(always)]
     fn is_out(&self) -> bool {

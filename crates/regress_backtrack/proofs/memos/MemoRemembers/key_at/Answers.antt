@@ -6,7 +6,7 @@ use Rattle.regress_ledger.specs.declared.ledger.Ledger.{Ledger}
 use Rattle.regress_ledger.specs.declared.ledger.Line.{Line}
 use Rattle.regress_ledger.specs.Ledger.{line_of, account_of, way_of}
 use Rattle.regress_backtrack.specs.Memory.{state_of}
-use Rattle.regress_backtrack.proofs.MemoKeys.{key-of-thread, stored-key}
+use Rattle.regress_backtrack.proofs.MemoKeys.{key-of-thread, stored-key, same-way}
 use Rattle.regress_backtrack.proofs.memos.MemoRemembers.key_at.Goals as goal
 
 pub returns : goal.returns
@@ -15,7 +15,7 @@ returns g c =
     let t = c.args.self.now.ledger in
     let s = state_of c.args.memory.now c.args.here.ip c.args.here.at in
     let line : c.line-line.result ≡ line_of t s.ip = c.line-line.ensures ∙ ap (λ (x : Ledger). line_of x s.ip) c.ledger.ensures in
-    let forward = sym (ap (λ (x : Line). x.forward) line) ∙ c.if-line-forward.false in
+    let forward = sym (ap (λ (x : Line). x.forward) line) ∙ same-way _ _ c.if-line-forward.false in
     let sound =
     subst (λ (x : Ledger). IsSoundState (account_of x) (units w.text) (way_of x s.ip) s) c.ledger-2.ensures
     (subst (λ top. IsSoundState (account_of c.ledger-2.result.now) top (way_of c.ledger-2.result.now s.ip) s) c.text_end-end.ensures

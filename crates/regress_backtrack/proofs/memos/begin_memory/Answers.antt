@@ -1,4 +1,4 @@
-use Rattle.std.proofs.Common.{◌≡◌, ◌≤◌, ◌*◌, ◌^◌, false, sym, subst, length}
+use Rattle.std.proofs.Common.{◌≡◌, ◌≤◌, ◌*◌, ◌^◌, ◌+◌, false, sym, subst}
 use Rattle.std.specs.Prelude.{IfSome, MatchOption}
 use Rattle.regex_meaning.specs.Layout.{Program}
 use Rattle.regress_ledger.specs.Steps.{HasInsns}
@@ -18,7 +18,8 @@ returns g c =
     let of : IsLedgerOf (program_of w) t =
     subst (λ o. IfSome o (λ ledger. (program : Program) → HasInsns program c.args.insns.now → IsLedgerOf program ledger)) c.in-Some.is
     c.in_ok-ledger.ensures.of (program_of w) (sym c.requires) in
-    let begun = subst (λ o. MatchOption o _ (IsBegun t _ false)) c.in-Some-2.is c.in_ok-memo.ensures in
+    let places = c.text_end.result + 1 in
+    let begun = subst (λ o. MatchOption o (2 ^ 64 ≤ t.codes * places) (IsBegun t places false)) c.in-Some-2.is c.in_ok-memo.ensures in
     subst (λ m. IsRightOf (program_of w) w.text (terms_of m.ledger) (has_failure m)) (sym c.in_ok-memo-2.ensures.ok)
     (memory-right (program_of w) w.text t of (g.met.W.Planned.is_text it) (λ ip x there l. (g.met.W.Planned.literals it ip x there l).reads)
-    (g.met.W.Planned.offsets_fit it) c.in-Some-2.memo _ begun)
+    (g.met.W.Planned.offsets_fit it) c.in-Some-2.memo places begun)

@@ -110,7 +110,7 @@ impl<'r, Input: InputIndexer> BacktrackExecutor<'r, Input> {
     // An attempt from its start, whatever an earlier one left. What it came to is left here, since then no attempt that
     // is made once has to make room for the answer.
     #[inline(never)]
-    fn attempt_again(&mut self, pos: Input::Position, cause: SearchError)
+    fn attempt_again(&mut self, pos: Input::Position)
         requires { IsBoundary (Input.text self.old.search.searched.input) (Input.Position.offset pos) }
         ensures found { let tree = tree_of self.old.search.program.regex in
             let text = Input.text self.old.search.searched.input in let at = Input.Position.offset in
@@ -122,10 +122,6 @@ impl<'r, Input: InputIndexer> BacktrackExecutor<'r, Input> {
         ensures cause { Tells self.new.came false }
         ensures same { self.new.search ≡ self.old.search }
     {
-        if !self.free.steps.is_spent() {
-            self.came = Err(cause);
-            return;
-        }
         self.begin_to_remember();
         self.came = attempt(&self.search, pos, &mut self.memory, &mut self.remembering);
     }
@@ -166,13 +162,16 @@ impl<'r, Input: InputIndexer> Attempts for BacktrackExecutor<'r, Input> {
 
     #[inline(always)]
     fn attempt(&mut self, pos: Input::Position) -> Result<Option<Input::Position>, SearchError> {
-        match attempt(&self.search, pos, &mut self.memory, &mut self.free) {
-            Ok(end) => Ok(end),
-            Err(cause) => {
-                self.attempt_again(pos, cause);
-                self.came
-            }
+        if self.free.steps.is_spent() {
+            self.attempt_again(pos);
+            return self.came;
         }
+        let end = attempt(&self.search, pos, &mut self.memory, &mut self.free);
+        if end.is_ok() || !self.free.steps.is_spent() {
+            return end;
+        }
+        self.attempt_again(pos);
+        self.came
     }
 
     fn group_count(&self) -> usize {

@@ -37,10 +37,9 @@ pub trait Steps: Copy {
         ensures stopped { OnErr result (IsTaken COUNTS 1 (budget self.old) (budget self.new)
             ⊎ IsRefused COUNTS 1 (budget self.old) (budget self.new)) };
 
-    /// So many units are read in one turn, which is work. If too much was done, the search stops.
-    fn read(&mut self, units: usize) -> Result<(), Stop>
-        ensures same { budget self.new ≡ budget self.old }
-        ensures uncounted { OnErr result (COUNTS ≡ false) };
+    /// So many units are read in one turn, which is work.
+    fn read(&mut self, units: usize)
+        ensures { budget self.new ≡ budget self.old };
 
     /// Whether steps were refused.
     fn is_out(&self) -> bool
@@ -90,9 +89,8 @@ impl Steps for Free {
     }
 
     #[inline(always)]
-    fn read(&mut self, units: usize) -> Result<(), Stop> {
+    fn read(&mut self, units: usize) {
         self.work = self.work.wrapping_sub(units as u64);
-        if self.is_spent() { Err(Stop) } else { Ok(()) }
     }
 
     #[inline(always)]
@@ -123,9 +121,7 @@ impl Steps for Unbound {
     }
 
     #[inline(always)]
-    fn read(&mut self, _units: usize) -> Result<(), Stop> {
-        Ok(())
-    }
+    fn read(&mut self, _units: usize) {}
 
     #[inline(always)]
     fn is_out(&self) -> bool {
@@ -165,9 +161,7 @@ impl Steps for Limited {
     }
 
     #[inline(always)]
-    fn read(&mut self, _units: usize) -> Result<(), Stop> {
-        Ok(())
-    }
+    fn read(&mut self, _units: usize) {}
 
     #[inline(always)]
     fn is_out(&self) -> bool {

@@ -2,6 +2,7 @@
 
 ghost use Rattle.std.specs.Prelude.{◌≡◌, IsAscii, IfOk, None, false, option_map, ⊤, ℕ, List};
 ghost use Rattle.std.specs.Borrow.{Bor};
+ghost use Rattle.std.proofs.Props.{props};
 ghost use Rattle.regex_meaning.specs.Offsets.{IsBoundary};
 ghost use Rattle.regex_meaning.specs.Text.{ascii_text, utf8_text, utf16_text, ucs2_text};
 ghost use Rattle.regex_pattern_front.specs.TreeOf.{tree_of};
@@ -11,7 +12,6 @@ ghost use Rattle.regress_machine.specs.Finds.{CanSearch};
 ghost use Rattle.regress_scan.specs.Searching.{program_of};
 ghost use Rattle.regress_memo.specs.Memo.{has_failure};
 ghost use Rattle.regress_program.specs.Code.{compiled};
-ghost use Rattle.regress_backtrack.proofs.Rightness.{is-right-prop};
 ghost use Rattle.regress_backtrack.specs.Memory.{state_of};
 ghost use Rattle.regress_backtrack.specs.Memos.{terms_of};
 ghost use Rattle.regress_backtrack.specs.Planning.{run_in};
@@ -28,8 +28,8 @@ use crate::steps::{Free, Unbound};
 use regress_exec::exec::{Executor, MatchProducer, SearchError, Searcher};
 use regress_exec::places::Attempts;
 use regress_exec::searched::Searched;
-use regress_memo::memo::Memo;
 use regress_input::indexing::{AsciiInput, InputIndexer, Ucs2Input, Utf8Input, Utf16Input};
+use regress_memo::memo::Memo;
 use regress_program::insn::{CompiledRegex, CompiledUnits, Program};
 use regress_scan::planned::{At, Planned, offset_in, position_in};
 use std::alloc::AllocError;
@@ -51,8 +51,7 @@ pub struct BacktrackExecutor<'r, Input: InputIndexer> {
     // What is known to fail does.
     ghost right: { IsRightOf (compiled (run_in search.program)) (Input.text search.searched.input)
         (terms_in (λ memo. terms_of memo.value.ledger) remembering.memo)
-        (failed_in (λ memo. has_failure memo.value) remembering.memo) }
-        by { is-right-prop _ _ _ _ },
+        (failed_in (λ memo. has_failure memo.value) remembering.memo) } by { Prim.hlevel props },
 }
 
 // So much work for each offset of a text is more than most searches do.

@@ -16,3 +16,6 @@ pub mod Searched
 pub mod Tried
 pub mod Going
 pub mod Attempted
+pub mod Recorded
+pub mod Remembered
+pub mod Course

@@ -9,6 +9,8 @@ pub mod here;
 mod limited;
 mod loops;
 pub mod memory;
+mod records;
+pub mod remembering;
 mod run;
 mod runs;
 pub mod search;

@@ -39,6 +39,8 @@ pub enum Kind {
     Run,
     /// `next`, and those behind it, each one more character of the lazy run before the instruction on; `last` of them at most.
     Lazy,
+    /// None. What stood at `next` with code `last` has failed once nothing is left above.
+    Record,
 }
 
 /// A thread still to try: an instruction and offsets from which to go on, and how long the log of changes was.

@@ -17,7 +17,7 @@ use crate::memory::Memory;
 use crate::remembering::{Course, Forgets};
 use crate::search::{PlannedProgram, PlannedSearch};
 use crate::starts::next_start;
-use crate::steps::{Free, Unbound};
+use crate::steps::{Free, MOST, Unbound};
 use regress_exec::exec::{Executor, MatchProducer, SearchError, Searcher};
 use regress_exec::places::Attempts;
 use regress_exec::searched::Searched;
@@ -40,15 +40,15 @@ pub struct BacktrackExecutor<'r, Input: InputIndexer> {
 }
 
 // So much work for each offset of a text is more than most searches do.
-const WORK_FOR_EACH: i64 = 16;
+const WORK_FOR_EACH: usize = 16;
 
 // How much work a search of so many units may do at first.
 #[inline(always)]
-fn work_at_first(units: usize) -> i64 {
-    if units < 0x0400_0000_0000_0000 {
-        (units as i64 + 1) * WORK_FOR_EACH
+fn work_at_first(units: usize) -> usize {
+    if units < MOST / WORK_FOR_EACH {
+        (units + 1) * WORK_FOR_EACH
     } else {
-        i64::MAX
+        MOST
     }
 }
 

@@ -46,24 +46,27 @@ pub trait Steps: Copy {
         ensures { result ≡ (budget self.now).out };
 }
 
+// More work may be left for no search.
+pub const MOST: usize = usize::MAX / 2;
+
 /// Any number of steps, and so much work.
 #[derive(Clone, Copy)]
 pub struct Free {
-    // What is left of it. What is read in one turn is not stopped, so it may be below 0.
-    work: i64,
+    // What is left of it, where a number above `MOST` is one below 0: what is read in one turn is not stopped.
+    work: usize,
 }
 
 impl Free {
-    /// So much work may be done.
+    /// So much work may be done, `MOST` at most.
     #[inline(always)]
-    pub fn up_to(work: i64) -> Self {
+    pub fn up_to(work: usize) -> Self {
         Free { work }
     }
 
     /// Whether more was done.
     #[inline(always)]
     pub fn is_spent(&self) -> bool {
-        self.work < 0
+        self.work > MOST
     }
 }
 
@@ -82,12 +85,12 @@ impl Steps for Free {
     #[inline(always)]
     fn go_back(&mut self) -> Result<(), Stop> {
         self.work = self.work.wrapping_sub(1);
-        if self.work < 0 { Err(Stop) } else { Ok(()) }
+        if self.is_spent() { Err(Stop) } else { Ok(()) }
     }
 
     #[inline(always)]
     fn read(&mut self, units: usize) {
-        self.work = self.work.wrapping_sub((units % 0x4000_0000_0000_0000) as i64);
+        self.work = self.work.wrapping_sub(units);
     }
 
     #[inline(always)]

@@ -2,7 +2,7 @@ use Rattle.std.proofs.Common.{◌∙◌}
 use Rattle.std.proofs.lemmas.Result.{IfOk-weaker}
 use Rattle.regex_pattern_front.specs.TreeOf.{tree_of}
 use Rattle.regress_exec.specs.Attempts.{ticks_from}
-use Rattle.regress_scan.specs.Planning.{run_in}
+use Rattle.regress_backtrack.specs.Planning.{run_in}
 use Rattle.regress_backtrack.proofs.InPlace.{can-be, can-planned, end-planned, spends-unlimited}
 use Rattle.regress_backtrack.proofs.classicalbacktrack.BacktrackExecutor.attempt_again.Goals as goal
 

@@ -1,23 +1,22 @@
 //! The executor that keeps one state and undoes its changes.
 
-ghost use Rattle.std.specs.Prelude.{◌≡◌, IsAscii, IfOk, None, false, option_map, ⊤, ℕ, List};
+ghost use Rattle.std.specs.Prelude.{◌≡◌, IsAscii, IfOk, None, option_map, ⊤, ℕ, List};
 ghost use Rattle.std.specs.Borrow.{Bor};
 ghost use Rattle.regex_meaning.specs.Offsets.{IsBoundary};
 ghost use Rattle.regex_meaning.specs.Text.{ascii_text, utf8_text, utf16_text, ucs2_text};
 ghost use Rattle.regex_pattern_front.specs.TreeOf.{tree_of};
-ghost use Rattle.regress_exec.specs.Attempts.{IsNextTry, ends_with, end_from, ticks_from};
-ghost use Rattle.regress_exec.specs.Spends.{Spends, Tells};
+ghost use Rattle.regress_exec.specs.Attempts.{IsNextTry};
 ghost use Rattle.regress_machine.specs.Finds.{CanSearch};
 ghost use Rattle.regress_scan.specs.Searching.{program_of};
 ghost use Rattle.regress_backtrack.specs.Memory.{state_of};
 
-use crate::attempts::attempt;
+use crate::attempts::{attempt, attempt_again};
 pub use crate::limited::LimitedExecutor;
 use crate::memory::Memory;
 use crate::remembering::{Course, Forgets};
 use crate::search::{PlannedProgram, PlannedSearch};
 use crate::starts::next_start;
-use crate::steps::{Free, MOST, Unbound};
+use crate::steps::{Free, MOST};
 use regress_exec::exec::{Executor, MatchProducer, SearchError, Searcher};
 use regress_exec::places::Attempts;
 use regress_exec::searched::Searched;
@@ -69,28 +68,6 @@ impl<'r, Input: InputIndexer> BacktrackExecutor<'r, Input> {
             came: Ok(None),
         }
     }
-
-    // An attempt from its start, whatever an earlier one left. What it came to is left here, since then no attempt that
-    // is made once has to make room for the answer.
-    #[inline(never)]
-    fn attempt_again(&mut self, pos: Input::Position)
-        requires { IsBoundary (Input.text self.old.search.searched.input) (Input.Position.offset pos) }
-        ensures found { let tree = tree_of self.old.search.program.regex in
-            let text = Input.text self.old.search.searched.input in let at = Input.Position.offset in
-            IfOk self.new.came (λ end. ends_with at end (state_of self.new.memory 0 0).groups
-            ≡ end_from tree text (at pos)) }
-        ensures steps { let tree = tree_of self.old.search.program.regex in
-            let text = Input.text self.old.search.searched.input in
-            Spends (ticks_from tree text (Input.Position.offset pos)) None self.new.came None }
-        ensures cause { Tells self.new.came false }
-        ensures same { self.new.search ≡ self.old.search }
-    {
-        let mut course = Course {
-            steps: Unbound,
-            memo: Forgets,
-        };
-        self.came = attempt(&self.search, pos, &mut self.memory, &mut course);
-    }
 }
 
 // The first position to try from one on, by the plan.
@@ -129,14 +106,14 @@ impl<'r, Input: InputIndexer> Attempts for BacktrackExecutor<'r, Input> {
     #[inline(always)]
     fn attempt(&mut self, pos: Input::Position) -> Result<Option<Input::Position>, SearchError> {
         if self.free.steps.is_spent() {
-            self.attempt_again(pos);
+            attempt_again(&self.search, pos, &mut self.memory, &mut self.came);
             return self.came;
         }
         let end = attempt(&self.search, pos, &mut self.memory, &mut self.free);
         if end.is_ok() || !self.free.steps.is_spent() {
             return end;
         }
-        self.attempt_again(pos);
+        attempt_again(&self.search, pos, &mut self.memory, &mut self.came);
         self.came
     }
 

@@ -6,7 +6,7 @@ use Rattle.regex_grammar.specs.Reading.{Text, Place, Whole, groups_at, ◌▸◌
 use Rattle.regex_grammar.specs.Characters.{GroupName, group_name, begins_name}
 use Rattle.regex_grammar.specs.Grammar.{Disjunction, Term, Atom, opener, assertion, atom, quantified, start, end, boundary, look, leaf, group, named_group, plain_group}
 use Rattle.regex_grammar.specs.Open.{Level, nothing_read, Open, Opened, captures, plain, looks, IsTerm, once, repeated, Closes, looked, captured, enclosed, CompletesAll}
-use Rattle.regex_grammar.proofs.OneTree.{ends_here, behind_word, places_differ, first, third, fourth, rest_of, leaf_begins, name_from}
+use Rattle.regex_grammar.proofs.OneTree.{ends_here, behind_word, places_differ, first, third, rest_of, leaf_begins, name_from, of_look, look_word, meant}
 use Rattle.regex_grammar.proofs.Leaves.{one_name}
 use Rattle.regex_grammar.proofs.Members.{leaf_apart}
 use Rattle.regex_grammar.proofs.Stack.{begin}
@@ -173,46 +173,17 @@ LookFound w l negate backwards p q s m =
     (x y : Place) × (c : Node) × Disjunction w backwards q x c × (x ≡ ")" ▸ y) × Closes (opens_here l (looks negate backwards (groups_at p)) p) c y s m
 
 look_found : (w : Whole) (l : Level) (negate backwards : Bool) {p q s : Place} {m : Node} → p ≡ opener negate backwards ▸ q → Term w l.behind p s m → LookFound w l negate backwards p q s m
-look_found w l false false e (assertion (start f)) = absurd (places_differ first e f refl)
-look_found w l false false e (assertion (end f)) = absurd (places_differ first e f refl)
-look_found w l false false e (assertion (boundary true f)) = absurd (places_differ first e f refl)
-look_found w l false false e (assertion (boundary false f)) = absurd (places_differ first e f refl)
-look_found w l false false {p = p} e (assertion (look {r = x} {s = y} {n = c} false false f d g)) = (x, y, c, subst (λ a. Disjunction w false a x c) (behind_word (opener false false) f e) d, g, looked false false (groups_at p) refl)
-look_found w l false false e (assertion (look true false f d g)) = absurd (places_differ third e f refl)
-look_found w l false false e (assertion (look false true f d g)) = absurd (places_differ third e f refl)
-look_found w l false false e (assertion (look true true f d g)) = absurd (places_differ third e f refl)
-look_found w l false false e (atom a k) = absurd (no_other false false _ e a)
-look_found w l false false e (quantified a k) = absurd (no_other false false _ e a)
-look_found w l true false e (assertion (start f)) = absurd (places_differ first e f refl)
-look_found w l true false e (assertion (end f)) = absurd (places_differ first e f refl)
-look_found w l true false e (assertion (boundary true f)) = absurd (places_differ first e f refl)
-look_found w l true false e (assertion (boundary false f)) = absurd (places_differ first e f refl)
-look_found w l true false e (assertion (look false false f d g)) = absurd (places_differ third e f refl)
-look_found w l true false {p = p} e (assertion (look {r = x} {s = y} {n = c} true false f d g)) = (x, y, c, subst (λ a. Disjunction w false a x c) (behind_word (opener true false) f e) d, g, looked true false (groups_at p) refl)
-look_found w l true false e (assertion (look false true f d g)) = absurd (places_differ third e f refl)
-look_found w l true false e (assertion (look true true f d g)) = absurd (places_differ third e f refl)
-look_found w l true false e (atom a k) = absurd (no_other true false _ e a)
-look_found w l true false e (quantified a k) = absurd (no_other true false _ e a)
-look_found w l false true e (assertion (start f)) = absurd (places_differ first e f refl)
-look_found w l false true e (assertion (end f)) = absurd (places_differ first e f refl)
-look_found w l false true e (assertion (boundary true f)) = absurd (places_differ first e f refl)
-look_found w l false true e (assertion (boundary false f)) = absurd (places_differ first e f refl)
-look_found w l false true e (assertion (look false false f d g)) = absurd (places_differ third e f refl)
-look_found w l false true e (assertion (look true false f d g)) = absurd (places_differ third e f refl)
-look_found w l false true {p = p} e (assertion (look {r = x} {s = y} {n = c} false true f d g)) = (x, y, c, subst (λ a. Disjunction w true a x c) (behind_word (opener false true) f e) d, g, looked false true (groups_at p) refl)
-look_found w l false true e (assertion (look true true f d g)) = absurd (places_differ fourth e f refl)
-look_found w l false true e (atom a k) = absurd (no_other false true _ e a)
-look_found w l false true e (quantified a k) = absurd (no_other false true _ e a)
-look_found w l true true e (assertion (start f)) = absurd (places_differ first e f refl)
-look_found w l true true e (assertion (end f)) = absurd (places_differ first e f refl)
-look_found w l true true e (assertion (boundary true f)) = absurd (places_differ first e f refl)
-look_found w l true true e (assertion (boundary false f)) = absurd (places_differ first e f refl)
-look_found w l true true e (assertion (look false false f d g)) = absurd (places_differ third e f refl)
-look_found w l true true e (assertion (look true false f d g)) = absurd (places_differ third e f refl)
-look_found w l true true e (assertion (look false true f d g)) = absurd (places_differ fourth e f refl)
-look_found w l true true {p = p} e (assertion (look {r = x} {s = y} {n = c} true true f d g)) = (x, y, c, subst (λ a. Disjunction w true a x c) (behind_word (opener true true) f e) d, g, looked true true (groups_at p) refl)
-look_found w l true true e (atom a k) = absurd (no_other true true _ e a)
-look_found w l true true e (quantified a k) = absurd (no_other true true _ e a)
+look_found w l negate backwards {p = p} {s = s} e (assertion a) =
+    let m = meant (of_look negate backwards) (look_word negate backwards _ e) a in (
+      m.1,
+      s,
+      m.2,
+      subst (λ x. Disjunction w backwards x m.1 m.2) (behind_word (opener negate backwards) m.3 e) m.4,
+      m.5,
+      subst (λ n. Closes (opens_here l (looks negate backwards (groups_at p)) p) m.2 s s n) (sym m.6) (looked negate backwards (groups_at p) refl),
+    )
+look_found w l negate backwards e (atom a k) = absurd (no_other negate backwards _ e a)
+look_found w l negate backwards e (quantified a k) = absurd (no_other negate backwards _ e a)
 
 opener_goes_on : (negate backwards : Bool) (q : Place) {p : Place} → p ≡ opener negate backwards ▸ q → ends_here p.text ≡ false
 opener_goes_on false false q e = ap (λ x. ends_here x.text) e

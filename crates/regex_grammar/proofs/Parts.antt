@@ -156,21 +156,21 @@ part-joined first middle end greatest n x y j p q = record {
   sound = j.sound greatest p.sound q.sound;
 }
 
-pub joined-cat : (x y : Node) → IsJoined (cat x y) x y
-joined-cat x y = record {
-  goals = omega arith;
-  count = length-append (group_ids x) (group_ids y);
-  ids = λ id. count_by-append (nat_eq id) (group_ids x) (group_ids y);
-  sound = λ greatest h k. and_from _ _ (and_from _ _ refl h) k;
+joined-by : (n x y : Node) → goal_count n ≡ goal_count x + goal_count y → group_ids n ≡ group_ids x ++ group_ids y
+    → ((greatest : ℕ) → IsTrue (every (is_sound greatest) x) → IsTrue (every (is_sound greatest) y) → IsTrue (every (is_sound greatest) n))
+    → IsJoined n x y
+joined-by n x y goals ids sound = record {
+  goals = goals;
+  count = rw ids (length-append (group_ids x) (group_ids y));
+  ids = λ id. rw ids (count_by-append (nat_eq id) (group_ids x) (group_ids y));
+  sound = sound;
 }
 
+pub joined-cat : (x y : Node) → IsJoined (cat x y) x y
+joined-cat x y = joined-by (cat x y) x y (omega arith) refl (λ greatest h k. and_from _ _ (and_from _ _ refl h) k)
+
 pub joined-alt : (x y : Node) → IsJoined (alt x y) x y
-joined-alt x y = record {
-  goals = omega arith;
-  count = length-append (group_ids x) (group_ids y);
-  ids = λ id. count_by-append (nat_eq id) (group_ids x) (group_ids y);
-  sound = λ greatest h k. and_from _ _ (and_from _ _ refl h) k;
-}
+joined-alt x y = joined-by (alt x y) x y (omega arith) refl (λ greatest h k. and_from _ _ (and_from _ _ refl h) k)
 
 -- ---- Nodes round parts
 

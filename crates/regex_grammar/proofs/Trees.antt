@@ -54,7 +54,7 @@ module _ (greatest : ℕ) where
       (record { goals = refl; ids = refl; sound = le-leb (length members) 4 (few_members c flags.icase flags.unicode) })
       (record { goals = refl; ids = refl; sound = refl })
 
-  leaf-reference : (id : ℕ) (icase : Bool) → 0 < id → id ≤ greatest → IsLeaf greatest (back_ref id icase)
+  pub leaf-reference : (id : ℕ) (icase : Bool) → 0 < id → id ≤ greatest → IsLeaf greatest (back_ref id icase)
   leaf-reference id icase h k = record {
     goals = refl;
     ids = refl;

@@ -141,55 +141,49 @@ encode-4 : (c : ℕ) → 65536 ≤ c → encode c ≡ (240 + c / 262144) ∷ res
 unfolding encode rest-of
 encode-4 c h = rw (le-ltb c 128 (omega arith), le-ltb c 2048 (omega arith), le-ltb c 65536 h)
 
-lead-1 : (c : ℕ) → c < 128 → Lead c c
-lead-1 c h = record {
-  is_byte = omega arith;
-  begins = in_range-below 0x80 0xBF c h;
-  meets = λ ivs t. rw (begun_by-1 c h) (meet-one c c c ivs (omega arith) (omega arith) t);
+-- a byte begins the characters of one interval, and the character is of these
+lead-by : (c b low high : ℕ) → b < 256 → is_in_range 0x80 0xBF b ≡ false → begun_by b ≡ (low, high) ∷ [] → low ≤ c → c ≤ high → Lead c b
+lead-by c b low high is begins only h k = record {
+  is_byte = is;
+  begins = begins;
+  meets = λ ivs t. rw only (meet-one low high c ivs h k t);
 }
+
+lead-1 : (c : ℕ) → c < 128 → Lead c c
+lead-1 c h = lead-by c c c c (omega arith) (in_range-below 0x80 0xBF c h) (begun_by-1 c h) (omega arith) (omega arith)
 
 lead-2 : (c : ℕ) → 128 ≤ c → c < 2048 → Lead c (192 + c / 64)
-lead-2 c h k = record {
-  is_byte = omega arith;
-  begins = in_range-above 0x80 0xBF (192 + c / 64) (omega arith) (omega arith);
-  meets = λ ivs t. rw (begun_by-2 (192 + c / 64) (omega arith) (omega arith))
-      (meet-one ((192 + c / 64 - 0xC0) * 0x40) ((192 + c / 64 - 0xC0) * 0x40 + 0x3F) c ivs (omega arith) (omega arith) t);
-}
+lead-2 c h k =
+    let b : ℕ = 192 + c / 64 in
+    lead-by c b ((b - 0xC0) * 0x40) ((b - 0xC0) * 0x40 + 0x3F) (omega arith) (in_range-above 0x80 0xBF b (omega arith) (omega arith))
+    (begun_by-2 b (omega arith) (omega arith)) (omega arith) (omega arith)
 
 lead-3 : (c : ℕ) → 4096 ≤ c → c < 65536 → Lead c (224 + c / 4096)
-lead-3 c h k = record {
-  is_byte = omega arith;
-  begins = in_range-above 0x80 0xBF (224 + c / 4096) (omega arith) (omega arith);
-  meets = λ ivs t. rw (begun_by-3 (224 + c / 4096) (omega arith) (omega arith))
-      (meet-one ((224 + c / 4096 - 0xE0) * 0x1000) ((224 + c / 4096 - 0xE0) * 0x1000 + 0xFFF) c ivs (omega arith) (omega arith) t);
-}
+lead-3 c h k =
+    let b : ℕ = 224 + c / 4096 in
+    lead-by c b ((b - 0xE0) * 0x1000) ((b - 0xE0) * 0x1000 + 0xFFF) (omega arith) (in_range-above 0x80 0xBF b (omega arith) (omega arith))
+    (begun_by-3 b (omega arith) (omega arith)) (omega arith) (omega arith)
 
 lead-3-low : (c : ℕ) → 2048 ≤ c → c < 4096 → Lead c (224 + c / 4096)
 lead-3-low c h k =
     let e : 224 + c / 4096 ≡ 0xE0 = omega arith in
-    rw e (record {
-      is_byte = omega arith;
-      begins = refl;
-      meets = λ ivs t. meet-one 0x800 0xFFF c ivs h (omega arith) t;
-    })
+    rw e (lead-by c 0xE0 0x800 0xFFF (omega arith) refl refl h (omega arith))
 
 lead-4 : (c : ℕ) → 0x4_0000 ≤ c → c < 0x10_0000 → Lead c (240 + c / 262144)
-lead-4 c h k = record {
-  is_byte = omega arith;
-  begins = in_range-above 0x80 0xBF (240 + c / 262144) (omega arith) (omega arith);
-  meets = λ ivs t. rw (begun_by-4 (240 + c / 262144) (omega arith) (omega arith))
-      (meet-one ((240 + c / 262144 - 0xF0) * 0x4_0000) ((240 + c / 262144 - 0xF0) * 0x4_0000 + 0x3_FFFF) c ivs (omega arith) (omega arith) t);
-}
+lead-4 c h k =
+    let b : ℕ = 240 + c / 262144 in
+    lead-by c b ((b - 0xF0) * 0x4_0000) ((b - 0xF0) * 0x4_0000 + 0x3_FFFF) (omega arith) (in_range-above 0x80 0xBF b (omega arith) (omega arith))
+    (begun_by-4 b (omega arith) (omega arith)) (omega arith) (omega arith)
 
 lead-4-low : (c : ℕ) → 0x1_0000 ≤ c → c < 0x4_0000 → Lead c (240 + c / 262144)
 lead-4-low c h k =
     let e : 240 + c / 262144 ≡ 0xF0 = omega arith in
-    rw e (record { is_byte = omega arith; begins = refl; meets = λ ivs t. meet-one 0x1_0000 0x3_FFFF c ivs h (omega arith) t })
+    rw e (lead-by c 0xF0 0x1_0000 0x3_FFFF (omega arith) refl refl h (omega arith))
 
 lead-4-high : (c : ℕ) → 0x10_0000 ≤ c → c < 0x11_0000 → Lead c (240 + c / 262144)
 lead-4-high c h k =
     let e : 240 + c / 262144 ≡ 0xF4 = omega arith in
-    rw e (record { is_byte = omega arith; begins = refl; meets = λ ivs t. meet-one 0x10_0000 0x10_FFFF c ivs h (omega arith) t })
+    rw e (lead-by c 0xF4 0x10_0000 0x10_FFFF (omega arith) refl refl h (omega arith))
 
 pub scalar-below : (c : ℕ) → is_scalar c ≡ true → c < 0x11_0000
 scalar-below c h = go (is_in_range 0 0xD7FF c) refl

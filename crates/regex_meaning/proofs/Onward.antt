@@ -1,7 +1,7 @@
 -- No outcome goes back.
 use Rattle.std.proofs.Common.{◌≡◌, ℕ, zero, suc, ◌+◌, ◌-◌, ◌<◌, ◌≤◌, Bool, true, false, List, [], ◌∷◌, length, Option, Some, None, arith, leb→le, T, filter, flat_map}
 use Rattle.std.specs.Prelude.{if◌then◌else◌, ◌&&◌, nat_le, nat_lt, slice_get}
-use Rattle.regex_meaning.specs.Tree.{Node, empty, goal, char, char_set, byte_set, byte_sequence, cat, end_of_cat, alt, bracket, string_set, match_any, match_any_except_line_terminator, anchor, word_boundary, capture_group, back_ref, lookaround, loop, loop_1_char_body}
+use Rattle.regex_meaning.specs.Tree.{Node, empty, goal, byte_sequence, cat, end_of_cat, alt, string_set, anchor, word_boundary, capture_group, back_ref, lookaround, loop, loop_1_char_body}
 use Rattle.regex_meaning.specs.Text.{Text, Direction, rightwards, leftwards, characters_left, moved, next_character}
 use Rattle.regex_meaning.specs.Outcomes.{Groups, Outcome, Repetition, rounds, outcomes, counts, preferred, captured, cleared, is_some_and, one_character, spelled, spells, same_as_group, here_if, looked}
 pub use Rattle.regex_meaning.specs.Laws.{IsOnward}
@@ -112,12 +112,6 @@ module _ (text : Text) where
   unfolding outcomes
   outcomes-onward empty d place groups = here-onward d place groups
   outcomes-onward goal d place groups = here-onward d place groups
-  outcomes-onward (char c) d place groups = one_character-onward _ d place groups
-  outcomes-onward (char_set members) d place groups = one_character-onward _ d place groups
-  outcomes-onward (byte_set members) d place groups = one_character-onward _ d place groups
-  outcomes-onward (bracket contents) d place groups = one_character-onward _ d place groups
-  outcomes-onward match_any d place groups = one_character-onward _ d place groups
-  outcomes-onward match_any_except_line_terminator d place groups = one_character-onward _ d place groups
   outcomes-onward (byte_sequence bytes) d place groups = spelled-onward _ _ d place groups
   outcomes-onward (string_set strings icase) d place groups = strings-onward icase strings d place groups
   outcomes-onward end_of_cat d place groups = here-onward d place groups
@@ -135,3 +129,4 @@ module _ (text : Text) where
       rounds-onward d _ (λ p g. outcomes-onward loopee d p (cleared start_group (end_group - start_group) g)) _ 0 place groups
   outcomes-onward (loop_1_char_body q loopee) d place groups =
       rounds-onward d _ (λ p g. outcomes-onward loopee d p g) _ 0 place groups
+  outcomes-onward _ d place groups = one_character-onward _ d place groups

@@ -3,7 +3,7 @@ use Rattle.std.proofs.Common.{◌≡◌, ℕ, zero, suc, ◌+◌, ◌-◌, Bool,
 use Rattle.std.specs.Prelude.{◌==◌, slice_range}
 use mathlib.Core.Path.{fun_ext}
 use lib.Pointwise.{pointwise}
-use Rattle.regex_meaning.specs.Tree.{Quantifier, Node, empty, goal, char, char_set, byte_set, byte_sequence, cat, end_of_cat, alt, bracket, string_set, match_any, match_any_except_line_terminator, anchor, start_of_line, end_of_line, word_boundary, capture_group, back_ref, lookaround, loop, loop_1_char_body}
+use Rattle.regex_meaning.specs.Tree.{Quantifier, Node, empty, goal, byte_sequence, cat, end_of_cat, alt, string_set, anchor, start_of_line, end_of_line, word_boundary, capture_group, back_ref, lookaround, loop, loop_1_char_body}
 use Rattle.regex_meaning.specs.Text.{Text, Direction, rightwards, leftwards}
 use Rattle.regex_meaning.specs.Outcomes.{Groups, Outcome, Repetition, repetition, repeat, outcomes, captured, cleared, one_character, spelled, same_as_group, group_range, looked, direction_of}
 use Rattle.regex_meaning.specs.Find.{Found, no_groups, first_match, first_match_among, place_behind, matches_from, match_list}
@@ -69,12 +69,6 @@ module _ (characters : List ℕ) (unicode : Bool) (s_offsets t_offsets : List �
   unfolding outcomes
   outcomes-same empty d place groups = refl
   outcomes-same goal d place groups = refl
-  outcomes-same (char c) d place groups = one_character-same _ d place groups
-  outcomes-same (char_set members) d place groups = one_character-same _ d place groups
-  outcomes-same (byte_set members) d place groups = one_character-same _ d place groups
-  outcomes-same (bracket contents) d place groups = one_character-same _ d place groups
-  outcomes-same match_any d place groups = one_character-same _ d place groups
-  outcomes-same match_any_except_line_terminator d place groups = one_character-same _ d place groups
   outcomes-same (byte_sequence bytes) d place groups = spelled-self _ _ d place groups
   outcomes-same (string_set strings icase) d place groups = flat_map-same _ _ (λ string. spelled-self _ string d place groups) strings
   outcomes-same end_of_cat d place groups = refl
@@ -94,6 +88,7 @@ module _ (characters : List ℕ) (unicode : Bool) (s_offsets t_offsets : List �
   outcomes-same (loop q start_group end_group loopee) d place groups =
       loop-same q _ _ (λ p g. outcomes-same loopee d p (cleared start_group (end_group - start_group) g)) d place groups
   outcomes-same (loop_1_char_body q loopee) d place groups = loop-same q _ _ (λ p g. outcomes-same loopee d p g) d place groups
+  outcomes-same _ d place groups = one_character-same _ d place groups
 
   -- ---- Matches
 

@@ -7,7 +7,7 @@ use Rattle.std.proofs.lemmas.List.Quantifiers.{position-Some}
 use Rattle.std.specs.List.{position_or_len}
 use Rattle.std.specs.Char.{len_utf8}
 use Rattle.std.specs.Str.{chars}
-use Rattle.regex_meaning.specs.Text.{Text, last_place, offsets_from, one_unit, utf16_width, utf16_characters, utf8_text, ascii_text, utf16_text, ucs2_text}
+use Rattle.regex_meaning.specs.Text.{Text, last_place, offsets_from, one_unit, fold_char, fold_ascii, fold_code_point, utf16_width, utf16_characters, utf8_text, ascii_text, utf16_text, ucs2_text}
 use Rattle.regex_meaning.specs.Offsets.{Rises, IsText, offset, units, place_at, IsBoundary}
 
 -- ---- Rising lists
@@ -141,30 +141,23 @@ len_utf8-positive c = grind arith
 pub utf16_width-positive : (c : ℕ) → 0 < utf16_width c
 utf16_width-positive c = grind arith
 
-pub utf8_text-IsText : (bytes : List ℕ) (unicode : Bool) → IsText (utf8_text bytes unicode)
-utf8_text-IsText bytes unicode = record {
-  from_zero = first-offset len_utf8 (chars bytes) 0;
-  rises = offsets-rise len_utf8 (chars bytes) 0 len_utf8-positive;
-  each_place = length-offsets len_utf8 (chars bytes) 0;
+-- the text of these characters, each of which has a width
+spaced-IsText : (width : ℕ → ℕ) (cs : List ℕ) (unicode : Bool) (fold : ℕ → ℕ) → ((c : ℕ) → 0 < width c)
+    → IsText (record { characters = cs; offsets = offsets_from 0 (map width cs); unicode = unicode; fold = fold })
+spaced-IsText width cs unicode fold wide = record {
+  from_zero = first-offset width cs 0;
+  rises = offsets-rise width cs 0 wide;
+  each_place = length-offsets width cs 0;
 }
+
+pub utf8_text-IsText : (bytes : List ℕ) (unicode : Bool) → IsText (utf8_text bytes unicode)
+utf8_text-IsText bytes unicode = spaced-IsText len_utf8 (chars bytes) unicode (fold_char unicode) len_utf8-positive
 
 pub ascii_text-IsText : (bytes : List ℕ) (unicode : Bool) → IsText (ascii_text bytes unicode)
-ascii_text-IsText bytes unicode = record {
-  from_zero = first-offset one_unit bytes 0;
-  rises = offsets-rise one_unit bytes 0 one_unit-positive;
-  each_place = length-offsets one_unit bytes 0;
-}
+ascii_text-IsText bytes unicode = spaced-IsText one_unit bytes unicode (fold_ascii unicode) one_unit-positive
 
 pub utf16_text-IsText : (units : List ℕ) (unicode : Bool) → IsText (utf16_text units unicode)
-utf16_text-IsText units unicode = record {
-  from_zero = first-offset utf16_width (utf16_characters units) 0;
-  rises = offsets-rise utf16_width (utf16_characters units) 0 utf16_width-positive;
-  each_place = length-offsets utf16_width (utf16_characters units) 0;
-}
+utf16_text-IsText units unicode = spaced-IsText utf16_width (utf16_characters units) unicode (fold_code_point unicode) utf16_width-positive
 
 pub ucs2_text-IsText : (units : List ℕ) (unicode : Bool) → IsText (ucs2_text units unicode)
-ucs2_text-IsText units unicode = record {
-  from_zero = first-offset one_unit units 0;
-  rises = offsets-rise one_unit units 0 one_unit-positive;
-  each_place = length-offsets one_unit units 0;
-}
+ucs2_text-IsText units unicode = spaced-IsText one_unit units unicode (fold_code_point unicode) one_unit-positive

@@ -10,7 +10,7 @@ use Rattle.std.proofs.lemmas.List.{map-append}
 use Rattle.regex_meaning.specs.Tree.{Intervals, Flags}
 use Rattle.regex_meaning.specs.Outcomes.{in_intervals}
 use Rattle.regex_meaning.specs.Text.{expand_code_point, is_scalar}
-use Rattle.regex_grammar.specs.Reading.{Text, ◌∈◌, begins}
+use Rattle.regex_grammar.specs.Reading.{Text, ◌∈◌}
 use Rattle.regex_grammar.specs.Characters.{CharacterEscape}
 use Rattle.regex_grammar.specs.Classes.{Member, character, range, class, class_escape, closed, is_of, AreApart, IsSetOf, ClassAtom, verbatim, of_class, backspace, escaped, are_characters, IsRange, ClassMembers, alone, from_to, no_range, ClassRanges, no_more, more, CharacterClass, plain, inverted, has_set_operation}
 use Rattle.regex_grammar.proofs.OneTree.{first, rest_of}
@@ -22,6 +22,7 @@ use Rattle.regex_pattern_front.specs.declared.fault.Fault.{Fault}
 use Rattle.regex_pattern_front.specs.Reads.{is_refused, peeked, IsEaten, IsNext, IsUnescapedRead, IsReadBy}
 use Rattle.regex_pattern_front.specs.ClassReads.{held, escape_of, is_operation, IsClosure, Adds, IsMemberRead, AreRangesRead}
 use Rattle.regex_pattern_front.proofs.ClosingLemmas.{closed-twice}
+use Rattle.regex_pattern_front.proofs.ReadLemmas.{no_sign}
 
 -- ---- Closed sets
 
@@ -288,6 +289,14 @@ sets-next here there c (inr (inr u)) ne = ap has_set_operation u.1 ∙ by there
         merge false true = refl
         merge false false = refl
 
+-- and by what the code is told of the next one
+pub sets-by : (here there : Text) (c : ℕ) (next : Option ℕ) (told b : Bool) → IsUnescapedRead here (Some c) there → (c ≡ 93 → ⊥)
+    → next ≡ peeked there → told ≡ is_operation c next → told ≡ b
+    → has_set_operation here ≡ (if b then true else has_set_operation there)
+sets-by here there c next told b read ne peek is test =
+    sets-next here there c read ne
+    ∙ ap (λ t. if t then true else has_set_operation there) (ap (is_operation c) (sym peek) ∙ sym is ∙ test)
+
 -- ---- Answers that tell of one another
 
 pub err-member : {flags : Flags} {here : Text} (old new : List Interval) (there : Text) (r : Result (Unit {0}) Fault) → IsErr r
@@ -321,18 +330,10 @@ pub sets-none : (b c : Bool) → c ≡ false → (b && c) ≡ false
 sets-none true c e = e
 sets-none false c e = refl
 
-no_hat : (here : Text) → ((rest : Text) → here ≡ 94 ∷ rest → ⊥) → begins "^" here ≡ false
-no_hat [] h = refl
-no_hat (c ∷ cs) h = by (nat_eq 94 c) refl
-  where
-    by : (b : Bool) → nat_eq 94 c ≡ b → begins "^" (c ∷ cs) ≡ false
-    by true e = absurd (h cs (ap (λ (x : ℕ). x ∷ cs) (sym (eqb-true 94 c e))))
-    by false e = rw e refl
-
 -- a class, from its sign on
 pub class-read : {flags : Flags} {here middle there : Text} {ms : List Member} {set : Intervals} (invert : Bool)
     → (flags.unicode_sets && has_set_operation here) ≡ false → IsEaten 94 here invert middle → ClassRanges flags middle there ms → IsSetOf flags ms set
     → CharacterClass flags here there (record { invert = invert; intervals = set })
 class-read true none e r s = inverted e none r s
 class-read {flags} {here} {middle} {there} {ms} {set} false none e r s =
-    plain (no_hat here e.1) none (subst (λ x. ClassRanges flags x there ms) e.0 r) s
+    plain (no_sign "^" 94 refl here e.1) none (subst (λ x. ClassRanges flags x there ms) e.0 r) s

@@ -14,27 +14,32 @@ use Rattle.regex_pattern_front.specs.ClassReads.{closing, with_same_fold}
 
 -- ---- Letters
 
-pub upper_cases : (d : ℕ) → ((97 ≤ d) × (d ≤ 122) × (to_uppercase d ≡ d - 32)) ⊎ (((d < 97) ⊎ (122 < d)) × (to_uppercase d ≡ d))
-upper_cases d =
-    elim (cases_lt d 97) [
-      | inl low ↦ inr (inl low, rw (lt-leb 97 d low) refl)
+-- one of these letters is moved, and any other number stays
+abbrev Moves : (first last d moved there : ℕ) → Type 0
+Moves first last d moved there = ((first ≤ d) × (d ≤ last) × (there ≡ moved)) ⊎ (((d < first) ⊎ (last < d)) × (there ≡ d))
+
+moves : (first last d moved : ℕ) → Moves first last d moved (if is_in_range first last d then moved else d)
+moves first last d moved =
+    elim (cases_lt d first) [
+      | inl low ↦ inr (inl low, rw (lt-leb first d low) refl)
       | inr h ↦
-          elim (cases_lt 122 d) [
-            | inl high ↦ inr (inr high, rw (le-leb 97 d h, lt-leb d 122 high) refl)
-            | inr k ↦ inl (h, k, rw (le-leb 97 d h, le-leb d 122 k) refl)
+          elim (cases_lt last d) [
+            | inl high ↦ inr (inr high, rw (le-leb first d h, lt-leb d last high) refl)
+            | inr k ↦ inl (h, k, rw (le-leb first d h, le-leb d last k) refl)
           ]
     ]
 
-pub lower_cases : (d : ℕ) → ((65 ≤ d) × (d ≤ 90) × (to_lowercase d ≡ d + 32)) ⊎ (((d < 65) ⊎ (90 < d)) × (to_lowercase d ≡ d))
-lower_cases d =
-    elim (cases_lt d 65) [
-      | inl low ↦ inr (inl low, rw (lt-leb 65 d low) refl)
-      | inr h ↦
-          elim (cases_lt 90 d) [
-            | inl high ↦ inr (inr high, rw (le-leb 65 d h, lt-leb d 90 high) refl)
-            | inr k ↦ inl (h, k, rw (le-leb 65 d h, le-leb d 90 k) refl)
-          ]
-    ]
+abbrev UpperCases : ℕ → Type 0
+UpperCases d = Moves 97 122 d (d - 32) (to_uppercase d)
+
+abbrev LowerCases : ℕ → Type 0
+LowerCases d = Moves 65 90 d (d + 32) (to_lowercase d)
+
+pub upper_cases : (d : ℕ) → UpperCases d
+upper_cases d = moves 97 122 d (d - 32)
+
+pub lower_cases : (d : ℕ) → LowerCases d
+lower_cases d = moves 65 90 d (d + 32)
 
 -- without `unicode` a fold is no lowercase letter
 AnUpper : ℕ → Type 0
@@ -62,53 +67,40 @@ either xs ys d e = or_cases (contains xs d) (contains ys d) (sym (list_any-appen
 cases_of : ℕ → List ℕ
 cases_of f = if to_uppercase f == to_lowercase f then f ∷ [] else to_uppercase f ∷ to_lowercase f ∷ []
 
+-- one whose cases do not differ is both
+one_case : (f : ℕ) → (to_uppercase f == to_lowercase f) ≡ true → to_uppercase f ≡ f
+one_case f s = is (upper_cases f) (lower_cases f)
+  where
+    is : UpperCases f → LowerCases f → to_uppercase f ≡ f
+    is (inl h) (inl k) = let a : 97 ≤ f = h.0 in let b : f ≤ 90 = k.1 in absurd (omega arith)
+    is (inl h) (inr k) = eqb-true _ _ s ∙ k.1
+    is (inr h) k = h.1
+
 in_cases : (f d : ℕ) → contains (cases_of f) d ≡ true → (d ≡ to_uppercase f) ⊎ (d ≡ to_lowercase f)
 unfolding cases_of
 in_cases f d e = by (to_uppercase f == to_lowercase f) refl e
   where
     by : (b : Bool) → (to_uppercase f == to_lowercase f) ≡ b → contains (if b then f ∷ [] else to_uppercase f ∷ to_lowercase f ∷ []) d ≡ true
         → (d ≡ to_uppercase f) ⊎ (d ≡ to_lowercase f)
-    by true s e = inl (only f d e ∙ same (upper_cases f) (lower_cases f) (eqb-true _ _ s))
-      where
-        same : ((97 ≤ f) × (f ≤ 122) × (to_uppercase f ≡ f - 32)) ⊎ (((f < 97) ⊎ (122 < f)) × (to_uppercase f ≡ f))
-            → ((65 ≤ f) × (f ≤ 90) × (to_lowercase f ≡ f + 32)) ⊎ (((f < 65) ⊎ (90 < f)) × (to_lowercase f ≡ f))
-            → to_uppercase f ≡ to_lowercase f → f ≡ to_uppercase f
-        same (inl h) (inl k) s = let a : 97 ≤ f = h.0 in let b : f ≤ 90 = k.1 in absurd (omega arith)
-        same (inl h) (inr k) s = s' (h.2) k.1 s
-          where
-            s' : to_uppercase f ≡ f - 32 → to_lowercase f ≡ f → to_uppercase f ≡ to_lowercase f → f ≡ to_uppercase f
-            s' a b c = sym (c ∙ b)
-        same (inr h) k s = sym h.1
+    by true s e = inl (only f d e ∙ sym (one_case f s))
     by false s e = two _ _ d e
 
-has_upper : (f : ℕ) → contains (cases_of f) (to_uppercase f) ≡ true
+-- both are of the cases
+has_both : (f : ℕ) → (contains (cases_of f) (to_uppercase f) ≡ true) × (contains (cases_of f) (to_lowercase f) ≡ true)
 unfolding cases_of
-has_upper f = by (to_uppercase f == to_lowercase f) refl
+has_both f = by (to_uppercase f == to_lowercase f) refl
   where
-    by : (b : Bool) → (to_uppercase f == to_lowercase f) ≡ b → contains (if b then f ∷ [] else to_uppercase f ∷ to_lowercase f ∷ []) (to_uppercase f) ≡ true
-    by true s = or_left (nat_eq (to_uppercase f) f) _ (eq-eqb _ _ (is (upper_cases f) (lower_cases f)))
-      where
-        is : ((97 ≤ f) × (f ≤ 122) × (to_uppercase f ≡ f - 32)) ⊎ (((f < 97) ⊎ (122 < f)) × (to_uppercase f ≡ f))
-            → ((65 ≤ f) × (f ≤ 90) × (to_lowercase f ≡ f + 32)) ⊎ (((f < 65) ⊎ (90 < f)) × (to_lowercase f ≡ f)) → to_uppercase f ≡ f
-        is (inl h) (inl k) = let a : 97 ≤ f = h.0 in let b : f ≤ 90 = k.1 in absurd (omega arith)
-        is (inl h) (inr k) = eqb-true _ _ s ∙ k.1
-        is (inr h) k = h.1
-    by false s = or_left (nat_eq (to_uppercase f) (to_uppercase f)) _ (eq-eqb (to_uppercase f) _ refl)
-
-has_lower : (f : ℕ) → contains (cases_of f) (to_lowercase f) ≡ true
-unfolding cases_of
-has_lower f = by (to_uppercase f == to_lowercase f) refl
-  where
-    by : (b : Bool) → (to_uppercase f == to_lowercase f) ≡ b → contains (if b then f ∷ [] else to_uppercase f ∷ to_lowercase f ∷ []) (to_lowercase f) ≡ true
-    by true s = or_left (nat_eq (to_lowercase f) f) _ (eq-eqb _ _ (is (upper_cases f) (lower_cases f)))
-      where
-        is : ((97 ≤ f) × (f ≤ 122) × (to_uppercase f ≡ f - 32)) ⊎ (((f < 97) ⊎ (122 < f)) × (to_uppercase f ≡ f))
-            → ((65 ≤ f) × (f ≤ 90) × (to_lowercase f ≡ f + 32)) ⊎ (((f < 65) ⊎ (90 < f)) × (to_lowercase f ≡ f)) → to_lowercase f ≡ f
-        is (inl h) (inl k) = let a : 97 ≤ f = h.0 in let b : f ≤ 90 = k.1 in absurd (omega arith)
-        is (inr h) (inl k) = sym (eqb-true _ _ s) ∙ h.1
-        is (inl h) (inr k) = k.1
-        is (inr h) (inr k) = k.1
-    by false s = or_right (nat_eq (to_lowercase f) (to_uppercase f)) _ (or_left (nat_eq (to_lowercase f) (to_lowercase f)) _ (eq-eqb (to_lowercase f) _ refl))
+    by : (b : Bool) → (to_uppercase f == to_lowercase f) ≡ b
+        → (contains (if b then f ∷ [] else to_uppercase f ∷ to_lowercase f ∷ []) (to_uppercase f) ≡ true)
+        × (contains (if b then f ∷ [] else to_uppercase f ∷ to_lowercase f ∷ []) (to_lowercase f) ≡ true)
+    by true s = (
+      or_left (nat_eq (to_uppercase f) f) _ (eq-eqb _ _ (one_case f s)),
+      or_left (nat_eq (to_lowercase f) f) _ (eq-eqb _ _ (sym (eqb-true _ _ s) ∙ one_case f s)),
+    )
+    by false s = (
+      or_left (nat_eq (to_uppercase f) (to_uppercase f)) _ (eq-eqb (to_uppercase f) _ refl),
+      or_right (nat_eq (to_lowercase f) (to_uppercase f)) _ (or_left (nat_eq (to_lowercase f) (to_lowercase f)) _ (eq-eqb (to_lowercase f) _ refl)),
+    )
 
 with_fold : (unicode : Bool) (f : ℕ) → all_with_fold unicode f ≡ cases_of f ++ nonascii_with_fold unicode f
 unfolding cases_of
@@ -239,12 +231,12 @@ own_class unicode d = in_all unicode (fold_code_point unicode d) d (has_own unic
               elim (lower_cases (to_uppercase d)) [
                 | inl k ↦ let g : to_lowercase (to_uppercase d) ≡ to_uppercase d + 32 = k.2 in
                     let back : to_lowercase (to_uppercase d) ≡ d = omega arith in
-                    inl (subst (λ x. contains (cases_of (to_uppercase d)) x ≡ true) back (has_lower (to_uppercase d)))
+                    inl (subst (λ x. contains (cases_of (to_uppercase d)) x ≡ true) back (has_both (to_uppercase d)).1)
                 | inr k ↦ elim k.0 [ inl x ↦ absurd (omega arith) | inr x ↦ absurd (omega arith) ]
               ]
           | inr h ↦
               let back : to_uppercase (to_uppercase d) ≡ d = ap to_uppercase h.1 ∙ h.1 in
-              inl (subst (λ x. contains (cases_of (to_uppercase d)) x ≡ true) back (has_upper (to_uppercase d)))
+              inl (subst (λ x. contains (cases_of (to_uppercase d)) x ≡ true) back (has_both (to_uppercase d)).0)
         ]
     has_own true d =
         elim (cases_eq d 0x017F) [
@@ -266,12 +258,12 @@ own_class unicode d = in_all unicode (fold_code_point unicode d) d (has_own unic
                   elim (upper_cases (fold_code_point true d)) [
                     | inl k ↦ let g : to_uppercase (fold_code_point true d) ≡ fold_code_point true d - 32 = k.2 in
                         let back : to_uppercase (fold_code_point true d) ≡ d = omega arith in
-                        subst (λ x. contains (cases_of (fold_code_point true d)) x ≡ true) back (has_upper (fold_code_point true d))
+                        subst (λ x. contains (cases_of (fold_code_point true d)) x ≡ true) back (has_both (fold_code_point true d)).0
                     | inr k ↦ elim k.0 [ inl x ↦ absurd (omega arith) | inr x ↦ absurd (omega arith) ]
                   ]
               | inr h ↦
                   let back : to_lowercase (fold_code_point true d) ≡ d = ap to_lowercase (plain ∙ h.1) ∙ h.1 in
-                  subst (λ x. contains (cases_of (fold_code_point true d)) x ≡ true) back (has_lower (fold_code_point true d))
+                  subst (λ x. contains (cases_of (fold_code_point true d)) x ≡ true) back (has_both (fold_code_point true d)).1
             ]
 
 alone : (f : ℕ) → to_uppercase f ≡ f → to_lowercase f ≡ f → cases_of f ≡ f ∷ []

@@ -18,10 +18,18 @@ use Rattle.regex_pattern_front.specs.declared.codepointset.Interval.{Interval}
 abbrev pub member : List Interval → ℕ → Bool
 member xs c = in_intervals (map interval_of xs) c
 
--- each holds a number, and begins at n or past the one before
+-- each holds a number, and begins at n or so far behind the end of the one before
+abbrev pub Spaced : (gap n : ℕ) → List Interval → Type 0
+Spaced gap n [] = Unit {0}
+Spaced gap n (i ∷ is) = (n ≤ i.first) × (i.first ≤ i.last) × Spaced gap (i.last + gap) is
+
+-- each begins past the one before
 abbrev pub Above : ℕ → List Interval → Type 0
-Above n [] = Unit {0}
-Above n (i ∷ is) = (n ≤ i.first) × (i.first ≤ i.last) × Above (i.last + 1) is
+Above = Spaced 1
+
+-- each begins past the number behind the one before
+abbrev pub Apart : ℕ → List Interval → Type 0
+Apart = Spaced 2
 
 -- each holds a number, and begins at n or at or past the beginning of the one before
 abbrev pub Rises : ℕ → List Interval → Type 0
@@ -48,9 +56,9 @@ Rises-weaker : (m n : ℕ) (xs : List Interval) → m ≤ n → Rises n xs → R
 Rises-weaker m n [] h r = tt
 Rises-weaker m n (i ∷ is) h r = let low : n ≤ i.first = r.0 in (omega arith, r.1, r.2)
 
-Above-weaker : (m n : ℕ) (xs : List Interval) → m ≤ n → Above n xs → Above m xs
-Above-weaker m n [] h a = tt
-Above-weaker m n (i ∷ is) h a = let low : n ≤ i.first = a.0 in (omega arith, a.1, a.2)
+Spaced-weaker : (gap m n : ℕ) (xs : List Interval) → m ≤ n → Spaced gap n xs → Spaced gap m xs
+Spaced-weaker gap m n [] h a = tt
+Spaced-weaker gap m n (i ∷ is) h a = let low : n ≤ i.first = a.0 in (omega arith, a.1, a.2)
 
 -- no interval begins so low
 pub member-below : (n c : ℕ) (xs : List Interval) → Above n xs → c < n → member xs c ≡ false
@@ -92,31 +100,26 @@ member-merged now (next ∷ others) c h r =
     ∙ in_joined now.first now.last next.first next.last c (member others c) after near h some)
     (λ t. rw (member-merged next others c some r.2))
 
-above-merged_step : (t : Bool) (n : ℕ) (now next : Interval) (others : List Interval)
-    → (t ≡ true → Above n (merged (record now { last = max now.last next.last }) others))
-    → (t ≡ false → Above n (now ∷ merged next others))
-    → Above n (if t then merged (record now { last = max now.last next.last }) others else now ∷ merged next others)
-above-merged_step true n now next others h k = h refl
-above-merged_step false n now next others h k = k refl
+spaced-merged_step : (t : Bool) (gap n : ℕ) (now next : Interval) (others : List Interval)
+    → (t ≡ true → Spaced gap n (merged (record now { last = max now.last next.last }) others))
+    → (t ≡ false → Spaced gap n (now ∷ merged next others))
+    → Spaced gap n (if t then merged (record now { last = max now.last next.last }) others else now ∷ merged next others)
+spaced-merged_step true gap n now next others h k = h refl
+spaced-merged_step false gap n now next others h k = k refl
 
--- joined intervals stand in order
-pub Above-merged : (n : ℕ) (now : Interval) (others : List Interval) → n ≤ now.first → now.first ≤ now.last → Rises now.first others
-    → Above n (merged now others)
-Above-merged n now [] l h r = (l, h, tt)
-Above-merged n now (next ∷ others) l h r =
+-- joined intervals stand in order, and between them a number is left out
+pub Spaced-merged : (gap n : ℕ) (now : Interval) (others : List Interval) → gap ≤ 2 → n ≤ now.first → now.first ≤ now.last → Rises now.first others
+    → Spaced gap n (merged now others)
+Spaced-merged gap n now [] g l h r = (l, h, tt)
+Spaced-merged gap n now (next ∷ others) g l h r =
     let after : now.first ≤ next.first = r.0 in
     let some : next.first ≤ next.last = r.1 in
     let joined : Interval = record now { last = max now.last next.last } in
-    above-merged_step (nat_le (next.first - 1) now.last) n now next others
-    (λ t. Above-merged n joined others l (omega arith) (Rises-weaker now.first next.first others after r.2))
+    spaced-merged_step (nat_le (next.first - 1) now.last) gap n now next others
+    (λ t. Spaced-merged gap n joined others g l (omega arith) (Rises-weaker now.first next.first others after r.2))
     (λ t.
     let far : now.last < next.first - 1 = false-le _ _ t in
-    (l, h, Above-merged (now.last + 1) next others (omega arith) some r.2))
-
--- each holds a number, and begins at n or past the number behind the one before
-abbrev pub Apart : ℕ → List Interval → Type 0
-Apart n [] = Unit {0}
-Apart n (i ∷ is) = (n ≤ i.first) × (i.first ≤ i.last) × Apart (i.last + 2) is
+    (l, h, Spaced-merged gap (now.last + gap) next others g (omega arith) some r.2))
 
 pub apart-from_Apart : (n : ℕ) (xs : List Interval) → Apart n xs → AreApart (map interval_of xs)
 apart-from_Apart n [] h = tt
@@ -124,31 +127,6 @@ apart-from_Apart n (i ∷ []) h = h.1
 apart-from_Apart n (i ∷ j ∷ xs) h =
     let past : i.last + 2 ≤ j.first = h.2.0 in
     (h.1, omega arith, apart-from_Apart (i.last + 2) (j ∷ xs) h.2)
-
-Apart-weaker : (m n : ℕ) (xs : List Interval) → m ≤ n → Apart n xs → Apart m xs
-Apart-weaker m n [] h a = tt
-Apart-weaker m n (i ∷ is) h a = let low : n ≤ i.first = a.0 in (omega arith, a.1, a.2)
-
-apart-merged_step : (t : Bool) (n : ℕ) (now next : Interval) (others : List Interval)
-    → (t ≡ true → Apart n (merged (record now { last = max now.last next.last }) others))
-    → (t ≡ false → Apart n (now ∷ merged next others))
-    → Apart n (if t then merged (record now { last = max now.last next.last }) others else now ∷ merged next others)
-apart-merged_step true n now next others h k = h refl
-apart-merged_step false n now next others h k = k refl
-
--- between joined intervals a number is left out
-pub Apart-merged : (n : ℕ) (now : Interval) (others : List Interval) → n ≤ now.first → now.first ≤ now.last → Rises now.first others
-    → Apart n (merged now others)
-Apart-merged n now [] l h r = (l, h, tt)
-Apart-merged n now (next ∷ others) l h r =
-    let after : now.first ≤ next.first = r.0 in
-    let some : next.first ≤ next.last = r.1 in
-    let joined : Interval = record now { last = max now.last next.last } in
-    apart-merged_step (nat_le (next.first - 1) now.last) n now next others
-    (λ t. Apart-merged n joined others l (omega arith) (Rises-weaker now.first next.first others after r.2))
-    (λ t.
-    let far : now.last < next.first - 1 = false-le _ _ t in
-    (l, h, Apart-merged (now.last + 2) next others (omega arith) some r.2))
 
 -- ---- What stands between
 
@@ -189,42 +167,24 @@ member-gaps n (i ∷ is) c h a =
     ]))
     ∙ gap_tests n i.first i.last c (member is c) low some (λ l. member-below (i.last + 1) c is a.2 l)
 
-Above-before : (m n first : ℕ) (rest : List Interval) → m ≤ n → n ≤ 0x10_FFFF → Above m rest → Above first rest
-    → Above m ((if nat_lt n first then record { first = n; last = min 0x10_FFFF (first - 1) } ∷ [] else []) ++ rest)
-Above-before m n first rest h k a b =
+Spaced-before : (gap m n first : ℕ) (rest : List Interval) → 0 < gap → m ≤ n → n ≤ 0x10_FFFF → Spaced gap m rest → Spaced gap (first + (gap - 1)) rest
+    → Spaced gap m ((if nat_lt n first then record { first = n; last = min 0x10_FFFF (first - 1) } ∷ [] else []) ++ rest)
+Spaced-before gap m n first rest some h k a b =
     elim (cases_lt n first) [
-      | inl below ↦ rw (lt-ltb n first below) (h, omega arith, Above-weaker _ first rest (omega arith) b)
+      | inl below ↦ rw (lt-ltb n first below) (h, omega arith, Spaced-weaker gap _ (first + (gap - 1)) rest (omega arith) b)
       | inr past ↦ rw (le-ltb n first past) a
     ]
 
-pub Above-gaps : (m n : ℕ) (xs : List Interval) → m ≤ n → n ≤ 0x10_FFFF → Above n xs → Above m (gaps n xs)
-Above-gaps m n [] h k a = (h, k, tt)
-Above-gaps m n (i ∷ is) h k a =
+pub Spaced-gaps : (gap m n : ℕ) (xs : List Interval) → 0 < gap → gap ≤ 2 → m ≤ n → n ≤ 0x10_FFFF → Above n xs → Spaced gap m (gaps n xs)
+Spaced-gaps gap m n [] g g' h k a = (h, k, tt)
+Spaced-gaps gap m n (i ∷ is) g g' h k a =
     let low : n ≤ i.first = a.0 in
     let some : i.first ≤ i.last = a.1 in
     elim (cases_lt i.last 0x10_FFFF) [
       | inl below ↦ rw (lt-leb 0x10_FFFF i.last below)
-          (Above-before m n i.first (gaps (i.last + 1) is) h k (Above-gaps m (i.last + 1) is (omega arith) (omega arith) a.2) (Above-gaps i.first (i.last + 1) is (omega arith) (omega arith) a.2))
-      | inr past ↦ rw (le-leb 0x10_FFFF i.last past) (Above-before m n i.first [] h k tt tt)
-    ]
-
-Apart-before : (m n first : ℕ) (rest : List Interval) → m ≤ n → n ≤ 0x10_FFFF → Apart m rest → Apart (first + 1) rest
-    → Apart m ((if nat_lt n first then record { first = n; last = min 0x10_FFFF (first - 1) } ∷ [] else []) ++ rest)
-Apart-before m n first rest h k a b =
-    elim (cases_lt n first) [
-      | inl below ↦ rw (lt-ltb n first below) (h, omega arith, Apart-weaker _ (first + 1) rest (omega arith) b)
-      | inr past ↦ rw (le-ltb n first past) a
-    ]
-
-pub Apart-gaps : (m n : ℕ) (xs : List Interval) → m ≤ n → n ≤ 0x10_FFFF → Above n xs → Apart m (gaps n xs)
-Apart-gaps m n [] h k a = (h, k, tt)
-Apart-gaps m n (i ∷ is) h k a =
-    let low : n ≤ i.first = a.0 in
-    let some : i.first ≤ i.last = a.1 in
-    elim (cases_lt i.last 0x10_FFFF) [
-      | inl below ↦ rw (lt-leb 0x10_FFFF i.last below)
-          (Apart-before m n i.first (gaps (i.last + 1) is) h k (Apart-gaps m (i.last + 1) is (omega arith) (omega arith) a.2) (Apart-gaps (i.first + 1) (i.last + 1) is (omega arith) (omega arith) a.2))
-      | inr past ↦ rw (le-leb 0x10_FFFF i.last past) (Apart-before m n i.first [] h k tt tt)
+          (Spaced-before gap m n i.first (gaps (i.last + 1) is) g h k (Spaced-gaps gap m (i.last + 1) is g g' (omega arith) (omega arith) a.2)
+          (Spaced-gaps gap (i.first + (gap - 1)) (i.last + 1) is g g' (omega arith) (omega arith) a.2))
+      | inr past ↦ rw (le-leb 0x10_FFFF i.last past) (Spaced-before gap m n i.first [] g h k tt tt)
     ]
 
 -- ---- By halves
@@ -364,20 +324,20 @@ module _ (xs : List Interval) (first : Interval) (others v : List Interval) (is 
   rises = Rises-rest first others (rw is at all) (rw is at rise)
 
   pub merged_in_order : AreInOrder (map interval_of v)
-  merged_in_order = rw made (order-from_Above first.first (merged first others) (Above-merged first.first first others (omega arith) rises.1 rises.2))
+  merged_in_order = rw made (order-from_Above first.first (merged first others) (Spaced-merged 1 first.first first others (omega arith) (omega arith) rises.1 rises.2))
 
   pub merged_apart : AreApart (map interval_of v)
-  merged_apart = rw made (apart-from_Apart first.first (merged first others) (Apart-merged first.first first others (omega arith) rises.1 rises.2))
+  merged_apart = rw made (apart-from_Apart first.first (merged first others) (Spaced-merged 2 first.first first others (omega arith) (omega arith) rises.1 rises.2))
 
   pub merged_members : (c : ℕ) → member v c ≡ member xs c
   merged_members c = rw (made, is) (member-merged first others c rises.1 rises.2)
 
 module _ (xs v : List Interval) (order : AreInOrder (map interval_of xs)) (made : v ≡ gaps 0 xs) where
   pub gaps_in_order : AreInOrder (map interval_of v)
-  gaps_in_order = rw made (order-from_Above 0 (gaps 0 xs) (Above-gaps 0 0 xs (omega arith) (omega arith) (Above-zero xs order)))
+  gaps_in_order = rw made (order-from_Above 0 (gaps 0 xs) (Spaced-gaps 1 0 0 xs (omega arith) (omega arith) (omega arith) (omega arith) (Above-zero xs order)))
 
   pub gaps_apart : AreApart (map interval_of v)
-  gaps_apart = rw made (apart-from_Apart 0 (gaps 0 xs) (Apart-gaps 0 0 xs (omega arith) (omega arith) (Above-zero xs order)))
+  gaps_apart = rw made (apart-from_Apart 0 (gaps 0 xs) (Spaced-gaps 2 0 0 xs (omega arith) (omega arith) (omega arith) (omega arith) (Above-zero xs order)))
 
   pub gaps_members : (c : ℕ) → member v c ≡ (nat_le c 0x10_FFFF && not (member xs c))
   gaps_members c = rw made (member-gaps 0 xs c (omega arith) (Above-zero xs order) ∙ rw (le-leb 0 c (omega arith)))

@@ -3,6 +3,7 @@ use Rattle.std.proofs.Common.{◌≡◌, ℕ, ◌<◌, ◌≤◌, Bool, true, fa
 use Rattle.std.specs.Prelude.{nat_le}
 use Rattle.std.proofs.lemmas.Bool.{le-leb}
 pub use Rattle.regex_grammar.proofs.Trees.{few_members}
+use Rattle.regex_grammar.proofs.Trees.{leaf-reference}
 use Rattle.regex_pattern_front.specs.TreeOf.{node_of}
 use Rattle.regex_pattern_front.specs.Parts.{IsPart, AreParts, IsLeaf}
 use Rattle.regex_pattern_front.specs.declared.ir.AnchorType.{AnchorType}
@@ -45,16 +46,7 @@ module _ (greatest : ℕ) where
 
   pub leaf-BackRef : (group : ℕ) (icase : Bool) → 0 < group → group ≤ greatest → IsLeaf greatest (node_of (BackRef group icase))
   unfolding node_of
-  leaf-BackRef group icase h k = record {
-    goals = refl;
-    ids = refl;
-    sound = sound (nat_le 1 group) (nat_le group greatest) (le-leb 1 group (omega arith)) (le-leb group greatest k);
-  }
-    where
-      sound : (a b : Bool) → a ≡ true → b ≡ true → (true && (a && b) && true && true && true && true) ≡ true
-      sound true true h k = refl
-      sound true false h k = k
-      sound false b h k = grind arith
+  leaf-BackRef group icase h k = leaf-reference greatest group icase h k
 
   -- no alternatives are the empty pattern
   pub part-Empty : (first end : ℕ) → AreParts first end greatest [] → IsPart first end greatest (node_of Empty)

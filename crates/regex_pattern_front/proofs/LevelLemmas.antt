@@ -1,9 +1,10 @@
 -- The parentheses that are open, one more and one less.
-use Rattle.std.proofs.Common.{◌≡◌, ℕ, ◌+◌, ◌≤◌, List, [], ◌∷◌, ◌++◌, refl}
+use Rattle.std.proofs.Common.{◌≡◌, ℕ, ◌+◌, ◌≤◌, List, [], ◌∷◌, ◌++◌, refl, arith, vec_len}
 use Rattle.regex_pattern_front.specs.declared.nesting.Open.{Open}
 use Rattle.regex_pattern_front.specs.Parts.{AreParts}
-use Rattle.regex_pattern_front.specs.Levels.{captures, nodes_at, AreOpen}
-use Rattle.regex_pattern_front.proofs.PartLemmas.{parts-more}
+use Rattle.regex_pattern_front.specs.declared.parse.Parser.{Parser}
+use Rattle.regex_pattern_front.specs.Levels.{captures, nodes_at, AreOpen, IsReading}
+use Rattle.regex_pattern_front.proofs.PartLemmas.{parts-more, empty-list}
 
 pub open-more : (greatest more first inner : ℕ) (os : List Open) → greatest ≤ more → AreOpen greatest first os inner → AreOpen more first os inner
 open-more greatest more first inner [] less h = h
@@ -32,3 +33,10 @@ open-pop greatest first inner (p ∷ os) o h =
 pub open-none : (greatest first inner : ℕ) (os : List Open) → os ≡ [] → AreOpen greatest first os inner → first ≡ inner
 open-none greatest first inner [] e h = h
 open-none greatest first inner (o ∷ os) e h = cc
+
+-- where no parenthesis is open, the level in hand has all groups
+pub parts-whole : (p : Parser) → IsReading p → vec_len p.around ≡ 0 → AreParts 0 p.groups p.leaves.references (nodes_at p.level)
+parts-whole p r none =
+    let closed : p.around.items ≡ [] = empty-list p.around.items (omega (arith, none, p.around.ok.0)) in
+    let from_none : 0 ≡ r.inner = open-none p.leaves.references 0 r.inner p.around.items closed r.around in
+    rw from_none r.level

@@ -3,8 +3,8 @@ use Rattle.std.proofs.Common.{◌≡◌, Bool, false, List, [], ◌∷◌, ℕ, 
 use Rattle.regex_meaning.specs.Tree as tree
 use Rattle.regex_pattern_front.specs.TreeOf.{node_of, nodes_of, cat_of}
 use Rattle.regex_pattern_front.specs.Optimized.{reads_one_character, optimized, narrowed, turned_back}
-use Rattle.regex_pattern_front.specs.declared.ir.Node.{Node, Row_of-Node, end_of-Node, more_of-Node, items-the_row-Node, items_hidden-the_row-Node-0, Cat', Alt', CaptureGroup', LookaroundAssertion', Loop', Loop1CharBody'}
-use Rattle.regex_pattern_front.specs.declared.ir.Node.TheVariants.{Empty, Goal, Char, CharSet, ByteSet, ByteSequence, Cat, Alt, Bracket, StringSet, MatchAny, MatchAnyExceptLineTerminator, Anchor, WordBoundary, CaptureGroup, BackRef, LookaroundAssertion, Loop, Loop1CharBody, rolls-Cat, rolls-Alt, rolls-CaptureGroup, rolls-LookaroundAssertion, rolls-Loop, rolls-Loop1CharBody}
+use Rattle.regex_pattern_front.specs.declared.ir.Node.{Node, Row_of-Node, end_of-Node, more_of-Node, items-the_row-Node, items_hidden-the_row-Node-0, Cat'}
+use Rattle.regex_pattern_front.specs.declared.ir.Node.TheVariants.{Char, CharSet, ByteSet, Cat, Alt, Bracket, MatchAny, MatchAnyExceptLineTerminator, CaptureGroup, LookaroundAssertion, Loop, Loop1CharBody, rolls-Cat, rolls-Alt, rolls-CaptureGroup, rolls-LookaroundAssertion, rolls-Loop, rolls-Loop1CharBody}
 use Rattle.regex_pattern_front.specs.declared.ir.Node.TheOpen.{Node-F}
 use Rattle.regex_pattern_front.specs.declared.ir.Node.TheViews.{roll-Node}
 use Rattle.regex_pattern_front.specs.declared.ir.Quantifier.{Quantifier}
@@ -39,23 +39,12 @@ reads-other (ByteSet v) h1 h2 h3 h4 h5 h6 = absurd (h3 v refl)
 reads-other (Bracket b) h1 h2 h3 h4 h5 h6 = absurd (h4 b refl)
 reads-other MatchAny h1 h2 h3 h4 h5 h6 = absurd (h5 refl)
 reads-other MatchAnyExceptLineTerminator h1 h2 h3 h4 h5 h6 = absurd (h6 refl)
-reads-other Empty h1 h2 h3 h4 h5 h6 = refl
-reads-other Goal h1 h2 h3 h4 h5 h6 = refl
-reads-other (ByteSequence v) h1 h2 h3 h4 h5 h6 = refl
 reads-other (Cat' shape row) h1 h2 h3 h4 h5 h6 = no_row _ row
   where
     no_row : (n : _) (row : Row_of-Node n) → reads_one_character (nodes_of row) ≡ false
     no_row n end_of-Node = refl
     no_row n (more_of-Node node rest) = refl
-reads-other (Alt' p l q r) h1 h2 h3 h4 h5 h6 = refl
-reads-other (StringSet a i) h1 h2 h3 h4 h5 h6 = refl
-reads-other (Anchor a m) h1 h2 h3 h4 h5 h6 = refl
-reads-other (WordBoundary i u) h1 h2 h3 h4 h5 h6 = refl
-reads-other (CaptureGroup' i p n name) h1 h2 h3 h4 h5 h6 = refl
-reads-other (BackRef g i) h1 h2 h3 h4 h5 h6 = refl
-reads-other (LookaroundAssertion' n b s e p c) h1 h2 h3 h4 h5 h6 = refl
-reads-other (Loop' p l q e) h1 h2 h3 h4 h5 h6 = refl
-reads-other (Loop1CharBody' p l q) h1 h2 h3 h4 h5 h6 = refl
+reads-other _ h1 h2 h3 h4 h5 h6 = refl
 
 -- the children one by one
 pub optimized-children : (xs ys : List Node) → length xs ≡ length ys
@@ -78,25 +67,13 @@ pub record HasNone (n : Node) : Type 0 where
 
 optimized-rolled : (x : Node-F Node) → HasNone (roll-Node x) → node_of (roll-Node x) ≡ optimized (node_of (roll-Node x))
 unfolding node_of optimized roll-Node roll
-optimized-rolled Node-F.Empty h = refl
-optimized-rolled Node-F.Goal h = refl
-optimized-rolled (Node-F.Char c) h = refl
-optimized-rolled (Node-F.CharSet v) h = refl
-optimized-rolled (Node-F.ByteSet v) h = refl
-optimized-rolled (Node-F.ByteSequence v) h = refl
 optimized-rolled (Node-F.Cat v) h = absurd (h.not_Cat v (sym (rolls-Cat v)))
 optimized-rolled (Node-F.Alt l r) h = absurd (h.not_Alt l r (sym (rolls-Alt l r)))
-optimized-rolled (Node-F.Bracket b) h = refl
-optimized-rolled (Node-F.StringSet a i) h = refl
-optimized-rolled Node-F.MatchAny h = refl
-optimized-rolled Node-F.MatchAnyExceptLineTerminator h = refl
-optimized-rolled (Node-F.Anchor a m) h = refl
-optimized-rolled (Node-F.WordBoundary i u) h = refl
 optimized-rolled (Node-F.CaptureGroup i n name) h = absurd (h.not_CaptureGroup i n name (sym (rolls-CaptureGroup i n name)))
-optimized-rolled (Node-F.BackRef g i) h = refl
 optimized-rolled (Node-F.LookaroundAssertion n b s e c) h = absurd (h.not_LookaroundAssertion n b s e c (sym (rolls-LookaroundAssertion n b s e c)))
 optimized-rolled (Node-F.Loop l q e) h = absurd (h.not_Loop l q e (sym (rolls-Loop l q e)))
 optimized-rolled (Node-F.Loop1CharBody l q) h = absurd (h.not_Loop1CharBody l q (sym (rolls-Loop1CharBody l q)))
+optimized-rolled _ h = refl
 
 pub optimized-leaf : (n : Node) → HasNone n → node_of n ≡ optimized (node_of n)
 optimized-leaf = ind-Node (λ n. HasNone n → node_of n ≡ optimized (node_of n)) (λ x y is. optimized-rolled x)
@@ -113,25 +90,9 @@ narrowed-Cat v = rw (node_of-Cat v) (of v.items)
 narrowed-rolled : (x : Node-F Node) → ((l : Box Node Global) (q : Quantifier) (groups : Range ℕ) → roll-Node x ≡ Loop l q groups → ⊥)
     → node_of (roll-Node x) ≡ narrowed (node_of (roll-Node x))
 unfolding node_of roll-Node roll
-narrowed-rolled Node-F.Empty h = refl
-narrowed-rolled Node-F.Goal h = refl
-narrowed-rolled (Node-F.Char c) h = refl
-narrowed-rolled (Node-F.CharSet v) h = refl
-narrowed-rolled (Node-F.ByteSet v) h = refl
-narrowed-rolled (Node-F.ByteSequence v) h = refl
 narrowed-rolled (Node-F.Cat v) h = narrowed-Cat v
-narrowed-rolled (Node-F.Alt l r) h = refl
-narrowed-rolled (Node-F.Bracket b) h = refl
-narrowed-rolled (Node-F.StringSet a i) h = refl
-narrowed-rolled Node-F.MatchAny h = refl
-narrowed-rolled Node-F.MatchAnyExceptLineTerminator h = refl
-narrowed-rolled (Node-F.Anchor a m) h = refl
-narrowed-rolled (Node-F.WordBoundary i u) h = refl
-narrowed-rolled (Node-F.CaptureGroup i n name) h = refl
-narrowed-rolled (Node-F.BackRef g i) h = refl
-narrowed-rolled (Node-F.LookaroundAssertion n b s e c) h = refl
 narrowed-rolled (Node-F.Loop l q e) h = absurd (h l q e (sym (rolls-Loop l q e)))
-narrowed-rolled (Node-F.Loop1CharBody l q) h = refl
+narrowed-rolled _ h = refl
 
 pub narrowed-other : (n : Node) → ((l : Box Node Global) (q : Quantifier) (groups : Range ℕ) → n ≡ Loop l q groups → ⊥) → node_of n ≡ narrowed (node_of n)
 narrowed-other = ind-Node (λ n. ((l : Box Node Global) (q : Quantifier) (groups : Range ℕ) → n ≡ Loop l q groups → ⊥) → node_of n ≡ narrowed (node_of n)) (λ x y is. narrowed-rolled x)
@@ -145,25 +106,9 @@ turned-Cat rest v = rw (node_of-Cat v) (of v.items)
 
 turned-rolled : (rest : tree.Node) (x : Node-F Node) → ((l r : Box Node Global) → roll-Node x ≡ Alt l r → ⊥) → turned_back (node_of (roll-Node x)) rest ≡ rest
 unfolding node_of roll-Node roll
-turned-rolled rest Node-F.Empty h = refl
-turned-rolled rest Node-F.Goal h = refl
-turned-rolled rest (Node-F.Char c) h = refl
-turned-rolled rest (Node-F.CharSet v) h = refl
-turned-rolled rest (Node-F.ByteSet v) h = refl
-turned-rolled rest (Node-F.ByteSequence v) h = refl
 turned-rolled rest (Node-F.Cat v) h = turned-Cat rest v
 turned-rolled rest (Node-F.Alt l r) h = absurd (h l r (sym (rolls-Alt l r)))
-turned-rolled rest (Node-F.Bracket b) h = refl
-turned-rolled rest (Node-F.StringSet a i) h = refl
-turned-rolled rest Node-F.MatchAny h = refl
-turned-rolled rest Node-F.MatchAnyExceptLineTerminator h = refl
-turned-rolled rest (Node-F.Anchor a m) h = refl
-turned-rolled rest (Node-F.WordBoundary i u) h = refl
-turned-rolled rest (Node-F.CaptureGroup i n name) h = refl
-turned-rolled rest (Node-F.BackRef g i) h = refl
-turned-rolled rest (Node-F.LookaroundAssertion n b s e c) h = refl
-turned-rolled rest (Node-F.Loop l q e) h = refl
-turned-rolled rest (Node-F.Loop1CharBody l q) h = refl
+turned-rolled rest _ h = refl
 
 -- nothing was turned
 pub turned-other : (rest : tree.Node) (n : Node) → ((l r : Box Node Global) → n ≡ Alt l r → ⊥) → turned_back (node_of n) rest ≡ rest

@@ -5,7 +5,7 @@ use Rattle.std.specs.Prelude.{if◌then◌else◌, nat_le, map, ◌==◌}
 use Rattle.std.specs.List.{list_all}
 use Rattle.regex_pattern_front.proofs.BoolLemmas.{left, right, and_from}
 use Rattle.regex_meaning.specs.Lists.{contains, numbers_from}
-use Rattle.regex_meaning.specs.Tree.{Quantifier, Node, empty, goal, char, char_set, byte_set, byte_sequence, cat, end_of_cat, alt, bracket, string_set, match_any, match_any_except_line_terminator, anchor, word_boundary, capture_group, back_ref, lookaround, loop, loop_1_char_body, group_ids, own_id, gathered, every}
+use Rattle.regex_meaning.specs.Tree.{Quantifier, Node, char, char_set, byte_set, byte_sequence, cat, alt, bracket, string_set, match_any, match_any_except_line_terminator, capture_group, back_ref, lookaround, loop, loop_1_char_body, group_ids, own_id, gathered, every}
 use Rattle.regex_meaning.specs.Names.{name_of, named_ids, names_by_id, own_name}
 use Rattle.regex_meaning.specs.Text.{Text, Direction}
 use Rattle.regex_meaning.specs.Outcomes.{Groups, Outcome, outcomes}
@@ -47,37 +47,29 @@ module _ {A : Type 0} (own : Node → A) where
     gathered-optimized (loop_1_char_body q loopee) = rw (keeps (loop_1_char_body q loopee), gathered-optimized loopee)
     gathered-optimized _ = refl
 
-own_goals-optimized : (n : Node) → own_goals (optimized n) ≡ own_goals n
+own-optimized : (n : Node)
+    → (own_goals (optimized n) ≡ own_goals n) × (own_id (optimized n) ≡ own_id n) × (own_name (optimized n) ≡ own_name n)
+    × (is_of_bytes (optimized n) ≡ is_of_bytes n)
 unfolding optimized
-own_goals-optimized (loop q s e loopee) = loop-keeps own_goals q s e loopee refl refl
-own_goals-optimized _ = refl
+own-optimized (loop q s e loopee) = (
+  loop-keeps own_goals q s e loopee refl refl,
+  loop-keeps own_id q s e loopee refl refl,
+  loop-keeps own_name q s e loopee refl refl,
+  loop-keeps is_of_bytes q s e loopee refl refl,
+)
+own-optimized _ = (refl, refl, refl, refl)
 
 goal_count-optimized : (n : Node) → goal_count (optimized n) ≡ goal_count n
-goal_count-optimized = gathered-optimized own_goals ◌+◌ own_goals-optimized
-
-own_id-optimized : (n : Node) → own_id (optimized n) ≡ own_id n
-unfolding optimized
-own_id-optimized (loop q s e loopee) = loop-keeps own_id q s e loopee refl refl
-own_id-optimized _ = refl
+goal_count-optimized = gathered-optimized own_goals ◌+◌ (λ n. (own-optimized n).0)
 
 pub group_ids-optimized : (n : Node) → group_ids (optimized n) ≡ group_ids n
-group_ids-optimized = gathered-optimized own_id ◌++◌ own_id-optimized
-
-own_name-optimized : (n : Node) → own_name (optimized n) ≡ own_name n
-unfolding optimized
-own_name-optimized (loop q s e loopee) = loop-keeps own_name q s e loopee refl refl
-own_name-optimized _ = refl
+group_ids-optimized = gathered-optimized own_id ◌++◌ (λ n. (own-optimized n).1)
 
 pub named_ids-optimized : (n : Node) → named_ids (optimized n) ≡ named_ids n
-named_ids-optimized = gathered-optimized own_name ◌++◌ own_name-optimized
-
-is_of_bytes-optimized : (n : Node) → is_of_bytes (optimized n) ≡ is_of_bytes n
-unfolding optimized
-is_of_bytes-optimized (loop q s e loopee) = loop-keeps is_of_bytes q s e loopee refl refl
-is_of_bytes-optimized _ = refl
+named_ids-optimized = gathered-optimized own_name ◌++◌ (λ n. (own-optimized n).2)
 
 pub reads_bytes-optimized : (n : Node) → reads_bytes (optimized n) ≡ reads_bytes n
-reads_bytes-optimized = gathered-optimized is_of_bytes ◌||◌ is_of_bytes-optimized
+reads_bytes-optimized = gathered-optimized is_of_bytes ◌||◌ (λ n. (own-optimized n).3)
 
 names_by_id-optimized : (n : Node) → names_by_id (optimized n) ≡ names_by_id n
 names_by_id-optimized n = ap by_id (named_ids-optimized n)
@@ -87,21 +79,13 @@ names_by_id-optimized n = ap by_id (named_ids-optimized n)
 
 is_end_of_cat-optimized : (n : Node) → is_end_of_cat (optimized n) ≡ is_end_of_cat n
 unfolding optimized
-is_end_of_cat-optimized (loop q s e loopee) = go (reads_one_character loopee)
-  where
-    go : (r : Bool) → is_end_of_cat (if r then loop_1_char_body q loopee else loop q s e (optimized loopee)) ≡ false
-    go true = refl
-    go false = refl
+is_end_of_cat-optimized (loop q s e loopee) = loop-keeps is_end_of_cat q s e loopee refl refl
 is_end_of_cat-optimized _ = refl
 
 ends_in_goal-optimized : (n : Node) → ends_in_goal (optimized n) ≡ ends_in_goal n
 unfolding optimized
 ends_in_goal-optimized (cat first rest) = rw (is_end_of_cat-optimized rest, ends_in_goal-optimized first, ends_in_goal-optimized rest)
-ends_in_goal-optimized (loop q s e loopee) = go (reads_one_character loopee)
-  where
-    go : (r : Bool) → ends_in_goal (if r then loop_1_char_body q loopee else loop q s e (optimized loopee)) ≡ false
-    go true = refl
-    go false = refl
+ends_in_goal-optimized (loop q s e loopee) = loop-keeps ends_in_goal q s e loopee refl refl
 ends_in_goal-optimized _ = refl
 
 one_character-optimized : (n : Node) → is_one_character n ≡ true → optimized n ≡ n
@@ -151,20 +135,7 @@ module _ (test : Node → Bool) (keeps : (n : Node) → test n ≡ true → test
       go false here below inside = and_from _ _ here inside
   every-optimized (loop_1_char_body q loopee) h =
       and_from _ _ (keeps (loop_1_char_body q loopee) (and-left _ (every test loopee) h)) (every-optimized loopee (and-right _ (every test loopee) h))
-  every-optimized empty h = h
-  every-optimized goal h = h
-  every-optimized (char c) h = h
-  every-optimized (char_set members) h = h
-  every-optimized (byte_set members) h = h
-  every-optimized (byte_sequence bytes) h = h
-  every-optimized end_of_cat h = h
-  every-optimized (bracket contents) h = h
-  every-optimized (string_set strings icase) h = h
-  every-optimized match_any h = h
-  every-optimized match_any_except_line_terminator h = h
-  every-optimized (anchor type multiline) h = h
-  every-optimized (word_boundary invert unicode_icase) h = h
-  every-optimized (back_ref group icase) h = h
+  every-optimized _ h = h
 
 -- a test that does not look at loops
 of_loop : (test : Node → Bool) (q : Quantifier) (s e : ℕ) (loopee : Node) (r : Bool)
@@ -269,20 +240,7 @@ module _ (text : Text) where
           fun_ext3 _ _ (λ d p g. rw (encloses_none s e loopee (no_ids loopee k) (and-left (encloses s e loopee) (every names_the_groups_inside loopee) h)))
       go false k inside = fun_ext3 _ _ (λ d p g. rw inside)
   same (loop_1_char_body q loopee) h = fun_ext3 _ _ (λ d p g. rw (same loopee h))
-  same empty h = refl
-  same goal h = refl
-  same (char c) h = refl
-  same (char_set members) h = refl
-  same (byte_set members) h = refl
-  same (byte_sequence bytes) h = refl
-  same end_of_cat h = refl
-  same (bracket contents) h = refl
-  same (string_set strings icase) h = refl
-  same match_any h = refl
-  same match_any_except_line_terminator h = refl
-  same (anchor type multiline) h = refl
-  same (word_boundary invert unicode_icase) h = refl
-  same (back_ref group icase) h = refl
+  same _ h = refl
 
 pub outcomes-optimized : OptimizedHasSameOutcomes
 outcomes-optimized root h text d p g = ap (λ F. F d p g) (same text root (clauses root h).enclosed)
@@ -295,11 +253,7 @@ answers-optimized root h text start =
 
 reads_one-optimized : (n : Node) → reads_one_character (optimized n) ≡ reads_one_character n
 unfolding optimized
-reads_one-optimized (loop q s e loopee) = go (reads_one_character loopee)
-  where
-    go : (r : Bool) → reads_one_character (if r then loop_1_char_body q loopee else loop q s e (optimized loopee)) ≡ false
-    go true = refl
-    go false = refl
+reads_one-optimized (loop q s e loopee) = loop-keeps reads_one_character q s e loopee refl refl
 reads_one-optimized _ = refl
 
 pub optimized-twice : (n : Node) → optimized (optimized n) ≡ optimized n

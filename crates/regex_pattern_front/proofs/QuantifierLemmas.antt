@@ -1,14 +1,14 @@
 -- Quantifiers, as the reader reads them.
 use Rattle.std.proofs.Common.{◌≡◌, ℕ, ◌-◌, ◌^◌, ◌<◌, inl, inr, Bool, true, false, [], ◌∷◌, length, true≢false, refl, sym, ap, ap₂, subst, ◌∙◌, arith, Some, None}
-use Rattle.std.specs.Prelude.{Option, nat_eq, not}
+use Rattle.std.specs.Prelude.{Option, not}
 use Rattle.regex_meaning.specs.Tree.{Quantifier}
 use Rattle.regex_meaning.specs.WellFormed.{is_in_order}
-use Rattle.regex_grammar.specs.Reading.{Text, Digits, digits_from, digits, begins}
+use Rattle.regex_grammar.specs.Reading.{Text, Digits, digits_from, digits}
 use Rattle.regex_grammar.specs.Characters.{count, QuantifierPrefix, star, plus, question, exactly, at_least, between, IsQuantified, Quantified, greedy, lazy}
 use Rattle.regex_grammar.proofs.OneTree.{unlike}
 use Rattle.regex_grammar.proofs.Leaves.{behind, firsts, digits_on, one_prefix, no_digit}
-use Rattle.std.proofs.lemmas.Bool.{eqb-true}
 use Rattle.regex_pattern_front.specs.Reads.{IsEaten, IsNumberRead, IsMostRead}
+use Rattle.regex_pattern_front.proofs.ReadLemmas.{no_sign}
 
 no_digits_here : {here there : Text} {n : ℕ} → Digits 10 here there n → digits 10 here ≡ [] → ⊥
 no_digits_here (digits_from h) e = let k : 0 < length (digits 10 []) = subst (λ x. 0 < length x) e h in omega arith
@@ -61,16 +61,8 @@ pub no_order : {here a end : Text} {least : ℕ} {most : Option ℕ} {q : Quanti
 no_order p e (greedy h f o) = let s = one_prefix p h in true≢false (sym o ∙ sym (ap₂ (λ x y. is_in_order (record { min = x; max = y; greedy = false })) s.1 s.2) ∙ e)
 no_order p e (lazy h f o) = let s = one_prefix p h in true≢false (sym o ∙ sym (ap₂ (λ x y. is_in_order (record { min = x; max = y; greedy = false })) s.1 s.2) ∙ e)
 
-no_question : (here : Text) → ((rest : Text) → here ≡ 63 ∷ rest → ⊥) → begins "?" here ≡ false
-no_question [] h = refl
-no_question (c ∷ cs) h = by (nat_eq 63 c) refl
-  where
-    by : (b : Bool) → nat_eq 63 c ≡ b → begins "?" (c ∷ cs) ≡ false
-    by true e = absurd (h cs (ap (λ (x : ℕ). x ∷ cs) (sym (eqb-true 63 c e))))
-    by false e = rw e refl
-
 pub make_quantified : {here a end : Text} {least : ℕ} {most : Option ℕ} (lazily : Bool) → QuantifierPrefix here a least most
     → is_in_order (record { min = least; max = most; greedy = false }) ≡ true → IsEaten 63 a lazily end
     → Quantified here end (record { min = least; max = most; greedy = not lazily })
 make_quantified {a = a} true p o e = lazy p e o
-make_quantified {a = a} false p o e = rw e.0 (greedy p (no_question a e.1) o)
+make_quantified {a = a} false p o e = rw e.0 (greedy p (no_sign "?" 63 refl a e.1) o)

@@ -1,13 +1,15 @@
 -- Numbers, read a digit at a time.
-use Rattle.std.proofs.Common.{◌≡◌, ℕ, ◌+◌, ◌-◌, ◌*◌, ◌<◌, ◌≤◌, true, [], ◌∷◌, ◌++◌, length, drop, min, refl, sym, ap, ap₂, subst, ◌∙◌, arith, append_assoc, Some, None, ◌^◌}
-use Rattle.std.specs.List.{list_all}
+use Rattle.std.proofs.Common.{◌≡◌, ℕ, ◌+◌, ◌-◌, ◌*◌, ◌<◌, ◌≤◌, Bool, true, false, [], ◌∷◌, ◌++◌, length, drop, min, refl, sym, ap, ap₂, subst, ◌∙◌, arith, append_assoc, Some, None, ◌^◌}
+use Prim.Native.String.{String}
+use Rattle.std.specs.Prelude.{codes, nat_eq}
+use Rattle.std.specs.List.{list_all, starts_with}
 use Rattle.std.specs.Char.{is_digit, digit_value}
 use Rattle.std.proofs.lemmas.List.Sums.{fold-append, take_while-cons}
 use Rattle.std.proofs.lemmas.List.Folds.{list_all-append}
-use Rattle.std.proofs.lemmas.Bool.{and_parts, ltb-true}
+use Rattle.std.proofs.lemmas.Bool.{and_parts, ltb-true, eqb-true}
 use Rattle.std.proofs.Math.Seq.{drop-append_seam}
 use Rattle.std.proofs.lemmas.List.{length-append}
-use Rattle.regex_grammar.specs.Reading.{Text, Digits, digits_from, digits, number}
+use Rattle.regex_grammar.specs.Reading.{Text, Digits, digits_from, digits, number, begins}
 use Rattle.regex_grammar.specs.Characters.{Hex, hex}
 use Rattle.regex_grammar.proofs.OneTree.{rest_of}
 use Rattle.regex_pattern_front.specs.Reads.{IsDigitRead, IsNumberRead}
@@ -43,6 +45,18 @@ digits-here base {here} {there} {ds} h f some =
     subst (λ x. Digits base here there (number base x)) same
     (subst (λ x. Digits base here x (number base (digits base here))) rest
     (digits_from (let long : length (digits base here) ≡ length ds = ap length same in omega arith)))
+
+-- a word of one sign does not stand where the sign does not
+pub no_sign : (word : String) (sign : ℕ) → codes word ≡ sign ∷ [] → (here : Text) → ((rest : Text) → here ≡ sign ∷ rest → ⊥) → begins word here ≡ false
+no_sign word sign e here none = subst (λ w. starts_with nat_eq here w ≡ false) (sym e) (go here none)
+  where
+    go : (here : Text) → ((rest : Text) → here ≡ sign ∷ rest → ⊥) → starts_with nat_eq here (sign ∷ []) ≡ false
+    go [] none = refl
+    go (c ∷ cs) none = by (nat_eq sign c) refl
+      where
+        by : (b : Bool) → nat_eq sign c ≡ b → starts_with nat_eq (c ∷ cs) (sign ∷ []) ≡ false
+        by true e = absurd (none cs (ap (λ (x : ℕ). x ∷ cs) (sym (eqb-true sign c e))))
+        by false e = rw e refl
 
 -- ---- A number that may be past what can be told
 

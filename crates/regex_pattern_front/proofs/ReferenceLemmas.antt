@@ -73,19 +73,16 @@ pub no_leaf-slash : (w : Whole) (rest : Text)
     → NoLeaf w (92 ∷ rest)
 no_leaf-slash w rest no_number no_name no_character no_class _ n a = by refl a
   where
-    wrong : {here ds : Text} {d : ℕ} → here ≡ 92 ∷ rest → slash d ≡ false → here ≡ d ∷ ds → ⊥
-    wrong s f g = true≢false (ap slash (firsts s g) ∙ f)
-
     by : {here there : Text} {n : Node} → here ≡ 92 ∷ rest → Leaf w here there n → ⊥
     by s (pattern_character f g) = true≢false (ap special (firsts s f) ∙ g)
     by s (extended_character f g h k) = true≢false (sym g ∙ sym (ap (λ d. d ∈ "{}]") (firsts s f)))
-    by s (any_character f) = wrong s refl f
+    by s (any_character f) = true≢false (ap slash (firsts s f))
     by {there = there} s (decimal_escape {n = n} f g d l) =
         no_number there n (subst (λ x. begins "0" x ≡ false) (behind f s) g) (subst (λ x. Digits 10 x there n) (behind f s) d) l
     by {there = there} s (named_reference {a = a} {name = name} {n = n} f d g) = no_name a there name n (behind s f) d g
     by {there = there} s (character_escape {c = c} f d) = no_character there c (subst (λ x. CharacterEscape w.flags.unicode x there c) (behind f s) d)
     by {there = there} s (character_class_escape {letter = x} f g d) = no_class x there _ (behind s f) g
-    by s (character_class f d) = wrong s refl f
+    by s (character_class f d) = true≢false (ap slash (firsts s f))
 
 -- ---- What begins a reference
 

@@ -88,6 +88,7 @@ fn narrow(node: &mut Node)
 }
 
 /// Whether a node reads one character and accepts it or not: loops over such a node are those that `optimize` changes.
+#[tactic(auto, unfolding(crate::specs::TreeOf::node_of))]
 pub fn reads_one_character(node: &Node) -> bool
     ensures { result ≡ reads_one_character (node_of node.now) }
 {

@@ -16,6 +16,7 @@ pub mod RunMarks
 pub mod FurtherTurns
 pub mod ChoiceTurns
 pub mod Dispatch
+pub mod LookTurns
 pub mod PossessiveTurns
 mod BeginOtherwise
 mod GoalTurns

@@ -278,22 +278,27 @@ impl<'r, 't> Executor<'r, 't> for BacktrackExecutor<'r, AsciiInput<'t>> {
     type AsAscii = Self;
 }
 
+// The executors over UTF-8 and over ASCII, and what each names for a text of ASCII.
+type OverUtf8 = BacktrackExecutor<'static, Utf8Input<'static>>;
+
+type OverAscii = BacktrackExecutor<'static, AsciiInput<'static>>;
+
+type OfUtf8 = <OverUtf8 as Executor<'static, 'static>>::AsAscii;
+
+type OfAscii = <OverAscii as Executor<'static, 'static>>::AsAscii;
+
 /// What `AsAscii` of the executor over UTF-8 names takes each text of ASCII, and reads each of its bytes as a character.
 pub fn ascii_is_read_in_bytes()
-    ensures takes { let ascii =
-        ⟦<<BacktrackExecutor<'static, Utf8Input<'static>> as Executor<'static, 'static>>::AsAscii as Searcher<'static>>⟧ in
+    ensures takes { let ascii = ⟦<OfUtf8 as Searcher<'static>>⟧ in
         (text : Bor (List ℕ)) → IsAscii text.now → ascii.can_search text }
-    ensures reads { let ascii =
-        ⟦<<BacktrackExecutor<'static, Utf8Input<'static>> as Executor<'static, 'static>>::AsAscii as Searcher<'static>>⟧ in
+    ensures reads { let ascii = ⟦<OfUtf8 as Searcher<'static>>⟧ in
         ascii.text_of ≡ (λ text. ascii_text text.now) }
 {}
 
 /// What `AsAscii` of the executor over ASCII names does so too.
 pub fn ascii_stays_in_bytes()
-    ensures takes { let ascii =
-        ⟦<<BacktrackExecutor<'static, AsciiInput<'static>> as Executor<'static, 'static>>::AsAscii as Searcher<'static>>⟧ in
+    ensures takes { let ascii = ⟦<OfAscii as Searcher<'static>>⟧ in
         (text : Bor (List ℕ)) → IsAscii text.now → ascii.can_search text }
-    ensures reads { let ascii =
-        ⟦<<BacktrackExecutor<'static, AsciiInput<'static>> as Executor<'static, 'static>>::AsAscii as Searcher<'static>>⟧ in
+    ensures reads { let ascii = ⟦<OfAscii as Searcher<'static>>⟧ in
         ascii.text_of ≡ (λ text. ascii_text text.now) }
 {}

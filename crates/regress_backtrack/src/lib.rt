@@ -7,6 +7,7 @@ pub mod classicalbacktrack;
 mod groups;
 pub mod here;
 mod limited;
+mod looks;
 mod loops;
 pub mod memory;
 pub mod memos;

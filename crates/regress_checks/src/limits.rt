@@ -74,6 +74,11 @@ cat:2 loop:0,1,0,1 group:0 a goal~tree~a~2~0~2~
 .*?x~~éбx€x~0~13~20~0..5; limit
 .*?x~~éбx€x~0~21~23~0..5; 5..9; limit
 .*?x~~éбx€x~0~24~40~0..5; 5..9
+(?!b)\w~~ba~0~0~6~limit
+(?!b)\w~~ba~0~7~20~1..2
+a(?=b)~~aab~0~0~7~limit
+a(?=b)~~aab~0~8~9~1..2; limit
+a(?=b)~~aab~0~10~20~1..2
 (?:a|a)*b~no_opt~aaaaaaaaaaaaaaaaaaaaaaaaaaaaaaaaaaaaaaaa~41~0~0~
 ^a~~aa~18446744073709551615~0~2~
 (?:a|a)*~~aaaaaaaaaaaaaaaaaaaaaaaaaaaaaaaaaaaaaaaa~0~0~166~limit

@@ -1,5 +1,5 @@
 -- The characters on one side of a place, the nearest first.
-use Rattle.std.proofs.Common.{◌≡◌, ℕ, zero, suc, ◌+◌, ◌-◌, ◌<◌, ◌≤◌, List, [], ◌∷◌, ◌++◌, length, take, drop, Some, None, refl, ap, ◌∙◌, sym, arith, add-one, slice_get, reverse, length-drop, length-take}
+use Rattle.std.proofs.Common.{◌≡◌, ℕ, zero, suc, ◌+◌, ◌-◌, ◌<◌, ◌≤◌, List, [], ◌∷◌, ◌++◌, length, take, drop, Some, None, refl, ap, ap₂, ◌∙◌, sym, arith, add-one, slice_get, reverse, length-drop, length-take}
 use Rattle.std.proofs.lemmas.List.{reverse-append, length-reverse, reverse-reverse, take-append-drop, drop-take, length-take-le}
 use Rattle.std.proofs.Math.Seq.{take-append_seam}
 use Rattle.regex_meaning.specs.Text.{Text, Direction, rightwards, leftwards, last_place, next_character, moved, characters_left, characters_beside}
@@ -22,15 +22,20 @@ at_index (x ∷ xs) (suc i) = go (at_index xs i)
     go (past none nothing le) = past none nothing (omega arith)
     go (at y is rest before less) = at y is rest (ap (λ (l : List ℕ). x ∷ l) before) (omega arith)
 
+-- a list that is read backwards, by its last ones and what stands before them
+pub halves-reversed : (n : ℕ) (xs : List ℕ) → n ≤ length xs
+    → (reverse xs ≡ reverse (drop (length xs - n) xs) ++ reverse (take (length xs - n) xs)) × (n ≡ length (reverse (drop (length xs - n) xs)))
+halves-reversed n xs le =
+    let k = length xs - n in
+    let last : length (drop k xs) ≡ n = length-drop k xs ∙ (let e : length xs - k ≡ n = omega arith in e) in
+    (ap reverse (sym (take-append-drop k xs)) ∙ reverse-append (take k xs) (drop k xs), sym (length-reverse (drop k xs) ∙ last))
+
 -- the first of a list that is read backwards are its last
 take-reverse : (n : ℕ) (xs : List ℕ) → n ≤ length xs → take n (reverse xs) ≡ reverse (drop (length xs - n) xs)
 take-reverse n xs le =
     let k = length xs - n in
-    let l : length (reverse (drop k xs)) ≡ n = length-reverse (drop k xs) ∙ length-drop k xs ∙ (let e : length xs - k ≡ n = omega arith in e) in
-    ap (λ (l : List ℕ). take n (reverse l)) (sym (take-append-drop k xs))
-    ∙ ap (take n) (reverse-append (take k xs) (drop k xs))
-    ∙ ap (λ m. take m (reverse (drop k xs) ++ reverse (take k xs))) (sym l)
-    ∙ take-append_seam (reverse (drop k xs)) (reverse (take k xs))
+    let halves = halves-reversed n xs le in
+    ap₂ take halves.1 halves.0 ∙ take-append_seam (reverse (drop k xs)) (reverse (take k xs))
 
 module _ (text : Text) where
   -- what stands on the direction's side of a place

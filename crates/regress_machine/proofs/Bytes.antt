@@ -1,5 +1,5 @@
 -- What byte sequences and sets of bytes find.
-use Rattle.std.proofs.Common.{◌≡◌, ℕ, zero, suc, ◌+◌, ◌-◌, ◌<◌, ◌≤◌, List, [], ◌∷◌, ◌++◌, length, map, take, drop, Some, Bool, true, false, refl, ap, ◌∙◌, sym, subst, arith, slice_get, reverse, length-drop}
+use Rattle.std.proofs.Common.{◌≡◌, ℕ, zero, suc, ◌+◌, ◌-◌, ◌<◌, ◌≤◌, List, [], ◌∷◌, ◌++◌, length, map, take, drop, Some, Bool, true, false, refl, ap, ap₂, ◌∙◌, sym, subst, arith, slice_get, reverse, length-drop}
 use Rattle.std.specs.Prelude.{if◌then◌else◌, ◌&&◌, nat_le, nat_lt, nat_eq, encode_utf8_all, chars}
 use Rattle.std.specs.Str.{is_utf8}
 use lib.Pointwise.{pointwise}
@@ -22,7 +22,7 @@ use Rattle.regress_machine.proofs.Yields.{Ending, Yields, yields_none, yields_sa
 use Rattle.regress_machine.proofs.Frames.{kept_itself}
 use Rattle.regress_machine.proofs.Nodes.{and_then-ticks, direction_at, over, state_at, Finds, Rising, act_at, inside_by, leaf_yields}
 use Rattle.regress_machine.proofs.Sets.{one_items, none_finds, byte_pair_finds, insns_rising}
-use Rattle.regress_machine.proofs.Beside.{Beside, nothing_left, one_more, beside, length-nearest}
+use Rattle.regress_machine.proofs.Beside.{Beside, nothing_left, one_more, beside, length-nearest, halves-reversed}
 use Rattle.regress_machine.proofs.OneTests.{low_scalar, scalar_of, utf8_text_of}
 use Rattle.regress_machine.proofs.OneCharacter.{reached_behind}
 use Rattle.regress_machine.proofs.Stands.{stands, stands-length, in_reading_order, length-reading, beside-stands}
@@ -38,11 +38,8 @@ use Rattle.regex_meaning.proofs.Booleans.{and-left, and-right}
 drop-reverse : (n : ℕ) (xs : List ℕ) → n ≤ length xs → drop n (reverse xs) ≡ reverse (take (length xs - n) xs)
 drop-reverse n xs le =
     let k = length xs - n in
-    let l : length (reverse (drop k xs)) ≡ n = length-reverse (drop k xs) ∙ length-drop k xs ∙ (let e : length xs - k ≡ n = omega arith in e) in
-    ap (λ (l : List ℕ). drop n (reverse l)) (sym (take-append-drop k xs))
-    ∙ ap (drop n) (reverse-append (take k xs) (drop k xs))
-    ∙ ap (λ m. drop m (reverse (drop k xs) ++ reverse (take k xs))) (sym l)
-    ∙ drop-append_seam (reverse (drop k xs)) (reverse (take k xs))
+    let halves = halves-reversed n xs le in
+    ap₂ drop halves.1 halves.0 ∙ drop-append_seam (reverse (drop k xs)) (reverse (take k xs))
 
 take-less : (m n : ℕ) (xs : List ℕ) → m ≤ n → take m (take n xs) ≡ take m xs
 take-less zero n xs le = refl

@@ -22,5 +22,6 @@ pub mod Whole
 pub mod Follows
 pub mod CanRun
 pub mod Fetched
+pub mod Leaving
 pub mod Inside
 pub mod Remains

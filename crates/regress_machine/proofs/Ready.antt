@@ -6,7 +6,7 @@ use Rattle.std.proofs.lemmas.List.Folds.{list_any-append}
 use Rattle.std.specs.Prelude.{count_by, ◌&&◌, ◌||◌, ◌==◌, if◌then◌else◌, IsTrue}
 use Rattle.std.specs.List.{list_all}
 use Rattle.regex_meaning.specs.Lists.{contains, numbers_from}
-use Rattle.regex_meaning.specs.Tree.{Node, empty, goal, char, char_set, byte_set, byte_sequence, cat, end_of_cat, alt, bracket, string_set, match_any, match_any_except_line_terminator, anchor, word_boundary, capture_group, back_ref, lookaround, loop, loop_1_char_body, group_ids, every}
+use Rattle.regex_meaning.specs.Tree.{Node, char, char_set, byte_set, byte_sequence, cat, alt, bracket, match_any, match_any_except_line_terminator, capture_group, back_ref, lookaround, loop, loop_1_char_body, group_ids, every}
 use Rattle.regex_meaning.specs.Text.{Text}
 use Rattle.regex_meaning.specs.WellFormed.{IsWellFormed, encloses, names_the_groups_inside, refers_to_a_group, is_one_character, has_one_character_body, has_text_in_sequence, fits_instructions}
 use Rattle.regex_meaning.proofs.WellFormedLemmas.{clauses}
@@ -193,48 +193,40 @@ of_left test node a b holds h = and-right (test node) (every test a) (and-left (
 of_right : (test : Node → Bool) (node a b : Node) → Holds node a b → every test node ≡ true → every test b ≡ true
 of_right test node a b holds h = and-right (test node && every test a) (every test b) (sym (holds test) ∙ h)
 
-sound_left : (text : Text) (n : ℕ) (node a b : Node) → Holds node a b → group_ids node ≡ group_ids a ++ group_ids b
-    → reads_bytes node ≡ (reads_bytes a || reads_bytes b) → Sound text n node → Sound text n a
-sound_left text n node a b holds ids reads s = record {
-  names = of_left names_the_groups_inside node a b holds s.names;
-  refers = of_left (refers_to_a_group n) node a b holds s.refers;
-  bodies = of_left has_one_character_body node a b holds s.bodies;
-  sequences = of_left has_text_in_sequence node a b holds s.sequences;
-  sets = of_left fits_instructions node a b holds s.sets;
-  bytes = λ h. s.bytes (reads ∙ or_left (reads_bytes a) (reads_bytes b) h);
-  below = λ id h. s.below id (ap (λ (l : List ℕ). contains l id) ids ∙ contains-left (group_ids a) (group_ids b) id h);
-  distinct = distinct-left (group_ids a) (group_ids b) (subst Distinct ids s.distinct);
+-- of a node inside another one
+sound_part : (text : Text) (n : ℕ) (node a : Node) → ((test : Node → Bool) → every test node ≡ true → every test a ≡ true)
+    → (reads_bytes a ≡ true → reads_bytes node ≡ true) → AllBelow n (group_ids a) → Distinct (group_ids a) → Sound text n node → Sound text n a
+sound_part text n node a holds reads below distinct s = record {
+  names = holds names_the_groups_inside s.names;
+  refers = holds (refers_to_a_group n) s.refers;
+  bodies = holds has_one_character_body s.bodies;
+  sequences = holds has_text_in_sequence s.sequences;
+  sets = holds fits_instructions s.sets;
+  bytes = λ h. s.bytes (reads h);
+  below = below;
+  distinct = distinct;
 }
 
-sound_right : (text : Text) (n : ℕ) (node a b : Node) → Holds node a b → group_ids node ≡ group_ids a ++ group_ids b
-    → reads_bytes node ≡ (reads_bytes a || reads_bytes b) → Sound text n node → Sound text n b
-sound_right text n node a b holds ids reads s = record {
-  names = of_right names_the_groups_inside node a b holds s.names;
-  refers = of_right (refers_to_a_group n) node a b holds s.refers;
-  bodies = of_right has_one_character_body node a b holds s.bodies;
-  sequences = of_right has_text_in_sequence node a b holds s.sequences;
-  sets = of_right fits_instructions node a b holds s.sets;
-  bytes = λ h. s.bytes (reads ∙ or_right (reads_bytes a) (reads_bytes b) h);
-  below = λ id h. s.below id (ap (λ (l : List ℕ). contains l id) ids ∙ contains-right (group_ids a) (group_ids b) id h);
-  distinct = distinct-right (group_ids a) (group_ids b) (subst Distinct ids s.distinct);
-}
+-- of one that holds two, each
+module _ (text : Text) (n : ℕ) (node a b : Node) (holds : Holds node a b) (ids : group_ids node ≡ group_ids a ++ group_ids b)
+    (reads : reads_bytes node ≡ (reads_bytes a || reads_bytes b)) (s : Sound text n node) where
+  sound_left : Sound text n a
+  sound_left =
+      sound_part text n node a (λ test. of_left test node a b holds) (λ h. reads ∙ or_left (reads_bytes a) (reads_bytes b) h)
+      (λ id h. s.below id (ap (λ (l : List ℕ). contains l id) ids ∙ contains-left (group_ids a) (group_ids b) id h))
+      (distinct-left (group_ids a) (group_ids b) (subst Distinct ids s.distinct)) s
+
+  sound_right : Sound text n b
+  sound_right =
+      sound_part text n node b (λ test. of_right test node a b holds) (λ h. reads ∙ or_right (reads_bytes a) (reads_bytes b) h)
+      (λ id h. s.below id (ap (λ (l : List ℕ). contains l id) ids ∙ contains-right (group_ids a) (group_ids b) id h))
+      (distinct-right (group_ids a) (group_ids b) (subst Distinct ids s.distinct)) s
 
 -- of a node that holds one other
 sound_inside : (text : Text) (n : ℕ) (node a : Node) → ((test : Node → Bool) → every test node ≡ (test node && every test a))
     → reads_bytes node ≡ reads_bytes a → AllBelow n (group_ids a) → Distinct (group_ids a) → Sound text n node → Sound text n a
-sound_inside text n node a holds reads below distinct s = record {
-  names = inside names_the_groups_inside s.names;
-  refers = inside (refers_to_a_group n) s.refers;
-  bodies = inside has_one_character_body s.bodies;
-  sequences = inside has_text_in_sequence s.sequences;
-  sets = inside fits_instructions s.sets;
-  bytes = λ h. s.bytes (reads ∙ h);
-  below = below;
-  distinct = distinct;
-}
-  where
-    inside : (test : Node → Bool) → every test node ≡ true → every test a ≡ true
-    inside test h = and-right (test node) (every test a) (sym (holds test) ∙ h)
+sound_inside text n node a holds reads below distinct s =
+    sound_part text n node a (λ test h. and-right (test node) (every test a) (sym (holds test) ∙ h)) (λ h. reads ∙ h) below distinct s
 
 below_named : (first end n : ℕ) (contents : Node) → encloses first end contents ≡ true → AllBelow n (group_ids contents) → AreBelow first (end - first) n
 below_named first end n contents h below i le less =
@@ -259,27 +251,16 @@ of_one test _ one h = cc
 
 module _ (text : Text) (n : ℕ) where
   pub ready : (node : Node) → Sound text n node → Ready text n node
-  ready empty s = tt
-  ready goal s = tt
-  ready (char c) s = tt
-  ready (char_set members) s = tt
   ready (byte_set members) s = (s.bytes refl, s.sets)
   ready (byte_sequence bytes) s = (s.bytes refl, s.sequences)
   ready (cat first rest) s = (
     ready first (sound_left text n (cat first rest) first rest (λ test. refl) refl refl s),
     ready rest (sound_right text n (cat first rest) first rest (λ test. refl) refl refl s),
   )
-  ready end_of_cat s = tt
   ready (alt left right) s = (
     ready left (sound_left text n (alt left right) left right (λ test. refl) refl refl s),
     ready right (sound_right text n (alt left right) left right (λ test. refl) refl refl s),
   )
-  ready (bracket contents) s = tt
-  ready (string_set strings icase) s = tt
-  ready match_any s = tt
-  ready match_any_except_line_terminator s = tt
-  ready (anchor type multiline) s = tt
-  ready (word_boundary invert unicode_icase) s = tt
   ready (capture_group id name contents) s = (
     s.below id (or_left (nat_eq id id) (contains (group_ids contents) id) (eq-eqb id id refl)),
     s.distinct.0,
@@ -301,6 +282,7 @@ module _ (text : Text) (n : ℕ) where
         s.bytes,
         ready loopee inside,
       )
+  ready _ s = tt
 
 pub root_ready : (text : Text) (root : Node) → IsWellFormed root → (IsTrue (reads_bytes root) → ReadsBytes text) → Ready text (length (group_ids root)) root
 root_ready text root well_formed bytes =

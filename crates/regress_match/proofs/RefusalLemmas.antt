@@ -1,6 +1,7 @@
 -- What refuses a pattern.
-use Rattle.std.proofs.Common.{◌≡◌, ◌≤◌, Bool, true, false, refl, sym, ap, ◌∙◌, subst, IsTrue, true≢false, length, arith, le_refl}
-use Rattle.std.specs.Prelude.{ℕ, List, Result, Ok, Err, IfErr, if◌then◌else◌}
+use Rattle.std.proofs.Common.{◌≡◌, ◌≤◌, Bool, true, false, refl, sym, ap, ◌∙◌, subst, IsTrue, true≢false, length, arith}
+use Rattle.std.proofs.Math.Nat.{le_of_eq}
+use Rattle.std.specs.Prelude.{ℕ, ◌<◌, List, Result, Ok, Err, IfErr, if◌then◌else◌}
 use Rattle.std.specs.Result.{IsErrAnd}
 use Rattle.regex_pattern_front.specs.declared.parse.ParseError.{ParseError}
 use Rattle.regex_pattern_front.specs.declared.parse.ParseError.TheVariants as parse
@@ -13,8 +14,9 @@ use Rattle.regex_pattern_front.specs.Optimized.{optimized}
 use Rattle.regex_pattern_front.proofs.OptimizedLemmas.{group_ids-optimized}
 use Rattle.regress_program.specs.Code.{size, loop_count}
 use Rattle.regress_program.specs.Refusals.{IsRefused, FitsLimits}
-use Rattle.regress_program.proofs.RunningLemmas.{planned-same, well_formed-planned}
+use Rattle.regress_program.proofs.RunningLemmas.{well_formed-planned}
 use Rattle.regress_program.proofs.ShapedLemmas.{size-shaped, loops-shaped, shaped-narrow}
+use Rattle.regress_program.specs.Emitting.{shaped}
 use Rattle.regress_program.specs.Running.{tree_to_run}
 use Rattle.regex_grammar.specs.Grammar.{Parses}
 use Rattle.regex_grammar.specs.Standing.{NoTree}
@@ -38,34 +40,28 @@ module _ (flags : Flags) (pattern : List ℕ) where
   pub memory-refuses : (e : EmitError) → e ≡ emit.Memory → Refuses flags pattern (of_emit e)
   memory-refuses e is = subst (λ x. Refuses flags pattern (of_emit x)) (sym is) tt
 
--- what optimizing makes no larger
-no-larger : (f : Node → ℕ) (t : Tree) → f (optimized t.root) ≤ f t.root → f (tree_to_run t).root ≤ f t.root
-no-larger f t less = go t.flags.no_opt
+-- what stays below a limit, in the tree that is run too, where optimizing makes no more of it
+stays-below : (count : Node → ℕ) (t : Tree) (most : ℕ) → count (optimized t.root) ≤ count t.root
+    → count t.root < most → most ≤ count (tree_to_run t).root → ⊥
+stays-below count t most less fits over = go t.flags.no_opt over
   where
-    go : (b : Bool) → f (if b then t.root else optimized t.root) ≤ f t.root
-    go true = le_refl _
-    go false = less
+    go : (b : Bool) → most ≤ count (if b then t.root else optimized t.root) → ⊥
+    go true over = omega (arith, fits, over)
+    go false over = omega (arith, fits, over, less)
+
+-- the same of what shaping a tree makes no more of
+shaped-below : (count : Node → ℕ) → ((narrow : Bool) (n : Node) → count (shaped narrow n) ≤ count n) → (t : Tree) (most : ℕ)
+    → count t.root < most → most ≤ count (tree_to_run t).root → ⊥
+shaped-below count less t most = stays-below count t most (subst (λ n. count n ≤ count t.root) (shaped-narrow t.root) (less true t.root))
 
 -- the tree that is run in place of one that is compiled is refused for want of memory alone
 pub run-refused : (t : Tree) (e : EmitError) → FitsLimits t → IsRefused e (tree_to_run t) → e ≡ emit.Memory
 run-refused t emit.NotWellFormed fits refused = absurd (refused (well_formed-planned true t fits.well_formed))
 run-refused t emit.BytesInUnits fits refused = absurd (true≢false (sym refused.1))
 run-refused t emit.TooManyGroups fits refused =
-    absurd (omega (arith, fits.groups, refused.1.groups, planned-same (λ n. length (group_ids n)) true t (ap length (group_ids-optimized t.root))))
-run-refused t emit.TooManyLoops fits refused =
-    absurd (omega (
-      arith,
-      fits.loops,
-      refused.1.loops,
-      no-larger loop_count t (subst (λ n. loop_count n ≤ loop_count t.root) (shaped-narrow t.root) (loops-shaped true t.root)),
-    ))
-run-refused t emit.TooManyInstructions fits refused =
-    absurd (omega (
-      arith,
-      fits.insns,
-      refused.1.insns,
-      no-larger size t (subst (λ n. size n ≤ size t.root) (shaped-narrow t.root) (size-shaped true t.root)),
-    ))
+    absurd (stays-below (λ n. length (group_ids n)) t _ (le_of_eq (ap length (group_ids-optimized t.root))) fits.groups refused.1.groups)
+run-refused t emit.TooManyLoops fits refused = absurd (shaped-below loop_count loops-shaped t _ fits.loops refused.1.loops)
+run-refused t emit.TooManyInstructions fits refused = absurd (shaped-below size size-shaped t _ fits.insns refused.1.insns)
 run-refused t emit.Memory fits refused = refl
 
 -- a refusal that is this error

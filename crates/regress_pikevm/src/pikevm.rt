@@ -279,22 +279,27 @@ impl<'r, 't> PikeVMExecutor<'r, Ucs2Input<'t>> {
     }
 }
 
+// The executors over UTF-8 and over ASCII, and what each names for a text of ASCII.
+type OverUtf8 = PikeVMExecutor<'static, Utf8Input<'static>>;
+
+type OverAscii = PikeVMExecutor<'static, AsciiInput<'static>>;
+
+type OfUtf8 = <OverUtf8 as Executor<'static, 'static>>::AsAscii;
+
+type OfAscii = <OverAscii as Executor<'static, 'static>>::AsAscii;
+
 /// What `AsAscii` of the executor over UTF-8 names takes each text of ASCII, and reads each of its bytes as a character.
 pub fn ascii_is_read_in_bytes()
-    ensures takes { let ascii =
-        ⟦<<PikeVMExecutor<'static, Utf8Input<'static>> as Executor<'static, 'static>>::AsAscii as Searcher<'static>>⟧ in
+    ensures takes { let ascii = ⟦<OfUtf8 as Searcher<'static>>⟧ in
         (text : Bor (List ℕ)) → IsAscii text.now → ascii.can_search text }
-    ensures reads { let ascii =
-        ⟦<<PikeVMExecutor<'static, Utf8Input<'static>> as Executor<'static, 'static>>::AsAscii as Searcher<'static>>⟧ in
+    ensures reads { let ascii = ⟦<OfUtf8 as Searcher<'static>>⟧ in
         ascii.text_of ≡ (λ text. ascii_text text.now) }
 {}
 
 /// What `AsAscii` of the executor over ASCII names does so too.
 pub fn ascii_stays_in_bytes()
-    ensures takes { let ascii =
-        ⟦<<PikeVMExecutor<'static, AsciiInput<'static>> as Executor<'static, 'static>>::AsAscii as Searcher<'static>>⟧ in
+    ensures takes { let ascii = ⟦<OfAscii as Searcher<'static>>⟧ in
         (text : Bor (List ℕ)) → IsAscii text.now → ascii.can_search text }
-    ensures reads { let ascii =
-        ⟦<<PikeVMExecutor<'static, AsciiInput<'static>> as Executor<'static, 'static>>::AsAscii as Searcher<'static>>⟧ in
+    ensures reads { let ascii = ⟦<OfAscii as Searcher<'static>>⟧ in
         ascii.text_of ≡ (λ text. ascii_text text.now) }
 {}

@@ -8,4 +8,5 @@ pub mod ChoiceLemmas
 pub mod SetLemmas
 pub mod PrefixLemmas
 pub mod BeforeLemmas
+pub mod VerdictLemmas
 mod StepLemmas

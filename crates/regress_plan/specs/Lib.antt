@@ -11,3 +11,5 @@ pub mod Before
 pub mod BeforeKeys
 pub mod Choices
 pub mod Told
+pub mod Verdicts
+pub mod Deciding

@@ -18,3 +18,4 @@ pub mod TallyLemmas
 pub mod LeafLemmas
 pub mod ShapedLemmas
 pub mod RunningLemmas
+pub mod RemainingLemmas

@@ -1,18 +1,9 @@
--- A number for each node, which falls from a node to those inside it.
-use Rattle.std.proofs.Common.{◌≡◌, ℕ, zero, suc, ◌+◌, ◌<◌, List, [], ◌∷◌, length, get_or, slice_get, Some, ap, arith}
-use Rattle.regex_meaning.specs.Tree.{Node, cat, alt, capture_group, lookaround, loop, loop_1_char_body}
+-- Weights of nodes in rows.
+unfoldable pub use Rattle.regress_program.specs.Weights.{weight}
+use Rattle.std.proofs.Common.{◌≡◌, ℕ, zero, suc, ◌<◌, List, [], ◌∷◌, length, get_or, slice_get, Some, ap, arith}
 use Rattle.regex_pattern_front.specs.TreeOf.{node_of}
 use Rattle.regex_pattern_front.specs.declared.ir.Node as declared
 use Rattle.regress_program.specs.Nodes.{cat_of}
-
-unfoldable pub weight : Node → ℕ
-weight (cat first rest) = weight first + weight rest + 1
-weight (alt left right) = weight left + weight right + 1
-weight (capture_group id name contents) = weight contents + 1
-weight (lookaround l contents) = weight contents + 1
-weight (loop q start_group end_group loopee) = weight loopee + 1
-weight (loop_1_char_body q loopee) = weight loopee + 1
-weight _ = 0
 
 pub weight-child : (nodes : List declared.Node) (i : ℕ) (n : declared.Node) → i < length nodes → n ≡ get_or nodes i n → weight (node_of n) < weight (cat_of nodes)
 unfolding weight

@@ -6,7 +6,9 @@ pub mod Running
 pub mod Names
 pub mod Programs
 pub mod Nodes
+pub mod Weights
 pub mod Emitting
+pub mod Remaining
 pub mod Ids
 pub mod Spans
 pub mod Refusals

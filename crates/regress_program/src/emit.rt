@@ -15,6 +15,7 @@ mod emitter;
 mod ids;
 mod leaves;
 mod names;
+mod nodes;
 mod tally;
 mod texts;
 mod walk;

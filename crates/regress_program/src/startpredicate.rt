@@ -1,5 +1,5 @@
 //! What a text has to start with where a pattern matches.
-#![tactic(auto, unfolding(regex_pattern_front::specs::TreeOf::node_of, crate::proofs::Weights::weight))]
+#![tactic(auto, unfolding(regex_pattern_front::specs::TreeOf::node_of, crate::specs::Weights::weight))]
 
 ghost use Rattle.std.specs.Prelude.{◌≡◌, ◌&&◌, not, false, IfOk, IsOk};
 ghost use Rattle.regex_meaning.specs.StartPredicate.{IsSound, is_anchored, start_predicate, start_of as predicate_of, sequence, one_of};

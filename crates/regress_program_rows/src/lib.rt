@@ -23,3 +23,5 @@ mod predicates;
 mod rows;
 #[cfg(test)]
 mod table;
+#[cfg(test)]
+mod verdicts;

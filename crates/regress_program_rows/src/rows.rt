@@ -9,6 +9,7 @@ use crate::parts::{write_parts, write_shown_names, write_unit_parts};
 use crate::plans::{write_plan, write_unit_plan};
 use crate::predicates::write_predicate;
 use crate::table::ROWS;
+use crate::verdicts::{write_unit_verdicts, write_verdicts};
 use regex_pattern_front::flags::Flags;
 use regex_pattern_front::ir::Regex;
 use regex_pattern_front::optimizer::optimize;
@@ -40,6 +41,8 @@ fn write_answer(
         "unit_plan" => write_unit_plan(alloc, text, tree),
         "choices" => write_choices(alloc, text, tree),
         "unit_choices" => write_unit_choices(alloc, text, tree),
+        "verdicts" => write_verdicts(alloc, text, tree),
+        "unit_verdicts" => write_unit_verdicts(alloc, text, tree),
         "classes" => write_classes(alloc, text, tree),
         "unit_classes" => write_unit_classes(alloc, text, tree),
         "ledger" => write_ledger(alloc, text, tree),

@@ -7,7 +7,8 @@
 // whatever stands in it. In the parts, the groups inside a lookbehind have the later one first. Plans say where a search
 // has to try, and what may stand behind each loop over one character: the keys at which rows of keys begin and end; what is
 // looked for first, and what must stand before. Choices have the operation at which an alternation begins, and behind the
-// first of each row of keys, and behind the end, the operations at which the arms begin that may match there. Classes have behind
+// first of each row of keys, and behind the end, the operations at which the arms begin that may match there; verdicts so whether
+// the contents of a lookahead match. Classes have behind
 // the first of each row of keys the step of them all: how many units the character has, 0 where none is accepted, and 5 where the
 // character decides; and the bytes at which a run ends. Programs for 16-bit units are those of the tree as it is, and so are
 // those for bytes, of which `optimized` asks for that of the optimized tree. Ledgers have each instruction that records with how many codes it has, and what a
@@ -187,6 +188,24 @@ choices cat:3 alt a empty b goal → at 0 0: 97:1 98:3 99:
 choices cat:2 alt a empty goal → at 0 0:3 97:1,3 98:3
 choices cat:2 alt any any goal → none
 unit_choices cat:2 alt a alt b c goal → at 0 0: 97:1 98:4 99:6 100:
+verdicts cat:2 ahead:0,0 a goal → at 0 0:no 97:yes 98:no
+verdicts /(?!a)/ → at 0 0:no 97:yes 98:no
+verdicts cat:2 ahead:0,0 alt a b goal → at 0 0:no 97:yes 99:no
+verdicts cat:2 ahead:0,0 alt a alt b c goal → at 0 0:no 97:yes 100:no
+verdicts cat:2 ahead:0,0 alt cat:2 a b a goal → at 0 0:no 97:ask 98:no
+verdicts cat:2 ahead:0,0 alt a cat:2 a b goal → at 0 0:no 97:yes 98:no
+verdicts cat:2 ahead:0,0 alt cat:2 b a a goal → at 0 0:no 97:yes 98:ask 99:no
+verdicts /(?=(a))/ → at 0 0:no 97:ask 98:no
+verdicts /(?=ab)/ → at 0 0:no 97:ask 98:no
+verdicts /(?=a|$)/ → at 0 0:no 97:yes 98:no end:ask
+verdicts /(?=(?!a)b)/ → at 0 0:no 98:ask 99:no; at 1 0:no 97:yes 98:no
+verdicts /(?=[^])/ → at 0 0:yes 128:no 194:yes 245:no
+verdicts /(?=[а-п])/ → at 0 0:no 208:ask 209:no
+verdicts /(?=[\\u0400-\\u043f])/ → at 0 0:no 208:yes 209:no
+verdicts /(?<=a)/ → none
+verdicts /(?=)/ → none
+unit_verdicts /(?=é)/ → at 0 0:no 128:ask 129:no
+unit_verdicts /(?![^])/ → at 0 0:yes 236:ask 238:yes end:no
 classes /a*/ → single 97:1 98:0
 classes /.*/ → wide 0:1 10:0 11:1 13:0 14:1 128:0 194:2 224:3 226:5 227:3 240:4 245:0 stops [10, 13, 226]
 classes /[^\"]*/ → wide 0:1 34:0 35:1 128:0 194:2 224:3 240:4 245:0 stops [34]

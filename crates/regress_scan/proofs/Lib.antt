@@ -5,6 +5,7 @@ pub mod Literals
 pub mod Advancing
 pub mod Allowing
 pub mod Choosing
+pub mod Verdicts
 pub mod StopSets
 pub mod Behind
 pub mod FurtherPlaces

@@ -7,5 +7,6 @@ pub mod Starts
 pub mod Reached
 pub mod LeftOut
 pub mod Choosing
+pub mod Verdicts
 pub mod Further
 pub mod Fitting

@@ -15,3 +15,4 @@ pub mod Checks
 pub mod Prefixes
 pub mod Arms
 pub mod Choices
+pub mod Verdicts

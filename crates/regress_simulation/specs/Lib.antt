@@ -6,3 +6,4 @@ pub mod Starts
 pub mod Prefixes
 pub mod Runs
 pub mod Choices
+pub mod Looks

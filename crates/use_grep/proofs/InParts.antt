@@ -1,6 +1,7 @@
 -- What a local tree finds in a part of a text it finds in the text.
-use Rattle.std.proofs.Common.{◌≡◌, ◌⊎◌, ℕ, zero, suc, ◌+◌, ◌-◌, ◌<◌, ◌≤◌, Bool, true, false, not, ◌&&◌, List, [], ◌∷◌, ◌++◌, length, map, Option, Some, None, refl, ap, sym, ◌∙◌, filter, flat_map, arith, subst, option_map, option_and_then, append-nil, append_assoc, chars, get_or, lit<}
-use Rattle.std.specs.Prelude.{if◌then◌else◌, nat_le, nat_lt, ◌==◌, slice_get, is_some, IsUtf8, eqb, All}
+use Rattle.std.proofs.Common.{◌≡◌, ◌⊎◌, ℕ, zero, suc, ◌+◌, ◌-◌, ◌<◌, ◌≤◌, Bool, true, false, not, ◌&&◌, List, [], ◌∷◌, ◌++◌, length, map, Option, Some, None, refl, ap, sym, ◌∙◌, filter, flat_map, arith, subst, option_map, option_and_then, append-nil, append_assoc, get_or, lit<}
+use Rattle.std.specs.Str.{chars}
+use Rattle.std.specs.Prelude.{if◌then◌else◌, nat_le, nat_lt, ◌==◌, slice_get, is_some, IsUtf8, eqb}
 use Rattle.std.specs.List.{join_with_byte, slice_split, position_or_len, before_first, after_first}
 use Rattle.std.specs.Option.{option_or}
 use mathlib.Core.Logic.{inl, inr}
@@ -10,18 +11,18 @@ use Rattle.std.proofs.lemmas.Str.{chars-append, IsUtf8-from_ascii, IsUtf8-take, 
 use Rattle.std.proofs.lemmas.Str.Ascii.{IsAscii-cons, IsAscii-nil}
 use Rattle.std.proofs.lemmas.List.Splits.{join_with_byte-slice_split, slice_split_first, slice_split_none}
 use Rattle.std.proofs.lemmas.List.Sums.{passes_at_first, fails_before_first}
-use Rattle.regex_meaning.specs.Tree.{Quantifier, Node, empty, goal, char, char_set, byte_set, byte_sequence, cat, end_of_cat, alt, bracket, string_set, match_any, match_any_except_line_terminator, anchor, word_boundary, capture_group, back_ref, lookaround, loop, loop_1_char_body, every}
-use Rattle.regex_meaning.specs.Text.{Text, rightwards, utf8_text}
+use Rattle.regex_meaning.specs.Tree.{Quantifier, Node, empty, goal, char, char_set, byte_set, byte_sequence, cat, end_of_cat, alt, bracket, string_set, match_any, match_any_except_line_terminator, anchor, word_boundary, capture_group, back_ref, lookaround, loop, loop_1_char_body}
+use Rattle.regex_meaning.specs.Text.{Text, character_after, character_before, is_word_char, rightwards, utf8_text}
 use Rattle.regex_meaning.specs.Offsets.{IsText, place_at}
 use Rattle.regex_meaning.specs.Find.{Found, no_groups, first_of, match_at, first_match, first_match_among}
 use Rattle.regex_meaning.specs.Names.{Answer, answer, answers_from}
 use Rattle.regex_meaning.specs.Answers.{first_answer, next_start, answer_then_list}
 use Rattle.regex_meaning.proofs.AnswerLemmas.{answers-go_on}
 use Rattle.regex_meaning.proofs.TextLemmas.{place_at-offset, utf8_text-IsText}
-use Rattle.regex_meaning.specs.Outcomes.{Groups, Outcome, Repetition, repetition, repeat, rounds, outcomes, captured, cleared, counts, preferred, most_of, one_character, is_some_and}
+use Rattle.regex_meaning.specs.Outcomes.{Groups, Outcome, Repetition, repetition, rounds, outcomes, captured, cleared, counts, differ, preferred, most_of, one_character, is_at_word_boundary, is_some_and}
 use Rattle.regex_meaning.proofs.Each.{Each, Each-append, Each-map, Each-when, Each-flat_map, Each-image}
 use Rattle.regex_meaning.proofs.Booleans.{and-left, and-right}
-use Rattle.use_grep.specs.Local.{is_local, is_local_node}
+use Rattle.use_grep.specs.Local.{is_local}
 
 -- ---- One of them
 
@@ -172,10 +173,73 @@ module _ (shift : ℕ) (q : Quantifier) (a b : ℕ → Groups → List Outcome)
 
 -- ---- Trees
 
--- one text stands in another one, behind so many of its characters
+-- one text stands in another one, behind so many of its characters, and no word goes on beyond its ends
 pub record IsPart (shift : ℕ) (s t : Text) : Type 0 where
   pub same : (place c : ℕ) → slice_get s.characters place ≡ Some c → slice_get t.characters (shift + place) ≡ Some c
   pub longer : shift + length s.characters ≤ length t.characters
+  pub begins : (u : Bool) → is_some_and (character_before t shift) (is_word_char u) ≡ false
+  pub ends : (u : Bool) → is_some_and (character_after t (shift + length s.characters)) (is_word_char u) ≡ false
+
+get-past : (xs : List ℕ) (i : ℕ) → length xs ≤ i → slice_get xs i ≡ None
+get-past [] i le = refl
+get-past (x ∷ xs) zero le = absurd (omega arith)
+get-past (x ∷ xs) (suc i) le = get-past xs i (omega arith)
+
+get-none : (xs : List ℕ) (i : ℕ) → slice_get xs i ≡ None → length xs ≤ i
+get-none [] i h = omega arith
+get-none (x ∷ xs) zero h = cc h
+get-none (x ∷ xs) (suc i) h = let le = get-none xs i h in omega (arith, le)
+
+-- ---- Where words end
+
+module _ (shift : ℕ) (s t : Text) (part : IsPart shift s t) (u : Bool) where
+  abbrev is_word : ℕ → Bool
+  is_word = is_word_char u
+
+  read-word : (place : ℕ) (o : Option ℕ) → slice_get s.characters place ≡ o
+      → (length s.characters ≤ place → is_some_and (slice_get t.characters (shift + place)) is_word ≡ false)
+      → is_some_and (slice_get t.characters (shift + place)) is_word ≡ is_some_and o is_word
+  read-word place None e past = past (get-none s.characters place e)
+  read-word place (Some c) e past = ap (λ o. is_some_and o is_word) (part.same place c e)
+
+  word-after : (place : ℕ) → place ≤ length s.characters
+      → is_some_and (character_after t (shift + place)) is_word ≡ is_some_and (character_after s place) is_word
+  word-after place le =
+      read-word place (slice_get s.characters place) refl (λ past.
+      let at : place ≡ length s.characters = omega arith in
+      ap (λ p. is_some_and (slice_get t.characters (shift + p)) is_word) at ∙ part.ends u)
+
+  word-before : (place : ℕ) → place ≤ length s.characters
+      → is_some_and (character_before t (shift + place)) is_word ≡ is_some_and (character_before s place) is_word
+  word-before zero le =
+      let at : shift + 0 ≡ shift = omega arith in
+      ap (λ p. is_some_and (character_before t p) is_word) at ∙ part.begins u
+  word-before (suc place) le =
+      let at : shift + suc place ≡ suc (shift + place) = omega arith in
+      ap (λ p. is_some_and (character_before t p) is_word) at
+      ∙ read-word place (slice_get s.characters place) refl (λ past. absurd (omega arith))
+
+  -- past the end of a text no word ends
+  none-past : (place : ℕ) → length s.characters < place → is_at_word_boundary s u place ≡ true → ⊥
+  none-past zero past h = absurd (omega arith)
+  none-past (suc place) past h =
+      let before : slice_get s.characters place ≡ None = get-past s.characters place (omega arith) in
+      let after : slice_get s.characters (suc place) ≡ None = get-past s.characters (suc place) (omega arith) in
+      let never : true ≡ false = sym h
+      ∙ ap (λ o. differ (is_some_and o is_word) (is_some_and (slice_get s.characters (suc place)) is_word)) before
+      ∙ ap (λ o. is_some_and o is_word) after in
+      absurd (cc)
+
+  boundary-among : (place : ℕ) → is_at_word_boundary s u place ≡ true → is_at_word_boundary t u (shift + place) ≡ true
+  boundary-among place h = elim (cases_lt (length s.characters) place) [
+    | inl past ↦ absurd (none-past place past h)
+    | inr le ↦
+        ap (λ b. differ b (is_some_and (character_after t (shift + place)) is_word)) (word-before place le)
+        ∙ ap (λ b. differ (is_some_and (character_before s place) is_word) b) (word-after place le)
+        ∙ h
+  ]
+
+-- ---- Nodes
 
 some_and : (test : ℕ → Bool) (o : Option ℕ) → is_some_and o test ≡ true → (c : ℕ) × (o ≡ Some c) × (test c ≡ true)
 some_and test None h = cc h
@@ -205,7 +269,10 @@ module _ (shift : ℕ) (s t : Text) (part : IsPart shift s t) where
   outcomes-among (byte_sequence bytes) h place g g' = cc h
   outcomes-among (string_set strings icase) h place g g' = cc h
   outcomes-among (anchor type multiline) h place g g' = cc h
-  outcomes-among (word_boundary invert unicode_icase) h place g g' = cc h
+  outcomes-among (word_boundary true u) h place g g' = cc h
+  outcomes-among (word_boundary false u) h place g g' =
+      Each-when _ (is_at_word_boundary s u place) _ (λ at.
+      Has-here (EndsBehind shift place) _ _ [] (boundary-among shift s t part u place at) refl)
   outcomes-among (back_ref group icase) h place g g' = cc h
   outcomes-among (lookaround l contents) h place g g' = cc h
   outcomes-among (cat first rest) h place g g' =
@@ -318,11 +385,51 @@ get-right (x ∷ xs) ys i =
     let one : length (x ∷ xs) + i ≡ suc (length xs + i) = omega arith in
     ap (slice_get (x ∷ (xs ++ ys))) one ∙ get-right xs ys i
 
--- these characters stand in a text
+get-at : (xs ys : List ℕ) → slice_get (xs ++ ys) (length xs) ≡ slice_get ys 0
+get-at xs ys = let none : length xs ≡ length xs + 0 = omega arith in ap (slice_get (xs ++ ys)) none ∙ get-right xs ys 0
+
+-- a line break stands last, or first, where there are any characters
+abbrev EndInBreak : List ℕ → Type 0
+EndInBreak cs = (cs ≡ []) ⊎ ((ds : List ℕ) × (cs ≡ ds ++ 10 ∷ []))
+
+abbrev BeginInBreak : List ℕ → Type 0
+BeginInBreak cs = (cs ≡ []) ⊎ ((ds : List ℕ) × (cs ≡ 10 ∷ ds))
+
+no-word : (u : Bool) → is_word_char u 10 ≡ false
+no-word true = refl
+no-word false = refl
+
+module _ (u : Bool) (t : Text) where
+  no-word-before : (before more : List ℕ) → t.characters ≡ before ++ more → EndInBreak before
+      → is_some_and (character_before t (length before)) (is_word_char u) ≡ false
+  no-word-before before more whole (inl none) = ap (λ (cs : List ℕ). is_some_and (character_before t (length cs)) (is_word_char u)) none
+  no-word-before before more whole (inr h) =
+      let one = length-append h.0 (10 ∷ []) in
+      let long : length before ≡ suc (length h.0) = ap length h.1 ∙ omega (arith, one) in
+      ap (λ n. is_some_and (character_before t n) (is_word_char u)) long
+      ∙ ap (λ (cs : List ℕ). is_some_and (slice_get cs (length h.0)) (is_word_char u))
+      (whole ∙ ap (λ (cs : List ℕ). cs ++ more) h.1 ∙ append_assoc h.0 (10 ∷ []) more)
+      ∙ ap (λ o. is_some_and o (is_word_char u)) (get-at h.0 (10 ∷ more))
+      ∙ no-word u
+
+  first-no-word : (behind : List ℕ) → BeginInBreak behind → is_some_and (slice_get behind 0) (is_word_char u) ≡ false
+  first-no-word behind (inl none) = ap (λ (cs : List ℕ). is_some_and (slice_get cs 0) (is_word_char u)) none
+  first-no-word behind (inr h) = ap (λ (cs : List ℕ). is_some_and (slice_get cs 0) (is_word_char u)) h.1 ∙ no-word u
+
+  no-word-after : (before line behind : List ℕ) → t.characters ≡ before ++ (line ++ behind) → BeginInBreak behind
+      → is_some_and (character_after t (length before + length line)) (is_word_char u) ≡ false
+  no-word-after before line behind whole h =
+      ap (λ (cs : List ℕ). is_some_and (slice_get cs (length before + length line)) (is_word_char u)) whole
+      ∙ ap (λ o. is_some_and o (is_word_char u)) (get-right before (line ++ behind) (length line) ∙ get-at line behind)
+      ∙ first-no-word behind h
+
+-- these characters stand in a text, as a line or several
 pub record StandsIn (line text : List ℕ) : Type 0 where
   pub before : List ℕ
   pub behind : List ℕ
   pub whole : chars text ≡ before ++ (chars line ++ behind)
+  pub begins : EndInBreak before
+  pub ends : BeginInBreak behind
 
 part-of : (line text : List ℕ) (unicode : Bool) (st : StandsIn line text) → IsPart (length st.before) (utf8_text line unicode) (utf8_text text unicode)
 part-of line text unicode st = record {
@@ -330,19 +437,43 @@ part-of line text unicode st = record {
   longer = rw st.whole (
       let one = length-append st.before (chars line ++ st.behind) in
       let two = length-append (chars line) st.behind in omega (arith, one, two));
+  begins = λ u. no-word-before u (utf8_text text unicode) st.before (chars line ++ st.behind) st.whole st.begins;
+  ends = λ u. no-word-after u (utf8_text text unicode) st.before (chars line) st.behind st.whole st.ends;
 }
 
 -- a line and what follows it, joined
-stands-first : (line rest : List ℕ) → IsUtf8 line → StandsIn line (line ++ rest)
-stands-first line rest is = record { before = []; behind = chars rest; whole = chars-append line rest is }
+stands-first : (line rest : List ℕ) → IsUtf8 line → BeginInBreak (chars rest) → StandsIn line (line ++ rest)
+stands-first line rest is ends = record { before = []; behind = chars rest; whole = chars-append line rest is; begins = inl refl; ends = ends }
 
 one_break : IsUtf8 (10 ∷ [])
 one_break = IsUtf8-from_ascii (10 ∷ []) (IsAscii-cons 10 [] (lit< tt) IsAscii-nil)
+
+no-chars : chars [] ≡ []
+unfolding chars
+no-chars = refl
+
+break-char : chars (10 ∷ []) ≡ 10 ∷ []
+unfolding chars
+break-char = refl
+
+more-begin : (text : List ℕ) → BeginInBreak (chars (10 ∷ text))
+more-begin text = inr (chars text, chars-append (10 ∷ []) text one_break ∙ ap (λ cs. cs ++ chars text) break-char)
+
+more-end : (first before : List ℕ) → EndInBreak before → EndInBreak (first ++ (chars (10 ∷ []) ++ before))
+more-end first before (inl none) = inr (first, ap (λ cs. first ++ (chars (10 ∷ []) ++ cs)) none ∙ ap (λ cs. first ++ cs) (append-nil (chars (10 ∷ [])) ∙ break-char))
+more-end first before (inr h) = inr (
+  first ++ (chars (10 ∷ []) ++ h.0),
+  ap (λ cs. first ++ (chars (10 ∷ []) ++ cs)) h.1
+      ∙ ap (λ cs. first ++ cs) (sym (append_assoc (chars (10 ∷ [])) h.0 (10 ∷ [])))
+      ∙ sym (append_assoc first (chars (10 ∷ []) ++ h.0) (10 ∷ [])),
+)
 
 stands-later : (line first text : List ℕ) → IsUtf8 first → StandsIn line text → StandsIn line (first ++ (10 ∷ text))
 stands-later line first text is st = record {
   before = chars first ++ (chars (10 ∷ []) ++ st.before);
   behind = st.behind;
+  begins = more-end (chars first) st.before st.begins;
+  ends = st.ends;
   whole =
       chars-append first (10 ∷ text) is
       ∙ ap (λ cs. chars first ++ cs) (chars-append (10 ∷ []) text one_break ∙ ap (λ cs. chars (10 ∷ []) ++ cs) st.whole)
@@ -353,9 +484,9 @@ stands-later line first text is st = record {
 -- each line of a text stands in it
 all-stand : (lines : List (List ℕ)) → Each IsUtf8 lines → Each (λ line. StandsIn line (join_with_byte 10 lines)) lines
 all-stand [] h = tt
-all-stand (line ∷ []) h = (subst (StandsIn line) (append-nil line) (stands-first line [] h.0), tt)
+all-stand (line ∷ []) h = (subst (StandsIn line) (append-nil line) (stands-first line [] h.0 (inl no-chars)), tt)
 all-stand (line ∷ next ∷ lines) h = (
-  stands-first line (10 ∷ join_with_byte 10 (next ∷ lines)) h.0,
+  stands-first line (10 ∷ join_with_byte 10 (next ∷ lines)) h.0 (more-begin (join_with_byte 10 (next ∷ lines))),
   Each-map _ _ (λ other st. stands-later other line (join_with_byte 10 (next ∷ lines)) h.0 st) (next ∷ lines) (all-stand (next ∷ lines) h.1),
 )
 

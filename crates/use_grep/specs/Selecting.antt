@@ -8,7 +8,6 @@ use Rattle.regex_meaning.specs.Names.{Answer, answers_from}
 use Rattle.regex_meaning.specs.Replace.{replaced}
 use Rattle.regex_grammar.specs.Grammar.{Parses}
 use Rattle.regress_match.specs.Programs.{utf8_answers}
-use Rattle.regress_match.specs.Replacements.{expanded}
 use Rattle.regress_match.specs.declared.api.regex.Regex.{Regex}
 use Rattle.use_grep.specs.Local.{is_local}
 use Rattle.use_grep.specs.declared.select.Line.{Line}
@@ -38,9 +37,21 @@ shown line = (line.number, line.text.now)
 abbrev pub matched_parts : (line : List ℕ) → List Answer → List (List ℕ)
 matched_parts line matches = map (λ m. slice_range line m.range.0 m.range.1) matches
 
+-- in red; nothing of an empty part
+abbrev pub red : (part : List ℕ) → List ℕ
+red [] = []
+red part = 27 ∷ codes "[1;31m" ++ (part ++ 27 ∷ codes "[m")
+
+abbrev pub red_part : (line : List ℕ) → Answer → List ℕ
+red_part line m = red (slice_range line m.range.0 m.range.1)
+
+-- a line with these matches in red, from an offset on
+abbrev pub colored_from : (line : List ℕ) → (from : ℕ) → List Answer → List ℕ
+colored_from line from matches = replaced line from (map (λ m. (m, red_part line m)) matches)
+
 -- a line with its matches in red
 abbrev pub colored : Regex → (line : List ℕ) → List ℕ
-colored re line = replaced line 0 (expanded line (27 ∷ (codes "[1;31m$0" ++ 27 ∷ codes "[m")) (utf8_answers re line 0))
+colored re line = colored_from line 0 (utf8_answers re line 0)
 
 -- the flags that the pattern is read with
 abbrev pub tree_flags : (ignore_case : Bool) → Flags

@@ -1,8 +1,9 @@
-//! Patterns whose matches depend on the characters that they read alone: not on what stands beside them, nor on what a
-//! group matched.
+//! Patterns whose matches depend on the characters that they read alone, and on where words end: not on what else stands
+//! beside them, nor on what a group matched.
 //!
-//! Such a pattern has no match in a line where it has none in a text with this line, so that texts are searched first.
-#![tactic(auto, unfolding(regex_pattern_front::specs::TreeOf::node_of, regress_program::proofs::Weights::weight))]
+//! Such a pattern has no match in a line where it has none in a text with this line, so that texts are searched first. At
+//! the ends of a line a word ends in the text, too, since a line break is no word's character.
+#![tactic(auto, unfolding(regex_pattern_front::specs::TreeOf::node_of, regress_program::specs::Weights::weight))]
 
 ghost use Rattle.std.specs.Prelude.{◌≡◌, IfOk, IsTrue, chars};
 ghost use Rattle.regex_pattern_front.specs.TreeOf.{node_of};
@@ -64,10 +65,10 @@ fn is_local_node(node: &Node) -> bool
             | Node::Bracket(_)
             | Node::MatchAny
             | Node::MatchAnyExceptLineTerminator => return true,
+            Node::WordBoundary { invert, .. } => return !*invert,
             Node::ByteSequence(_)
             | Node::StringSet { .. }
             | Node::Anchor { .. }
-            | Node::WordBoundary { .. }
             | Node::BackRef { .. }
             | Node::LookaroundAssertion { .. } => return false,
         }

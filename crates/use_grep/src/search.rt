@@ -258,7 +258,8 @@ impl<'s, 'a> Search<'s, 'a> {
         }
         self.print_prefix(name, Some(line.number))?;
         if self.options.color && !self.options.invert {
-            writeln!(self.out, "{}", colored(&self.query.re, line.text)?)?;
+            let colored = colored(self.rt.alloc(), &self.query.re, line.text)?;
+            writeln!(self.out, "{colored}")?;
         } else {
             writeln!(self.out, "{}", line.text)?;
         }

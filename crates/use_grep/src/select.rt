@@ -1,15 +1,17 @@
 //! Which lines are selected, and what is shown of them.
 
 ghost use Rattle.std.specs.Prelude.{◌≡◌, ◌++◌, ◌∷◌, ◌+◌, ◌^◌, ◌<◌, [], IfErr, IfOk, false};
-ghost use Rattle.std.specs.Prelude.{◌-◌, filter, length, map, nat_lt, string_bytes, take};
+ghost use Rattle.std.specs.Prelude.{◌-◌, IsCharBoundary, drop, filter, length, map, nat_lt, slice_range, string_bytes, take};
 ghost use Rattle.std.specs.List.{position_or_len};
+ghost use Rattle.regress_exec.specs.Answers.{answer_of};
 ghost use Rattle.regress_match.specs.Programs.{utf8_answers};
 ghost use Rattle.regress_match.specs.Refusals.{IsMemory};
-ghost use Rattle.use_grep.specs.Selecting.{colored, is_selected, lines_of, matched_parts, numbered, shown};
+ghost use Rattle.regress_match.specs.Replacements.{FitsText, IsSlice};
+ghost use Rattle.use_grep.specs.Selecting.{colored, is_selected, lines_of, matched_parts, numbered, red, red_part, shown};
 
 use crate::pattern::Query;
 use memchr::memchr_iter;
-use regress_match::{Regex, SearchError};
+use regress_match::{Match, Regex, SearchError};
 use std::alloc::{AllocError, Global};
 
 /// What begins and what ends red text on a terminal.
@@ -171,14 +173,59 @@ fn push_part<'t>(parts: &mut Vec<&'t str>, part: &'t str) -> Result<(), AllocErr
     Ok(parts.push(part)?)
 }
 
-/// A line with its matches in red.
+/// A line with its matches in red. Of an empty one nothing is written.
 ///
 /// # Errors
 ///
 /// `Memory` where there is no memory for the search or the line.
-pub fn colored(re: &Regex, line: &str) -> Result<String, SearchError>
+pub fn colored(alloc: Global, re: &Regex, line: &str) -> Result<String, SearchError>
     ensures colored { IfOk result (λ s. string_bytes s ≡ colored re.now line.now) }
     ensures refused { IfErr result IsMemory }
 {
-    re.replace_all(line, "\u{1b}[1;31m$0\u{1b}[m")
+    let mut made = String::new(alloc);
+    let mut from = 0;
+    for item in re.find_iter(line)? {
+        let found = item?;
+        from = push_match(&mut made, line, from, &found)?;
+    }
+    push_rest(&mut made, line, from)?;
+    Ok(made)
+}
+
+// Writes a line from an offset on.
+fn push_rest(made: &mut String, line: &str, from: usize) -> Result<(), AllocError>
+    requires { IsCharBoundary line.now from }
+    ensures { IfOk result (λ _. string_bytes made.new ≡ string_bytes made.old ++ drop from line.now) }
+{
+    made.push_str(&line[from..])
+}
+
+// Writes what stands before a match, and the match. Answers where the line goes on behind it.
+fn push_match(
+    made: &mut String,
+    line: &str,
+    from: usize,
+    found: &Match,
+) -> Result<usize, AllocError>
+    requires before { IsSlice line.now (from, found.now.range.start) }
+    requires fits { FitsText line.now (answer_of found.now) }
+    ensures made { IfOk result (λ _. string_bytes made.new ≡ string_bytes made.old
+        ++ (slice_range line.now from found.now.range.start ++ red_part line.now (answer_of found.now))) }
+    ensures behind { IfOk result (λ to. to ≡ found.now.range.end) }
+{
+    made.push_str(&line[from..found.start()])?;
+    push_red(made, found.as_str(line))?;
+    Ok(found.end())
+}
+
+// Writes a part in red.
+fn push_red(made: &mut String, part: &str) -> Result<(), AllocError>
+    ensures { IfOk result (λ _. string_bytes made.new ≡ string_bytes made.old ++ red part.now) }
+{
+    if part.is_empty() {
+        return Ok(());
+    }
+    made.push_str(RED)?;
+    made.push_str(part)?;
+    made.push_str(PLAIN)
 }

@@ -13,10 +13,16 @@ use crate::pieces::cut;
 use crate::show::show;
 use crate::tokens::{compile, tokens};
 use anyhow::{Context, Result};
+use std::io::IsTerminal;
 use std::process::ExitCode;
 use std::{env, fs, io};
 
 const TROUBLE: u8 = 2;
+
+const MB: usize = 1_000_000;
+
+// From which length on it is told on a terminal what is done with a text.
+const LONG: usize = 10 * MB;
 
 // The text of a file, or of standard input where its name is `-`.
 fn text_of(rt: &HostRuntime, name: &str) -> Result<String> {
@@ -28,15 +34,30 @@ fn text_of(rt: &HostRuntime, name: &str) -> Result<String> {
     text.context(format_args!("reading {name}"))
 }
 
-// Prints the file of these options with its tokens in colour.
-fn print(rt: &HostRuntime, options: &Options<'_>) -> Result<()> {
+// The text of these options with its tokens in colour. Of a long one it is told on a terminal what is done with it.
+fn colored(rt: &HostRuntime, options: &Options<'_>) -> Result<String> {
     let alloc = rt.alloc();
     let tokens = tokens(alloc, &options.tokens)?;
     let re = compile(alloc, &tokens)?;
     let text = text_of(rt, options.file)?;
+    let tells = text.len() >= LONG && rt.stderr().is_terminal();
+    if tells {
+        eprint!(rt; "\rsearching {} MB", text.len() / MB)?;
+    }
     let pieces = cut(alloc, &re, &tokens, text.as_str())?;
-    let shown = show(alloc, options.style, &tokens, text.as_str(), &pieces)?;
-    print!(rt; "{shown}")?;
+    if tells {
+        eprint!(rt; "\r\u{1b}[Kwriting {} pieces", pieces.len())?;
+    }
+    Ok(show(alloc, options.style, &tokens, text.as_str(), &pieces)?)
+}
+
+// Prints the file of these options with its tokens in colour.
+fn print(rt: &HostRuntime, options: &Options<'_>) -> Result<()> {
+    let shown = colored(rt, options);
+    if rt.stderr().is_terminal() {
+        eprint!(rt; "\r\u{1b}[K")?;
+    }
+    print!(rt; "{}", shown?)?;
     Ok(())
 }
 

@@ -24,7 +24,3 @@ within false ms = OutOfSteps
 -- A text matches where the list of matches of the pattern's tree is not empty, so wherever in it a match stands.
 abbrev pub verdict_of : Regex → (text : List ℕ) → (steps : ℕ) → Verdict
 verdict_of re text steps = within (nat_le (steps_needed re text) steps) (utf8_answers re text 0)
-
--- what some pattern says of a text in so many steps
-abbrev pub IsVerdictOn : (text : List ℕ) → (steps : ℕ) → Verdict → Type 0
-IsVerdictOn text steps verdict = (re : Regex) × (verdict ≡ verdict_of re text steps)

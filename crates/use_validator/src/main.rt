@@ -45,7 +45,7 @@ fn run(rt: &HostRuntime, options: &Options<'_>) -> Result<bool> {
     let schema = read_value(rt, options.schema)?;
     let patterns = Patterns::of(alloc, &schema)?;
     let document = read_value(rt, options.document)?;
-    let findings = findings(alloc, &patterns, options.steps, &schema, &document)?;
+    let findings = findings(rt, &patterns, options.steps, &schema, &document)?;
     for finding in &findings {
         println!(rt; "{finding}")?;
     }

@@ -1,5 +1,10 @@
 //! The patterns of a schema.
 
+ghost use Rattle.std.specs.Prelude.{◌≡◌, IfOk, IfSome, codes, string_bytes};
+ghost use Rattle.regex_meaning.specs.Flags.{flags_of_text};
+ghost use Rattle.regress_match.specs.Flags.{flags_of};
+ghost use Rattle.use_validator.specs.Patterns.{AreOfTheirTexts, IsPatternOf, IsProgramOf};
+
 use crate::pointer::child;
 use anyhow::{Result, bail};
 use regress_match::{Error, Flags, Regex};
@@ -11,6 +16,7 @@ use std::collections::BTreeMap;
 #[derive(Drop)]
 pub struct Patterns {
     compiled: BTreeMap<String, Regex>,
+    ghost of_their_texts: { AreOfTheirTexts compiled.entries },
 }
 
 // A schema within the whole one, and where it stands.
@@ -29,9 +35,7 @@ impl Patterns {
     /// Where a `pattern` is no string, `properties` or `patternProperties` is no object, a pattern is refused, or there is no
     /// memory. The error says in which part it stands. What is no object has no pattern.
     pub fn of(alloc: Global, schema: &Value) -> Result<Self> {
-        let mut patterns = Patterns {
-            compiled: BTreeMap::new(alloc),
-        };
+        let mut patterns = Patterns::none(alloc);
         let mut parts = Vec::new(alloc);
         parts.push(Part {
             pointer: String::new(alloc),
@@ -47,8 +51,16 @@ impl Patterns {
         Ok(patterns)
     }
 
+    // No pattern yet.
+    fn none(alloc: Global) -> Self {
+        let compiled = BTreeMap::new(alloc);
+        Patterns { compiled }
+    }
+
     /// The program of a pattern, if the schema has it.
-    pub fn get(&self, pattern: &str) -> Option<&Regex> {
+    pub fn get(&self, pattern: &str) -> Option<&Regex>
+        ensures { IfSome result (λ re. IsPatternOf pattern.now re.now) }
+    {
         self.compiled.get(pattern)
     }
 
@@ -74,22 +86,50 @@ impl Patterns {
 
     // One more pattern, and where it stands.
     fn compile(&mut self, alloc: Global, place: &str, pattern: &str) -> Result<()> {
-        let flags = Flags::from("u");
-        match Regex::with_flags(alloc, pattern, flags) {
-            Ok(re) => {
-                self.compiled.insert(String::from_str(alloc, pattern)?, re)?;
-            }
-            Err(Error::Parse(_)) => match Regex::diagnose(alloc, pattern, flags)? {
-                Some(told) => bail!(
-                    "the schema's {place} is refused: {told}\n{}",
-                    told.below_text(pattern)
-                ),
-                None => bail!("the schema's {place} is refused"),
-            },
-            Err(why) => bail!("the schema's {place} is refused: {why}"),
-        }
+        let re = compile(alloc, place, pattern)?;
+        self.insert(String::from_str(alloc, pattern)?, re)
+    }
+
+    // The program of one more pattern.
+    fn insert(&mut self, pattern: String, re: Regex) -> Result<()>
+        requires { IsProgramOf (string_bytes pattern) re }
+    {
+        self.compiled.insert(pattern, re)?;
         Ok(())
     }
+}
+
+// A pattern as a program. Where it is none, the error says why, and where it stands.
+fn compile(alloc: Global, place: &str, pattern: &str) -> Result<Regex>
+    ensures { IfOk result (IsProgramOf pattern.now) }
+{
+    let why = match read(alloc, pattern) {
+        Ok(re) => return Ok(re),
+        Err(why) => why,
+    };
+    if let Error::Parse(_) = why {
+        if let Some(told) = Regex::diagnose(alloc, pattern, flags())? {
+            bail!(
+                "the schema's {place} is refused: {told}\n{}",
+                told.below_text(pattern)
+            );
+        }
+    }
+    bail!("the schema's {place} is refused: {why}")
+}
+
+// The same with the error of the constructor.
+fn read(alloc: Global, pattern: &str) -> Result<Regex, Error>
+    ensures { IfOk result (IsProgramOf pattern.now) }
+{
+    Regex::with_flags(alloc, pattern, flags())
+}
+
+// The flags that patterns are read with.
+fn flags() -> Flags
+    ensures { flags_of result ≡ flags_of_text (codes "u") }
+{
+    Flags::from("u")
 }
 
 // A member of a schema that has to be an object, if it is there.

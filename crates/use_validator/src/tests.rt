@@ -4,7 +4,6 @@ use crate::schema::Patterns;
 use crate::walk::findings;
 use anyhow::{Result, bail};
 use serde_json::Value;
-use std::alloc::Global;
 
 // Rows of four fields: a schema, a document, how many steps a search may take, and the lines that are told; `refused` where the
 // schema is.
@@ -33,7 +32,8 @@ true | "a" | 100 |
 {"properties":[]} | "" | 100 | refused
 "##;
 
-fn write_findings(line: &mut String, alloc: Global, row: &[&str]) -> Result<()> {
+fn write_findings(line: &mut String, rt: &HostRuntime, row: &[&str]) -> Result<()> {
+    let alloc = rt.alloc();
     let [schema, document, steps, ..] = row else {
         bail!("no row");
     };
@@ -43,7 +43,7 @@ fn write_findings(line: &mut String, alloc: Global, row: &[&str]) -> Result<()> 
     let Ok(patterns) = Patterns::of(alloc, &schema) else {
         return Ok(line.push_str("refused")?);
     };
-    for finding in &findings(alloc, &patterns, steps, &schema, &document)? {
+    for finding in &findings(rt, &patterns, steps, &schema, &document)? {
         if !line.is_empty() {
             line.push_str("; ")?;
         }
@@ -59,7 +59,7 @@ fn documents(rt: HostRuntime) -> Result<()> {
         let fields: Vec<&str> = row.split(" | ").collect(alloc)?;
         let wanted = fields.last().copied().unwrap_or("");
         let mut told = String::new(alloc);
-        write_findings(&mut told, alloc, &fields)?;
+        write_findings(&mut told, &rt, &fields)?;
         assert_eq!(rt; told.as_str(), wanted, "{row}");
     }
     Ok(())

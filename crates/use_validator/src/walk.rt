@@ -1,7 +1,7 @@
 //! The strings of a document, each with the schemas for it.
 
 ghost use Rattle.std.specs.Prelude.{IfOk};
-ghost use Rattle.use_validator.specs.Judge.{IsVerdictOn};
+ghost use Rattle.use_validator.specs.Patterns.{IsVerdictOf};
 
 use crate::judge::{Verdict, judge};
 use crate::pointer::child;
@@ -9,7 +9,8 @@ use crate::schema::Patterns;
 use anyhow::{Result, bail};
 use serde_json::Value;
 use std::alloc::{AllocError, Global};
-use std::fmt;
+use std::io::IsTerminal;
+use std::{fmt, io};
 
 /// A pattern that a string, or the name of a member, is not said to match.
 #[derive(Debug, Drop)]
@@ -52,18 +53,22 @@ struct Search<'p> {
     steps: u64,
 }
 
+// After how many values of a document it is told on a terminal how far the walk is.
+const MANY: u64 = 100_000;
+
 /// What the patterns of a schema refuse; strings come in the order of the document. `patterns` are those of the schema.
 ///
 /// # Errors
 ///
 /// Where there is no memory for it, or the schema has a pattern that is not among these.
 pub fn findings(
-    alloc: Global,
+    rt: &HostRuntime,
     patterns: &Patterns,
     steps: u64,
     schema: &Value,
     document: &Value,
 ) -> Result<Vec<Finding>> {
+    let alloc = rt.alloc();
     let search = Search {
         alloc,
         patterns,
@@ -76,21 +81,39 @@ pub fn findings(
         value: document,
         schema,
     })?;
-    for _ in 0..u64::MAX {
+    for done in 1..u64::MAX {
         let Some(place) = places.pop() else {
             break;
         };
+        tell(rt, done)?;
         search.check_string(&place, &mut findings)?;
         push_items(alloc, &place, &mut places)?;
         search.push_members(&place, &mut places, &mut findings)?;
     }
+    clear(rt)?;
     Ok(findings)
+}
+
+// Tells on a terminal how far the walk is.
+fn tell(rt: &HostRuntime, done: u64) -> io::Result<()> {
+    if done % MANY == 0 && rt.stderr().is_terminal() {
+        eprint!(rt; "\r{done} values")?;
+    }
+    Ok(())
+}
+
+// Clears what was told.
+fn clear(rt: &HostRuntime) -> io::Result<()> {
+    if rt.stderr().is_terminal() {
+        eprint!(rt; "\r\u{1b}[K")?;
+    }
+    Ok(())
 }
 
 impl<'p> Search<'p> {
     // What a pattern of the schema says of a text, in the steps that a search may take.
     fn verdict(self, pattern: &str, text: &str) -> Result<Verdict>
-        ensures { IfOk result (IsVerdictOn text.now self.entry.steps) }
+        ensures { IfOk result (IsVerdictOf pattern.now text.now self.entry.steps) }
     {
         let Some(re) = self.patterns.get(pattern) else {
             bail!("the schema has no pattern {pattern}");

@@ -1,5 +1,5 @@
 //! The ids of groups: each stands once, and loops and lookarounds name those inside them.
-#![tactic(auto, unfolding(regex_pattern_front::specs::TreeOf::node_of, crate::specs::Ids::are_fresh, crate::specs::Ids::least, crate::specs::Ids::past, crate::proofs::Weights::weight))]
+#![tactic(auto, unfolding(regex_pattern_front::specs::TreeOf::node_of, crate::specs::Ids::are_fresh, crate::specs::Ids::least, crate::specs::Ids::past, crate::specs::Weights::weight))]
 
 ghost use Rattle.std.specs.Prelude.{◌≡◌, is_some, IfSome, ◌≤◌, ◌<◌, ◌^◌, ◌&&◌, ◌||◌, ◌+◌, ◌-◌, ◌∷◌, [], not, ◌==◌, ℕ, false, length, IsTrue, nat_le};
 ghost use Rattle.regex_meaning.specs.Tree.{alt, group_ids, every};

@@ -1,5 +1,5 @@
 //! A walk over the nodes of a tree.
-#![tactic(auto, unfolding(regex_pattern_front::specs::TreeOf::node_of, crate::proofs::Weights::weight))]
+#![tactic(auto, unfolding(regex_pattern_front::specs::TreeOf::node_of, crate::specs::Weights::weight))]
 
 ghost use Rattle.std.specs.Prelude.{◌≡◌, Option, Some, is_some, IsTrue};
 ghost use Rattle.regex_meaning.specs.Tree.{Node as TreeNode, cat, end_of_cat};

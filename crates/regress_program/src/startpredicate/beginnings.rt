@@ -1,5 +1,5 @@
 //! What the nodes of a tree begin with.
-#![tactic(auto, unfolding(regex_pattern_front::specs::TreeOf::node_of, regex_meaning::specs::StartPredicate::beginning, crate::specs::Predicates::may_grow, crate::proofs::Weights::weight))]
+#![tactic(auto, unfolding(regex_pattern_front::specs::TreeOf::node_of, regex_meaning::specs::StartPredicate::beginning, crate::specs::Predicates::may_grow, crate::specs::Weights::weight))]
 
 ghost use Rattle.std.specs.Prelude.{◌≡◌, not, true, false, IfOk, OnOk, IsOk};
 ghost use Rattle.regex_meaning.specs.StartPredicate.{beginning, join, sequence_of, sequence_or, union, first_byte, shared_front};

@@ -2,12 +2,10 @@ use Rattle.std.proofs.Common.{true≢false, ◌≡◌, ◌≤◌, ◌∙◌, [],
 use Rattle.std.proofs.lemmas.Bool.{eqb-true, eq-eqb}
 use Rattle.regex_meaning.specs.Tree.{goal as the_goal}
 use Rattle.regex_pattern_front.specs.TreeOf.{node_of}
-use Rattle.regex_pattern_front.specs.Parts.{AreParts}
-use Rattle.regex_pattern_front.specs.Levels.{nodes_at}
 use Rattle.regex_pattern_front.specs.declared.ir.Node.TheVariants.{Goal}
 use Rattle.regex_pattern_front.proofs.NodeLemmas.{node_of-Cat}
 use Rattle.regex_pattern_front.proofs.PartLemmas.{empty-list, whole, whole-plain, whole-reads_none}
-use Rattle.regex_pattern_front.proofs.LevelLemmas.{open-none}
+use Rattle.regex_pattern_front.proofs.LevelLemmas.{parts-whole}
 use Rattle.regex_grammar.proofs.Standing.{past-groups, stands-end}
 use Rattle.regex_pattern_front.proofs.ParsedLemmas.{ends-open}
 use Rattle.regex_pattern_front.proofs.parse.Parser.finish.Goals as goal
@@ -18,40 +16,24 @@ node_of-Goal = refl
 
 pub returns-clause-well_formed : goal.returns-clause-well_formed
 returns-clause-well_formed c =
-    let r = c.requires in
     let groups = c.args.self.groups in
     let references = c.args.self.leaves.references in
     let within : references ≤ groups = omega (arith, c.if-self-from.false, c.from.ensures) in
-    let none : vec_len c.args.self.around ≡ 0 = eqb-true _ _ (sym c.is_empty.ensures ∙ c.if-not-is_empty.false) in
-    let closed : c.args.self.around.items ≡ [] = empty-list c.args.self.around.items (omega (arith, none, c.args.self.around.ok.0)) in
-    let from_none : 0 ≡ r.inner = open-none references 0 r.inner c.args.self.around.items closed r.around in
-    let parts : AreParts 0 groups references (nodes_at c.args.self.level) = rw from_none r.level in
+    let parts = parts-whole c.args.self c.requires (eqb-true _ _ (sym c.is_empty.ensures ∙ c.if-not-is_empty.false)) in
     rw (node_of-Cat c.in_ok-vec.field-0, c.in_ok-vec.ensures.items, node_of-Goal)
     (whole groups references (node_of c.in_ok-node.node) within (c.in_ok-node.ensures.parts 0 groups references parts))
 
 pub returns-clause-characters : goal.returns-clause-characters
 returns-clause-characters c =
-    let r = c.requires in
-    let groups = c.args.self.groups in
-    let references = c.args.self.leaves.references in
-    let none : vec_len c.args.self.around ≡ 0 = eqb-true _ _ (sym c.is_empty.ensures ∙ c.if-not-is_empty.false) in
-    let closed : c.args.self.around.items ≡ [] = empty-list c.args.self.around.items (omega (arith, none, c.args.self.around.ok.0)) in
-    let from_none : 0 ≡ r.inner = open-none references 0 r.inner c.args.self.around.items closed r.around in
-    let parts : AreParts 0 groups references (nodes_at c.args.self.level) = rw from_none r.level in
+    let parts = parts-whole c.args.self c.requires (eqb-true _ _ (sym c.is_empty.ensures ∙ c.if-not-is_empty.false)) in
     rw (node_of-Cat c.in_ok-vec.field-0, c.in_ok-vec.ensures.items, node_of-Goal)
-    (whole-reads_none references (node_of c.in_ok-node.node) (c.in_ok-node.ensures.parts 0 groups references parts).sound)
+    (whole-reads_none c.args.self.leaves.references (node_of c.in_ok-node.node) (c.in_ok-node.ensures.parts 0 c.args.self.groups c.args.self.leaves.references parts).sound)
 
 pub returns-clause-plain : goal.returns-clause-plain
 returns-clause-plain c =
-    let r = c.requires in
-    let groups = c.args.self.groups in
-    let references = c.args.self.leaves.references in
-    let none : vec_len c.args.self.around ≡ 0 = eqb-true _ _ (sym c.is_empty.ensures ∙ c.if-not-is_empty.false) in
-    let closed : c.args.self.around.items ≡ [] = empty-list c.args.self.around.items (omega (arith, none, c.args.self.around.ok.0)) in
-    let from_none : 0 ≡ r.inner = open-none references 0 r.inner c.args.self.around.items closed r.around in
-    let parts : AreParts 0 groups references (nodes_at c.args.self.level) = rw from_none r.level in
+    let parts = parts-whole c.args.self c.requires (eqb-true _ _ (sym c.is_empty.ensures ∙ c.if-not-is_empty.false)) in
     rw (node_of-Cat c.in_ok-vec.field-0, c.in_ok-vec.ensures.items, node_of-Goal)
-    (whole-plain references (node_of c.in_ok-node.node) (c.in_ok-node.ensures.parts 0 groups references parts).sound)
+    (whole-plain c.args.self.leaves.references (node_of c.in_ok-node.node) (c.in_ok-node.ensures.parts 0 c.args.self.groups c.args.self.leaves.references parts).sound)
 
 pub returns-then-not-is_empty-clause-tree : goal.returns-then-not-is_empty-clause-tree
 returns-then-not-is_empty-clause-tree c = λ pattern h refused.

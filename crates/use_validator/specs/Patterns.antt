@@ -1,0 +1,27 @@
+-- The patterns of a schema, by their texts.
+use Rattle.std.specs.Prelude.{◌≡◌, ℕ, List, String, chars, codes, string_bytes}
+use Rattle.std.specs.Global.{Global}
+use Rattle.regex_meaning.specs.Flags.{flags_of_text}
+use Rattle.regex_meaning.specs.Laws.{Each}
+use Rattle.regress_match.specs.Programs.{IsCompiledWith}
+use Rattle.regress_match.specs.declared.api.regex.Regex.{Regex}
+use Rattle.use_validator.specs.Judge.{verdict_of}
+use Rattle.use_validator.specs.declared.judge.Verdict.{Verdict}
+
+-- the program is that of the pattern with this text, which is read with the flag `u`
+abbrev pub IsProgramOf : (text : List ℕ) → Regex → Type 0
+IsProgramOf text re = IsCompiledWith (flags_of_text (codes "u")) (chars text) re
+
+abbrev pub AreProgramsOf : List (String Global × Regex) → Type 0
+AreProgramsOf entries = Each (λ e. IsProgramOf (string_bytes e.0) e.1) entries
+
+-- the same as facts with one proof
+abbrev pub IsPatternOf : (text : List ℕ) → Regex → Type 0
+IsPatternOf text re = ∥ IsProgramOf text re ∥₁
+
+abbrev pub AreOfTheirTexts : List (String Global × Regex) → Type 0
+AreOfTheirTexts entries = ∥ AreProgramsOf entries ∥₁
+
+-- what this pattern says of a text in so many steps
+abbrev pub IsVerdictOf : (pattern text : List ℕ) → (steps : ℕ) → Verdict → Type 0
+IsVerdictOf pattern text steps verdict = (re : Regex) × IsPatternOf pattern re × (verdict ≡ verdict_of re text steps)

@@ -41,6 +41,7 @@ pub record IsForBytes (re : Regex) (start : StartPredicate) (plan : Plan) : Type
 pub record IsRunOf (re : Regex) (run : Run) : Type 0 where
   pub planned : IsPlanFor true re run.plan.value
   pub loops : run.loops ≡ (compiled (tree_to_run (tree_of re))).loops
+  pub insns : map insn_of run.insns.items ≡ (compiled (tree_to_run (tree_of re))).insns
 
 -- what programs for 16-bit units hold besides
 pub record IsForUnits (re : Regex) (run : Run) : Type 0 where

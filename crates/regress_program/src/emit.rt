@@ -110,8 +110,7 @@ pub fn emit_units(alloc: Global, re: &ir::Regex) -> Result<CompiledUnits, EmitEr
     Ok(CompiledUnits { program, run })
 }
 
-// What is run in place of a tree's program: a plan of the tree with narrow loops over one character, whose code is dropped,
-// or of the program itself where nothing is to be optimized.
+// What is run in place of a tree's program: a plan of the tree with narrow loops over one character, or of the program itself where nothing is to be optimized.
 fn run_of(alloc: Global, re: &ir::Regex, program: &Program) -> Result<Run, AllocError>
     requires fits { FitsLimits (tree_of re.now) }
     requires same { program.now ≡ re.now }
@@ -121,7 +120,8 @@ fn run_of(alloc: Global, re: &ir::Regex, program: &Program) -> Result<Run, Alloc
         let plan = program.planned(Units::Wide)?;
         let loops = program.loops();
         let plan = placed(alloc, plan)?;
-        return Ok(Run { plan, loops });
+        let insns = Vec::from_slice(alloc, program.insns())?;
+        return Ok(Run { plan, loops, insns });
     }
     let narrow = emitted(alloc, re, true, program.insns().len())?;
     let code = Code {
@@ -132,7 +132,11 @@ fn run_of(alloc: Global, re: &ir::Regex, program: &Program) -> Result<Run, Alloc
     let plan = Plan::new(alloc, code, Units::Wide)?;
     let loops = u32::from(narrow.loops);
     let plan = placed(alloc, plan)?;
-    Ok(Run { plan, loops })
+    Ok(Run {
+        plan,
+        loops,
+        insns: narrow.insns,
+    })
 }
 
 // The code of a tree, which has so many instructions; loops over one character are narrow in it or not.

@@ -101,7 +101,8 @@ impl<'r, Input: InputIndexer> BacktrackExecutor<'r, Input> {
         }
         self.began = true;
         let alloc = self.search.searched.program.allocator();
-        if let Ok(memo) = begin_memory(alloc, &self.search, self.search.program.insns()) {
+        let insns = self.search.program.insns();
+        if let Ok(memo) = begin_memory(alloc, &self.search, insns) {
             self.remembering.memo = memo;
         }
     }

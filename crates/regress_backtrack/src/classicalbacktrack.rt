@@ -1,13 +1,12 @@
 //! The executor that keeps one state and undoes its changes.
 
-ghost use Rattle.std.specs.Prelude.{◌≡◌, IsAscii, IfOk, None, false, option_map, ⊤, ℕ, List};
+ghost use Rattle.std.specs.Prelude.{◌≡◌, IsAscii, IfOk, None, option_map, ⊤, ℕ, List};
 ghost use Rattle.std.specs.Borrow.{Bor};
 ghost use Rattle.std.proofs.Props.{props};
 ghost use Rattle.regex_meaning.specs.Offsets.{IsBoundary};
 ghost use Rattle.regex_meaning.specs.Text.{ascii_text, utf8_text, utf16_text, ucs2_text};
 ghost use Rattle.regex_pattern_front.specs.TreeOf.{tree_of};
-ghost use Rattle.regress_exec.specs.Attempts.{IsNextTry, ends_with, end_from, ticks_from};
-ghost use Rattle.regress_exec.specs.Spends.{Spends, Tells};
+ghost use Rattle.regress_exec.specs.Attempts.{IsNextTry};
 ghost use Rattle.regress_machine.specs.Finds.{CanSearch};
 ghost use Rattle.regress_scan.specs.Searching.{program_of};
 ghost use Rattle.regress_memo.specs.Memo.{has_failure};
@@ -17,10 +16,10 @@ ghost use Rattle.regress_backtrack.specs.Memos.{terms_of};
 ghost use Rattle.regress_backtrack.specs.Planning.{run_in};
 ghost use Rattle.regress_backtrack.specs.Remembered.{IsRightOf, terms_in, failed_in};
 
-use crate::attempts::attempt;
+use crate::attempts::{attempt, attempt_again};
 pub use crate::limited::LimitedExecutor;
 use crate::memory::Memory;
-use crate::memos::begin_memory;
+use crate::memos::Again;
 use crate::remembering::{Course, Forgets};
 use crate::search::{PlannedProgram, PlannedSearch};
 use crate::starts::next_start;
@@ -29,7 +28,6 @@ use regress_exec::exec::{Executor, MatchProducer, SearchError, Searcher};
 use regress_exec::places::Attempts;
 use regress_exec::searched::Searched;
 use regress_input::indexing::{AsciiInput, InputIndexer, Ucs2Input, Utf8Input, Utf16Input};
-use regress_memo::memo::Memo;
 use regress_program::insn::{CompiledRegex, CompiledUnits, Program};
 use regress_scan::planned::{At, Planned, offset_in, position_in};
 use std::alloc::AllocError;
@@ -42,16 +40,15 @@ pub struct BacktrackExecutor<'r, Input: InputIndexer> {
     pub(crate) memory: Memory,
     // So much work is done in all attempts until one is made once more.
     free: Course<Free, Forgets>,
-    // Behind that it is remembered what failed, where there is a ledger and memory for it.
-    remembering: Course<Unbound, Option<Box<Memo>>>,
-    began: bool,
+    // Behind that it is remembered what failed.
+    again: Again,
     // What the last attempt came to that was made once more. A position shows the text's lifetime in this type, which
     // calls that are generic in the executor need to have.
     came: Result<Option<Input::Position>, SearchError>,
     // What is known to fail does.
     ghost right: { IsRightOf (compiled (run_in search.program)) (Input.text search.searched.input)
-        (terms_in (λ memo. terms_of memo.value.ledger) remembering.memo)
-        (failed_in (λ memo. has_failure memo.value) remembering.memo) } by { Prim.hlevel props },
+        (terms_in (λ memo. terms_of memo.value.ledger) again.course.memo)
+        (failed_in (λ memo. has_failure memo.value) again.course.memo) } by { Prim.hlevel props },
 }
 
 // So much work for each offset of a text is more than most searches do.
@@ -83,47 +80,15 @@ impl<'r, Input: InputIndexer> BacktrackExecutor<'r, Input> {
                 steps: Free::up_to(work),
                 memo: Forgets,
             },
-            remembering: Course {
-                steps: Unbound,
-                memo: None,
+            again: Again {
+                course: Course {
+                    steps: Unbound,
+                    memo: None,
+                },
+                began: false,
             },
-            began: false,
             came: Ok(None),
         }
-    }
-
-    // Begins to remember what fails, unless it has. Where that is refused, nothing is remembered.
-    fn begin_to_remember(&mut self)
-        ensures { self.new.search ≡ self.old.search }
-    {
-        if self.began {
-            return;
-        }
-        self.began = true;
-        let alloc = self.search.searched.program.allocator();
-        let insns = self.search.program.insns();
-        if let Ok(memo) = begin_memory(alloc, &self.search, insns) {
-            self.remembering.memo = memo;
-        }
-    }
-
-    // An attempt from its start, whatever an earlier one left. What it came to is left here, since then no attempt that
-    // is made once has to make room for the answer.
-    #[inline(never)]
-    fn attempt_again(&mut self, pos: Input::Position)
-        requires { IsBoundary (Input.text self.old.search.searched.input) (Input.Position.offset pos) }
-        ensures found { let tree = tree_of self.old.search.program.regex in
-            let text = Input.text self.old.search.searched.input in let at = Input.Position.offset in
-            IfOk self.new.came (λ end. ends_with at end (state_of self.new.memory 0 0).groups
-            ≡ end_from tree text (at pos)) }
-        ensures steps { let tree = tree_of self.old.search.program.regex in
-            let text = Input.text self.old.search.searched.input in
-            Spends (ticks_from tree text (Input.Position.offset pos)) None self.new.came None }
-        ensures cause { Tells self.new.came false }
-        ensures same { self.new.search ≡ self.old.search }
-    {
-        self.begin_to_remember();
-        self.came = attempt(&self.search, pos, &mut self.memory, &mut self.remembering);
     }
 }
 
@@ -163,14 +128,30 @@ impl<'r, Input: InputIndexer> Attempts for BacktrackExecutor<'r, Input> {
     #[inline(always)]
     fn attempt(&mut self, pos: Input::Position) -> Result<Option<Input::Position>, SearchError> {
         if self.free.steps.is_spent() {
-            self.attempt_again(pos);
+            let insns = self.search.program.insns();
+            attempt_again(
+                &self.search,
+                insns,
+                pos,
+                &mut self.memory,
+                &mut self.again,
+                &mut self.came,
+            );
             return self.came;
         }
         let end = attempt(&self.search, pos, &mut self.memory, &mut self.free);
         if end.is_ok() || !self.free.steps.is_spent() {
             return end;
         }
-        self.attempt_again(pos);
+        let insns = self.search.program.insns();
+        attempt_again(
+            &self.search,
+            insns,
+            pos,
+            &mut self.memory,
+            &mut self.again,
+            &mut self.came,
+        );
         self.came
     }
 

@@ -7,12 +7,13 @@ ghost use Rattle.regress_memo.specs.Memo.{has_failure, as_key as key_known};
 ghost use Rattle.regress_plan.specs.Insns.{insn_of};
 ghost use Rattle.regress_scan.specs.Searching.{program_of};
 ghost use Rattle.regress_backtrack.specs.Memory.{state_of};
-ghost use Rattle.regress_backtrack.specs.Memos.{terms_of, is_run};
-ghost use Rattle.regress_backtrack.specs.Remembered.{as_key, terms_in, failed_in, IsRight};
+ghost use Rattle.regress_backtrack.specs.Memos.{terms_of, is_run, KnowsRightly};
+ghost use Rattle.regress_backtrack.specs.Remembered.{as_key, terms_in, failed_in};
 
 use crate::here::Here;
 use crate::memory::Memory;
-use crate::remembering::{Key, Remembers};
+use crate::remembering::{Course, Key, Remembers};
+use crate::steps::Unbound;
 use regex_pattern_front::types::LoopID;
 use regress_ledger::codes::{Round, Rounds};
 use regress_ledger::ledger::Ledger;
@@ -194,16 +195,40 @@ impl<M: Remembers> Remembers for Option<Box<M>> {
     }
 }
 
-/// A memory of what is searched, whose instructions these are. Nothing is known yet; there is none where the program has no
-/// ledger, or where its keys cannot be counted.
-pub(crate) fn begin_memory<W: Planned>(
+/// What attempts go by that are made once more.
+#[derive(Drop)]
+pub(crate) struct Again {
+    /// It is remembered what failed, where there is a ledger and memory for it.
+    pub course: Course<Unbound, Option<Box<Memo>>>,
+    /// Whether that was begun.
+    pub began: bool,
+}
+
+/// Begins to remember what fails, unless it has. Where that is refused, nothing is remembered.
+pub(crate) fn begin_to_remember<W: Planned>(planned: &W, insns: &[Insn], again: &mut Again)
+    requires insns { map insn_of insns.now ≡ (program_of (W.searching planned.now)).insns }
+    requires right { KnowsRightly (λ memo. memo.value) (W.searching planned.now) again.old.course.memo }
+    ensures { KnowsRightly (λ memo. memo.value) (W.searching planned.now) again.new.course.memo }
+{
+    if again.began {
+        return;
+    }
+    again.began = true;
+    let alloc = planned.program().allocator();
+    if let Ok(memo) = begin_memory(alloc, planned, insns) {
+        again.course.memo = memo;
+    }
+}
+
+// A memory of what is searched, whose instructions these are. Nothing is known yet; there is none where the program has no
+// ledger, or where its keys cannot be counted.
+fn begin_memory<W: Planned>(
     alloc: Global,
     planned: &W,
     insns: &[Insn],
 ) -> Result<Option<Box<Memo>>, AllocError>
     requires { map insn_of insns.now ≡ (program_of (W.searching planned.now)).insns }
-    ensures { IfOk result (λ found. IsRight (W.searching planned.now)
-        (terms_in (λ memo. terms_of memo.value.ledger) found) (failed_in (λ memo. has_failure memo.value) found)) }
+    ensures { IfOk result (KnowsRightly (λ memo. memo.value) (W.searching planned.now)) }
 {
     let Some(ledger) = Ledger::new(alloc, insns, planned.loops() as usize)? else {
         return Ok(None);

@@ -110,7 +110,8 @@ pub fn emit_units(alloc: Global, re: &ir::Regex) -> Result<CompiledUnits, EmitEr
     Ok(CompiledUnits { program, run })
 }
 
-// What is run in place of a tree's program: a plan of the tree with narrow loops over one character, or of the program itself where nothing is to be optimized.
+// What is run in place of a tree's program: a plan of the tree with narrow loops over one character, or of the program itself
+// where nothing is to be optimized.
 fn run_of(alloc: Global, re: &ir::Regex, program: &Program) -> Result<Run, AllocError>
     requires fits { FitsLimits (tree_of re.now) }
     requires same { program.now ≡ re.now }

@@ -21,6 +21,7 @@ returns-then-re c =
     record {
       planned = c.in_ok-plan-2.ensures _ _ (subst (λ t. IsPlanOf true (compiled t) c.in_ok-plan.plan) own c.in_ok-plan.ensures);
       loops = c.loops-loops.ensures ∙ ap (λ t. (compiled t).loops) own;
+      insns = ap (map insn_of) c.in_ok-insns.ensures.items ∙ c.insns.ensures.code ∙ ap (λ t. (compiled t).insns) own;
     }
 
 pub new-requires : goal.new-requires
@@ -50,4 +51,5 @@ returns c =
     record {
       planned = c.in_ok-plan-4.ensures _ _ (c.in_ok-plan-3.ensures (compiled (tree_to_run tree)) has);
       loops = c.from-loops.ensures ∙ ap (λ s. s.loops) made ∙ zero-add (loop_count (tree_to_run tree).root);
+      insns = ap (λ s. s.insns) made;
     }

@@ -1,6 +1,7 @@
 -- What loops hold is sound where each row's loop is.
-use Rattle.std.proofs.Common.{◌≡◌, ◌≤◌, ◌+◌, ℕ, Bool, true, false, List, Some, refl, ap, ◌∙◌, sym, subst, slice_get}
-use Rattle.regex_meaning.specs.Text.{Direction}
+use Rattle.std.proofs.Common.{◌≡◌, ◌≤◌, ◌<◌, ◌+◌, ℕ, Bool, true, false, List, Option, Some, refl, ap, ◌∙◌, sym, subst, slice_get}
+use Rattle.std.specs.Prelude.{◌==◌, ◌↔◌, IsTrue, option_map}
+use Rattle.regex_meaning.specs.Text.{Direction, rightwards, leftwards}
 use Rattle.regress_machine.specs.Machine.{LoopData, State}
 use Rattle.regress_linear.specs.Account.{left_from, IsSound}
 use Rattle.regress_linear.specs.Keys.{IsSoundState}
@@ -8,7 +9,7 @@ use Rattle.regress_ledger.specs.declared.ledger.Row.{Row}
 use Rattle.regress_ledger.specs.declared.ledger.Ledger.{Ledger}
 use Rattle.regress_ledger.specs.declared.ledger.Said.TheVariants.{Inside, Moved}
 use Rattle.regress_ledger.specs.Ledger.{line_of, rows_of, holds, count_of, account_of, way_of}
-use Rattle.regress_ledger.specs.Sound.{way, IsAtMost, IsSoundRow}
+use Rattle.regress_ledger.specs.Sound.{way, IsAtMost, IsSoundBy, IsSoundRow}
 use Rattle.regress_ledger.proofs.Rows.{holds-there, holds-in}
 
 -- ---- Iterations

@@ -1,4 +1,4 @@
-use Rattle.std.proofs.Common.{◌≤◌, ◌*◌, ◌^◌, ◌+◌, false, sym, subst}
+use Rattle.std.proofs.Common.{◌≡◌, ◌≤◌, ◌*◌, ◌^◌, ◌+◌, false, sym, subst}
 use Rattle.std.specs.Prelude.{IfSome, MatchOption}
 use Rattle.regex_meaning.specs.Layout.{Program}
 use Rattle.regress_ledger.specs.Steps.{HasInsns}

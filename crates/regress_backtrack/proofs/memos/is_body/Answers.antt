@@ -1,4 +1,4 @@
-use Rattle.std.proofs.Common.{◌-◌, sym}
+use Rattle.std.proofs.Common.{◌≡◌, ◌+◌, ◌-◌, Some, sym, ◌∙◌, arith}
 use Rattle.regress_scan.specs.Searching.{program_of}
 use Rattle.regress_backtrack.proofs.MemoKeys.{no-run, no-run-before, not-false}
 use Rattle.regress_backtrack.proofs.memos.is_body.Goals as goal

@@ -1,5 +1,7 @@
-use Rattle.std.proofs.Common.{◌≡◌, ap, ◌∙◌, subst}
+use Rattle.std.proofs.Common.{◌≡◌, Bool, ap, sym, ◌∙◌, subst}
+use Rattle.std.specs.Prelude.{IsTrue}
 use Rattle.regress_linear.specs.Turns.{Key}
+use Rattle.regress_ledger.specs.Whole.{HasBit}
 use Rattle.regress_memo.specs.Memo.{has_failure}
 use Rattle.regress_backtrack.proofs.MemoKeys.{unknown}
 use Rattle.regress_backtrack.proofs.memos.MemoRemembers.has_failed.Goals as goal

@@ -1,4 +1,4 @@
-use Rattle.std.proofs.Common.{sym, subst}
+use Rattle.std.proofs.Common.{◌≡◌, sym, subst}
 use Rattle.regress_scan.specs.Searching.{program_of}
 use Rattle.regress_backtrack.specs.Remembered.{IsRightOf, terms_in, failed_in}
 use Rattle.regress_backtrack.proofs.memos.OptionBoxRemembers.key_at.Goals as goal

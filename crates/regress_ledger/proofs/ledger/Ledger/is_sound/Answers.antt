@@ -1,7 +1,8 @@
-use Rattle.std.proofs.Common.{slice_get, refl, ap, sym, ◌∙◌, arith}
+use Rattle.std.proofs.Common.{◌≡◌, ℕ, Some, slice_get, refl, ap, sym, subst, ◌∙◌, arith}
 use Rattle.std.proofs.lemmas.Option.{slice_get-get_or}
 use Rattle.regress_ledger.specs.declared.ledger.Line.{Line}
 use Rattle.regress_ledger.specs.declared.ledger.Row.{Row}
+use Rattle.regress_ledger.specs.Ledger.{line_of}
 use Rattle.regress_ledger.specs.Sound.{way, IsSoundRow}
 use Rattle.regress_ledger.proofs.Rows.{rows-more, rows-all}
 use Rattle.regress_ledger.proofs.SoundRows.{sound-all, sound-row-there}

@@ -32,3 +32,12 @@ pub mod Looking
 pub mod Attempting
 pub mod TriedPlaces
 pub mod InPlace
+pub mod AmongRecords
+pub mod Recording
+pub mod Noting
+pub mod Courses
+pub mod Marked
+pub mod Dropped
+pub mod Striding
+pub mod MemoKeys
+pub mod Rightness

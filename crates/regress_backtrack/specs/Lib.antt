@@ -16,3 +16,7 @@ pub mod Searched
 pub mod Tried
 pub mod Going
 pub mod Attempted
+pub mod Recorded
+pub mod Remembered
+pub mod Course
+pub mod Memos

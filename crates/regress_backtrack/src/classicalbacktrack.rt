@@ -2,20 +2,28 @@
 
 ghost use Rattle.std.specs.Prelude.{◌≡◌, IsAscii, IfOk, None, option_map, ⊤, ℕ, List};
 ghost use Rattle.std.specs.Borrow.{Bor};
+ghost use Rattle.std.proofs.Props.{props};
 ghost use Rattle.regex_meaning.specs.Offsets.{IsBoundary};
 ghost use Rattle.regex_meaning.specs.Text.{ascii_text, utf8_text, utf16_text, ucs2_text};
 ghost use Rattle.regex_pattern_front.specs.TreeOf.{tree_of};
 ghost use Rattle.regress_exec.specs.Attempts.{IsNextTry};
 ghost use Rattle.regress_machine.specs.Finds.{CanSearch};
 ghost use Rattle.regress_scan.specs.Searching.{program_of};
+ghost use Rattle.regress_memo.specs.Memo.{has_failure};
+ghost use Rattle.regress_program.specs.Code.{compiled};
 ghost use Rattle.regress_backtrack.specs.Memory.{state_of};
+ghost use Rattle.regress_backtrack.specs.Memos.{terms_of};
+ghost use Rattle.regress_backtrack.specs.Planning.{run_in};
+ghost use Rattle.regress_backtrack.specs.Remembered.{IsRightOf, terms_in, failed_in};
 
-use crate::attempts::attempt;
+use crate::attempts::{attempt, attempt_again};
 pub use crate::limited::LimitedExecutor;
 use crate::memory::Memory;
+use crate::memos::Again;
+use crate::remembering::{Course, Forgets};
 use crate::search::{PlannedProgram, PlannedSearch};
 use crate::starts::next_start;
-use crate::steps::Free;
+use crate::steps::{Free, Unbound};
 use regress_exec::exec::{Executor, MatchProducer, SearchError, Searcher};
 use regress_exec::places::Attempts;
 use regress_exec::searched::Searched;
@@ -30,9 +38,32 @@ pub struct BacktrackExecutor<'r, Input: InputIndexer> {
     pub(crate) search: PlannedSearch<'r, Input>,
     // with the groups of the last attempt that found an end
     pub(crate) memory: Memory,
-    // Where the last attempt began. A position shows the text's lifetime in this type, which calls that are generic in
-    // the executor need to have.
-    tried: Option<Input::Position>,
+    // So much work is done in all attempts until one is made once more.
+    free: Course<Free, Forgets>,
+    // Behind that it is remembered what failed.
+    again: Again,
+    // What the last attempt came to that was made once more. A position shows the text's lifetime in this type, which
+    // calls that are generic in the executor need to have.
+    came: Result<Option<Input::Position>, SearchError>,
+    // What is known to fail does.
+    ghost right: { IsRightOf (compiled (run_in search.program)) (Input.text search.searched.input)
+        (terms_in (λ memo. terms_of memo.value.ledger) again.course.memo)
+        (failed_in (λ memo. has_failure memo.value) again.course.memo) } by { Prim.hlevel props },
+}
+
+// So much work for each offset of a text is more than most searches do.
+const WORK_FOR_EACH: u64 = 16;
+
+const MOST_WORK: u64 = 0x7FFF_FFFF_FFFF_FFFF;
+
+// How much work a search of so many units may do at first.
+#[inline(always)]
+fn work_at_first(units: usize) -> u64 {
+    if units < 0x0400_0000_0000_0000 {
+        (units as u64 + 1) * WORK_FOR_EACH
+    } else {
+        MOST_WORK
+    }
 }
 
 impl<'r, Input: InputIndexer> BacktrackExecutor<'r, Input> {
@@ -41,10 +72,22 @@ impl<'r, Input: InputIndexer> BacktrackExecutor<'r, Input> {
         ensures { result.search ≡ search.entry }
     {
         let alloc = search.searched.program.allocator();
+        let work = work_at_first(search.searched.input.unit_count());
         BacktrackExecutor {
             search,
             memory: Memory::new(alloc),
-            tried: None,
+            free: Course {
+                steps: Free::up_to(work),
+                memo: Forgets,
+            },
+            again: Again {
+                course: Course {
+                    steps: Unbound,
+                    memo: None,
+                },
+                began: false,
+            },
+            came: Ok(None),
         }
     }
 }
@@ -82,9 +125,34 @@ impl<'r, Input: InputIndexer> Attempts for BacktrackExecutor<'r, Input> {
         &self.search.searched.input
     }
 
+    #[inline(always)]
     fn attempt(&mut self, pos: Input::Position) -> Result<Option<Input::Position>, SearchError> {
-        self.tried = Some(pos);
-        attempt(&self.search, pos, &mut self.memory, &mut Free)
+        if self.free.steps.is_spent() {
+            let insns = self.search.program.insns();
+            attempt_again(
+                &self.search,
+                insns,
+                pos,
+                &mut self.memory,
+                &mut self.again,
+                &mut self.came,
+            );
+            return self.came;
+        }
+        let end = attempt(&self.search, pos, &mut self.memory, &mut self.free);
+        if end.is_ok() || !self.free.steps.is_spent() {
+            return end;
+        }
+        let insns = self.search.program.insns();
+        attempt_again(
+            &self.search,
+            insns,
+            pos,
+            &mut self.memory,
+            &mut self.again,
+            &mut self.came,
+        );
+        self.came
     }
 
     fn group_count(&self) -> usize {

@@ -11,6 +11,7 @@ ghost use Rattle.regress_backtrack.specs.Attempted.{IsLaidOut};
 
 use crate::attempts::attempt;
 use crate::classicalbacktrack::BacktrackExecutor;
+use crate::remembering::{Course, Forgets};
 use crate::steps::Limited;
 use crate::tried::{first_tried, next_tried};
 use regress_exec::exec::{MatchProducer, SearchError, Searcher};
@@ -94,12 +95,16 @@ impl<'r, 't> Attempts for LimitedExecutor<'r, 't> {
         &mut self,
         pos: <Utf8Input<'t> as InputIndexer>::Position,
     ) -> Result<Option<<Utf8Input<'t> as InputIndexer>::Position>, SearchError> {
-        let mut steps = Limited {
-            left: self.steps.left,
-            out: false,
+        let mut course = Course {
+            steps: Limited {
+                left: self.steps.left,
+                out: false,
+            },
+            memo: Forgets,
         };
         let executor = &mut self.executor;
-        let end = attempt(&executor.search, pos, &mut executor.memory, &mut steps);
+        let end = attempt(&executor.search, pos, &mut executor.memory, &mut course);
+        let steps = course.steps;
         self.steps = steps;
         end
     }

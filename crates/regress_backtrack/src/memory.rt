@@ -39,6 +39,8 @@ pub enum Kind {
     Run,
     /// `next`, and those behind it, each one more character of the lazy run before the instruction on; `last` of them at most.
     Lazy,
+    /// None. What stood at `next` with code `last` has failed once nothing is left above.
+    Record,
 }
 
 /// A thread still to try: an instruction and offsets from which to go on, and how long the log of changes was.
@@ -539,6 +541,15 @@ impl Memory {
         ensures length { result ≡ length (state_of self.now 0 0).groups }
     {
         self.groups
+    }
+
+    /// How many loops there are.
+    #[inline(always)]
+    pub fn loop_count(&self) -> usize
+        ensures loops { self.now.groups + result ≡ length self.now.slots }
+        ensures length { result ≡ length (state_of self.now 0 0).loops }
+    {
+        self.slots.len() - self.groups
     }
 
     /// A group's range, if it has one.

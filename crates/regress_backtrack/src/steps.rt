@@ -1,12 +1,12 @@
-//! How many steps a search may take.
+//! How many steps a search may take, and how much work it may do.
 
-ghost use Rattle.std.specs.Prelude.{◌≡◌, ◌<◌, ◌+◌, ℕ, Bool, true, false, OnOk, OnErr, IsTrue};
+ghost use Rattle.std.specs.Prelude.{◌≡◌, ◌<◌, ◌+◌, ◌⊎◌, ℕ, Bool, true, false, OnOk, OnErr, IsTrue};
 ghost use Rattle.regress_backtrack.specs.Steps.{Budget, IsTaken, IsRefused};
 
 use std::alloc::AllocError;
 
-/// A search stopped without an answer: there was no memory or, where steps are counted, there were too few. It holds
-/// nothing, so that a result of a place is returned in registers; the counter knows the cause.
+/// A search stopped without an answer: there was no memory, or too much work was done; or, where steps are counted, there
+/// were too few. It holds nothing, so that a result of a place is returned in registers; the counter knows the cause.
 #[derive(Clone, Copy)]
 pub struct Stop;
 
@@ -31,14 +31,44 @@ pub trait Steps: Copy {
         ensures taken { OnOk result (IsTaken COUNTS steps (budget self.old) (budget self.new)) }
         ensures refused { OnErr result (IsRefused COUNTS steps (budget self.old) (budget self.new)) };
 
+    /// One way back: one step is taken, and some work is done. If too much was, the search stops.
+    fn go_back(&mut self) -> Result<(), Stop>
+        ensures taken { OnOk result (IsTaken COUNTS 1 (budget self.old) (budget self.new)) }
+        ensures stopped { OnErr result (IsTaken COUNTS 1 (budget self.old) (budget self.new)
+            ⊎ IsRefused COUNTS 1 (budget self.old) (budget self.new)) };
+
+    /// So many units are read in one turn, which is work.
+    fn read(&mut self, units: usize)
+        ensures { budget self.new ≡ budget self.old };
+
     /// Whether steps were refused.
     fn is_out(&self) -> bool
         ensures { result ≡ (budget self.now).out };
 }
 
-/// Any number of steps.
+// From here on work is below 0.
+const BELOW_ZERO: u64 = 0x8000_0000_0000_0000;
+
+/// Any number of steps, and so much work.
 #[derive(Clone, Copy)]
-pub struct Free;
+pub struct Free {
+    // What is left of it. Below 0 it goes on from 2^64, so that no work is too much to count.
+    work: u64,
+}
+
+impl Free {
+    /// So much work may be done.
+    #[inline(always)]
+    pub fn up_to(work: u64) -> Self {
+        Free { work }
+    }
+
+    /// Whether more was done.
+    #[inline(always)]
+    pub fn is_spent(&self) -> bool {
+        self.work >= BELOW_ZERO
+    }
+}
 
 impl Steps for Free {
     ghost COUNTS = { false };
@@ -51,6 +81,47 @@ impl Steps for Free {
     fn take(&mut self, _steps: usize) -> Result<(), Stop> {
         Ok(())
     }
+
+    #[inline(always)]
+    fn go_back(&mut self) -> Result<(), Stop> {
+        self.work = self.work.wrapping_sub(1);
+        if self.is_spent() { Err(Stop) } else { Ok(()) }
+    }
+
+    #[inline(always)]
+    fn read(&mut self, units: usize) {
+        self.work = self.work.wrapping_sub(units as u64);
+    }
+
+    #[inline(always)]
+    fn is_out(&self) -> bool {
+        false
+    }
+}
+
+/// Any number of steps, and any work.
+#[derive(Clone, Copy)]
+pub struct Unbound;
+
+impl Steps for Unbound {
+    ghost COUNTS = { false };
+
+    const COUNTS: bool = false;
+
+    ghost budget = { λ _. record { left = 0; out = false } };
+
+    #[inline(always)]
+    fn take(&mut self, _steps: usize) -> Result<(), Stop> {
+        Ok(())
+    }
+
+    #[inline(always)]
+    fn go_back(&mut self) -> Result<(), Stop> {
+        Ok(())
+    }
+
+    #[inline(always)]
+    fn read(&mut self, _units: usize) {}
 
     #[inline(always)]
     fn is_out(&self) -> bool {
@@ -83,6 +154,14 @@ impl Steps for Limited {
         self.left -= steps;
         Ok(())
     }
+
+    #[inline(always)]
+    fn go_back(&mut self) -> Result<(), Stop> {
+        self.take(1)
+    }
+
+    #[inline(always)]
+    fn read(&mut self, _units: usize) {}
 
     #[inline(always)]
     fn is_out(&self) -> bool {

@@ -4,3 +4,4 @@ pub mod Digits
 pub mod Bits
 pub mod WholeLemmas
 pub mod Ways
+pub mod SoundRows

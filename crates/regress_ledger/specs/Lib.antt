@@ -2,3 +2,4 @@ pub mod Ledger
 pub mod Steps
 pub mod Checks
 pub mod Whole
+pub mod Sound

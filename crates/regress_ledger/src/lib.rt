@@ -9,5 +9,6 @@ pub mod laws;
 pub mod ledger;
 pub mod maker;
 mod paid;
+pub mod sound;
 pub mod steps;
 mod weights;

@@ -111,7 +111,8 @@ module _ (program : Program) (text : Text) (t : Ledger) (of : IsLedgerOf program
       in-places (units text) (plan_codes (questions_of t)) k.ip k.code k.at (omega (arith, at)) (omega (arith, code, counted))
       (recorded t) (records-there t k.ip has.records)
 
-  thread-key : (d : Direction) (s : State) (k : Key) → key_at t s ≡ Some k → run_at (insn_before program s.ip) ≡ None
+module _ (program : Program) (text : Text) (t : Ledger) where
+  pub thread-key : (d : Direction) (s : State) (k : Key) → key_at t s ≡ Some k → run_at (insn_before program s.ip) ≡ None
       → way_of t s.ip ≡ d → IsStateOf program s → Agree (account_of t) (units text) outermost d s s
       → IsOf program text (account_of t) (ledger_keys program text t) d k (running s ∷ [])
   thread-key d s k is no_body way of_program sound = by (line_of t s.ip).records refl is
@@ -156,7 +157,7 @@ run-key-is program text t d test greedy s place r =
     ap (λ b. if b then Some (key_of (plan_code (questions_of t)) u) else None) records ∙ ap (λ c. Some (make c)) code
 
 pub keys-are-there : KeysAreThere
-keys-are-there = record { has_bit = key-has-bit; inside = key-inside; thread = thread-key; run = run-key-is }
+keys-are-there = record { has_bit = key-has-bit; inside = key-inside; thread = λ program text t of. thread-key program text t; run = run-key-is }
 
 -- ---- What is known is so
 

@@ -47,7 +47,7 @@ pub record IsForBytes (re : Regex) (start : StartPredicate) (plan : Plan) : Type
 -- what is run in place of the tree's program for 16-bit units
 pub record IsRunOf (re : Regex) (run : Run) : Type 0 where
   pub planned : IsPlanFor true re run.plan.value
-  pub loops : run.loops ≡ (compiled (tree_to_run (tree_of re))).loops
+  pub code : IsCodeIn (tree_to_run (tree_of re)) (arc_value run.code)
 
 -- what programs for 16-bit units hold besides
 pub record IsForUnits (re : Regex) (run : Run) : Type 0 where

@@ -106,7 +106,7 @@ pub fn emit_units(alloc: Global, re: &ir::Regex) -> Result<CompiledUnits, EmitEr
 {
     let program = compile(alloc, re, reads_bytes(&re.node))?;
     let code = code_to_run(alloc, re, &program)?;
-    let run = run_of(alloc, &code, program.groups())?;
+    let run = run_of(alloc, code, program.groups())?;
     Ok(CompiledUnits { program, run })
 }
 
@@ -125,7 +125,7 @@ pub fn emit_both(alloc: Global, re: ir::Regex) -> Result<(CompiledRegex, Compile
 {
     let program = compile(alloc, &re, reads_bytes(&re.node))?;
     let code = code_to_run(alloc, &re, &program)?;
-    let run = run_of(alloc, &code, program.groups())?;
+    let run = run_of(alloc, code.clone()?, program.groups())?;
     let tree = to_run(re);
     let optimized = program.with_code(code, &tree)?;
     let cr = for_bytes(alloc, &tree, optimized)?;
@@ -187,20 +187,19 @@ fn is_run_itself(re: &ir::Regex) -> bool
 }
 
 // What is run in place of a tree with so many groups, of whose place this code is.
-fn run_of(alloc: Global, code: &Emitted, groups: u32) -> Result<Run, AllocError>
-    requires { length code.now.insns.items < 2 ^ 32 }
-    ensures { IfOk result (λ run. (re : Regex) → IsCodeIn (tree_to_run (tree_of re)) code.now
+fn run_of(alloc: Global, code: Arc<Emitted, Global>, groups: u32) -> Result<Run, AllocError>
+    requires { length (arc_value code).insns.items < 2 ^ 32 }
+    ensures { IfOk result (λ run. (re : Regex) → IsCodeIn (tree_to_run (tree_of re)) (arc_value code)
         → groups ≡ (compiled (tree_of re)).groups → IsRunOf re run) }
 {
-    let loops = code.loops;
-    let code = Code {
+    let parts = Code {
         insns: &code.insns,
         brackets: &code.brackets,
         groups,
     };
-    let plan = Plan::new(alloc, code, Units::Wide)?;
+    let plan = Plan::new(alloc, parts, Units::Wide)?;
     let plan = placed(alloc, plan)?;
-    Ok(Run { plan, loops })
+    Ok(Run { plan, code })
 }
 
 // The code of a tree, which has so many instructions; loops over one character are narrow in it or not.

@@ -79,7 +79,8 @@ fn write_each(
     }
 }
 
-// The codes behind none, one and two iterations of each loop, where the current one has read a character, and where it has not.
+// The codes behind none to four iterations of each loop, where the current one has read a character, and where it has not; with
+// a mark where that is not sound at the end of a text of one unit.
 fn write_codes_at(
     alloc: Global,
     text: &mut String,
@@ -89,14 +90,19 @@ fn write_codes_at(
 ) -> Result<(), AllocError>
     requires { AreCoded ledger.now }
 {
-    for number in 0..6usize {
+    for number in 0..10usize {
         let round = Round {
             iters: number / 2,
             entry: number % 2,
         };
         let rounds = Vec::from_elem(alloc, round, loops)?;
         let code = ledger.code_at(ip, 1, &rounds);
-        write!(text, " {code}")?;
+        let mark = if ledger.is_sound(ip, 1, 1, &rounds) {
+            ""
+        } else {
+            "!"
+        };
+        write!(text, " {code}{mark}")?;
     }
     Ok(())
 }

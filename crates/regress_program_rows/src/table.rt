@@ -12,8 +12,8 @@
 // the first of each row of keys the step of them all: how many units the character has, 0 where none is accepted, and 5 where the
 // character decides; and the bytes at which a run ends. Programs for 16-bit units are those of the tree as it is, and so are
 // those for bytes, of which `optimized` asks for that of the optimized tree. Ledgers have each instruction that records with how many codes it has, and what a
-// place pays for all of them; codes are those behind none, one and two iterations of each loop, the last of which has read a
-// character, or has not. Memories of three places have as many keys as codes in all those places, which are noted one by one; one of all places that
+// place pays for all of them; codes are those behind none to four iterations of each loop, the last of which has read a
+// character, or has not, with a mark where that is not sound at the end of a text of one unit. Memories of three places have as many keys as codes in all those places, which are noted one by one; one of all places that
 // can be counted has more than can be counted, or no room, if it has keys at all.
 pub(crate) const ROWS: &str = "\
 program goal → Goal
@@ -241,9 +241,9 @@ ledger /a{2,5}b/ → 2x1 for 4
 ledger /(?:.*?,){3}x/ → 2x3 3x3 5x1 for 49
 ledger /((a*)*)*b/ → 1x2 5x4 8x4 9x4 11x2 13x1 for 104
 codes /(?:ab)*c/ → one each
-codes /(?:a*){2,}b/ → 2: 0 1 2 3 4 5; 3: 0 1 2 3 4 5
-codes /(?:ab){2,4}/ → 1: 0 0 1 1 2 2
-codes /((a*)*)*b/ → 1: 0 1 0 1 0 1; 5: 0 3 0 3 0 3; 8: 0 3 0 3 0 3; 9: 0 3 0 3 0 3; 11: 0 1 0 1 0 1
+codes /(?:a*){2,}b/ → 2: 0 1 2 3 4 5 4! 5 4! 5!; 3: 0 1 2 3 4 5 4! 5 4! 5!
+codes /(?:ab){2,4}/ → 1: 0 0 1 1 2 2 3 3 3! 3!
+codes /((a*)*)*b/ → 1: 0 1 0! 1 0! 1! 0! 1! 0! 1!; 5: 0 3 0! 3 0! 3! 0! 3! 0! 3!; 8: 0 3 0! 3 0! 3! 0! 3! 0! 3!; 9: 0 3 0! 3 0! 3! 0! 3! 0! 3!; 11: 0 1 0! 1 0! 1! 0! 1! 0! 1!
 memo /abc/ → 0 fail, 0 find an end, in all places
 memo /a*/ → 3 fail, 3 find an end, refused
 memo /(?:ab)*c/ → 6 fail, 6 find an end, too many

@@ -1,9 +1,9 @@
 //! Programs for bytes, and programs for 16-bit units.
 
-ghost use Rattle.std.specs.Prelude.{◌≡◌, IfOk, true, false};
+ghost use Rattle.std.specs.Prelude.{◌≡◌, IfOk, true, false, map};
 ghost use Rattle.regex_pattern_front.specs.TreeOf.{tree_of};
 ghost use Rattle.regex_meaning.specs.Layout.{reads_bytes};
-ghost use Rattle.regress_program.specs.Insns.{start_of};
+ghost use Rattle.regress_program.specs.Insns.{start_of, insn_of};
 ghost use Rattle.regress_program.specs.Predicates.{IsShort};
 ghost use Rattle.regress_program.specs.Code.{compiled};
 ghost use Rattle.regress_program.specs.Running.{tree_to_run};
@@ -12,6 +12,7 @@ ghost use Rattle.regress_program.specs.Programs.{IsPlanFor};
 use crate::insn::predicates::StartPredicate;
 use crate::insn::programs::Program;
 use crate::insn::runs::{Run, copy_of_plan};
+use regress_plan::insn::Insn;
 use regress_plan::plan::Plan;
 use std::alloc::AllocError;
 use std::marker::Model;
@@ -145,7 +146,15 @@ impl CompiledUnits {
     pub fn planned_loops(&self) -> u32
         ensures { result ≡ (compiled (tree_to_run (tree_of self.now))).loops }
     {
-        self.run.loops
+        self.run.code.loops
+    }
+
+    /// Its instructions.
+    #[inline(always)]
+    pub fn planned_insns(&self) -> &[Insn]
+        ensures { map insn_of result.now ≡ (compiled (tree_to_run (tree_of self.now))).insns }
+    {
+        &self.run.code.insns
     }
 
     /// The same program once more.

@@ -80,12 +80,24 @@ impl GroupNames {
         ensures { IfOk result (λ copy. copy ≡ self.now) }
     {
         match &self.held {
-            Held::Own(names) => Ok(GroupNames::owned(names.clone()?)),
+            Held::Own(names) => Ok(GroupNames::owned(copied(names)?)),
             Held::Shared(names) => Ok(GroupNames {
                 held: Held::Shared(names.clone()?),
             }),
         }
     }
+}
+
+// The same names, each with a room of its own. That there are none is seen in place: each match has a list, and most
+// patterns name no group.
+#[inline(always)]
+fn copied(names: &Vec<String>) -> Result<Vec<String>, AllocError>
+    ensures { IfOk result (λ copy. map string_bytes copy.items ≡ map string_bytes names.now.items) }
+{
+    if names.is_empty() {
+        return Ok(Vec::new(*names.allocator()));
+    }
+    Ok(names.clone()?)
 }
 
 impl fmt::Debug for GroupNames {

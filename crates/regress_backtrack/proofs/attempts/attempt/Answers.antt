@@ -16,6 +16,7 @@ use Rattle.regress_backtrack.specs.Steps.{limit_of}
 use Rattle.regress_machine.specs.Finds.{initial}
 use Rattle.regress_machine.specs.Machine.{running}
 use Rattle.regress_backtrack.proofs.Attempting.{Begins, first-state, begins, attempt-ends, attempt-spends, attempt-stops, found-with, spends-none, stopped-takes, takes-none, tells-memory}
+use Rattle.regress_backtrack.proofs.Marked.{sound-same}
 use Rattle.regress_backtrack.proofs.attempts.attempt.Given.{Over}
 use Rattle.regress_backtrack.proofs.attempts.attempt.Goals.{In_ok-begin}
 use Rattle.regress_backtrack.proofs.attempts.attempt.Goals as goal
@@ -71,7 +72,7 @@ returns-in-Ok-clause-steps g c =
     let b = search-here g (goal.at.returns-in-Ok-clause-steps g c).In_ok-begin in
     let first = state-here g (goal.at.returns-in-Ok-clause-steps g c).In_ok-begin in
     let budget = g.S.Steps.budget in
-    attempt-spends w at c.pos_to_offset-at.result c.begin.new.self (budget c.args.steps.now) (budget c.run.new.steps) g.S.Steps.COUNTS b first
+    attempt-spends w at c.pos_to_offset-at.result c.begin.new.self (budget c.args.course.now.steps) (budget c.run.new.course.steps) g.S.Steps.COUNTS b first
     c.run.new.memory c.in-Ok.end c.end_in.result c.in-Ok.ensures.ran
 
 pub returns-in-Err-clause-steps : goal.returns-in-Err-clause-steps
@@ -82,8 +83,8 @@ returns-in-Err-clause-steps g c =
     let first = state-here g (goal.at.returns-in-Err-clause-steps g c).In_ok-begin in
     let budget = g.S.Steps.budget in
     let counts = g.S.Steps.COUNTS in
-    let before = budget c.args.steps.now in
-    let after = budget c.run.new.steps in
+    let before = budget c.args.course.now.steps in
+    let after = budget c.run.new.course.steps in
     subst (λ e. Spends {X = Option g.row.W-Input-Position.Denot} (ticks_from w.tree w.text at) (limit_of counts before) (Err e) (limit_of counts after)) (sym c.cause.ensures)
     (attempt-stops w at c.pos_to_offset-at.result c.begin.new.self before after counts b first (Option g.row.W-Input-Position.Denot) c.requires.fresh c.in-Err.ensures.stopped)
 
@@ -92,8 +93,8 @@ returns-in-Err-clause-begun g c =
     let w = g.W.Planned.searching c.args.planned.now in
     let budget = g.S.Steps.budget in
     let counts = g.S.Steps.COUNTS in
-    let before = budget c.args.steps.now in
-    let after = budget c.run.new.steps in
+    let before = budget c.args.course.now.steps in
+    let after = budget c.run.new.course.steps in
     let begun = IsLaidOut w.tree c.run.new.memory in
     subst (λ e. TakesIfBegun {X = Option g.row.W-Input-Position.Denot} begun (limit_of counts before) (Err e) (limit_of counts after)) (sym c.cause.ensures)
     (stopped-takes (Option g.row.W-Input-Position.Denot) counts begun (NeedAtLeast w true (running (state_of c.begin.new.self 0 c.pos_to_offset-at.result) ∷ [])) before after c.requires.fresh c.in-Err.ensures.stopped)
@@ -102,7 +103,7 @@ pub returns-in_err-begin-clause-steps : goal.returns-in_err-begin-clause-steps
 returns-in_err-begin-clause-steps g c =
     let w = g.W.Planned.searching c.args.planned.now in
     let need = ticks_from w.tree w.text (g.W.Input.Position.PositionType.offset c.args.pos) in
-    let budget = g.S.Steps.budget c.args.steps.now in
+    let budget = g.S.Steps.budget c.args.course.now.steps in
     let counts = g.S.Steps.COUNTS in
     let X = Option g.row.W-Input-Position.Denot in
     handed X X need (limit_of counts budget) (limit_of counts budget) Memory c.from_residual.result c.from_residual.ensures.1 (spends-none X counts need budget budget refl)
@@ -112,8 +113,14 @@ returns-in_err-begin-clause-begun g c =
     let groups = c.groups-groups.ensures ∙ c.program.ensures.groups in
     let loops = c.loops-loops.ensures in
     let w = g.W.Planned.searching c.args.planned.now in
-    let left = limit_of g.S.Steps.COUNTS (g.S.Steps.budget c.args.steps.now) in
+    let left = limit_of g.S.Steps.COUNTS (g.S.Steps.budget c.args.course.now.steps) in
     takes-none (Option g.row.W-Input-Position.Denot) (IsLaidOut w.tree c.begin.new.self) left left c.from_residual.result (λ e. c.in_err-begin.ensures.refused (e ∙ ap₂ (λ n m. n + m) (sym groups) (sym loops)))
 
 pub returns-in_err-begin-clause-cause : goal.returns-in_err-begin-clause-cause
 returns-in_err-begin-clause-cause g c = tells-memory c.from_residual.result c.from_residual.ensures.1 c.requires.fresh
+
+pub run-requires-clause-sound : goal.run-requires-clause-sound
+run-requires-clause-sound g c = c.requires.sound
+
+pub returns-in_err-begin-clause-sound : goal.returns-in_err-begin-clause-sound
+returns-in_err-begin-clause-sound g c = sound-same c.requires.sound

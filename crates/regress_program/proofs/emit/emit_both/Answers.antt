@@ -8,7 +8,7 @@ use Rattle.regress_program.proofs.emit.emit_both.Goals as goal
 
 pub run_of-requires : goal.run_of-requires
 run_of-requires c =
-    subst (λ code. length code.insns.items < 2 ^ 32) (sym c.deref.ensures)
+    subst (λ code. length code.insns.items < 2 ^ 32) (sym c.in_ok-clone.ensures.cases)
     (run-fits (tree_of c.args.re) (arc_value c.in_ok-code.code) c.in_ok-code.ensures c.in_ok-program.ensures.fits.insns)
 
 pub for_bytes-requires-clause-fits : goal.for_bytes-requires-clause-fits

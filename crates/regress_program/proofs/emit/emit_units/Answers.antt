@@ -1,4 +1,4 @@
-use Rattle.std.proofs.Common.{sym, ◌∙◌, ◌<◌, ◌^◌, subst, length}
+use Rattle.std.proofs.Common.{sym, ◌∙◌}
 use Rattle.std.specs.Arc.{arc_value}
 use Rattle.regex_pattern_front.specs.TreeOf.{tree_of}
 use Rattle.regress_program.proofs.CodeLemmas.{compiled-is_code}
@@ -6,9 +6,7 @@ use Rattle.regress_program.proofs.RunningLemmas.{run-fits}
 use Rattle.regress_program.proofs.emit.emit_units.Goals as goal
 
 pub run_of-requires : goal.run_of-requires
-run_of-requires c =
-    subst (λ code. length code.insns.items < 2 ^ 32) (sym c.deref.ensures)
-    (run-fits (tree_of c.args.re.now) (arc_value c.in_ok-code.code) c.in_ok-code.ensures c.in_ok-program.ensures.fits.insns)
+run_of-requires c = run-fits (tree_of c.args.re.now) (arc_value c.in_ok-code.code) c.in_ok-code.ensures c.in_ok-program.ensures.fits.insns
 
 pub returns-clause-code : goal.returns-clause-code
 returns-clause-code c = record {

@@ -10,12 +10,9 @@ use Rattle.regress_program.proofs.emit.run_of.Goals as goal
 pub returns : goal.returns
 returns c = λ re is groups.
     let run = tree_to_run (tree_of re) in
-    let has : HasCode (compiled run) (record { insns = c.deref.result; brackets = c.deref-2.result; groups = c.args.groups }) = record {
-      insns = ap (map insn_of) c.deref.ensures.value ∙ is.insns;
-      brackets = ap (map contents_of) c.deref-2.ensures.value ∙ is.brackets;
+    let has : HasCode (compiled run) (record { insns = c.deref-2.result; brackets = c.deref-4.result; groups = c.args.groups }) = record {
+      insns = ap (map insn_of) (c.deref-2.ensures.value ∙ ap (λ e. e.insns.items) c.deref.ensures) ∙ is.insns;
+      brackets = ap (map contents_of) (c.deref-4.ensures.value ∙ ap (λ e. e.brackets.items) c.deref-3.ensures) ∙ is.brackets;
       groups = groups ∙ sym (groups-planned true (tree_of re));
     } in
-    record {
-      planned = c.in_ok-plan-2.ensures _ _ (c.in_ok-plan.ensures (compiled run) has);
-      loops = is.loops;
-    }
+    record { planned = c.in_ok-plan-2.ensures _ _ (c.in_ok-plan.ensures (compiled run) has); code = is }

@@ -1,28 +1,43 @@
-use Rattle.std.proofs.Common.{◌∙◌}
-use Rattle.std.proofs.lemmas.Result.{IfOk-weaker}
 use Rattle.regex_pattern_front.specs.TreeOf.{tree_of}
-use Rattle.regress_exec.specs.Attempts.{ticks_from}
-use Rattle.regress_backtrack.specs.Planning.{run_in}
-use Rattle.regress_backtrack.proofs.InPlace.{can-be, can-planned, end-planned, spends-unlimited}
+use Rattle.regress_backtrack.specs.Memory.{state_of}
+use Rattle.regress_backtrack.proofs.InPlace.{can-be, can-planned, ends-planned}
 use Rattle.regress_backtrack.proofs.classicalbacktrack.BacktrackExecutorAttempts.attempt.Goals as goal
 
-pub attempt-requires-clause-can : goal.attempt-requires-clause-can
-attempt-requires-clause-can g c =
+pub attempt_again-requires-clause-can : goal.attempt_again-requires-clause-can
+attempt_again-requires-clause-can g c =
+    let s = c.args.self.now.search in
+    (can-planned s.program.wide (tree_of s.program.regex) _ (can-be s.same s.searched.well_formed s.searched.unicode s.searched.bytes), c.requires)
+
+pub returns-then-is_spent-clause-found : goal.returns-then-is_spent-clause-found
+returns-then-is_spent-clause-found g c =
+    let s = c.args.self.now.search in
+    let can = can-be s.same s.searched.well_formed s.searched.unicode s.searched.bytes in
+    let offset = g.Input.Position.PositionType.offset in
+    ends-planned offset s.program.wide (tree_of s.program.regex) (g.Input.InputIndexer.text s.searched.input) can.well_formed (offset c.args.pos)
+    (state_of c.attempt_again.new.memory 0 0).groups c.attempt_again.new.came c.attempt_again.ensures.found
+
+pub attempt-end-requires-clause-can : goal.attempt-end-requires-clause-can
+attempt-end-requires-clause-can g c =
+    let s = c.args.self.now.search in
+    (can-planned s.program.wide (tree_of s.program.regex) _ (can-be s.same s.searched.well_formed s.searched.unicode s.searched.bytes), c.requires)
+
+pub returns-then-is_ok-clause-found : goal.returns-then-is_ok-clause-found
+returns-then-is_ok-clause-found g c =
+    let s = c.args.self.now.search in
+    let can = can-be s.same s.searched.well_formed s.searched.unicode s.searched.bytes in
+    let offset = g.Input.Position.PositionType.offset in
+    ends-planned offset s.program.wide (tree_of s.program.regex) (g.Input.InputIndexer.text s.searched.input) can.well_formed (offset c.args.pos)
+    (state_of c.attempt-end.new.memory 0 0).groups c.attempt-end.result c.attempt-end.ensures.found
+
+pub attempt_again-requires-2-clause-can : goal.attempt_again-requires-2-clause-can
+attempt_again-requires-2-clause-can g c =
     let s = c.args.self.now.search in
     (can-planned s.program.wide (tree_of s.program.regex) _ (can-be s.same s.searched.well_formed s.searched.unicode s.searched.bytes), c.requires)
 
 pub returns-clause-found : goal.returns-clause-found
 returns-clause-found g c =
-    let search = c.args.self.now.search in
-    let text = g.Input.InputIndexer.text search.searched.input in
-    let can = can-be search.same search.searched.well_formed search.searched.unicode search.searched.bytes in
-    IfOk-weaker c.attempt.result _ _
-    (λ end found. found ∙ end-planned search.program.wide (tree_of search.program.regex) text can.well_formed (g.Input.Position.PositionType.offset c.args.pos))
-    c.attempt.ensures.found
-
-pub returns-clause-steps : goal.returns-clause-steps
-returns-clause-steps g c =
-    let search = c.args.self.now.search in
-    let text = g.Input.InputIndexer.text search.searched.input in
-    let at = g.Input.Position.PositionType.offset c.args.pos in
-    spends-unlimited (ticks_from (run_in search.program) text at) (ticks_from (tree_of search.program.regex) text at) c.attempt.result c.attempt.ensures.steps
+    let s = c.args.self.now.search in
+    let can = can-be s.same s.searched.well_formed s.searched.unicode s.searched.bytes in
+    let offset = g.Input.Position.PositionType.offset in
+    ends-planned offset s.program.wide (tree_of s.program.regex) (g.Input.InputIndexer.text s.searched.input) can.well_formed (offset c.args.pos)
+    (state_of c.attempt_again-2.new.memory 0 0).groups c.attempt_again-2.new.came c.attempt_again-2.ensures.found

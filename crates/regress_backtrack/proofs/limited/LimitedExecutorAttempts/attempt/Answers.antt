@@ -24,4 +24,4 @@ returns-clause-steps c =
     let search = c.args.self.now.executor.search in
     let text = utf8_text search.searched.input.input.now search.searched.input.unicode in
     let is = planned-single_unit search.program.wide (tree_of search.program.regex) search.wide in
-    subst (λ t. Spends (ticks_from t text c.args.pos.offset) (Some c.args.self.now.steps.left) c.attempt-end.result (Some c.attempt-end.new.steps.left)) is c.attempt-end.ensures.steps
+    subst (λ t. Spends (ticks_from t text c.args.pos.offset) (Some c.args.self.now.steps.left) c.attempt-end.result (Some c.attempt-end.new.course.steps.left)) is c.attempt-end.ensures.steps

@@ -109,6 +109,9 @@ const ROOM_FOR_MARK: Mark = Mark {
     log: 0,
 };
 
+/// From so many on a row becomes by less longer: its memory is doubled, but what is not written is no memory yet.
+const LONG: usize = 4096;
+
 // Makes a row longer.
 #[cold]
 #[inline(never)]
@@ -118,8 +121,10 @@ fn grow<T: Copy + Drop>(row: &mut Vec<T>, value: T) -> Result<(), AllocError>
     ensures refused { OnErr result (row.new.items ≡ row.old.items) }
 {
     let len = row.len();
-    if len < 0x4000_0000_0000_0000 {
+    if len < LONG {
         row.resize(len * 2 + 8, value)
+    } else if len < 0x4000_0000_0000_0000 {
+        row.resize(len + len / 8, value)
     } else {
         row.push(value)?;
         Ok(())

@@ -109,7 +109,8 @@ const ROOM_FOR_MARK: Mark = Mark {
     log: 0,
 };
 
-/// From so many on a row becomes by less longer: its memory is doubled, but what is not written is no memory yet.
+// From so many on a row becomes longer by an eighth alone. What it is kept in doubles all the same, but where a system gives
+// memory by pages, what is not written takes none.
 const LONG: usize = 4096;
 
 // Makes a row longer.

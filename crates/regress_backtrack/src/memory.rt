@@ -109,9 +109,9 @@ const ROOM_FOR_MARK: Mark = Mark {
     log: 0,
 };
 
-// From so many on a row becomes longer by an eighth alone. What it is kept in doubles all the same, but where a system gives
-// memory by pages, what is not written takes none.
-const LONG: usize = 4096;
+// So much longer a row becomes at a time, about. What it is kept in doubles all the same, but where a system gives memory by
+// pages, what is not written takes none.
+const MOST_MORE: usize = 4096;
 
 // Makes a row longer.
 #[cold]
@@ -122,10 +122,8 @@ fn grow<T: Copy + Drop>(row: &mut Vec<T>, value: T) -> Result<(), AllocError>
     ensures refused { OnErr result (row.new.items ≡ row.old.items) }
 {
     let len = row.len();
-    if len < LONG {
-        row.resize(len * 2 + 8, value)
-    } else if len < 0x4000_0000_0000_0000 {
-        row.resize(len + len / 8, value)
+    if len < 0x4000_0000_0000_0000 {
+        row.resize(len + at_most(len, MOST_MORE) + 8, value)
     } else {
         row.push(value)?;
         Ok(())

@@ -111,6 +111,10 @@ const ROOM_FOR_MARK: Mark = Mark {
     log: 0,
 };
 
+// So much longer a row becomes at a time, about. What it is kept in doubles all the same, but where a system gives memory by
+// pages, what is not written takes none.
+const MOST_MORE: usize = 4096;
+
 // Makes a row longer.
 #[cold]
 #[inline(never)]
@@ -121,7 +125,7 @@ fn grow<T: Copy + Drop>(row: &mut Vec<T>, value: T) -> Result<(), AllocError>
 {
     let len = row.len();
     if len < 0x4000_0000_0000_0000 {
-        row.resize(len * 2 + 8, value)
+        row.resize(len + at_most(len, MOST_MORE) + 8, value)
     } else {
         row.push(value)?;
         Ok(())

@@ -90,6 +90,16 @@ impl<'r, Input: InputIndexer> BacktrackExecutor<'r, Input> {
             came: Ok(None),
         }
     }
+
+    /// From now on attempts remember what failed, as they do where much work was done. What is found is the same.
+    pub fn remember(&mut self)
+        ensures tree { ⟦<BacktrackExecutor<'r, Input> as MatchProducer>⟧.tree self.new
+            ≡ ⟦<BacktrackExecutor<'r, Input> as MatchProducer>⟧.tree self.old }
+        ensures text { ⟦<BacktrackExecutor<'r, Input> as MatchProducer>⟧.text self.new
+            ≡ ⟦<BacktrackExecutor<'r, Input> as MatchProducer>⟧.text self.old }
+    {
+        self.free.steps = Free::spent();
+    }
 }
 
 // The first position to try from one on, by the plan.

@@ -63,6 +63,12 @@ impl Free {
         Free { work }
     }
 
+    /// None may be done.
+    #[inline(always)]
+    pub fn spent() -> Self {
+        Free { work: BELOW_ZERO }
+    }
+
     /// Whether more was done.
     #[inline(always)]
     pub fn is_spent(&self) -> bool {

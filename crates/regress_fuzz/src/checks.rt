@@ -3,11 +3,12 @@
 ghost use Rattle.std.specs.Prelude.{IsAscii};
 
 use crate::fault::Fault;
-use crate::limits::is_limited;
+use crate::limits::{is_limited, program_of};
 use crate::lists::{all, are_same, are_same_places, is_start};
 use regress_input::indexing::Utf8Input;
-use regress_match::backends::{PikeVMExecutor, find, find_ascii};
+use regress_match::backends::{DefaultExecutor, PikeVMExecutor, find, find_ascii};
 use regress_match::{Flags, Match, Regex};
+use regress_pikevm::exec::{Matches, Searcher};
 use std::alloc::Global;
 
 /// A pattern with flags, and a text.
@@ -37,6 +38,14 @@ fn is_same_unoptimized(alloc: Global, case: Case<'_>, list: &[Match]) -> Result<
 fn is_copied(alloc: Global, re: &Regex, text: &str, list: &[Match]) -> Result<bool, Fault> {
     let others = find::<PikeVMExecutor<Utf8Input>>(re, text, 0)?;
     Ok(are_same(list, &all(alloc, others)?))
+}
+
+// So does an executor that remembers what failed from the first attempt on.
+fn is_remembered(alloc: Global, case: Case<'_>, list: &[Match]) -> Result<bool, Fault> {
+    let program = program_of(alloc, case.pattern, Flags::from(case.flags))?;
+    let mut executor = DefaultExecutor::new(&program, case.text)?;
+    executor.remember();
+    Ok(are_same(list, &all(alloc, Matches::new(executor, 0))?))
 }
 
 // Over ASCII the same is found.
@@ -103,6 +112,7 @@ fn check(alloc: Global, re: &Regex, case: Case<'_>, list: &[Match]) -> Result<()
     let text = case.text;
     want(is_same_unoptimized(alloc, case, list)?, Fault::Unoptimized)?;
     want(is_copied(alloc, re, text, list)?, Fault::Copied)?;
+    want(is_remembered(alloc, case, list)?, Fault::Remembered)?;
     if text.is_ascii() {
         want(is_same_in_ascii(alloc, re, text, list)?, Fault::Ascii)?;
         want(

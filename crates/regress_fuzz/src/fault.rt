@@ -14,6 +14,8 @@ pub enum Fault {
     Unoptimized,
     /// That the copying executor finds them.
     Copied,
+    /// That they are found where what failed is remembered from the first attempt on.
+    Remembered,
     /// That they are found over ASCII.
     Ascii,
     /// That the copying executor finds them there.

@@ -15,8 +15,8 @@ use std::alloc::{AllocError, Global};
 /// More steps than any search here takes.
 const PLENTY: u64 = 1 << 40;
 
-// The program for bytes of the optimized tree of a pattern.
-fn program_of(alloc: Global, pattern: &str, flags: Flags) -> Result<CompiledRegex, Error> {
+/// The program for bytes of the optimized tree of a pattern.
+pub fn program_of(alloc: Global, pattern: &str, flags: Flags) -> Result<CompiledRegex, Error> {
     let code_points: Vec<u32> = pattern.chars().map(u32::from).collect(alloc)?;
     let mut tree = try_parse(alloc, &code_points, flags.for_front())?;
     optimize(&mut tree);

@@ -93,10 +93,8 @@ impl<'r, Input: InputIndexer> BacktrackExecutor<'r, Input> {
 
     /// From now on attempts remember what failed, as they do where much work was done. What is found is the same.
     pub fn remember(&mut self)
-        ensures tree { ⟦<BacktrackExecutor<'r, Input> as MatchProducer>⟧.tree self.new
-            ≡ ⟦<BacktrackExecutor<'r, Input> as MatchProducer>⟧.tree self.old }
-        ensures text { ⟦<BacktrackExecutor<'r, Input> as MatchProducer>⟧.text self.new
-            ≡ ⟦<BacktrackExecutor<'r, Input> as MatchProducer>⟧.text self.old }
+        ensures tree { tree_of self.new.search.program.regex ≡ tree_of self.old.search.program.regex }
+        ensures text { Input.text self.new.search.searched.input ≡ Input.text self.old.search.searched.input }
     {
         self.free.steps = Free::spent();
     }

@@ -1,0 +1,142 @@
+-- The keys of what runs leave, by a ledger.
+use Rattle.std.proofs.Common.{◌≡◌, ◌≤◌, ◌<◌, ℕ, zero, suc, ◌+◌, ◌-◌, Bool, true, false, List, [], ◌∷◌, map, reverse, Some, None, refl, ap, sym, ◌∙◌, subst, arith, slice_get, if◌then◌else◌}
+use Rattle.std.specs.Prelude.{◌==◌, nat_lt, ◌^◌}
+use Rattle.std.proofs.lemmas.Bool.{eqb-false, ne_eqb, lt-ltb, true_from_ne_false, true≢false}
+use Rattle.regex_meaning.specs.Lists.{numbers_from}
+use Rattle.regex_meaning.specs.Text.{Text, Direction, rightwards, leftwards, last_place, moved}
+use Rattle.regex_meaning.specs.Offsets.{IsText, offset, units}
+use Rattle.regex_meaning.specs.Layout.{Program}
+use Rattle.regex_meaning.proofs.Each.{Each, Each-map, Each-reverse}
+use Rattle.regex_meaning.proofs.TextLemmas.{place_at-offset}
+use Rattle.regress_machine.specs.Machine.{State, Thread, waiting, in_turn, LoopData}
+use Rattle.regress_machine.proofs.Beside.{moved-zero}
+use Rattle.regress_machine.proofs.Inside.{offset-inside}
+use Rattle.regress_machine.proofs.Run.{numbers_between}
+use Rattle.regress_simulation.specs.Runs.{behind, fewest_first, most_first}
+use Rattle.regress_linear.specs.Alike.{Relation, AlikeThreads}
+use Rattle.regress_linear.specs.Account.{Account, IsPassed, IsSound, Agree, outermost, ReadsAsBytes}
+use Rattle.regress_linear.specs.Codes.{plan_code, key_of}
+use Rattle.regress_linear.specs.Keys.{IsSoundState}
+use Rattle.regress_linear.specs.Plans.{plan_taken}
+use Rattle.regress_linear.specs.RunKeys.{run_at, RunRecords, run_key}
+use Rattle.regress_linear.specs.Runs.{passing, run_from, waits_from}
+use Rattle.regress_linear.specs.Turns.{Key, AreSound, IsOf}
+use Rattle.regress_linear.specs.Weights.{is_one_of}
+use Rattle.regress_linear.proofs.Agree.{moves-on}
+use Rattle.regress_linear.proofs.RunKeys.{runs-have-keys}
+use Rattle.regress_linear.proofs.Runs.{passing-left}
+use Rattle.regress_ledger.specs.declared.ledger.Ledger.{Ledger}
+use Rattle.regress_ledger.specs.Checks.{unlimited, RunIsWritten}
+use Rattle.regress_ledger.specs.Ledger.{line_of, account_of, questions_of, way_of, recorded}
+use Rattle.regress_ledger.specs.Whole.{IsLedgerOf}
+use Rattle.regress_ledger.proofs.WholeLemmas.{ledgers-serve, not-recorded}
+use Rattle.regress_memo.specs.Laws.{ledger_keys}
+use Rattle.regress_memo.specs.Memo.{key_at}
+use Rattle.regress_memo.proofs.LawLemmas.{keys-are-there}
+use Rattle.regress_backtrack.specs.Memos.{terms_of}
+use Rattle.regress_backtrack.specs.Remembered.{IsOfRun, left_from}
+use Rattle.regress_backtrack.proofs.MemoKeys.{agrees-itself}
+
+-- ---- Offsets that are passed
+
+passed-on : (d : Direction) (e p q : ℕ) → IsPassed d e p → IsPassed d p q → IsPassed d e q
+passed-on rightwards e p q a b = omega (arith, a, b)
+passed-on leftwards e p q a b = omega (arith, a, b)
+
+still-apart : (d : Direction) (e p q : ℕ) → IsPassed d e p → IsPassed d p q → (e == p) ≡ false → (e == q) ≡ false
+still-apart rightwards e p q a b n = ne_eqb e q (λ same. eqb-false e p n (omega (arith, a, b, same)))
+still-apart leftwards e p q a b n = ne_eqb e q (λ same. eqb-false e p n (omega (arith, a, b, same)))
+
+-- ---- Rows of sound states
+
+module _ (R : Relation) (f : ℕ → State) where
+  waiting-alike : (ns : List ℕ) → Each (λ n. R (f n) (f n)) ns → AlikeThreads R (map waiting (map f ns)) (map waiting (map f ns))
+  waiting-alike [] h = tt
+  waiting-alike (n ∷ ns) h = (h.0, waiting-alike ns h.1)
+
+  in-turn-alike : (ns : List ℕ) → Each (λ n. R (f n) (f n)) ns → AlikeThreads R (in_turn (map f ns)) (in_turn (map f ns))
+  in-turn-alike [] h = tt
+  in-turn-alike (n ∷ ns) h = (h.0, waiting-alike ns h.1)
+
+-- ---- Sound states further on
+
+module _ (t : Ledger) (text : Text) (is : IsText text) (d : Direction) (test : ℕ → Bool) (place : ℕ) (within : place ≤ last_place text) (s : State) where
+  abbrev at-place : ℕ → State
+  at-place n = behind text d place s n
+
+  sound-further : (n : ℕ) → n ≤ passing text test d place → IsSoundState (account_of t) (units text) d (at-place 0) → IsSoundState (account_of t) (units text) d (at-place n)
+  sound-further n le sound = record {
+    within = offset-inside text is (moved text d n place);
+    loops = λ l x h e.
+        let y = sound.loops l x h e in
+        let few = passing-left text test d place within in
+        let m = moves-on text is d (offset text place) place n (place_at-offset text place is within) (omega (arith, few, le)) in
+        let here : (at-place 0).pos ≡ offset text place = ap (offset text) (moved-zero text d place) in
+        let passed : IsPassed d x.entry (offset text place) = subst (λ p. IsPassed d x.entry p) here y.passed in
+        record {
+          passed = passed-on d x.entry (offset text place) (at-place n).pos passed m.passed;
+          moved = λ asked. still-apart d x.entry (offset text place) (at-place n).pos passed m.passed (subst (λ p. (x.entry == p) ≡ false) here (y.moved asked));
+          all = y.all;
+          few = y.few;
+        };
+  }
+
+  abbrev Agreeing : Relation
+  Agreeing u v = Agree (account_of t) (units text) outermost d u v
+
+  module _ (sound : IsSoundState (account_of t) (units text) d (at-place 0)) where
+    each-sound : Each (λ n. Agreeing (at-place n) (at-place n)) (numbers_from 0 (passing text test d place + 1))
+    each-sound =
+        Each-map _ _ (λ n h. let less = h.1 in agrees-itself t (units text) d (at-place n) (sound-further n (omega (arith, less)) sound)) _
+        (numbers_between 0 (passing text test d place + 1))
+
+    count-is : passing text test d place + 1 - 0 ≡ passing text test d place + 1
+    count-is = omega arith
+
+    run-sound : (greedy : Bool) → AlikeThreads Agreeing (left_from text greedy test d place s) (left_from text greedy test d place s)
+    run-sound true =
+        subst (λ m. AlikeThreads Agreeing (in_turn (most_first text d place s 0 m)) (in_turn (most_first text d place s 0 m))) (sym count-is)
+        (in-turn-alike Agreeing at-place _ (Each-reverse _ _ each-sound))
+    run-sound false =
+        subst (λ m. AlikeThreads Agreeing (map waiting (fewest_first text d place s 0 m)) (map waiting (fewest_first text d place s 0 m))) (sym count-is)
+        (waiting-alike Agreeing at-place _ each-sound)
+
+-- ---- Keys
+
+module _ (program : Program) (text : Text) (t : Ledger) (of : IsLedgerOf program t) (is : IsText text) (bytes : ReadsAsBytes program text) (fits : units text < 2 ^ 63) where
+  run-records : (d : Direction) (k : Key) (ts : List Thread) → (r : IsOfRun program text (terms_of t) d k ts)
+      → RunRecords program (account_of t) (questions_of t) (way_of t) (recorded t) d r.test r.greedy r.state.ip
+  run-records d k ts r =
+      let w = of.runs r.state.ip r.least unlimited r.greedy r.run in
+      let only = (ledgers-serve program t of text is bytes fits).only in
+      record {
+        run = ap run_at r.run;
+        body = r.body;
+        goes = r.goes;
+        records = true_from_ne_false (is_one_of (recorded t) (r.state.ip + 1)) (λ other. true≢false (not-recorded t (r.state.ip + 1) other true r.records));
+        asks = w.asks refl;
+        inside = λ l there. ((only.only (r.state.ip + 2)).empty l there).0;
+      }
+
+  -- what a run leaves is of its key
+  pub of-run : (d : Direction) (k : Key) (ts : List Thread) → IsOfRun program text (terms_of t) d k ts → IsOf program text (account_of t) (ledger_keys program text t) d k ts
+  of-run d k ts r =
+      let s = r.state in
+      let u : State = record s { ip = s.ip + 1; pos = offset text r.place } in
+      let rec = run-records d k ts r in
+      let own = run_key program text (account_of t) (questions_of t) (way_of t) (recorded t) (plan_taken program) d r.place s in
+      let made : Some (key_of (plan_code (questions_of t)) u) ≡ Some own =
+      ap (λ b. if b then Some (key_of (plan_code (questions_of t)) u) else None) (sym r.records) ∙ keys-are-there.run program text t d r.test r.greedy s r.place rec in
+      let same : k ≡ own = r.key ∙ (let e : key_of (plan_code (questions_of t)) u ≡ own = cc in e) in
+      let sound = run-sound t text is d r.test r.place r.within s r.sound in
+      subst (λ us. IsOf program text (account_of t) (ledger_keys program text t) d k us) (sym r.are)
+      (subst (λ j. IsOf program text (account_of t) (ledger_keys program text t) d j (left_from text r.greedy r.test d r.place s)) (sym same) (by r.greedy sound rec))
+    where
+      by : (greedy : Bool) → AlikeThreads (λ u v. Agree (account_of t) (units text) outermost d u v) (left_from text greedy r.test d r.place r.state) (left_from text greedy r.test d r.place r.state)
+          → RunRecords program (account_of t) (questions_of t) (way_of t) (recorded t) d r.test greedy r.state.ip
+          → IsOf program text (account_of t) (ledger_keys program text t) d
+          (run_key program text (account_of t) (questions_of t) (way_of t) (recorded t) (plan_taken program) d r.place r.state) (left_from text greedy r.test d r.place r.state)
+      by true sound rec =
+          (runs-have-keys program text (account_of t) (questions_of t) (way_of t) (recorded t) (plan_taken program) d r.test r.place r.state is r.within r.of).greedy rec sound
+      by false sound rec =
+          (runs-have-keys program text (account_of t) (questions_of t) (way_of t) (recorded t) (plan_taken program) d r.test r.place r.state is r.within r.of).lazy rec sound

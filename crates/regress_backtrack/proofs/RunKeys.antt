@@ -1,13 +1,14 @@
 -- The keys of what runs leave, by a ledger.
 use Rattle.std.proofs.Common.{◌≡◌, ◌≤◌, ◌<◌, ℕ, zero, suc, ◌+◌, ◌-◌, Bool, true, false, List, [], ◌∷◌, map, reverse, Some, None, refl, ap, sym, ◌∙◌, subst, arith, slice_get, if◌then◌else◌}
-use Rattle.std.specs.Prelude.{◌==◌, nat_lt, ◌^◌}
+use Rattle.std.specs.Prelude.{◌==◌, nat_lt, ◌^◌, IfSome, Option}
 use Rattle.std.proofs.lemmas.Bool.{eqb-false, ne_eqb, lt-ltb, true_from_ne_false, true≢false}
 use Rattle.regex_meaning.specs.Lists.{numbers_from}
 use Rattle.regex_meaning.specs.Text.{Text, Direction, rightwards, leftwards, last_place, moved}
 use Rattle.regex_meaning.specs.Offsets.{IsText, offset, units}
 use Rattle.regex_meaning.specs.Layout.{Program}
 use Rattle.regex_meaning.proofs.Each.{Each, Each-map, Each-reverse}
-use Rattle.regex_meaning.proofs.TextLemmas.{place_at-offset}
+use Rattle.regex_meaning.proofs.TextLemmas.{place_at-offset, offset-place_at}
+use Rattle.regress_input.specs.Reading.{heading}
 use Rattle.regress_machine.specs.Machine.{State, Thread, waiting, in_turn, LoopData}
 use Rattle.regress_machine.proofs.Beside.{moved-zero}
 use Rattle.regress_machine.proofs.Inside.{offset-inside}
@@ -15,7 +16,7 @@ use Rattle.regress_machine.proofs.Run.{numbers_between}
 use Rattle.regress_simulation.specs.Runs.{behind, fewest_first, most_first}
 use Rattle.regress_linear.specs.Alike.{Relation, AlikeThreads}
 use Rattle.regress_linear.specs.Account.{Account, IsPassed, IsSound, Agree, outermost, ReadsAsBytes}
-use Rattle.regress_linear.specs.Codes.{plan_code, key_of}
+use Rattle.regress_linear.specs.Codes.{plan_code, key_of, IsStateOf}
 use Rattle.regress_linear.specs.Keys.{IsSoundState}
 use Rattle.regress_linear.specs.Plans.{plan_taken}
 use Rattle.regress_linear.specs.RunKeys.{run_at, RunRecords, run_key}
@@ -33,9 +34,14 @@ use Rattle.regress_ledger.proofs.WholeLemmas.{ledgers-serve, not-recorded}
 use Rattle.regress_memo.specs.Laws.{ledger_keys}
 use Rattle.regress_memo.specs.Memo.{key_at}
 use Rattle.regress_memo.proofs.LawLemmas.{keys-are-there}
+use Rattle.regress_scan.specs.Searching.{Searching, program_of}
+use Rattle.regress_backtrack.specs.declared.here.Here.{Here}
+use Rattle.regress_backtrack.specs.declared.remembering.Key.{Key as Stored}
+use Rattle.regress_backtrack.specs.Memory.{Held, state_of}
 use Rattle.regress_backtrack.specs.Memos.{terms_of}
-use Rattle.regress_backtrack.specs.Remembered.{IsOfRun, left_from}
-use Rattle.regress_backtrack.proofs.MemoKeys.{agrees-itself}
+use Rattle.regress_backtrack.specs.Remembered.{Terms, IsRight, IsOfRun, left_from, as_key}
+use Rattle.regress_backtrack.specs.RunRecords.{TellsOfRest}
+use Rattle.regress_backtrack.proofs.MemoKeys.{agrees-itself, heads}
 
 -- ---- Offsets that are passed
 
@@ -140,3 +146,49 @@ module _ (program : Program) (text : Text) (t : Ledger) (of : IsLedgerOf program
           (runs-have-keys program text (account_of t) (questions_of t) (way_of t) (recorded t) (plan_taken program) d r.test r.place r.state is r.within r.of).greedy rec sound
       by false sound rec =
           (runs-have-keys program text (account_of t) (questions_of t) (way_of t) (recorded t) (plan_taken program) d r.test r.place r.state is r.within r.of).lazy rec sound
+
+-- ---- What is told of what a run leaves
+
+module _ (w : Searching) (is : IsText w.text) (t : Ledger) (failed : Key → Bool) (right : IsRight w (terms_of t) failed) (forward : Bool) (from : Here) (h : Held) where
+  -- the key of a state at its body tells of it
+  pub rest-tells : (k : Key) → key_at t (state_of h (from.ip + 1) from.at) ≡ Some k → (line_of t (from.ip + 1)).records ≡ true → (line_of t (from.ip + 1)).forward ≡ forward
+      → (line_of t (from.ip + 2)).forward ≡ forward → IsStateOf (program_of w) (state_of h from.ip from.at)
+      → IsSoundState (account_of t) (units w.text) (way_of t (from.ip + 2)) (state_of h (from.ip + 2) from.at) → TellsOfRest w (terms_of t) forward from k h
+  rest-tells k is_key records goes beyond of sound ts r =
+      right.runs (heading forward) k ts
+      (record {
+        state = s;
+        least = r.least;
+        greedy = r.greedy;
+        test = r.test;
+        place = r.place;
+        run = r.run;
+        body = r.body;
+        within = stands.1;
+        records = records;
+        goes = heads (line_of t (from.ip + 1)).forward ∙ ap (λ b. heading b) goes;
+        key = sym same_key ∙ ap (λ o. key_of (plan_code (questions_of t)) (state_of h (from.ip + 1) o)) (sym stands.0);
+        of = of;
+        sound =
+            subst (λ o. IsSoundState (account_of t) (units w.text) (heading forward) (state_of h (from.ip + 2) o))
+            (sym (ap (offset w.text) (moved-zero w.text (heading forward) r.place) ∙ stands.0))
+            (subst (λ d. IsSoundState (account_of t) (units w.text) d (state_of h (from.ip + 2) from.at)) (heads (line_of t (from.ip + 2)).forward ∙ ap (λ b. heading b) beyond) sound);
+        are = r.are;
+      })
+    where
+      s : State
+      s = state_of h from.ip from.at
+
+      stands : (offset w.text r.place ≡ from.at) × (r.place ≤ last_place w.text)
+      stands = offset-place_at w.text from.at r.place is r.at
+
+      same_key : key_of (plan_code (questions_of t)) (state_of h (from.ip + 1) from.at) ≡ k
+      same_key =
+          let made : Some (key_of (plan_code (questions_of t)) (state_of h (from.ip + 1) from.at)) ≡ Some k =
+          ap (λ b. if b then Some (key_of (plan_code (questions_of t)) (state_of h (from.ip + 1) from.at)) else None) (sym records) ∙ is_key in cc
+
+-- a mark's key is the memory's
+pub stored-rest : (w : Searching) (t : Terms) (forward : Bool) (from : Here) (h : Held) (key : Key) (o : Option Stored)
+    → IfSome o (λ k. as_key k ≡ key) → TellsOfRest w t forward from key h → IfSome o (λ k. TellsOfRest w t forward from (as_key k) h)
+stored-rest w t forward from h key None same of = tt
+stored-rest w t forward from h key (Some k) same of = subst (λ j. TellsOfRest w t forward from j h) (sym same) of

@@ -120,8 +120,10 @@ impl Remembers for Memo {
         from: Here,
         memory: &Memory,
     ) -> Option<Key> {
-        let behind = from.ip.checked_add(2)?;
-        let body = from.ip + 1;
+        if from.ip >= usize::MAX - 2 {
+            return None;
+        }
+        let (body, behind) = (from.ip + 1, from.ip + 2);
         let line = self.ledger().line(body);
         if !line.records || line.forward != forward {
             return None;

@@ -134,7 +134,7 @@ module _ (program : Program) (text : Text) (t : Ledger) (of : IsLedgerOf program
       let made : Some (key_of (plan_code (questions_of t)) u) ≡ Some own =
       ap (λ b. if b then Some (key_of (plan_code (questions_of t)) u) else None) (sym r.records) ∙ keys-are-there.run program text t d r.test r.greedy s r.place rec in
       let same : k ≡ own = r.key ∙ (let e : key_of (plan_code (questions_of t)) u ≡ own = cc in e) in
-      let sound = run-sound t text is d r.test r.place r.within s r.sound in
+      let sound = run-sound t text is d r.test r.place r.within s r.sound r.greedy in
       subst (λ us. IsOf program text (account_of t) (ledger_keys program text t) d k us) (sym r.are)
       (subst (λ j. IsOf program text (account_of t) (ledger_keys program text t) d j (left_from text r.greedy r.test d r.place s)) (sym same) (by r.greedy sound rec))
     where

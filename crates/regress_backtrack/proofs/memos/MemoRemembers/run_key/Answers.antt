@@ -20,7 +20,7 @@ returns g c =
     let h = c.args.memory.now in
     let s = state_of h (from.ip + 2) from.at in
     let line : c.line-line.result ≡ line_of t (from.ip + 1) = c.line-line.ensures ∙ ap (λ (x : Ledger). line_of x (from.ip + 1)) c.ledger.ensures in
-    let beyond : c.line-2.result ≡ line_of t (from.ip + 2) = c.line-2.ensures ∙ ap (λ (x : Ledger). line_of x (from.ip + 2)) c.ledger-2.ensures in
+    let beyond : c.line.result ≡ line_of t (from.ip + 2) = c.line.ensures ∙ ap (λ (x : Ledger). line_of x (from.ip + 2)) c.ledger-2.ensures in
     let records : (line_of t (from.ip + 1)).records ≡ true = sym (ap (λ (x : Line). x.records) line) ∙ not-false _ c.if-not-line-records.false in
     let goes = sym (ap (λ (x : Line). x.forward) line) ∙ same-way _ _ c.if-line-forward.false in
     let on = sym (ap (λ (x : Line). x.forward) beyond) ∙ same-way _ _ c.if-line-forward-2.false in
@@ -29,6 +29,6 @@ returns g c =
     (subst (λ top. IsSoundState (account_of c.ledger-3.result.now) top (way_of c.ledger-3.result.now s.ip) s) c.text_end-end.ensures
     ((c.is_sound.ensures s refl refl refl).0 c.if-not-is_sound.false)) in
     stored-rest w (terms_of t) c.args.forward from h _ c.stored.result c.stored.ensures
-    (rest-tells w is t (λ k. has_failure c.args.self.now k) c.requires c.args.forward from h _
+    (rest-tells w is t (λ k. has_failure c.args.self.now k) c.requires.right c.args.forward from h _
     (sym (c.in_ok-key.ensures.key (state_of h (from.ip + 1) from.at) refl refl refl)) records goes on
     (c.is_laid_out.ensures c.if-not-is_laid_out.false from.ip from.at) sound)

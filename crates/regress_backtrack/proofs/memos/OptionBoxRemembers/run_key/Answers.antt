@@ -10,7 +10,7 @@ run_key-requires g c =
     let w = g.W.Planned.searching c.args.planned.now in
     subst (λ m. IsRightOf (program_of w) w.text (g.M.Remembers.terms m) (g.M.Remembers.failed m)) (sym c.deref.ensures)
     (subst (λ o. IsRightOf (program_of w) w.text (terms_in (λ memo. g.M.Remembers.terms memo.value) o) (failed_in (λ memo. g.M.Remembers.failed memo.value) o))
-    c.in-Some.is c.requires)
+    c.in-Some.is c.requires.right)
 
 pub returns-in-Some : goal.returns-in-Some
 returns-in-Some g c =

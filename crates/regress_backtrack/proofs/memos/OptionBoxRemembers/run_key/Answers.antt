@@ -8,9 +8,12 @@ use Rattle.regress_backtrack.proofs.memos.OptionBoxRemembers.run_key.Goals as go
 pub run_key-requires : goal.run_key-requires
 run_key-requires g c =
     let w = g.W.Planned.searching c.args.planned.now in
-    subst (λ m. IsRightOf (program_of w) w.text (g.M.Remembers.terms m) (g.M.Remembers.failed m)) (sym c.deref.ensures)
-    (subst (λ o. IsRightOf (program_of w) w.text (terms_in (λ memo. g.M.Remembers.terms memo.value) o) (failed_in (λ memo. g.M.Remembers.failed memo.value) o))
-    c.in-Some.is c.requires.right)
+    record {
+      right =
+          subst (λ m. IsRightOf (program_of w) w.text (g.M.Remembers.terms m) (g.M.Remembers.failed m)) (sym c.deref.ensures)
+          (subst (λ o. IsRightOf (program_of w) w.text (terms_in (λ memo. g.M.Remembers.terms memo.value) o) (failed_in (λ memo. g.M.Remembers.failed memo.value) o))
+          c.in-Some.is c.requires.right);
+    }
 
 pub returns-in-Some : goal.returns-in-Some
 returns-in-Some g c =

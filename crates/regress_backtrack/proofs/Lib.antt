@@ -40,6 +40,7 @@ pub mod Marked
 pub mod Dropped
 pub mod Fronts
 pub mod RunFronts
+pub mod LazyBack
 pub mod Striding
 pub mod MemoKeys
 pub mod RunKeys

@@ -1,7 +1,7 @@
 -- The keys of what runs leave, by a ledger.
-use Rattle.std.proofs.Common.{◌≡◌, ◌≤◌, ◌<◌, ℕ, zero, suc, ◌+◌, ◌-◌, Bool, true, false, List, [], ◌∷◌, map, reverse, Some, None, refl, ap, sym, ◌∙◌, subst, arith, slice_get, if◌then◌else◌}
-use Rattle.std.specs.Prelude.{◌==◌, nat_lt, ◌^◌, IfSome, Option}
-use Rattle.std.proofs.lemmas.Bool.{eqb-false, ne_eqb, lt-ltb, true_from_ne_false, true≢false}
+use Rattle.std.proofs.Common.{◌≡◌, ◌≤◌, ◌<◌, ℕ, ◌+◌, ◌-◌, Bool, true, false, List, [], ◌∷◌, map, Some, None, refl, ap, sym, ◌∙◌, subst, arith, if◌then◌else◌}
+use Rattle.std.specs.Prelude.{◌==◌, ◌^◌, IfSome, Option}
+use Rattle.std.proofs.lemmas.Bool.{eqb-false, ne_eqb, true_from_ne_false, true≢false}
 use Rattle.regex_meaning.specs.Lists.{numbers_from}
 use Rattle.regex_meaning.specs.Text.{Text, Direction, rightwards, leftwards, last_place, moved}
 use Rattle.regex_meaning.specs.Offsets.{IsText, offset, units}
@@ -9,25 +9,25 @@ use Rattle.regex_meaning.specs.Layout.{Program}
 use Rattle.regex_meaning.proofs.Each.{Each, Each-map, Each-reverse}
 use Rattle.regex_meaning.proofs.TextLemmas.{place_at-offset, offset-place_at}
 use Rattle.regress_input.specs.Reading.{heading}
-use Rattle.regress_machine.specs.Machine.{State, Thread, waiting, in_turn, LoopData}
+use Rattle.regress_machine.specs.Machine.{State, Thread, waiting, in_turn}
 use Rattle.regress_machine.proofs.Beside.{moved-zero}
 use Rattle.regress_machine.proofs.Inside.{offset-inside}
 use Rattle.regress_machine.proofs.Run.{numbers_between}
 use Rattle.regress_simulation.specs.Runs.{behind, fewest_first, most_first}
 use Rattle.regress_linear.specs.Alike.{Relation, AlikeThreads}
-use Rattle.regress_linear.specs.Account.{Account, IsPassed, IsSound, Agree, outermost, ReadsAsBytes}
+use Rattle.regress_linear.specs.Account.{IsPassed, Agree, outermost, ReadsAsBytes}
 use Rattle.regress_linear.specs.Codes.{plan_code, key_of, IsStateOf}
 use Rattle.regress_linear.specs.Keys.{IsSoundState}
 use Rattle.regress_linear.specs.Plans.{plan_taken}
 use Rattle.regress_linear.specs.RunKeys.{run_at, RunRecords, run_key}
-use Rattle.regress_linear.specs.Runs.{passing, run_from, waits_from}
-use Rattle.regress_linear.specs.Turns.{Key, AreSound, IsOf}
+use Rattle.regress_linear.specs.Runs.{passing}
+use Rattle.regress_linear.specs.Turns.{Key, IsOf}
 use Rattle.regress_linear.specs.Weights.{is_one_of}
 use Rattle.regress_linear.proofs.Agree.{moves-on}
 use Rattle.regress_linear.proofs.RunKeys.{runs-have-keys}
 use Rattle.regress_linear.proofs.Runs.{passing-left}
 use Rattle.regress_ledger.specs.declared.ledger.Ledger.{Ledger}
-use Rattle.regress_ledger.specs.Checks.{unlimited, RunIsWritten}
+use Rattle.regress_ledger.specs.Checks.{unlimited}
 use Rattle.regress_ledger.specs.Ledger.{line_of, account_of, questions_of, way_of, recorded}
 use Rattle.regress_ledger.specs.Whole.{IsLedgerOf}
 use Rattle.regress_ledger.proofs.WholeLemmas.{ledgers-serve, not-recorded}

@@ -38,6 +38,10 @@ pub mod Noting
 pub mod Courses
 pub mod Marked
 pub mod Dropped
+pub mod Fronts
+pub mod RunFronts
+pub mod LazyBack
 pub mod Striding
 pub mod MemoKeys
+pub mod RunKeys
 pub mod Rightness

@@ -11,6 +11,7 @@ mod looks;
 mod loops;
 pub mod memory;
 pub mod memos;
+mod places;
 mod records;
 pub mod remembering;
 mod run;

@@ -113,6 +113,33 @@ impl Remembers for Memo {
     }
 
     #[inline(always)]
+    fn run_key<W: Planned>(
+        &self,
+        planned: &W,
+        forward: bool,
+        from: Here,
+        memory: &Memory,
+    ) -> Option<Key> {
+        if from.ip >= usize::MAX - 2 {
+            return None;
+        }
+        let (body, behind) = (from.ip + 1, from.ip + 2);
+        let line = self.ledger().line(body);
+        if !line.records || line.forward != forward {
+            return None;
+        }
+        if self.ledger().line(behind).forward != forward || !is_laid_out(planned, memory) {
+            return None;
+        }
+        let end = text_end(planned);
+        if !self.ledger().is_sound(behind, from.at, end, memory) {
+            return None;
+        }
+        let key = Memo::key_at(self, body, from.at, memory)?;
+        stored(key)
+    }
+
+    #[inline(always)]
     fn has_failed(&self, key: Key) -> bool {
         let key = known(key);
         self.has(key) && self.fails(key)
@@ -174,6 +201,20 @@ impl<M: Remembers> Remembers for Option<Box<M>> {
     ) -> Option<Key> {
         match self {
             Some(memo) => memo.key_at(planned, forward, here, memory),
+            None => None,
+        }
+    }
+
+    #[inline(always)]
+    fn run_key<W: Planned>(
+        &self,
+        planned: &W,
+        forward: bool,
+        from: Here,
+        memory: &Memory,
+    ) -> Option<Key> {
+        match self {
+            Some(memo) => memo.run_key(planned, forward, from, memory),
             None => None,
         }
     }

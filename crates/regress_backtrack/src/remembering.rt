@@ -5,6 +5,7 @@ ghost use Rattle.regex_meaning.specs.Offsets.{units};
 ghost use Rattle.regress_linear.specs.Turns.{Key as KeyOf};
 ghost use Rattle.regress_machine.specs.Machine.{running};
 ghost use Rattle.regress_backtrack.specs.Memory.{state_of};
+ghost use Rattle.regress_backtrack.specs.RunRecords.{TellsOfRest};
 ghost use Rattle.regress_backtrack.specs.Remembered.{Terms, IsRight, IsKeyOf, as_key, no_terms};
 
 use crate::here::Here;
@@ -44,6 +45,18 @@ pub trait Remembers {
         ensures { IfSome result (λ k. IsKeyOf (W.searching planned.now) (terms self.now) forward (as_key k)
             (running (state_of memory.now here.ip here.at) ∷ [])) };
 
+    /// The key of what a run without a maximum leaves from a place on, if it has one.
+    fn run_key<W: Planned>(
+        &self,
+        planned: &W,
+        forward: bool,
+        from: Here,
+        memory: &Memory,
+    ) -> Option<Key>
+        requires right { IsRight (W.searching planned.now) (terms self.now) (failed self.now) }
+        ensures { IfSome result (λ k. TellsOfRest (W.searching planned.now) (terms self.now) forward from (as_key k)
+            memory.now) };
+
     /// Whether it is known that a key fails.
     fn has_failed(&self, key: Key) -> bool
         ensures { result ≡ failed self.now (as_key key) };
@@ -80,6 +93,17 @@ impl Remembers for Forgets {
         _planned: &W,
         _forward: bool,
         _here: Here,
+        _memory: &Memory,
+    ) -> Option<Key> {
+        None
+    }
+
+    #[inline(always)]
+    fn run_key<W: Planned>(
+        &self,
+        _planned: &W,
+        _forward: bool,
+        _from: Here,
         _memory: &Memory,
     ) -> Option<Key> {
         None

@@ -8,13 +8,14 @@ ghost use Rattle.regress_plan.specs.Insns.{insn_of};
 ghost use Rattle.regress_scan.specs.Searching.{program_of};
 ghost use Rattle.regress_backtrack.specs.Attempted.{IsEndFrom, SpendsAt, TakesIfLaidOut};
 ghost use Rattle.regress_backtrack.specs.Course.{IsSound, StaysSound};
+ghost use Rattle.regress_backtrack.specs.Going.{IfDone};
 ghost use Rattle.regress_backtrack.specs.Memos.{KnowsRightly};
 ghost use Rattle.regress_backtrack.specs.Searched.{CanBeSearched};
 
 use crate::here::Here;
 use crate::memory::Memory;
 use crate::memos::{Again, begin_to_remember};
-use crate::remembering::{Course, Remembers};
+use crate::remembering::{Came, Course, Remembers};
 use crate::run::run;
 use crate::steps::{Steps, Stop};
 use regress_exec::exec::SearchError;
@@ -76,29 +77,58 @@ pub(crate) fn attempt<W: Planned, S: Steps, M: Remembers>(
     }
 }
 
-/// The same from its start, whatever an earlier one left, with any work. What fails is remembered, where that can be. What
-/// it came to is left in `came`, since then no attempt that is made once has to make room for the answer.
+// The same from its start, whatever an earlier one left, with any work. What fails is remembered, where that can be. The
+// end is left in `came`: for an answer each attempt that is made once would have to make room.
 #[inline(never)]
+fn attempt_remembering<W: Planned>(
+    planned: &W,
+    insns: &[Insn],
+    pos: At<W>,
+    memory: &mut Memory,
+    again: &mut Again,
+    came: &mut Option<At<W>>,
+) -> Came
+    requires can { let w = W.searching planned.now in
+        CanBeSearched w.tree w.text × IsBoundary w.text (W.Input.Position.offset pos) }
+    requires insns { map insn_of insns.now ≡ (program_of (W.searching planned.now)).insns }
+    requires right { KnowsRightly (λ memo. memo.value) (W.searching planned.now) again.old.course.memo }
+    ensures found { let at = W.Input.Position.offset in
+        IfDone result (IsEndFrom at (W.searching planned.now) (at pos) memory.new came.new) }
+    ensures right { KnowsRightly (λ memo. memo.value) (W.searching planned.now) again.new.course.memo }
+{
+    begin_to_remember(planned, insns, again);
+    match attempt(planned, pos, memory, &mut again.course) {
+        Ok(end) => {
+            *came = end;
+            Came::Done
+        }
+        Err(_) => Came::Stopped,
+    }
+}
+
+/// The same, which answers what it came to.
+#[inline(always)]
 pub(crate) fn attempt_again<W: Planned>(
     planned: &W,
     insns: &[Insn],
     pos: At<W>,
     memory: &mut Memory,
     again: &mut Again,
-    came: &mut Result<Option<At<W>>, SearchError>,
-)
+    came: &mut Option<At<W>>,
+) -> Result<Option<At<W>>, SearchError>
     requires can { let w = W.searching planned.now in
         CanBeSearched w.tree w.text × IsBoundary w.text (W.Input.Position.offset pos) }
     requires insns { map insn_of insns.now ≡ (program_of (W.searching planned.now)).insns }
     requires right { KnowsRightly (λ memo. memo.value) (W.searching planned.now) again.old.course.memo }
     ensures found { let at = W.Input.Position.offset in
-        IfOk came.new (IsEndFrom at (W.searching planned.now) (at pos) memory.new) }
+        IfOk result (IsEndFrom at (W.searching planned.now) (at pos) memory.new) }
     ensures steps { let w = W.searching planned.now in
-        Spends (ticks_from w.tree w.text (W.Input.Position.offset pos)) None came.new None }
-    ensures cause { Tells came.new false }
+        Spends (ticks_from w.tree w.text (W.Input.Position.offset pos)) None result None }
+    ensures cause { Tells result false }
     ensures right { KnowsRightly (λ memo. memo.value) (W.searching planned.now) again.new.course.memo }
 {
-    begin_to_remember(planned, insns, again);
-    let end = attempt(planned, pos, memory, &mut again.course);
-    *came = end;
+    match attempt_remembering(planned, insns, pos, memory, again, came) {
+        Came::Done => Ok(*came),
+        Came::Stopped => Err(SearchError::Memory),
+    }
 }

@@ -42,9 +42,9 @@ pub struct BacktrackExecutor<'r, Input: InputIndexer> {
     free: Course<Free, Forgets>,
     // Behind that it is remembered what failed.
     again: Again,
-    // What the last attempt came to that was made once more. A position shows the text's lifetime in this type, which
-    // calls that are generic in the executor need to have.
-    came: Result<Option<Input::Position>, SearchError>,
+    // The end that the last attempt came to that was made once more. A position shows the text's lifetime in this type,
+    // which calls that are generic in the executor need to have.
+    came: Option<Input::Position>,
     // What is known to fail does.
     ghost right: { IsRightOf (compiled (run_in search.program)) (Input.text search.searched.input)
         (terms_in (λ memo. terms_of memo.value.ledger) again.course.memo)
@@ -79,15 +79,17 @@ impl<'r, Input: InputIndexer> BacktrackExecutor<'r, Input> {
             free: Course {
                 steps: Free::up_to(work),
                 memo: Forgets,
+                end: None,
             },
             again: Again {
                 course: Course {
                     steps: Unbound,
                     memo: None,
+                    end: None,
                 },
                 began: false,
             },
-            came: Ok(None),
+            came: None,
         }
     }
 
@@ -137,7 +139,7 @@ impl<'r, Input: InputIndexer> Attempts for BacktrackExecutor<'r, Input> {
     fn attempt(&mut self, pos: Input::Position) -> Result<Option<Input::Position>, SearchError> {
         if self.free.steps.is_spent() {
             let insns = self.search.program.insns();
-            attempt_again(
+            return attempt_again(
                 &self.search,
                 insns,
                 pos,
@@ -145,7 +147,6 @@ impl<'r, Input: InputIndexer> Attempts for BacktrackExecutor<'r, Input> {
                 &mut self.again,
                 &mut self.came,
             );
-            return self.came;
         }
         let end = attempt(&self.search, pos, &mut self.memory, &mut self.free);
         if end.is_ok() || !self.free.steps.is_spent() {
@@ -159,8 +160,7 @@ impl<'r, Input: InputIndexer> Attempts for BacktrackExecutor<'r, Input> {
             &mut self.memory,
             &mut self.again,
             &mut self.came,
-        );
-        self.came
+        )
     }
 
     fn group_count(&self) -> usize {

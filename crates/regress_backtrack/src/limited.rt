@@ -101,6 +101,7 @@ impl<'r, 't> Attempts for LimitedExecutor<'r, 't> {
                 out: false,
             },
             memo: Forgets,
+            end: None,
         };
         let executor = &mut self.executor;
         let end = attempt(&executor.search, pos, &mut executor.memory, &mut course);

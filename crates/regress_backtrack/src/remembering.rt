@@ -72,6 +72,15 @@ pub trait Remembers {
 pub struct Course<S: Steps, M: Remembers> {
     pub steps: S,
     pub memo: M,
+    /// Where a call that is seldom made leaves an end: for an answer each search would have to make room.
+    pub end: Option<usize>,
+}
+
+/// Whether a call came to an answer, which then is the `end` of its course.
+#[derive(Clone, Copy)]
+pub enum Came {
+    Done,
+    Stopped,
 }
 
 /// Nothing is remembered.

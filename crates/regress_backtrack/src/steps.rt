@@ -37,7 +37,7 @@ pub trait Steps: Copy {
         ensures stopped { OnErr result (IsTaken COUNTS 1 (budget self.old) (budget self.new)
             ⊎ IsRefused COUNTS 1 (budget self.old) (budget self.new)) };
 
-    /// So many units are read in one turn, which is work.
+    /// So many units are read in one turn, which is work where they are many.
     fn read(&mut self, units: usize)
         ensures { budget self.new ≡ budget self.old };
 
@@ -45,6 +45,9 @@ pub trait Steps: Copy {
     fn is_out(&self) -> bool
         ensures { result ≡ (budget self.now).out };
 }
+
+// A turn that reads fewer units does no work that counts: it is little more than one that reads none.
+const LONG: usize = 16;
 
 // From here on work is below 0.
 const BELOW_ZERO: u64 = 0x8000_0000_0000_0000;
@@ -96,7 +99,9 @@ impl Steps for Free {
 
     #[inline(always)]
     fn read(&mut self, units: usize) {
-        self.work = self.work.wrapping_sub(units as u64);
+        if units >= LONG {
+            self.work = self.work.wrapping_sub(units as u64);
+        }
     }
 
     #[inline(always)]

@@ -14,7 +14,7 @@ returns-then-is_spent-clause-found g c =
     let can = can-be s.same s.searched.well_formed s.searched.unicode s.searched.bytes in
     let offset = g.Input.Position.PositionType.offset in
     ends-planned offset s.program.wide (tree_of s.program.regex) (g.Input.InputIndexer.text s.searched.input) can.well_formed (offset c.args.pos)
-    (state_of c.attempt_again.new.memory 0 0).groups c.attempt_again.new.came c.attempt_again.ensures.found
+    (state_of c.attempt_again.new.memory 0 0).groups c.attempt_again.result c.attempt_again.ensures.found
 
 pub attempt-end-requires-clause-can : goal.attempt-end-requires-clause-can
 attempt-end-requires-clause-can g c =
@@ -40,4 +40,4 @@ returns-clause-found g c =
     let can = can-be s.same s.searched.well_formed s.searched.unicode s.searched.bytes in
     let offset = g.Input.Position.PositionType.offset in
     ends-planned offset s.program.wide (tree_of s.program.regex) (g.Input.InputIndexer.text s.searched.input) can.well_formed (offset c.args.pos)
-    (state_of c.attempt_again-2.new.memory 0 0).groups c.attempt_again-2.new.came c.attempt_again-2.ensures.found
+    (state_of c.attempt_again-2.new.memory 0 0).groups c.attempt_again-2.result c.attempt_again-2.ensures.found

@@ -10,6 +10,7 @@ mod limited;
 mod looks;
 mod loops;
 pub mod memory;
+mod rounds;
 mod run;
 mod runs;
 pub mod search;

@@ -16,3 +16,4 @@ pub mod Searched
 pub mod Tried
 pub mod Going
 pub mod Attempted
+pub mod GoingOver

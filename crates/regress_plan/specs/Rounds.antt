@@ -1,5 +1,5 @@
 -- Over which units loops go that cannot be left before them.
-use Rattle.std.specs.Prelude.{◌≡◌, ◌<◌, ℕ, Bool, true, Some, slice_get}
+use Rattle.std.specs.Prelude.{◌≡◌, ◌<◌, ℕ, Bool, true, false, Some, slice_get, slice_index_or}
 use Rattle.regex_meaning.specs.Layout.{Program}
 use Rattle.regex_meaning.specs.Text.{Text, rightwards}
 use Rattle.regex_meaning.specs.Units.{Encoding}
@@ -22,7 +22,7 @@ IsRound wide program k end =
 
 -- it goes round over each of these
 abbrev pub AreOver : (wide : Bool) → Program → (end : ℕ) → Over → Type 0
-AreOver wide program end over = (k : ℕ) → k < 256 → slice_get over.keys k ≡ Some true → IsRound wide program k end
+AreOver wide program end over = (k : ℕ) → k < 256 → slice_index_or over.keys k false ≡ true → IsRound wide program k end
 
 -- each loop does over its units
 abbrev pub AreRounds : (wide : Bool) → Program → Rounds → Type 0

@@ -1,5 +1,5 @@
 -- Where a loop goes over units that cannot be left before them.
-use Rattle.std.specs.Prelude.{◌≡◌, ◌≤◌, ◌<◌, ℕ, ◌-◌}
+use Rattle.std.specs.Prelude.{◌≤◌, ◌<◌, ℕ, ◌-◌}
 use Rattle.regress_plan.specs.declared.ops.Counted.{Counted}
 use Rattle.regress_plan.specs.declared.rounds.Over.{Over}
 use Rattle.regress_plan.specs.Rounds.{AreUnitsOf}

@@ -6,7 +6,11 @@ use regress_program::emit::{emit, emit_units};
 use std::alloc::{AllocError, Global};
 
 // Those of the plan of a tree for texts in bytes.
-pub(crate) fn write_rounds(alloc: Global, text: &mut String, tree: &Regex) -> Result<(), AllocError> {
+pub(crate) fn write_rounds(
+    alloc: Global,
+    text: &mut String,
+    tree: &Regex,
+) -> Result<(), AllocError> {
     match emit(alloc, tree) {
         Ok(program) => write_each(text, &program.plan().rounds),
         Err(_) => Ok(()),

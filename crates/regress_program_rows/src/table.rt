@@ -204,7 +204,7 @@ rounds /(?:a|b)*/ → none
 rounds /(?:ab|c)*d/ → at 6 99 100
 rounds /(?:a|[^\\x00-\\x7F]|b)*c/ → at 8 97 99
 rounds /x(?:[^x\\\\]|\\\\.)*x/ → at 7 0 92 93 120 121 128
-unit_rounds /x(?:[^x\\\\]|\\\\.)*x/ → at 7 0 92 93 120 121 236 238 256
+unit_rounds /x(?:[^x\\\\]|\\\\.)*x/ → at 7 0 92 93 120 121 236 238
 rounds /(?:(a)|b)*c/ → none
 verdicts /(?=(?!a)b)/ → at 0 0:no 98:ask 99:no; at 1 0:yes 97:no 98:yes
 verdicts /(?=[^])/ → at 0 0:yes 128:no 194:yes 245:no

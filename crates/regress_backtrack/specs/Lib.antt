@@ -20,3 +20,4 @@ pub mod Recorded
 pub mod Remembered
 pub mod Course
 pub mod Memos
+pub mod GoingOver

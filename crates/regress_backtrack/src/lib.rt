@@ -13,6 +13,7 @@ pub mod memory;
 pub mod memos;
 mod records;
 pub mod remembering;
+mod rounds;
 mod run;
 mod runs;
 pub mod search;

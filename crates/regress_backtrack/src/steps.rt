@@ -24,6 +24,10 @@ pub trait Steps: Copy {
     /// Whether steps are counted.
     const COUNTS: bool;
 
+    /// Whether a loop may go at once over units that it cannot be left before: not where each iteration is one that may be
+    /// remembered.
+    const AT_ONCE: bool;
+
     ghost budget: { Self → Budget };
 
     /// Takes so many steps, if so many are left. If not, none are left then.
@@ -75,6 +79,8 @@ impl Steps for Free {
 
     const COUNTS: bool = false;
 
+    const AT_ONCE: bool = true;
+
     ghost budget = { λ _. record { left = 0; out = false } };
 
     #[inline(always)]
@@ -108,6 +114,8 @@ impl Steps for Unbound {
 
     const COUNTS: bool = false;
 
+    const AT_ONCE: bool = false;
+
     ghost budget = { λ _. record { left = 0; out = false } };
 
     #[inline(always)]
@@ -140,6 +148,8 @@ impl Steps for Limited {
     ghost COUNTS = { true };
 
     const COUNTS: bool = true;
+
+    const AT_ONCE: bool = false;
 
     ghost budget = { λ s. record { left = s.left; out = s.out } };
 

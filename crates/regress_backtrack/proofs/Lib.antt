@@ -9,6 +9,7 @@ pub mod LoopTurns
 pub mod NextTurns
 pub mod Iterating
 pub mod LoopEnds
+pub mod RoundTurns
 pub mod Gone
 pub mod Taking
 pub mod RunTurns

@@ -21,3 +21,4 @@ pub mod Remembered
 pub mod Course
 pub mod Memos
 pub mod RunRecords
+pub mod GoingOver

@@ -14,6 +14,7 @@ pub mod memos;
 mod places;
 mod records;
 pub mod remembering;
+mod rounds;
 mod run;
 mod runs;
 pub mod search;

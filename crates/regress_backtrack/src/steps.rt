@@ -24,6 +24,10 @@ pub trait Steps: Copy {
     /// Whether steps are counted.
     const COUNTS: bool;
 
+    /// Whether a loop may go at once over units that it cannot be left before: not where each iteration is one that may be
+    /// remembered.
+    const AT_ONCE: bool;
+
     ghost budget: { Self → Budget };
 
     /// Takes so many steps, if so many are left. If not, none are left then.
@@ -84,6 +88,8 @@ impl Steps for Free {
 
     const COUNTS: bool = false;
 
+    const AT_ONCE: bool = true;
+
     ghost budget = { λ _. record { left = 0; out = false } };
 
     #[inline(always)]
@@ -119,6 +125,8 @@ impl Steps for Unbound {
 
     const COUNTS: bool = false;
 
+    const AT_ONCE: bool = false;
+
     ghost budget = { λ _. record { left = 0; out = false } };
 
     #[inline(always)]
@@ -151,6 +159,8 @@ impl Steps for Limited {
     ghost COUNTS = { true };
 
     const COUNTS: bool = true;
+
+    const AT_ONCE: bool = false;
 
     ghost budget = { λ s. record { left = s.left; out = s.out } };
 

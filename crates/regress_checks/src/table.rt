@@ -58,6 +58,16 @@ a+?~~aa~all~0..1; 1..2
 (?:(a)|b)*?c~~abc~first~0..3 -
 (a*){2}~~b~all~0..0 0..0; 1..1 1..1
 (ab)(?<=\1)c~~abc~all~0..3 0..2
+(?:a|b)*c~~abac~all~0..4
+(?:a|b)*?c~~abac~all~0..4
+(?:a|b){2,3}c~~ababc~all~1..5
+(?:a|b){3}c~~ababc~all~1..5
+(?:a|b){0,2}c~~aabc~all~1..4
+(?:a|é)*b~~aéab~all~0..5
+x(?:[^x\\]|\\.)*x~~xa\xbxcx~all~0..6
+(?:(?:a|b)*c)*d~~abcacd~all~0..6
+((?:a|b)*)c\1~~abcab~all~0..5 0..2
+(?<=x(?:a|b)*)c~~xabc~all~3..4
 (?:(?=(a))ac|ab)\1~~ab~first~0..2 -
 (?:(?!(b))a|c)+~~aca~first~0..3 -
 (?<=a{2,3})b~~aaab~all~3..4

@@ -9,4 +9,5 @@ pub mod SetLemmas
 pub mod PrefixLemmas
 pub mod BeforeLemmas
 pub mod VerdictLemmas
+pub mod RoundLemmas
 mod StepLemmas

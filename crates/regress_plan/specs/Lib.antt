@@ -13,3 +13,5 @@ pub mod Choices
 pub mod Told
 pub mod Verdicts
 pub mod Deciding
+pub mod Rounds
+pub mod GoingRound

@@ -20,6 +20,8 @@ mod plans;
 #[cfg(test)]
 mod predicates;
 #[cfg(test)]
+mod rounds;
+#[cfg(test)]
 mod rows;
 #[cfg(test)]
 mod table;

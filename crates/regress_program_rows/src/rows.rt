@@ -8,6 +8,7 @@ use crate::memos::write_memo;
 use crate::parts::{write_parts, write_shown_names, write_unit_parts};
 use crate::plans::{write_plan, write_unit_plan};
 use crate::predicates::write_predicate;
+use crate::rounds::{write_rounds, write_unit_rounds};
 use crate::table::ROWS;
 use crate::verdicts::{write_unit_verdicts, write_verdicts};
 use regex_pattern_front::flags::Flags;
@@ -43,6 +44,8 @@ fn write_answer(
         "unit_choices" => write_unit_choices(alloc, text, tree),
         "verdicts" => write_verdicts(alloc, text, tree),
         "unit_verdicts" => write_unit_verdicts(alloc, text, tree),
+        "rounds" => write_rounds(alloc, text, tree),
+        "unit_rounds" => write_unit_rounds(alloc, text, tree),
         "classes" => write_classes(alloc, text, tree),
         "unit_classes" => write_unit_classes(alloc, text, tree),
         "ledger" => write_ledger(alloc, text, tree),

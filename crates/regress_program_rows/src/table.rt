@@ -8,7 +8,7 @@
 // has to try, and what may stand behind each loop over one character: the keys at which rows of keys begin and end; what is
 // looked for first, and what must stand before. Choices have the operation at which an alternation begins, and behind the
 // first of each row of keys, and behind the end, the operations at which the arms begin that may match there; verdicts so whether
-// a lookahead lets a thread go on. Classes have behind
+// a lookahead lets a thread go on; rounds, behind the operation at which a loop's body ends, the keys of units over which it goes. Classes have behind
 // the first of each row of keys the step of them all: how many units the character has, 0 where none is accepted, and 5 where the
 // character decides; and the bytes at which a run ends. Programs for 16-bit units are those of the tree as it is, and so are
 // those for bytes, of which `optimized` asks for that of the optimized tree. Ledgers have each instruction that records with how many codes it has, and what a
@@ -198,6 +198,14 @@ verdicts cat:2 ahead:0,0 alt cat:2 b a a goal → at 0 0:no 97:yes 98:ask 99:no
 verdicts /(?=(a))/ → at 0 0:no 97:ask 98:no
 verdicts /(?=ab)/ → at 0 0:no 97:ask 98:no
 verdicts /(?=a|$)/ → at 0 0:no 97:yes 98:no end:ask
+rounds /(?:a|b)+?c/ → at 5 97 99
+rounds /(?:a|b)*a/ → at 5 98 99
+rounds /(?:a|b)*/ → none
+rounds /(?:ab|c)*d/ → at 6 99 100
+rounds /(?:a|[^\\x00-\\x7F]|b)*c/ → at 8 97 99
+rounds /x(?:[^x\\\\]|\\\\.)*x/ → at 7 0 92 93 120 121 128
+unit_rounds /x(?:[^x\\\\]|\\\\.)*x/ → at 7 0 92 93 120 121 236 238
+rounds /(?:(a)|b)*c/ → none
 verdicts /(?=(?!a)b)/ → at 0 0:no 98:ask 99:no; at 1 0:yes 97:no 98:yes
 verdicts /(?=[^])/ → at 0 0:yes 128:no 194:yes 245:no
 verdicts /(?=[а-п])/ → at 0 0:no 208:ask 209:no

@@ -25,3 +25,4 @@ pub mod LowUnits
 pub mod ProbeLemmas
 pub mod Apart
 pub mod InPlace
+pub mod GoneOver

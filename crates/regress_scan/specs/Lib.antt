@@ -10,3 +10,4 @@ pub mod Choosing
 pub mod Verdicts
 pub mod Further
 pub mod Fitting
+pub mod GoneOver

@@ -11,6 +11,7 @@ pub mod planned;
 mod probing;
 pub mod reading;
 pub mod reads;
+pub mod rounds;
 pub mod rows;
 pub mod scans;
 pub mod sides;

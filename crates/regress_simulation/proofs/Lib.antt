@@ -15,4 +15,5 @@ pub mod Checks
 pub mod Prefixes
 pub mod Arms
 pub mod Choices
+pub mod Rounds
 pub mod Verdicts

@@ -6,4 +6,5 @@ pub mod Starts
 pub mod Prefixes
 pub mod Runs
 pub mod Choices
+pub mod Rounds
 pub mod Looks

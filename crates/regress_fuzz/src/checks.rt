@@ -7,8 +7,9 @@ use crate::limits::{is_limited, program_of};
 use crate::lists::{all, are_same, are_same_places, is_start};
 use regress_input::indexing::Utf8Input;
 use regress_match::backends::{DefaultExecutor, PikeVMExecutor, find, find_ascii};
-use regress_match::{Flags, Match, Regex};
+use regress_match::{Flags, Match, Regex, SearchError};
 use regress_pikevm::exec::{Matches, Searcher};
+use regress_program::insn::CompiledRegex;
 use std::alloc::Global;
 
 /// A pattern with flags, and a text.
@@ -40,12 +41,21 @@ fn is_copied(alloc: Global, re: &Regex, text: &str, list: &[Match]) -> Result<bo
     Ok(are_same(list, &all(alloc, others)?))
 }
 
-// So does an executor that remembers what failed from the first attempt on.
+// All matches, by an executor that remembers what failed from the first attempt on.
+fn found_remembering(
+    alloc: Global,
+    re: &CompiledRegex,
+    text: &str,
+) -> Result<Vec<Match>, SearchError> {
+    let mut executor = DefaultExecutor::new(re, text)?;
+    executor.remember();
+    all(alloc, Matches::new(executor, 0))
+}
+
+// It finds the same.
 fn is_remembered(alloc: Global, case: Case<'_>, list: &[Match]) -> Result<bool, Fault> {
     let program = program_of(alloc, case.pattern, Flags::from(case.flags))?;
-    let mut executor = DefaultExecutor::new(&program, case.text)?;
-    executor.remember();
-    Ok(are_same(list, &all(alloc, Matches::new(executor, 0))?))
+    Ok(are_same(list, &found_remembering(alloc, &program, case.text)?))
 }
 
 // Over ASCII the same is found.

@@ -1,5 +1,5 @@
 -- Escaping the bytes of a text escapes its characters.
-use Rattle.std.proofs.Common.{◌≡◌, ℕ, ◌+◌, ◌/◌, ◌%◌, ◌≤◌, Bool, true, false, inl, inr, List, [], ◌∷◌, ◌++◌, flat_map, refl, sym, ap, ap₂, subst, ◌∙◌, arith, lit<, append-nil}
+use Rattle.std.proofs.Common.{◌≡◌, ℕ, ◌+◌, ◌≤◌, Bool, true, false, inl, inr, List, [], ◌∷◌, ◌++◌, flat_map, refl, sym, ap, ap₂, subst, ◌∙◌, arith, lit<, append-nil}
 use Rattle.std.specs.Prelude.{◌||◌, nat_lt, nat_eq, if◌then◌else◌, chars, IsTrue}
 use Rattle.std.specs.List.{list_all}
 use Rattle.std.specs.Char.{encode_utf8}
@@ -7,13 +7,14 @@ use Rattle.std.specs.Str.{is_utf8}
 use Rattle.std.proofs.Math.Utf8.{encodes, scalars}
 use Rattle.std.proofs.lemmas.Grind.{flat_map-append}
 use Rattle.std.proofs.lemmas.Str.{encode_ascii, encodes-append, encodes-chars, chars-encodes, scalars-chars, IsUtf8-from_is_utf8}
-use Rattle.std.proofs.lemmas.Bool.{cases_Bool, le-ltb, ne_eqb, ltb-true, and_from}
+use Rattle.std.proofs.lemmas.Bool.{cases_Bool, ne_eqb, ltb-true, and_from}
 use Rattle.std.proofs.lemmas.Bool.Decides.{leb_tells}
 use Rattle.regex_meaning.specs.Lists.{contains}
 use Rattle.regex_meaning.specs.Flags.{special, escaped, escape}
 use Rattle.regex_meaning.proofs.Booleans.{and-left, and-right}
 use Rattle.regex_grammar.specs.Grammar.{Parses}
 use Rattle.regex_grammar.specs.Laws.{row_of, EscapedBytesAreRead}
+use Rattle.regex_grammar.proofs.Beyond.{encode-stays}
 use Rattle.regex_grammar.proofs.Escaped.{escaped_texts_are_read}
 
 -- a number that is larger than all members is none
@@ -32,30 +33,6 @@ escaped-beyond byte le = rw (contains-beyond 128 byte special le refl)
 abbrev pub mark : ℕ → List ℕ
 mark c = if contains special c then 92 ∷ [] else []
 
--- bytes that escaping leaves as they are
-abbrev stays : List ℕ → Type 0
-stays bytes = flat_map escaped bytes ≡ bytes
-
-stays-cons : (byte : ℕ) (bytes : List ℕ) → 128 ≤ byte → stays bytes → stays (byte ∷ bytes)
-stays-cons byte bytes le h = ap₂ (λ a b. a ++ b) (escaped-beyond byte le) h
-
--- a byte behind the first one of a character, by its bits
-abbrev next : ℕ → ℕ
-next bits = 128 + bits % 64
-
--- the bytes of a character that has two, three or four of them
-stays-by : (c : ℕ) (two three : Bool)
-    → stays (if two then (192 + c / 64) ∷ next c ∷ []
-    else if three then (224 + c / 4096) ∷ next (c / 64) ∷ next c ∷ []
-    else (240 + c / 262144) ∷ next (c / 4096) ∷ next (c / 64) ∷ next c ∷ [])
-stays-by c true three = stays-cons _ _ (omega arith) (stays-cons _ _ (omega arith) refl)
-stays-by c false true = stays-cons _ _ (omega arith) (stays-cons _ _ (omega arith) (stays-cons _ _ (omega arith) refl))
-stays-by c false false = stays-cons _ _ (omega arith) (stays-cons _ _ (omega arith) (stays-cons _ _ (omega arith) (stays-cons _ _ (omega arith) refl)))
-
-encode-stays : (c : ℕ) → 128 ≤ c → stays (encode_utf8 c)
-unfolding encode_utf8
-encode-stays c le = rw (le-ltb c 128 le) (stays-by c (nat_lt c 2048) (nat_lt c 65536))
-
 -- an escaped character is itself behind its mark
 escaped-marked : (c : ℕ) → escaped c ≡ mark c ++ c ∷ []
 escaped-marked c = elim (cases_Bool (contains special c)) [
@@ -66,7 +43,7 @@ escaped-marked c = elim (cases_Bool (contains special c)) [
 escape-encode : (c : ℕ) → escape (encode_utf8 c) ≡ mark c ++ encode_utf8 c
 unfolding escape
 escape-encode c = elim (leb_tells 128 c) [
-  | inl (e, high) ↦ rw (contains-beyond 128 c special high refl) (encode-stays c high)
+  | inl (e, high) ↦ rw (contains-beyond 128 c special high refl) (encode-stays escaped escaped-beyond c high)
   | inr (e, low) ↦ rw (encode_ascii c low, append-nil) (escaped-marked c)
 ]
 

@@ -1,6 +1,6 @@
 -- Escapes, names and quantifiers are read in one way.
 use Rattle.std.proofs.Common.{◌≡◌, ℕ, ◌<◌, Bool, true, false, not, [], ◌∷◌, ◌++◌, length, true≢false, ⊎_elim, nat_eq, refl, sym, ap, ap₂, subst, ◌∙◌, arith}
-use Rattle.std.specs.Prelude.{codes, Option, Some, None}
+use Rattle.std.specs.Prelude.{codes, Option, Some, None, if◌then◌else◌}
 use Rattle.std.specs.List.{list_all}
 use Rattle.std.specs.Char.{is_digit, is_ascii_alphanumeric}
 use Rattle.std.proofs.lemmas.Bool.{or_cases, and_parts, eqb-true}
@@ -43,6 +43,15 @@ digits_on e d f = one_digits d (digits_at e f)
 pub no_digit : {here there rest : Text} {n : ℕ} → Digits 10 here there n → here ≡ 125 ∷ rest → ⊥
 no_digit {rest = rest} (digits_from h) e = let k : 0 < length (digits 10 (125 ∷ rest)) = subst (λ x. 0 < length (digits 10 x)) e h in omega arith
 
+-- with what it begins
+abbrev start : {here there : Text} {n : ℕ} {m : Option ℕ} → QuantifierPrefix here there n m → (c : ℕ) × (rest : Text) × (here ≡ c ∷ rest)
+start (star e) = (_, _, e)
+start (plus e) = (_, _, e)
+start (question e) = (_, _, e)
+start (exactly e d f) = (_, _, e)
+start (at_least e d f) = (_, _, e)
+start (between e d f g i) = (_, _, e)
+
 pub one_prefix : {here a b : Text} {n m : ℕ} {x y : Option ℕ} → QuantifierPrefix here a n x → QuantifierPrefix here b m y → (a ≡ b) × (n ≡ m) × (x ≡ y)
 one_prefix (star e) (star f) = (behind e f, refl, refl)
 one_prefix (plus e) (plus f) = (behind e f, refl, refl)
@@ -55,36 +64,13 @@ one_prefix (between e d f g i) (between e' d' f' g' i') =
     let h = digits_on (behind e e') d d' in
     let k = digits_on (behind f (h.0 ∙ f')) g g' in
     (behind i (k.0 ∙ i'), ap count h.1, ap (λ x. Some (count x)) k.1)
-one_prefix (star e) (plus e') = absurd (unlike _ _ refl (firsts e e'))
-one_prefix (star e) (question e') = absurd (unlike _ _ refl (firsts e e'))
-one_prefix (star e) (exactly e' d' f') = absurd (unlike _ _ refl (firsts e e'))
-one_prefix (star e) (at_least e' d' f') = absurd (unlike _ _ refl (firsts e e'))
-one_prefix (star e) (between e' d' f' g' i') = absurd (unlike _ _ refl (firsts e e'))
-one_prefix (plus e) (star e') = absurd (unlike _ _ refl (firsts e e'))
-one_prefix (plus e) (question e') = absurd (unlike _ _ refl (firsts e e'))
-one_prefix (plus e) (exactly e' d' f') = absurd (unlike _ _ refl (firsts e e'))
-one_prefix (plus e) (at_least e' d' f') = absurd (unlike _ _ refl (firsts e e'))
-one_prefix (plus e) (between e' d' f' g' i') = absurd (unlike _ _ refl (firsts e e'))
-one_prefix (question e) (star e') = absurd (unlike _ _ refl (firsts e e'))
-one_prefix (question e) (plus e') = absurd (unlike _ _ refl (firsts e e'))
-one_prefix (question e) (exactly e' d' f') = absurd (unlike _ _ refl (firsts e e'))
-one_prefix (question e) (at_least e' d' f') = absurd (unlike _ _ refl (firsts e e'))
-one_prefix (question e) (between e' d' f' g' i') = absurd (unlike _ _ refl (firsts e e'))
-one_prefix (exactly e d f) (star e') = absurd (unlike _ _ refl (firsts e e'))
-one_prefix (exactly e d f) (plus e') = absurd (unlike _ _ refl (firsts e e'))
-one_prefix (exactly e d f) (question e') = absurd (unlike _ _ refl (firsts e e'))
 one_prefix (exactly e d f) (at_least e' d' f') = absurd (unlike _ _ refl (firsts f ((digits_on (behind e e') d d').0 ∙ f')))
 one_prefix (exactly e d f) (between e' d' f' g' i') = absurd (unlike _ _ refl (firsts f ((digits_on (behind e e') d d').0 ∙ f')))
-one_prefix (at_least e d f) (star e') = absurd (unlike _ _ refl (firsts e e'))
-one_prefix (at_least e d f) (plus e') = absurd (unlike _ _ refl (firsts e e'))
-one_prefix (at_least e d f) (question e') = absurd (unlike _ _ refl (firsts e e'))
 one_prefix (at_least e d f) (exactly e' d' f') = absurd (unlike _ _ refl (firsts f ((digits_on (behind e e') d d').0 ∙ f')))
 one_prefix (at_least e d f) (between e' d' f' g' i') = absurd (no_digit g' (sym (behind f ((digits_on (behind e e') d d').0 ∙ f'))))
-one_prefix (between e d f g i) (star e') = absurd (unlike _ _ refl (firsts e e'))
-one_prefix (between e d f g i) (plus e') = absurd (unlike _ _ refl (firsts e e'))
-one_prefix (between e d f g i) (question e') = absurd (unlike _ _ refl (firsts e e'))
 one_prefix (between e d f g i) (exactly e' d' f') = absurd (unlike _ _ refl (firsts f ((digits_on (behind e e') d d').0 ∙ f')))
 one_prefix (between e d f g i) (at_least e' d' f') = absurd (no_digit g (behind f ((digits_on (behind e e') d d').0 ∙ f')))
+one_prefix x y = absurd (unlike (start x).0 (start y).0 refl (firsts (start x).2 (start y).2))
 
 no_lazy : {here rest : Text} → begins "?" here ≡ false → here ≡ 63 ∷ rest → ⊥
 no_lazy f e = true≢false (subst (λ x. begins "?" x ≡ false) e f)
@@ -173,29 +159,32 @@ not_control c = not (c ∈ "0xu")
 control_letter : (c : ℕ) {d : ℕ} → control c ≡ Some d → not_control c ≡ true
 control_letter c e = inside not_control (codes "tnvfr") c refl (controls c (ap is_some e))
 
+-- what a letter behind a backslash begins, by a number: 1 is a control character, 0 one that stands for itself
+abbrev kind : ℕ → ℕ
+kind c = if is_ascii_alphanumeric c then (if not_control c then 1 else c) else 0
+
+module _ {unicode : Bool} {here : Text} where
+  abbrev tag : {there : Text} {c : ℕ} → CharacterEscape unicode here there c → ℕ
+  tag (control_escape e f) = 1
+  tag (null e k) = 48
+  tag (hex_escape e h) = 120
+  tag (unicode_escape e h) = 117
+  tag (identity_escape e f) = 0
+
+  tagged : {there : Text} {c : ℕ} (x : CharacterEscape unicode here there c) → (letter : ℕ) × (rest : Text) × (here ≡ letter ∷ rest) × (kind letter ≡ tag x)
+  tagged (control_escape {letter = l} e f) = (l, _, e, rw (no_control l f, control_letter l f) refl)
+  tagged (null e k) = (_, _, e, refl)
+  tagged (hex_escape e h) = (_, _, e, refl)
+  tagged (unicode_escape e h) = (_, _, e, refl)
+  tagged (identity_escape e f) = (_, _, e, rw f refl)
+
+  same-tag : {a b : Text} {n m : ℕ} (x : CharacterEscape unicode here a n) (y : CharacterEscape unicode here b m) → tag x ≡ tag y
+  same-tag x y = let (l, r, e, k) = tagged x in let (l', r', e', k') = tagged y in sym k ∙ ap kind (firsts e e') ∙ k'
+
 pub one_character : {unicode : Bool} {here a b : Text} {n m : ℕ} → CharacterEscape unicode here a n → CharacterEscape unicode here b m → Same a b n m
 one_character (control_escape e f) (control_escape {letter = l'} e' f') = (behind e e', Some_inj (sym f ∙ ap control (firsts e e') ∙ f'))
 one_character (null e k) (null e' k') = (behind e e', refl)
 one_character (hex_escape e h) (hex_escape e' h') = one_hex (behind e e') h h'
 one_character (unicode_escape e h) (unicode_escape e' h') = one_unicode (behind e e') h h'
 one_character (identity_escape e f) (identity_escape e' f') = (behind e e', firsts e e')
-one_character (identity_escape e f) (control_escape {letter = l'} e' f') = absurd (apart is_ascii_alphanumeric (no_control l' f') f (firsts e' e))
-one_character (control_escape {letter = l'} e' f') (identity_escape e f) = absurd (apart is_ascii_alphanumeric (no_control l' f') f (firsts e' e))
-one_character (null e k) (identity_escape e' f) = absurd (apart is_ascii_alphanumeric refl f (firsts e e'))
-one_character (identity_escape e' f) (null e k) = absurd (apart is_ascii_alphanumeric refl f (firsts e e'))
-one_character (null e k) (control_escape {letter = l'} e' f) = absurd (apart not_control (control_letter l' f) refl (firsts e' e))
-one_character (control_escape {letter = l'} e' f) (null e k) = absurd (apart not_control (control_letter l' f) refl (firsts e' e))
-one_character (null e k) (hex_escape e' k') = absurd (unlike _ _ refl (firsts e e'))
-one_character (null e k) (unicode_escape e' k') = absurd (unlike _ _ refl (firsts e e'))
-one_character (hex_escape e k) (identity_escape e' f) = absurd (apart is_ascii_alphanumeric refl f (firsts e e'))
-one_character (identity_escape e' f) (hex_escape e k) = absurd (apart is_ascii_alphanumeric refl f (firsts e e'))
-one_character (hex_escape e k) (control_escape {letter = l'} e' f) = absurd (apart not_control (control_letter l' f) refl (firsts e' e))
-one_character (control_escape {letter = l'} e' f) (hex_escape e k) = absurd (apart not_control (control_letter l' f) refl (firsts e' e))
-one_character (hex_escape e k) (null e' k') = absurd (unlike _ _ refl (firsts e e'))
-one_character (hex_escape e k) (unicode_escape e' k') = absurd (unlike _ _ refl (firsts e e'))
-one_character (unicode_escape e k) (identity_escape e' f) = absurd (apart is_ascii_alphanumeric refl f (firsts e e'))
-one_character (identity_escape e' f) (unicode_escape e k) = absurd (apart is_ascii_alphanumeric refl f (firsts e e'))
-one_character (unicode_escape e k) (control_escape {letter = l'} e' f) = absurd (apart not_control (control_letter l' f) refl (firsts e' e))
-one_character (control_escape {letter = l'} e' f) (unicode_escape e k) = absurd (apart not_control (control_letter l' f) refl (firsts e' e))
-one_character (unicode_escape e k) (null e' k') = absurd (unlike _ _ refl (firsts e e'))
-one_character (unicode_escape e k) (hex_escape e' k') = absurd (unlike _ _ refl (firsts e e'))
+one_character x y = absurd (unlike (tag x) (tag y) refl (same-tag x y))

@@ -3,10 +3,12 @@ use Rattle.std.proofs.Common.{◌≡◌, ℕ, zero, suc, ◌+◌, ◌/◌, ◌%�
 use Rattle.std.specs.Prelude.{if◌then◌else◌, nat_eq, nat_lt, ◌==◌}
 use Rattle.std.specs.Int.{bit_at}
 use mathlib.Core.Logic.{◌⊎◌}
-use Rattle.std.proofs.Common.{get_or-set_same, get_or-set_other, w64, bit_and, bit_or, eqb, not, replicate}
-use Rattle.std.proofs.lemmas.Bool.{cases_eq, cases_lt, ne_eqb, eq-eqb, eqb-true, lt-ltb, le-ltb}
-use Rattle.std.proofs.lemmas.Nat.Bits.{bit_at_set_same, bit_at_set_other, shr_and_one, bit_at-lt, bit_at-zero}
+use Rattle.std.proofs.Common.{get_or-set_same, get_or-set_other, bit_and, bit_or, eqb, not, replicate}
+use Rattle.std.proofs.lemmas.Bool.{cases_eq, cases_lt, ne_eqb, eq-eqb, eqb-true, lt-ltb, le-ltb, and_right}
+use Rattle.std.proofs.lemmas.Nat.Bits.{shr_and_one, bit_at-lt}
+use Rattle.std.proofs.Math.Bool.{or_comm}
 use Rattle.regex_pattern_front.specs.ByteSets.{is_set}
+use Rattle.regex_pattern_front.proofs.Bits.{has_bit, no-bits, bit-set}
 pub use Rattle.regex_grammar.proofs.Parts.{contains-numbers_from}
 use Rattle.regex_meaning.specs.Lists.{contains, numbers_from}
 use Rattle.regex_meaning.specs.StartPredicate.{bytes_where}
@@ -127,22 +129,6 @@ is_set-read bits byte h = rw (lt-ltb byte 128 h, shr_and_one (get_or bits (byte 
     one_or_none (suc zero) h = refl
     one_or_none (suc (suc b)) h = absurd (omega arith)
 
-is_set-write : (bits : List ℕ) (byte b : ℕ) → length bits ≡ 2 → byte < 128 → b < 128
-    → (bit_at (get_or (set bits (byte / 64) (bit_or (get_or bits (byte / 64) 0) (1 * 2 ^ (byte % 64) % 2 ^ 64))) (b / 64) 0) (b % 64) == 1)
-    ≡ (b == byte || (bit_at (get_or bits (b / 64) 0) (b % 64) == 1))
-is_set-write bits byte b sized h k =
-    elim (written bits (byte / 64) (b / 64) (bit_or (get_or bits (byte / 64) 0) (1 * 2 ^ (byte % 64) % 2 ^ 64)) 0 (omega arith)) [
-      | inr w ↦ rw (w.1, ne_eqb b byte (λ e. w.0 (ap (λ n. n / 64) e)))
-      | inl w ↦ rw (w.1, w.0)
-          (elim (cases_eq (b % 64) (byte % 64)) [
-            | inl e ↦ rw (e, bit_at_set_same w64 (get_or bits (byte / 64) 0) (byte % 64) (omega arith), eq-eqb b byte (same_number b byte w.0 e))
-            | inr ne ↦ rw (bit_at_set_other w64 (get_or bits (byte / 64) 0) (byte % 64) (omega arith) (b % 64) ne, ne_eqb b byte (λ e. ne (ap (λ n. n % 64) e)))
-          ])
-    ]
-  where
-    same_number : (x y : ℕ) → x / 64 ≡ y / 64 → x % 64 ≡ y % 64 → x ≡ y
-    same_number x y p q = omega arith
-
 -- two words of bits with one more byte
 pub bits-set : (bits : List ℕ) (byte : ℕ) → length bits ≡ 2 → byte < 128
     → bytes_where (is_set (set bits (byte / 64) (bit_or (get_or bits (byte / 64) 0) (1 * 2 ^ (byte % 64) % 2 ^ 64))))
@@ -152,24 +138,12 @@ bits-set bits byte sized h =
     (λ b within.
     rw (contains-bytes_where (is_set bits) b within)
     (elim (cases_lt b 128) [
-      | inl below ↦ rw (lt-ltb b 128 below) (is_set-write bits byte b sized h below)
+      | inl below ↦ rw (lt-ltb b 128 below) (bit-set bits byte b (omega arith) ∙ or_comm (has_bit bits b) (b == byte))
       | inr above ↦ rw (le-ltb b 128 above, ne_eqb b byte (omega arith))
     ]))
 
 pub bits-none : bytes_where (is_set (0 ∷ 0 ∷ [])) ≡ []
-bits-none = bytes_where-none _ (λ b within. none (nat_lt b 128) _ (no_bit (b / 64) (b % 64)))
-  where
-    none : (t e : Bool) → e ≡ false → (t && e) ≡ false
-    none true e h = h
-    none false e h = refl
-
-    zeros : (i : ℕ) → get_or {A = ℕ} (0 ∷ 0 ∷ []) i 0 ≡ 0
-    zeros zero = refl
-    zeros (suc zero) = refl
-    zeros (suc (suc i)) = refl
-
-    no_bit : (i k : ℕ) → (bit_at (get_or (0 ∷ 0 ∷ []) i 0) k == 1) ≡ false
-    no_bit i k = rw (zeros i, bit_at-zero k)
+bits-none = bytes_where-none _ (λ b within. and_right (nat_lt b 128) (has_bit (0 ∷ 0 ∷ []) b) (no-bits 2 b))
 
 pub table-none : bytes_where (λ b. get_or (replicate 256 false) b false) ≡ []
 table-none = bytes_where-none _ (λ b within. get_or-replicate 256 b)

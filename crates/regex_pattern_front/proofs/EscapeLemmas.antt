@@ -1,13 +1,14 @@
 -- Escapes, as the reader reads them.
 use Rattle.std.proofs.Common.{◌≡◌, ℕ, ◌+◌, ◌-◌, ◌*◌, ◌≤◌, inl, inr, Bool, true, false, ◌∷◌, true≢false, refl, sym, ap, subst, ◌∙◌, arith, Some, None}
 use Rattle.std.specs.Prelude.{Option, Result, Ok, Err, IsTrue}
-use Rattle.std.specs.Option.{SomeIff}
+use Rattle.std.specs.Option.{SomeIff, ok_or}
 use Rattle.std.specs.Char.{IsScalar, OutOfScalarRange, is_ascii_digit, is_ascii_alphanumeric}
 use Rattle.regex_meaning.specs.Text.{is_scalar}
 use Rattle.regex_grammar.specs.Reading.{Text, Digits}
 use Rattle.regex_grammar.specs.Characters.{Hex, Pair, pair, is_lead, is_trail, UnicodeEscape, surrogates, four_digits, code_point, CharacterEscape, control, control_escape, null, hex_escape, unicode_escape, identity_escape}
 use Rattle.regex_grammar.proofs.OneTree.{first, rest_of, unlike}
 use Rattle.regex_grammar.proofs.Leaves.{behind, one_hex, no_brace, no_brace_pair}
+use Rattle.regex_grammar.proofs.Members.{may_escape, escape_begins}
 use Rattle.regex_pattern_front.specs.Reads.{peeked, IsReadAs, IsTrail, IsPaired, IsCodePoint}
 
 -- the number that was asked whether it is a `char`
@@ -21,6 +22,14 @@ scalar-is o c x d s e f = sym (scalar-same s e) ∙ f
 pub no_letter : (c : ℕ) → OutOfScalarRange c → is_ascii_alphanumeric c ≡ false
 no_letter c (inl h) = let k : 123 ≤ c = omega (arith, h.0) in grind arith
 no_letter c (inr h) = let k : 123 ≤ c = omega (arith, h) in grind arith
+
+-- a letter or a digit behind a backslash, which stands for a control character or for nothing
+pub control-read : {E : Type 0} (unicode : Bool) (c : ℕ) (rest : Text) (o : Option ℕ) (cause : E) → o ≡ control c → is_ascii_alphanumeric c ≡ true
+    → (c ≡ 48 → ⊥) → (c ≡ 120 → ⊥) → (c ≡ 117 → ⊥) → IsReadAs (CharacterEscape unicode (c ∷ rest)) (ok_or o cause) rest
+control-read unicode c rest (Some d) cause is letter no_zero no_x no_u = control_escape refl (sym is)
+control-read unicode c rest None cause is letter no_zero no_x no_u = λ end a e.
+    let none : may_escape c ≡ false = grind arith in
+    true≢false (sym (escape_begins e) ∙ none)
 
 digit_is_scalar : (d : ℕ) → is_ascii_digit d ≡ true → is_scalar d ≡ true
 digit_is_scalar d e = grind arith

@@ -1,4 +1,5 @@
 pub mod BoolLemmas
+pub mod Bits
 pub mod ByteLemmas
 pub mod AddedBytes
 pub mod IntervalLemmas

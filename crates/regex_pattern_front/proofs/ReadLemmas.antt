@@ -1,12 +1,13 @@
 -- Numbers, read a digit at a time.
-use Rattle.std.proofs.Common.{◌≡◌, ℕ, ◌+◌, ◌-◌, ◌*◌, ◌<◌, ◌≤◌, Bool, true, false, [], ◌∷◌, ◌++◌, length, drop, min, refl, sym, ap, ap₂, subst, ◌∙◌, arith, append_assoc, Some, None, ◌^◌}
+use Rattle.std.proofs.Common.{◌≡◌, ℕ, ◌+◌, ◌-◌, ◌*◌, ◌<◌, ◌≤◌, Bool, true, false, [], ◌∷◌, ◌++◌, length, drop, min, refl, sym, ap, ap₂, subst, ◌∙◌, arith, append_assoc, inl, inr, Some, None, ◌^◌}
 use Prim.Native.String.{String}
 use Rattle.std.specs.Prelude.{codes, nat_eq}
 use Rattle.std.specs.List.{list_all, starts_with}
 use Rattle.std.specs.Char.{is_digit, digit_value}
 use Rattle.std.proofs.lemmas.List.Sums.{fold-append, take_while-cons}
 use Rattle.std.proofs.lemmas.List.Folds.{list_all-append}
-use Rattle.std.proofs.lemmas.Bool.{and_parts, ltb-true, eqb-true}
+use Rattle.std.proofs.lemmas.Bool.{cases_lt, and_parts, ltb-true, eqb-true}
+use Rattle.std.proofs.Math.Nat.{mul-le-mul_left, mul-le-mul_right, mul_comm}
 use Rattle.std.proofs.Math.Seq.{drop-append_seam}
 use Rattle.std.proofs.lemmas.List.{length-append}
 use Rattle.regex_grammar.specs.Reading.{Text, Digits, digits_from, digits, number, begins}
@@ -66,7 +67,22 @@ pub record NumberSoFar (base most : ℕ) (here : Text) (value : ℕ) (there : Te
   pub some : 0 < length ds
   pub value_is : value ≡ min (number base ds) most
 
-module _ (base most : ℕ) (step : (n d : ℕ) → min (min (min n most * base) most + d) most ≡ min (base * n + d) most) (fits : base ≤ most) where
+module _ (base most : ℕ) (some : 1 ≤ base) (fits : base ≤ most) where
+  -- with one digit more, of a number that is told, and of one that is not
+  step : (n d : ℕ) → min (min (min n most * base) most + d) most ≡ min (base * n + d) most
+  step n d = elim (cases_lt n most) [
+    | inl told ↦
+        let same : min n most ≡ n = omega (arith, told) in
+        let times : n * base ≡ base * n = mul_comm n base in
+        rw same (omega (arith, times))
+    | inr untold ↦
+        let same : min n most ≡ most = omega (arith, untold) in
+        let more : most * 1 ≤ most * base = mul-le-mul_left most some in
+        let past : most * base ≤ n * base = mul-le-mul_right base untold in
+        let times : n * base ≡ base * n = mul_comm n base in
+        rw same (omega (arith, more, past, times))
+  ]
+
   pub number-first : (here there : Text) (d : ℕ) → IsDigitRead base here (Some d) there → NumberSoFar base most here d there
   number-first here there d r =
       let c : ℕ = r.0 in
@@ -91,12 +107,6 @@ module _ (base most : ℕ) (step : (n d : ℕ) → min (min (min n most * base) 
   pub number-end : (here middle there : Text) (value : ℕ) → NumberSoFar base most here value middle → IsDigitRead base middle None there → IsNumberRead base most here (Some value) there
   number-end here middle there value s r =
       rw r.0 (number base s.ds, digits-here base s.digits r.1 s.some, s.value_is)
-
-pub step10 : (most n d : ℕ) → min (min (min n most * 10) most + d) most ≡ min (10 * n + d) most
-step10 most n d = omega arith
-
-pub step16 : (most n d : ℕ) → min (min (min n most * 16) most + d) most ≡ min (16 * n + d) most
-step16 most n d = omega arith
 
 -- ---- So many digits
 

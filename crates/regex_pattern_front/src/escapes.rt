@@ -1,7 +1,7 @@
 //! What stands behind a backslash, and names.
 
 ghost use Rattle.std.specs.Prelude.{◌≡◌, ◌≤◌, ◌∷◌, length, string_bytes, Bool, not, ◌&&◌, ◌==◌, IfSome, if◌then◌else◌};
-ghost use Rattle.regex_grammar.specs.Characters.{CharacterEscape, GroupName, begins_name, goes_on_name, Hex, UnicodeEscape, is_lead, is_trail};
+ghost use Rattle.regex_grammar.specs.Characters.{CharacterEscape, GroupName, control, begins_name, goes_on_name, Hex, UnicodeEscape, is_lead, is_trail};
 ghost use Rattle.regex_pattern_front.specs.Reads.{IsReadAs, IsReadOr, IsLetter, IsTrailRead, IsPaired, IsCodePoint};
 
 use crate::codepointset::CODE_POINT_MAX;
@@ -33,16 +33,25 @@ fn escaped(reader: &mut Reader, c: u32, unicode: bool) -> Result<u32, Cause>
     ensures text { IsReadAs (CharacterEscape unicode (c ∷ reader.old.rest.now)) result reader.new.rest.now }
 {
     match char::from_u32(c) {
-        Some('t') => Ok(0x09),
-        Some('n') => Ok(0x0A),
-        Some('v') => Ok(0x0B),
-        Some('f') => Ok(0x0C),
-        Some('r') => Ok(0x0D),
         Some('0') => null(reader),
         Some('x') => byte(reader),
         Some('u') => unicode_escape(reader, unicode),
-        Some(letter) if letter.is_ascii_alphanumeric() => Err(unknown(letter)),
+        Some(letter) if letter.is_ascii_alphanumeric() => control(letter).ok_or(unknown(letter)),
         _ => Ok(c),
+    }
+}
+
+// The control character that a letter stands for.
+fn control(letter: char) -> Option<u32>
+    ensures { result ≡ control letter }
+{
+    match letter {
+        't' => Some(0x09),
+        'n' => Some(0x0A),
+        'v' => Some(0x0B),
+        'f' => Some(0x0C),
+        'r' => Some(0x0D),
+        _ => None,
     }
 }
 
@@ -130,13 +139,13 @@ fn code_point(reader: &mut Reader) -> Result<u32, Cause>
     ensures moves { length reader.new.rest.now ≤ length reader.old.rest.now }
     ensures text { IsReadAs (IsCodePoint reader.old.rest.now) result reader.new.rest.now }
 {
-    let c = reader.hex_number().ok_or(Cause::UnicodeEscape)?;
+    let c = reader.number(16).ok_or(Cause::UnicodeEscape)?;
     if !reader.eat('}') {
         Err(Cause::UnicodeEscape)
-    } else if c > CODE_POINT_MAX {
+    } else if c > CODE_POINT_MAX as usize {
         Err(Cause::CodePointTooGreat)
     } else {
-        Ok(c)
+        Ok(c as u32)
     }
 }
 

@@ -322,7 +322,7 @@ fn decimal(reader: &mut Reader) -> Option<u32>
     ensures moves { length reader.new.rest.now ≤ length reader.old.rest.now }
     ensures text { IsDecimalRead reader.old.rest.now result reader.new.rest.now }
 {
-    let n = reader.number()?;
+    let n = reader.number(10)?;
     if n <= u32::MAX as usize {
         Some(n as u32)
     } else {

@@ -101,15 +101,20 @@ impl Reader<'_> {
         Some(digit)
     }
 
-    /// Reads a decimal number, which counts as `usize::MAX` where it is past that; none where there is no digit.
-    pub(crate) fn number(&mut self) -> Option<usize>
+    /// Reads the digits of a number to this base, which counts as `usize::MAX` where it is past that; none where there is no
+    /// digit.
+    pub(crate) fn number(&mut self, radix: u32) -> Option<usize>
+        requires least { 2 ≤ radix }
+        requires most { radix ≤ 36 }
         ensures moves { length self.new.rest.now ≤ length self.old.rest.now }
         ensures read { IsSome result → length self.new.rest.now < length self.old.rest.now }
-        ensures text { IsNumberRead 10 usize.MAX self.old.rest.now result self.new.rest.now }
+        ensures text { IsNumberRead radix usize.MAX self.old.rest.now result self.new.rest.now }
     {
-        let mut value = self.digit(10)? as usize;
-        while let Some(digit) = self.digit(10) {
-            value = value.saturating_mul(10).saturating_add(digit as usize);
+        let mut value = self.digit(radix)? as usize;
+        while let Some(digit) = self.digit(radix) {
+            value = value
+                .saturating_mul(radix as usize)
+                .saturating_add(digit as usize);
         }
         Some(value)
     }
@@ -122,19 +127,6 @@ impl Reader<'_> {
         let mut value = 0u32;
         for _ in 0..count {
             value = value.saturating_mul(16).saturating_add(self.digit(16)?);
-        }
-        Some(value)
-    }
-
-    /// Reads the hexadecimal digits of a number, which counts as `u32::MAX` where it is past that; none where
-    /// there is no digit.
-    pub(crate) fn hex_number(&mut self) -> Option<u32>
-        ensures moves { length self.new.rest.now ≤ length self.old.rest.now }
-        ensures text { IsNumberRead 16 u32.MAX self.old.rest.now result self.new.rest.now }
-    {
-        let mut value = self.digit(16)?;
-        while let Some(digit) = self.digit(16) {
-            value = value.saturating_mul(16).saturating_add(digit);
         }
         Some(value)
     }
@@ -166,7 +158,7 @@ impl Reader<'_> {
         ensures moves { length self.new.rest.now ≤ length self.old.rest.now }
         ensures text { AreCountsRead self.old.rest.now result self.new.rest.now }
     {
-        let min = self.number()?;
+        let min = self.number(10)?;
         let max = self.most(min);
         if self.eat('}') {
             Some((min, max))
@@ -181,7 +173,7 @@ impl Reader<'_> {
         ensures text { IsMostRead min self.old.rest.now result self.new.rest.now }
     {
         if self.eat(',') {
-            self.number()
+            self.number(10)
         } else {
             Some(min)
         }

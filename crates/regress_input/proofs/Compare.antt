@@ -191,59 +191,67 @@ module _ (text : Text) (same : ℕ → ℕ → Bool) where
     places_in_order : (a b p q : ℕ) → HasPlace text a p → HasPlace text b q → a ≤ b → p ≤ q
     places_in_order a b p q f g l = place-le text p q is_text f.within g.within (omega (arith, f.offset_is, g.offset_is))
 
-    pub start_right : (at from to : ℕ) → IsBoundary text at → IsBoundary text from → IsBoundary text to → from ≤ to
-        → Comparing rightwards from to at (past_spelled text same (characters_between text from to) rightwards at)
-    start_right at from to b f t l =
-        let here = at_boundary at b in
-        let start = at_boundary from f in
-        let stop = at_boundary to t in
-        let p : ℕ = place text from in
-        let q : ℕ = place text to in
-        let k : ℕ = place text at in
-        let order : p ≤ q = places_in_order from to p q start stop l in
-        let end : q ≡ p + (q - p) = omega arith in
-        let long : length (slice_range cs p q) ≡ q - p = omega (arith, length-take (q - p) (drop p cs), length-drop p cs, stop.within) in
-        let list : slice_range cs p q ≡ slice_range cs p (p + (q - p)) = ap (slice_range cs p) end in
-        record {
-          count = q - p;
-          from = p;
-          at_from = start;
-          there = k;
-          pos_there = here;
-          stops = subst (HasPlace text to) end stop;
-          fits = omega (arith, stop.within);
-          found_is =
-              ap₂ (λ (n : ℕ) (xs : List ℕ). if nat_le n (length cs - k) && pointwise same xs (slice_range cs k (k + n)) then Some (offset text (k + n)) else None) long list
-              ∙ sym (option_offset (nat_le (q - p) (length cs - k) && pointwise same (slice_range cs p (p + (q - p))) (slice_range cs k (k + (q - p)))) (k + (q - p)))
-              ∙ ap (option_map (λ p. offset text p)) (sym (run-right (q - p) p k (omega (arith, stop.within))));
-        }
+    -- the range that is compared, by places
+    module _ (at from to : ℕ) (b : IsBoundary text at) (f : IsBoundary text from) (t : IsBoundary text to) (l : from ≤ to) where
+      abbrev first_place : ℕ
+      first_place = place text from
 
-    pub start_left : (at from to : ℕ) → IsBoundary text at → IsBoundary text from → IsBoundary text to → from ≤ to
-        → Comparing leftwards to from at (past_spelled text same (characters_between text from to) leftwards at)
-    start_left at from to b f t l =
-        let here = at_boundary at b in
-        let start = at_boundary from f in
-        let stop = at_boundary to t in
-        let p : ℕ = place text from in
-        let q : ℕ = place text to in
-        let k : ℕ = place text at in
-        let order : p ≤ q = places_in_order from to p q start stop l in
-        let begin : p ≡ q - (q - p) = omega arith in
-        let long : length (slice_range cs p q) ≡ q - p = omega (arith, length-take (q - p) (drop p cs), length-drop p cs, stop.within) in
-        let list : slice_range cs p q ≡ slice_range cs (q - (q - p)) q = ap (λ n. slice_range cs n q) begin in
-        record {
-          count = q - p;
-          from = q;
-          at_from = stop;
-          there = k;
-          pos_there = here;
-          stops = subst (HasPlace text from) begin start;
-          fits = omega arith;
-          found_is =
-              ap₂ (λ (n : ℕ) (xs : List ℕ). if nat_le n k && pointwise same xs (slice_range cs (k - n) k) then Some (offset text (k - n)) else None) long list
-              ∙ sym (option_offset (nat_le (q - p) k && pointwise same (slice_range cs (q - (q - p)) q) (slice_range cs (k - (q - p)) k)) (k - (q - p)))
-              ∙ ap (option_map (λ p. offset text p)) (sym (run-left (q - p) q k (omega arith) (stop.within) (here.within)));
-        }
+      abbrev end_place : ℕ
+      end_place = place text to
+
+      abbrev here_place : ℕ
+      here_place = place text at
+
+      stop_place : HasPlace text to end_place
+      stop_place = at_boundary to t
+
+      in_order : first_place ≤ end_place
+      in_order = places_in_order from to first_place end_place (at_boundary from f) stop_place l
+
+      long : length (slice_range cs first_place end_place) ≡ end_place - first_place
+      long = omega (arith, length-take (end_place - first_place) (drop first_place cs), length-drop first_place cs, stop_place.within)
+
+      pub start_right : Comparing rightwards from to at (past_spelled text same (characters_between text from to) rightwards at)
+      start_right =
+          let p : ℕ = first_place in
+          let q : ℕ = end_place in
+          let k : ℕ = here_place in
+          let end : q ≡ p + (q - p) = omega (arith, in_order) in
+          let list : slice_range cs p q ≡ slice_range cs p (p + (q - p)) = ap (slice_range cs p) end in
+          record {
+            count = q - p;
+            from = p;
+            at_from = at_boundary from f;
+            there = k;
+            pos_there = at_boundary at b;
+            stops = subst (HasPlace text to) end stop_place;
+            fits = omega (arith, in_order, stop_place.within);
+            found_is =
+                ap₂ (λ (n : ℕ) (xs : List ℕ). if nat_le n (length cs - k) && pointwise same xs (slice_range cs k (k + n)) then Some (offset text (k + n)) else None) long list
+                ∙ sym (option_offset (nat_le (q - p) (length cs - k) && pointwise same (slice_range cs p (p + (q - p))) (slice_range cs k (k + (q - p)))) (k + (q - p)))
+                ∙ ap (option_map (λ p. offset text p)) (sym (run-right (q - p) p k (omega (arith, in_order, stop_place.within))));
+          }
+
+      pub start_left : Comparing leftwards to from at (past_spelled text same (characters_between text from to) leftwards at)
+      start_left =
+          let p : ℕ = first_place in
+          let q : ℕ = end_place in
+          let k : ℕ = here_place in
+          let begin : p ≡ q - (q - p) = omega (arith, in_order) in
+          let list : slice_range cs p q ≡ slice_range cs (q - (q - p)) q = ap (λ n. slice_range cs n q) begin in
+          record {
+            count = q - p;
+            from = q;
+            at_from = stop_place;
+            there = k;
+            pos_there = at_boundary at b;
+            stops = subst (HasPlace text from) begin (at_boundary from f);
+            fits = omega arith;
+            found_is =
+                ap₂ (λ (n : ℕ) (xs : List ℕ). if nat_le n k && pointwise same xs (slice_range cs (k - n) k) then Some (offset text (k - n)) else None) long list
+                ∙ sym (option_offset (nat_le (q - p) k && pointwise same (slice_range cs (q - (q - p)) q) (slice_range cs (k - (q - p)) k)) (k - (q - p)))
+                ∙ ap (option_map (λ p. offset text p)) (sym (run-left (q - p) q k (omega arith) (stop_place.within) ((at_boundary at b).within)));
+          }
 
     same_place : (a b p q : ℕ) → HasPlace text a p → HasPlace text b q → a ≡ b → p ≡ q
     same_place a b p q f g e = offset-injective text p q is_text f.within g.within (f.offset_is ∙ e ∙ sym g.offset_is)

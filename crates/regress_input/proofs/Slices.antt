@@ -200,15 +200,18 @@ module _ (spell : ℕ → List ℕ) (width : ℕ → ℕ) (sized : (c : ℕ) →
     abbrev pub IsInjective : Type 0
     IsInjective = (p q i j : ℕ) → spelt (slice_range cs p q) ≡ spelt (slice_range cs i j) → slice_range cs p q ≡ slice_range cs i j
 
+    -- what has the units of a range is the range
+    alike : IsInjective → (a b i j p q : ℕ) (ys : List ℕ) → Between cs us a b i j → slice_range us a b ≡ ys → ys ≡ spelt (slice_range cs p q)
+        → slice_range cs i j ≡ slice_range cs p q
+    alike inject a b i j p q ys btw units same = inject i j p q (sym btw.are ∙ units ∙ same)
+
     -- from the places of the boundaries: ys are the units of the characters between two of them
     right-spelt : IsInjective → (at k p q to : ℕ) (ys : List ℕ) → HasPlace this at k → Cuts cs us at k → ys ≡ spelt (slice_range cs p q)
         → StandBehind us ys at to → IsBoundary this to → Spelt this (slice_range cs p q) rightwards k to
     right-spelt inject at k p q to ys at_k cut_k same h b =
         let (m, at_m, cut_m) = here to b in
         let order : k ≤ m = in_order at to k m at_k at_m (omega (arith, h.to_is)) in
-        let btw : Between cs us at to k m = between cs us at to k m order cut_k cut_m in
-        let alike : spelt (slice_range cs k m) ≡ spelt (slice_range cs p q) = sym btw.are ∙ ap (slice_range us at) h.to_is ∙ h.are ∙ same in
-        let equal : slice_range cs k m ≡ slice_range cs p q = inject k m p q alike in
+        let equal : slice_range cs k m ≡ slice_range cs p q = alike inject at to k m p q ys (between cs us at to k m order cut_k cut_m) (ap (slice_range us at) h.to_is ∙ h.are) same in
         let long : length (slice_range cs p q) ≡ m - k = sym (ap length equal) ∙ slice-length cs k m at_m.within in
         let end : k + length (slice_range cs p q) ≡ m = omega arith in
         record {
@@ -234,9 +237,7 @@ module _ (spell : ℕ → List ℕ) (width : ℕ → ℕ) (sized : (c : ℕ) →
     left-spelt inject at k p q to ys at_k cut_k same h b =
         let (m, at_m, cut_m) = here to b in
         let order : m ≤ k = in_order to at m k at_m at_k (omega (arith, h.to_is)) in
-        let btw : Between cs us to at m k = between cs us to at m k order cut_m cut_k in
-        let alike : spelt (slice_range cs m k) ≡ spelt (slice_range cs p q) = sym btw.are ∙ ap (λ n. slice_range us n at) h.to_is ∙ h.are ∙ same in
-        let equal : slice_range cs m k ≡ slice_range cs p q = inject m k p q alike in
+        let equal : slice_range cs m k ≡ slice_range cs p q = alike inject to at m k p q ys (between cs us to at m k order cut_m cut_k) (ap (λ n. slice_range us n at) h.to_is ∙ h.are) same in
         let long : length (slice_range cs p q) ≡ k - m = sym (ap length equal) ∙ slice-length cs m k at_k.within in
         let start : k - length (slice_range cs p q) ≡ m = omega arith in
         record {
@@ -305,17 +306,19 @@ module _ (spell : ℕ → List ℕ) (width : ℕ → ℕ) (sized : (c : ℕ) →
     found-left inject = found-beside leftwards (StandBefore us) (left-spelt inject) spelt-left ends-left
 
     -- The units of a range stand beside a boundary just where its characters do, if where they end is a boundary.
-    pub literal-right : IsInjective → (at a b : ℕ) → IsBoundary this at → IsBoundary this a → IsBoundary this b → a ≤ b
-        → ((to : ℕ) → StandBehind us (slice_range us a b) at to → IsBoundary this to)
-        → past_bytes us (slice_range us a b) rightwards at ≡ past_spelled this nat_eq (characters_between this a b) rightwards at
+    abbrev pub IsLiteral : (d : Direction) (Stand : (ys : List ℕ) (at to : ℕ) → Type 0) → Type 0
+    IsLiteral d Stand =
+        (at a b : ℕ) → IsBoundary this at → IsBoundary this a → IsBoundary this b → a ≤ b
+        → ((to : ℕ) → Stand (slice_range us a b) at to → IsBoundary this to)
+        → past_bytes us (slice_range us a b) d at ≡ past_spelled this nat_eq (characters_between this a b) d at
+
+    pub literal-right : IsInjective → IsLiteral rightwards (StandBehind us)
     literal-right inject at a b at_b from to l ends =
         found-right inject at a b at_b from to l (past_bytes us (slice_range us a b) rightwards at)
         (λ x e. let h = past_bytes-right us (slice_range us a b) at x e in (h, ends x h))
         (λ x h e. right-past_bytes us (slice_range us a b) at x h)
 
-    pub literal-left : IsInjective → (at a b : ℕ) → IsBoundary this at → IsBoundary this a → IsBoundary this b → a ≤ b
-        → ((to : ℕ) → StandBefore us (slice_range us a b) at to → IsBoundary this to)
-        → past_bytes us (slice_range us a b) leftwards at ≡ past_spelled this nat_eq (characters_between this a b) leftwards at
+    pub literal-left : IsInjective → IsLiteral leftwards (StandBefore us)
     literal-left inject at a b at_b from to l ends =
         found-left inject at a b at_b from to l (past_bytes us (slice_range us a b) leftwards at)
         (λ x e. let h = past_bytes-left us (slice_range us a b) at x e in (h, ends x h))

@@ -100,37 +100,15 @@ bytes_at bytes at c s = by (cases_lt c 128) (cases_lt c 2048) (cases_lt c 65536)
         let v : get_or bytes (at + 3) 0 ≡ next c = seen _ 3 e in
         four (fits _ e (omega arith)) (long _ e) (omega arith) (omega arith) (follows_as _ (c / 4096) y) (follows_as _ (c / 64) z) (follows_as _ c v) (omega arith)
 
--- which bytes there are, by those before them
-pub first_inside : (bytes : List ℕ) (at : ℕ) → (c : ℕ) × StandsAt bytes at c → at < length bytes
-first_inside bytes at (c, s) = elim (bytes_at bytes at c s) [
-  | one l n h e ↦ omega arith
-  | two l n h i f e ↦ omega arith
-  | three l n h i f g e ↦ omega arith
-  | four l n h i f g k e ↦ omega arith
-]
-
-pub second_inside : (bytes : List ℕ) (at : ℕ) → (c : ℕ) × StandsAt bytes at c → 128 ≤ get_or bytes at 0 → at + 1 < length bytes
-second_inside bytes at (c, s) m = elim (bytes_at bytes at c s) [
-  | one l n h e ↦ absurd (omega arith)
-  | two l n h i f e ↦ omega arith
-  | three l n h i f g e ↦ omega arith
-  | four l n h i f g k e ↦ omega arith
-]
-
-pub third_inside : (bytes : List ℕ) (at : ℕ) → (c : ℕ) × StandsAt bytes at c → 224 ≤ get_or bytes at 0 → at + 2 < length bytes
-third_inside bytes at (c, s) m = elim (bytes_at bytes at c s) [
-  | one l n h e ↦ absurd (omega arith)
-  | two l n h i f e ↦ absurd (omega arith)
-  | three l n h i f g e ↦ omega arith
-  | four l n h i f g k e ↦ omega arith
-]
-
-pub fourth_inside : (bytes : List ℕ) (at : ℕ) → (c : ℕ) × StandsAt bytes at c → 240 ≤ get_or bytes at 0 → at + 3 < length bytes
-fourth_inside bytes at (c, s) m = elim (bytes_at bytes at c s) [
-  | one l n h e ↦ absurd (omega arith)
-  | two l n h i f e ↦ absurd (omega arith)
-  | three l n h i f g e ↦ absurd (omega arith)
-  | four l n h i f g k e ↦ omega arith
+-- which bytes there are, by the first one
+pub all_inside : (bytes : List ℕ) (at : ℕ) → (c : ℕ) × StandsAt bytes at c
+    → (at < length bytes) × (128 ≤ get_or bytes at 0 → at + 1 < length bytes) × (224 ≤ get_or bytes at 0 → at + 2 < length bytes)
+    × (240 ≤ get_or bytes at 0 → at + 3 < length bytes)
+all_inside bytes at (c, s) = elim (bytes_at bytes at c s) [
+  | one l n h e ↦ (omega arith, λ m. absurd (omega arith), λ m. absurd (omega arith), λ m. absurd (omega arith))
+  | two l n h i f e ↦ (omega arith, λ m. omega arith, λ m. absurd (omega arith), λ m. absurd (omega arith))
+  | three l n h i f g e ↦ (omega arith, λ m. omega arith, λ m. omega arith, λ m. absurd (omega arith))
+  | four l n h i f g k e ↦ (omega arith, λ m. omega arith, λ m. omega arith, λ m. omega arith)
 ]
 
 -- and which character they spell
@@ -358,6 +336,10 @@ module _ (bytes : List ℕ) (unicode : Bool) (is_utf8 : ∥ IsUtf8 bytes ∥₁)
       | at_the_end e r ↦ absurd (n (omega (arith, e, ap length same)))
       | character_behind c s l i r ↦ (c, subst (λ l. StandsAt l at c) (sym same) s)
     ]
+
+    -- an offset inside is not the right end
+    pub not-ended : (at : ℕ) → at < units text → at ≢ length bs
+    not-ended at h z = omega (arith, h, z, units-bytes, ap length same)
 
     pub read-end : (at : ℕ) → IsBoundary text at → at ≡ length bs → read text rightwards at ≡ None
     read-end at b e = elim (right at b) [ at_the_end e r ↦ r | character_behind c s l i r ↦ absurd (omega (arith, ap length same)) ]

@@ -159,33 +159,19 @@ pub extern "C" fn regress_input_bench_ucs2_left(units: &[u16], stop: u32) -> usi
     count_left(&Ucs2Input::new(units, false), stop)
 }
 
+fn interval(first: u32, last: u32) -> Interval {
+    Interval { first, last }
+}
+
 // Letters, digits, `_`, and the letters of two more scripts.
 fn letters(alloc: Global) -> Result<BracketContents, AllocError> {
     let intervals = [
-        Interval {
-            first: 0x30,
-            last: 0x39,
-        },
-        Interval {
-            first: 0x41,
-            last: 0x5A,
-        },
-        Interval {
-            first: 0x5F,
-            last: 0x5F,
-        },
-        Interval {
-            first: 0x61,
-            last: 0x7A,
-        },
-        Interval {
-            first: 0xC0,
-            last: 0x24F,
-        },
-        Interval {
-            first: 0x370,
-            last: 0x3FF,
-        },
+        interval(0x30, 0x39),
+        interval(0x41, 0x5A),
+        interval(0x5F, 0x5F),
+        interval(0x61, 0x7A),
+        interval(0xC0, 0x24F),
+        interval(0x370, 0x3FF),
     ];
     Ok(BracketContents {
         invert: false,

@@ -1,7 +1,7 @@
 -- What is checked of a step is what the laws ask of its instruction.
 use Rattle.std.proofs.Common.{◌≡◌, ◌<◌, ◌^◌, ℕ, ◌+◌, true, false, List, Option, Some, None, ap, ◌∙◌, sym, subst, map, slice_get}
 use Rattle.std.proofs.lemmas.Bool.{le-leb, lt-leb}
-use Rattle.regex_meaning.specs.Layout.{Program, Insn, Goal, JustFail, Char, CharSet, ByteSet, ByteSeq, AsciiBracket, Bracket, MatchAny, MatchAnyExceptLineTerminator, StartOfLine, EndOfLine, WordBoundary, WordBoundaryUnicodeICase, Alt, Jump, EnterLoop, LoopAgain, ResetCaptureGroup, Loop1CharBody, BeginCaptureGroup, EndCaptureGroup, BackRef, Lookahead, Lookbehind}
+use Rattle.regex_meaning.specs.Layout.{Program, Insn, Goal, JustFail, Alt, EnterLoop, LoopAgain, ResetCaptureGroup, Loop1CharBody, BeginCaptureGroup, EndCaptureGroup, BackRef, Lookahead, Lookbehind}
 use Rattle.regex_meaning.specs.Layout as layout
 use Rattle.regress_plan.specs.Insns.{insn_of}
 use Rattle.regress_plan.specs.declared.insn.Insn as declared
@@ -63,23 +63,9 @@ module _ (t : Ledger) (program : Program) where
     right-at None ip h = tt
     right-at (Some Goal) ip h = tt
     right-at (Some JustFail) ip h = tt
-    right-at (Some (Char c)) ip h = h.0.account
-    right-at (Some (CharSet members)) ip h = h.0.account
-    right-at (Some (ByteSet members)) ip h = h.0.account
-    right-at (Some (ByteSeq bytes)) ip h = h.0.account
-    right-at (Some (AsciiBracket members)) ip h = h.0.account
-    right-at (Some (Bracket index)) ip h = h.0.account
-    right-at (Some MatchAny) ip h = h.0.account
-    right-at (Some MatchAnyExceptLineTerminator) ip h = h.0.account
-    right-at (Some (StartOfLine multiline)) ip h = h.0.account
-    right-at (Some (EndOfLine multiline)) ip h = h.0.account
-    right-at (Some (WordBoundary invert)) ip h = h.0.account
-    right-at (Some (WordBoundaryUnicodeICase invert)) ip h = h.0.account
     right-at (Some (Alt secondary)) ip h = (h.0.account, h.1.account)
-    right-at (Some (Jump target)) ip h = h.0.account
     right-at (Some (EnterLoop f)) ip h = enters f ip ip h
     right-at (Some (LoopAgain begin)) ip h = repeated (slice_get program.insns begin) ip begin h
-    right-at (Some (ResetCaptureGroup id)) ip h = h.0.account
     right-at (Some (Loop1CharBody least most greedy)) ip h = h.account
     right-at (Some (BeginCaptureGroup id)) ip h =
         let on = h.0.account in
@@ -95,6 +81,7 @@ module _ (t : Ledger) (program : Program) where
     right-at (Some (BackRef group icase)) ip h = absurd h
     right-at (Some (Lookahead negate start_group end_group continuation)) ip h = looks _ ip h
     right-at (Some (Lookbehind negate start_group end_group continuation)) ip h = looks _ ip h
+    right-at (Some _) ip h = h.0.account
 
 -- ---- Weights
 
@@ -114,29 +101,7 @@ module _ (w : Weights) (program : Program) where
   has-enough None ip h = tt
   has-enough (Some Goal) ip h = tt
   has-enough (Some JustFail) ip h = tt
-  has-enough (Some (Char c)) ip h = h
-  has-enough (Some (CharSet members)) ip h = h
-  has-enough (Some (ByteSet members)) ip h = h
-  has-enough (Some (ByteSeq bytes)) ip h = h
-  has-enough (Some (AsciiBracket members)) ip h = h
-  has-enough (Some (Bracket index)) ip h = h
-  has-enough (Some MatchAny) ip h = h
-  has-enough (Some MatchAnyExceptLineTerminator) ip h = h
-  has-enough (Some (StartOfLine multiline)) ip h = h
-  has-enough (Some (EndOfLine multiline)) ip h = h
-  has-enough (Some (WordBoundary invert)) ip h = h
-  has-enough (Some (WordBoundaryUnicodeICase invert)) ip h = h
-  has-enough (Some (Alt secondary)) ip h = h
-  has-enough (Some (Jump target)) ip h = h
-  has-enough (Some (EnterLoop f)) ip h = h
-  has-enough (Some (LoopAgain begin)) ip h = h
-  has-enough (Some (ResetCaptureGroup id)) ip h = h
-  has-enough (Some (Loop1CharBody least most greedy)) ip h = h
-  has-enough (Some (BeginCaptureGroup id)) ip h = h
-  has-enough (Some (EndCaptureGroup id)) ip h = h
-  has-enough (Some (BackRef group icase)) ip h = h
-  has-enough (Some (Lookahead negate start_group end_group continuation)) ip h = h
-  has-enough (Some (Lookbehind negate start_group end_group continuation)) ip h = h
+  has-enough (Some _) ip h = h
 
 module _ (t : Ledger) (program : Program) where
   enough-by : (s : Step) (ip : ℕ) → StepHasEnough t program s ip → EnoughBy (weights_of t) program s ip
@@ -163,20 +128,7 @@ module _ (t : Ledger) (program : Program) where
   silent-at None ip h s = tt
   silent-at (Some Goal) ip h s = tt
   silent-at (Some JustFail) ip h s = tt
-  silent-at (Some (Char c)) ip h s = h.0.silent s
-  silent-at (Some (CharSet members)) ip h s = h.0.silent s
-  silent-at (Some (ByteSet members)) ip h s = h.0.silent s
-  silent-at (Some (ByteSeq bytes)) ip h s = h.0.silent s
-  silent-at (Some (AsciiBracket members)) ip h s = h.0.silent s
-  silent-at (Some (Bracket index)) ip h s = h.0.silent s
-  silent-at (Some MatchAny) ip h s = h.0.silent s
-  silent-at (Some MatchAnyExceptLineTerminator) ip h s = h.0.silent s
-  silent-at (Some (StartOfLine multiline)) ip h s = h.0.silent s
-  silent-at (Some (EndOfLine multiline)) ip h s = h.0.silent s
-  silent-at (Some (WordBoundary invert)) ip h s = h.0.silent s
-  silent-at (Some (WordBoundaryUnicodeICase invert)) ip h s = h.0.silent s
   silent-at (Some (Alt secondary)) ip h s = (h.0.silent s, h.1.silent s)
-  silent-at (Some (Jump target)) ip h s = h.0.silent s
   silent-at (Some (EnterLoop f)) ip h s = (h.again.silent s, h.leave.silent s)
   silent-at (Some (LoopAgain begin)) ip h s = silent-again (slice_get program.insns begin) ip begin h s
   silent-at (Some (ResetCaptureGroup id)) ip h s = let e = h.1 s in cc
@@ -186,6 +138,7 @@ module _ (t : Ledger) (program : Program) where
   silent-at (Some (BackRef group icase)) ip h s = absurd h
   silent-at (Some (Lookahead negate start_group end_group continuation)) ip h s = (h.silent s, h.on.silent s)
   silent-at (Some (Lookbehind negate start_group end_group continuation)) ip h s = (h.silent s, h.on.silent s)
+  silent-at (Some _) ip h s = h.0.silent s
 
   -- ---- Lookarounds
 

@@ -1,6 +1,6 @@
 -- What instructions lead to.
 use Rattle.std.specs.Prelude.{◌≡◌, ℕ, ◌+◌, Bool, true, false, List, Option, Some, None, length, map, nat_lt}
-use Rattle.regex_meaning.specs.Layout.{Program, Insn, Goal, JustFail, Char, CharSet, ByteSet, ByteSeq, AsciiBracket, Bracket, MatchAny, MatchAnyExceptLineTerminator, StartOfLine, EndOfLine, WordBoundary, WordBoundaryUnicodeICase, Alt, Jump, EnterLoop, LoopAgain, ResetCaptureGroup, Loop1CharBody, BeginCaptureGroup, EndCaptureGroup, BackRef, Lookahead, Lookbehind}
+use Rattle.regex_meaning.specs.Layout.{Program, Insn, Goal, JustFail, Char, CharSet, ByteSet, ByteSeq, AsciiBracket, Bracket, MatchAny, MatchAnyExceptLineTerminator, Alt, Jump, EnterLoop, LoopAgain, ResetCaptureGroup, Loop1CharBody, BeginCaptureGroup, EndCaptureGroup, BackRef, Lookahead, Lookbehind}
 use Rattle.regress_plan.specs.Insns.{insn_of}
 use Rattle.regress_plan.specs.declared.insn.Insn as declared
 use Rattle.regress_ledger.specs.declared.steps.Step.{Step}
@@ -14,6 +14,7 @@ HasInsns program insns = program.insns ≡ map insn_of insns
 abbrev pub next : (ip : ℕ) → (reads silent : Bool) → Step
 next ip reads silent = One (record { to = ip + 1; reads = reads; silent = silent })
 
+-- the last ones read nothing and go on
 abbrev pub step_of : (ip : ℕ) → Insn → Step
 step_of ip Goal = Ends
 step_of ip JustFail = Ends
@@ -25,10 +26,6 @@ step_of ip (AsciiBracket members) = next ip true true
 step_of ip (Bracket index) = next ip true true
 step_of ip MatchAny = next ip true true
 step_of ip MatchAnyExceptLineTerminator = next ip true true
-step_of ip (StartOfLine multiline) = next ip false true
-step_of ip (EndOfLine multiline) = next ip false true
-step_of ip (WordBoundary invert) = next ip false true
-step_of ip (WordBoundaryUnicodeICase invert) = next ip false true
 step_of ip (Alt secondary) = Two secondary
 step_of ip (Jump target) = One (record { to = target; reads = false; silent = true })
 step_of ip (EnterLoop f) =
@@ -43,6 +40,7 @@ step_of ip (Lookahead negate start_group end_group continuation) =
     Look (record { forward = true; negate = negate; past = continuation })
 step_of ip (Lookbehind negate start_group end_group continuation) =
     Look (record { forward = false; negate = negate; past = continuation })
+step_of ip _ = next ip false true
 
 -- whether it neither leads elsewhere nor has bytes
 abbrev pub is_plain : Insn → Bool

@@ -127,6 +127,10 @@ reached-none text start all left is_utf8 h e = record {
   limit = ap (λ (it : ToCome). it.limited) e;
 }
 
+-- with no limit on the steps
+pub reached-unlimited : (text : List ℕ) (all left : ToCome) → IsUtf8 text → all.limited ≡ false → StandFrom text 0 all.answers → left ≡ all → IsReached text false 0 left
+reached-unlimited text all left is_utf8 unlimited h e = subst (λ b. IsReached text b 0 left) unlimited (reached-none text 0 all left is_utf8 h e)
+
 pub takes-next : (text : List ℕ) (limited : Bool) (from : ℕ) (left rest : ToCome) (r : Result Match SearchError) (m : Match)
     → IsReached text limited from left → Gives left (Some r) rest → r ≡ Ok m → TakesNext text limited from left rest (answer_of m)
 takes-next text limited from left rest r m reached gives is =

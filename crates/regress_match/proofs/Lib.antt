@@ -1,6 +1,6 @@
 pub mod CallerLemmas
 pub mod FoundLemmas
-pub mod Closures
+pub mod Answering
 pub mod EscapeLemmas
 pub mod Expansion
 pub mod FlagLemmas

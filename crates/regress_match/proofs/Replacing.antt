@@ -1,15 +1,14 @@
 -- Texts that are made piece by piece.
-use Rattle.std.proofs.Common.{◌≡◌, ℕ, suc, List, [], ◌∷◌, ◌++◌, drop, refl, sym, ap, ◌∙◌, arith, append_assoc, subst, take}
+use Rattle.std.proofs.Common.{◌≡◌, ℕ, suc, List, [], ◌∷◌, ◌++◌, drop, refl, sym, ap, ◌∙◌, arith, append_assoc, map, subst, take}
 use Rattle.std.specs.Prelude.{slice_range}
 use Rattle.std.specs.Borrow.{Bor}
 use Rattle.std.specs.List.{Contains}
 use Rattle.regex_meaning.specs.Laws.{StandInOrder}
 use Rattle.regex_meaning.specs.Names.{Answer}
-use Rattle.regex_meaning.specs.Replace.{expansion, replaced}
+use Rattle.regex_meaning.specs.Replace.{replaced}
 use Rattle.regress_exec.specs.Answers.{answer_of}
 use Rattle.regress_exec.specs.declared.exec.Match.{Match}
 use Rattle.regress_match.specs.Closures.{CanBeCalled}
-use Rattle.regress_match.specs.Replacements.{expanded}
 
 -- the first of the matches alone
 pub first-stands : (from : ℕ) (ms : List Answer) → StandInOrder from ms → StandInOrder from (take 1 ms)
@@ -32,20 +31,24 @@ callable-rest takes left rest m h e = λ found among. h found (subst (λ ms. Con
 
 -- ---- Replacements
 
-module _ (text replacement : List ℕ) where
-  -- what is made, with the matches that are left, is the whole: so it stays when one is replaced
-  pub expanded-more : (made reached next whole : List ℕ) (from to : ℕ) (left rest : List Answer) (m : Answer)
-      → made ++ replaced text from (expanded text replacement left) ≡ whole → left ≡ m ∷ rest
-      → reached ≡ made ++ slice_range text from m.range.0 → next ≡ reached ++ expansion text m replacement → to ≡ m.range.1
-      → next ++ replaced text to (expanded text replacement rest) ≡ whole
-  unfolding replaced
-  expanded-more made reached next whole from to left rest m e l r n t =
-      rw (n, r, t)
-      (append_assoc (made ++ slice_range text from m.range.0) (expansion text m replacement) _
-      ∙ append_assoc made (slice_range text from m.range.0) _
-      ∙ ap (λ ms. made ++ replaced text from (expanded text replacement ms)) (sym l) ∙ e)
+module _ (text : List ℕ) (says : Answer → List ℕ) where
+  -- matches, each with what is said for it
+  abbrev said : List Answer → List (Answer × List ℕ)
+  said ms = map (λ m. (m, says m)) ms
 
-  pub expanded-end : (made final whole : List ℕ) (from : ℕ) (left : List Answer)
-      → made ++ replaced text from (expanded text replacement left) ≡ whole → left ≡ [] → final ≡ made ++ drop from text → final ≡ whole
+  -- what is made, with the matches that are left, is the whole: so it stays when one is replaced
+  pub replaced-more : (made reached next whole : List ℕ) (from to : ℕ) (left rest : List Answer) (m : Answer)
+      → made ++ replaced text from (said left) ≡ whole → left ≡ m ∷ rest
+      → reached ≡ made ++ slice_range text from m.range.0 → next ≡ reached ++ says m → to ≡ m.range.1
+      → next ++ replaced text to (said rest) ≡ whole
   unfolding replaced
-  expanded-end made final whole from left e l f = f ∙ ap (λ ms. made ++ replaced text from (expanded text replacement ms)) (sym l) ∙ e
+  replaced-more made reached next whole from to left rest m e l r n t =
+      rw (n, r, t)
+      (append_assoc (made ++ slice_range text from m.range.0) (says m) _
+      ∙ append_assoc made (slice_range text from m.range.0) _
+      ∙ ap (λ ms. made ++ replaced text from (said ms)) (sym l) ∙ e)
+
+  pub replaced-end : (made final whole : List ℕ) (from : ℕ) (left : List Answer)
+      → made ++ replaced text from (said left) ≡ whole → left ≡ [] → final ≡ made ++ drop from text → final ≡ whole
+  unfolding replaced
+  replaced-end made final whole from left e l f = f ∙ ap (λ ms. made ++ replaced text from (said ms)) (sym l) ∙ e

@@ -1,52 +1,23 @@
 -- Closures that answer a text for a match: where they may be called, and what their answers make.
-use Rattle.std.specs.Prelude.{◌≡◌, ℕ, List, ◌∷◌, ◌++◌, map, IsOk, Result, Ok, Err, String, string_bytes}
+use Rattle.std.specs.Prelude.{ℕ, List, Result, String, string_bytes}
 use Rattle.std.specs.Borrow.{Bor}
 use Rattle.std.specs.List.{Contains}
-use Rattle.regex_meaning.specs.Laws.{Each}
 use Rattle.regex_meaning.specs.Names.{Answer}
-use Rattle.regex_meaning.specs.Replace.{replaced}
 use Rattle.regress_exec.specs.Answers.{answer_of}
 use Rattle.regress_exec.specs.declared.exec.Match.{Match}
-use Rattle.regress_match.specs.Refusals.{IsMemory}
+use Rattle.regress_match.specs.Answered as answered
 use Rattle.regress_match.specs.declared.api.error.ReplaceError.{ReplaceError}
-use Rattle.regress_match.specs.declared.api.error.ReplaceError.TheVariants.{Search, Closure}
 
 -- it may be called at each of these matches
 abbrev pub CanBeCalled : (takes : Bor Match → Type 0) → List Answer → Type 0
 CanBeCalled takes ms = (found : Bor Match) → Contains ms (answer_of found.now) → takes found
 
--- what refuses an answer's place in the text: want of memory, for the text that was answered, and else the closure's error
-abbrev pub CanRefuseAnswer : {Z E : Type 0} → Result (String Z) E → ReplaceError E → Type 0
-CanRefuseAnswer answer (Search e) = IsOk answer × IsMemory e
-CanRefuseAnswer answer (Closure e) = answer ≡ Err e
-
 -- By `says` it may answer this result at this match.
 module _ {Z E : Type 0} (says : Bor Match → Result (String Z) E → Type 0) where
-  -- called at a match, it answered this
-  abbrev pub Answered : Answer → Result (String Z) E → Type 0
-  Answered m result = (found : Bor Match) × (answer_of found.now ≡ m) × says found result
-
-  -- each match stands with a text that it answered there
-  abbrev pub AllAnswered : List (Answer × List ℕ) → Type 0
-  AllAnswered pieces = Each (λ p. (s : String Z) × (string_bytes s ≡ p.1) × Answered p.0 (Ok s)) pieces
-
   -- the text in which its answers stand in place of these matches
-  pub record IsReplacedBy (text : List ℕ) (ms : List Answer) (made : List ℕ) : Type 0 where
-    pub pieces : List (Answer × List ℕ)
-    pub matches : map (λ p. p.0) pieces ≡ ms
-    pub answered : AllAnswered pieces
-    pub made_is : made ≡ replaced text 0 pieces
-
-  -- it answered an error at one of these matches, and a text at each before it
-  pub record IsRefusedAt (ms : List Answer) (e : E) : Type 0 where
-    pub before : List (Answer × List ℕ)
-    pub at : Answer
-    pub behind : List Answer
-    pub matches : map (λ p. p.0) before ++ at ∷ behind ≡ ms
-    pub answered : AllAnswered before
-    pub refused : Answered at (Err e)
+  abbrev pub IsReplacedBy : (text : List ℕ) → List Answer → (made : List ℕ) → Type 0
+  IsReplacedBy text ms made = answered.IsReplacedBy says string_bytes text ms made
 
   -- what refuses a replacement by it
   abbrev pub CanRefuseWith : List Answer → ReplaceError E → Type 0
-  CanRefuseWith ms (Search e) = IsMemory e
-  CanRefuseWith ms (Closure e) = IsRefusedAt ms e
+  CanRefuseWith ms e = answered.CanRefuseWith says string_bytes ms e

@@ -1,3 +1,4 @@
+pub mod Answered
 pub mod Closures
 pub mod Flags
 pub mod Laws

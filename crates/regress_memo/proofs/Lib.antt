@@ -1,3 +1,2 @@
-pub mod BitLemmas
 pub mod MemoLemmas
 pub mod LawLemmas

@@ -141,6 +141,9 @@ module _ (t : Ledger) (ip : ℕ) (x : Line) (is : x ≡ line_of t ip) (records :
 
 -- ---- Notes
 
+abbrev pub known_by : Ledger → (places : ℕ) → (with_ends : Bool) → (failures ends : List ℕ) → Known
+known_by ledger places with_ends failures ends = record { ledger = ledger; places = places; with_ends = with_ends; failures = failures; ends = ends }
+
 module _ (m : Known) (coded : AreCoded m.ledger) (k : Key) (has : HasBit m.ledger m.places k) (bit : ℕ)
     (its : bit ≡ bit_of m.ledger m.places k.ip k.at k.code) (new : List ℕ) where
   pub notes-failure : ((i : ℕ) → is_set new i ≡ (is_set m.failures i || i == bit)) → NotesFailure k m (record m { failures = new })

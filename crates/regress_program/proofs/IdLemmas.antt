@@ -1,17 +1,16 @@
 -- Distinct ids, their span, and which numbers they are.
-use Rattle.std.proofs.Common.{◌≡◌, ℕ, zero, suc, ◌+◌, ◌-◌, ◌*◌, ◌/◌, ◌%◌, ◌^◌, ◌<◌, ◌≤◌, min, max, Bool, true, false, not, ◌&&◌, ◌||◌, List, [], ◌∷◌, ◌++◌, length, get_or, set, replicate, refl, sym, ap, ◌∙◌, arith, ⊎_elim, length-append, length-set, bit_or, w64, get_or-set_same, get_or-set_other}
+use Rattle.std.proofs.Common.{◌≡◌, ℕ, zero, suc, ◌+◌, ◌-◌, ◌/◌, ◌^◌, ◌<◌, ◌≤◌, min, max, Bool, true, false, not, ◌&&◌, ◌||◌, List, [], ◌∷◌, ◌++◌, length, replicate, refl, sym, ap, ap₂, ◌∙◌, arith, ⊎_elim, length-append, length-set}
 use Rattle.std.specs.Prelude.{if◌then◌else◌, nat_eq, nat_lt, nat_le, ◌==◌, count_by}
-use Rattle.std.specs.Int.{bit_at}
 use Rattle.std.specs.List.{list_all}
 use Rattle.std.proofs.lemmas.Bool.{cases_eq, cases_lt, ne_eqb, eq-eqb, eqb-true, lt-ltb, le-ltb, le-leb, leb-true, and_from, or_right, or_left, or_cases, or_from, not-true, false_from_ne_true}
 use Rattle.std.proofs.lemmas.List.{length-replicate}
 use Rattle.std.proofs.lemmas.List.Sums.{sum_by-cons}
-use Rattle.std.proofs.lemmas.Nat.Bits.{bit_at_set_same, bit_at_set_other, bit_at-zero}
 use Rattle.regex_meaning.specs.Lists.{contains, numbers_from}
 use Rattle.regex_meaning.specs.Tree.{Node, cat, alt, capture_group, lookaround, loop, loop_1_char_body, group_ids, every}
 use Rattle.regex_meaning.specs.WellFormed.{encloses, each_id_stands_once, IsWellFormed, goal_is_last, names_the_groups_inside, refers_to_a_group, has_order_in_quantifier, has_one_character_body, has_text_in_sequence, fits_instructions}
 use Rattle.regex_meaning.proofs.WellFormedLemmas.{clauses, by_clauses}
 use Rattle.regex_meaning.proofs.Sound.{all-contains}
+use Rattle.regex_pattern_front.proofs.Bits.{has_bit, with_bit, no-bits, bit-set}
 use Rattle.regex_pattern_front.proofs.ByteLemmas.{contains-numbers_from}
 use Rattle.regress_program.specs.Nodes.{is_leaf}
 use Rattle.regress_program.specs.Spans.{as_span}
@@ -40,47 +39,12 @@ six a b c d e f = ap (λ t. t && (e && f)) (four a b c d) ∙ four (a && c) (b &
 
 -- ---- The table
 
--- the bit of a number
-has_bit : List ℕ → ℕ → Bool
-has_bit bits k = bit_at (get_or bits (k / 64) 0) (k % 64) == 1
+pub none-seen : (n k : ℕ) → is_seen (replicate n 0) k ≡ is_past n k
+none-seen n k = ap₂ (λ l b. is_past l k || b) (length-replicate n) (no-bits n k) ∙ or-false (is_past n k)
 
-pub no_bits : (n k : ℕ) → is_seen (replicate n 0) k ≡ is_past n k
-no_bits n k = rw (length-replicate n, zeros n (k / 64), bit_at-zero (k % 64)) (or-false (is_past n k))
-  where
-    zeros : (m i : ℕ) → ◌≡◌ {A = ℕ} (get_or (replicate m 0) i 0) 0
-    zeros zero i = refl
-    zeros (suc m) zero = refl
-    zeros (suc m) (suc i) = zeros m i
-
-bit-set : (bits : List ℕ) (id k : ℕ) → id / 64 < length bits
-    → has_bit (set bits (id / 64) (bit_or (get_or bits (id / 64) 0) (1 * 2 ^ (id % 64) % 2 ^ 64))) k ≡ (has_bit bits k || k == id)
-unfolding has_bit
-bit-set bits id k within =
-    let v = bit_or (get_or bits (id / 64) 0) (1 * 2 ^ (id % 64) % 2 ^ 64) in
-    ⊎_elim (λ (e : k / 64 ≡ id / 64). same_word v e) (λ (ne : k / 64 ≡ id / 64 → ⊥). other_word v ne) (cases_eq (k / 64) (id / 64))
-  where
-    same_number : (x y : ℕ) → x / 64 ≡ y / 64 → x % 64 ≡ y % 64 → x ≡ y
-    same_number x y p q = omega arith
-
-    same_word : (v : ℕ) → k / 64 ≡ id / 64 → has_bit (set bits (id / 64) (bit_or (get_or bits (id / 64) 0) (1 * 2 ^ (id % 64) % 2 ^ 64))) k ≡ (has_bit bits k || k == id)
-    same_word v e =
-        rw (e, get_or-set_same)
-        (⊎_elim (λ (f : k % 64 ≡ id % 64).
-        rw (f, bit_at_set_same w64 (get_or bits (id / 64) 0) (id % 64) (omega arith), eq-eqb k id (same_number k id e f)) (sym (or_right _ true refl)))
-        (λ (ne : k % 64 ≡ id % 64 → ⊥).
-        rw (bit_at_set_other w64 (get_or bits (id / 64) 0) (id % 64) (omega arith) (k % 64) ne, ne_eqb k id (λ g. ne (ap (λ n. n % 64) g))) (sym (or-false _)))
-        (cases_eq (k % 64) (id % 64)))
-
-    other_word : (v : ℕ) → (k / 64 ≡ id / 64 → ⊥) → has_bit (set bits (id / 64) (bit_or (get_or bits (id / 64) 0) (1 * 2 ^ (id % 64) % 2 ^ 64))) k ≡ (has_bit bits k || k == id)
-    other_word v ne =
-        rw (get_or-set_other, ne_eqb k id (λ g. ne (ap (λ n. n / 64) g))) (sym (or-false _))
-
-pub seen-set : (bits : List ℕ) (id k : ℕ) → id / 64 < length bits
-    → is_seen (set bits (id / 64) (bit_or (get_or bits (id / 64) 0) (1 * 2 ^ (id % 64) % 2 ^ 64))) k ≡ (is_seen bits k || k == id)
-unfolding has_bit
+pub seen-set : (bits : List ℕ) (id k : ℕ) → id / 64 < length bits → is_seen (with_bit bits id) k ≡ (is_seen bits k || k == id)
 seen-set bits id k within =
-    let v = bit_or (get_or bits (id / 64) 0) (1 * 2 ^ (id % 64) % 2 ^ 64) in
-    rw (length-set bits (id / 64) v) (ap (λ b. is_past (length bits) k || b) (bit-set bits id k within) ∙ sym (or_assoc (is_past (length bits) k) (has_bit bits k) (k == id)))
+    ap₂ (λ l b. is_past l k || b) (length-set bits (id / 64) _) (bit-set bits id k within) ∙ sym (or_assoc (is_past (length bits) k) (has_bit bits k) (k == id))
 
 -- one past the words is seen already
 pub seen-past : (bits : List ℕ) (id : ℕ) → length bits ≤ id / 64 → id < 65536 → is_seen bits id ≡ true
@@ -134,7 +98,7 @@ fresh-change (id ∷ ids) f g h u =
 
 -- where there is a bit for each id, and none is set, none is seen
 pub none_stand : (n : Node) → ids_stand (is_seen (replicate 1024 0)) n ≡ ids_stand (λ k. false) n
-none_stand n = ap (λ b. b && every names_the_groups_inside n) (fresh-same (is_seen (replicate 1024 0)) (λ k. false) (group_ids n) (no_bits 1024))
+none_stand n = ap (λ b. b && every names_the_groups_inside n) (fresh-same (is_seen (replicate 1024 0)) (λ k. false) (group_ids n) (none-seen 1024))
 
 -- ids that are fresh at all are where none is seen
 pub unseen_stand : (n : Node) (f : ℕ → Bool) → true ≡ ids_stand f n → true ≡ ids_stand (λ k. false) n

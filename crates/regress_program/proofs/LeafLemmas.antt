@@ -1,6 +1,8 @@
 -- What a node is that is none of some kinds.
 use Rattle.std.proofs.Common.{◌≡◌, ℕ, Bool, true, false, List, [], ◌∷◌, Option, Some, refl, sym, ap, ◌∙◌, Vec, Global, Box, String}
 use Rattle.regex_meaning.specs.Layout.{is_of_bytes}
+use Rattle.regex_meaning.specs.Tree.{cat, end_of_cat}
+use Rattle.regex_meaning.specs.Tree as tree
 use Rattle.regex_pattern_front.specs.TreeOf.{node_of}
 use Rattle.regex_pattern_front.specs.declared.ir.Node.{Node}
 use Rattle.regex_pattern_front.specs.declared.ir.Node.TheVariants.{Goal, CharSet, ByteSet, ByteSequence, Cat, Alt, StringSet, CaptureGroup, LookaroundAssertion, BackRef, Loop, Loop1CharBody, rolls-Cat, rolls-Alt, rolls-CaptureGroup, rolls-LookaroundAssertion, rolls-Loop, rolls-Loop1CharBody}
@@ -45,14 +47,18 @@ leaf-left n cat alt group look loop run =
 
 -- ---- One of another kind
 
+-- a row is the end of one, or a node and the rest
+row : {A : Type 0} (f : tree.Node → A) (a : A) (v : Vec Node Global) → f end_of_cat ≡ a → ((first rest : tree.Node) → f (cat first rest) ≡ a) → f (node_of (Cat v)) ≡ a
+row f a v none some = ap f (node_of-Cat v) ∙ by v.items
+  where
+    by : (ns : List Node) → f (cat_of ns) ≡ a
+    by [] = none
+    by (m ∷ ms) = some (node_of m) (cat_of ms)
+
 goals-rolled : (x : Node-F Node) (it : Goals) → (roll-Node x ≡ Goal → ⊥) → with_goals (node_of (roll-Node x)) it ≡ Some it
 unfolding node_of roll-Node roll
 goals-rolled Node-F.Goal it h = absurd (h refl)
-goals-rolled (Node-F.Cat v) it h = ap (λ n. with_goals n it) (node_of-Cat v) ∙ of_nodes v.items
-  where
-    of_nodes : (ns : List Node) → with_goals (cat_of ns) it ≡ Some it
-    of_nodes [] = refl
-    of_nodes (m ∷ ms) = refl
+goals-rolled (Node-F.Cat v) it h = row (λ n. with_goals n it) (Some it) v refl (λ first rest. refl)
 goals-rolled _ it h = refl
 
 pub goals-other : (n : Node) (it : Goals) → (n ≡ Goal → ⊥) → with_goals (node_of n) it ≡ Some it
@@ -62,11 +68,7 @@ bytes-rolled : (x : Node-F Node) → ((v : Vec ℕ Global) → roll-Node x ≡ B
 unfolding node_of roll-Node roll
 bytes-rolled (Node-F.ByteSet v) h k = absurd (h v refl)
 bytes-rolled (Node-F.ByteSequence v) h k = absurd (k v refl)
-bytes-rolled (Node-F.Cat v) h k = ap is_of_bytes (node_of-Cat v) ∙ of_nodes v.items
-  where
-    of_nodes : (ns : List Node) → is_of_bytes (cat_of ns) ≡ false
-    of_nodes [] = refl
-    of_nodes (m ∷ ms) = refl
+bytes-rolled (Node-F.Cat v) h k = row is_of_bytes false v refl (λ first rest. refl)
 bytes-rolled _ h k = refl
 
 pub bytes-other : (n : Node) → ((v : Vec ℕ Global) → n ≡ ByteSet v → ⊥) → ((v : Vec ℕ Global) → n ≡ ByteSequence v → ⊥) → is_of_bytes (node_of n) ≡ false
@@ -75,11 +77,7 @@ bytes-other = ind-Node (λ n. ((v : Vec ℕ Global) → n ≡ ByteSet v → ⊥)
 narrowed-rolled : (x : Node-F Node) → ((loopee : Box Node Global) (q : Quantifier) (groups : Range ℕ) → roll-Node x ≡ Loop loopee q groups → ⊥) → is_narrowed (node_of (roll-Node x)) ≡ false
 unfolding node_of roll-Node roll
 narrowed-rolled (Node-F.Loop loopee q groups) h = absurd (h loopee q groups (sym (rolls-Loop loopee q groups)))
-narrowed-rolled (Node-F.Cat v) h = ap is_narrowed (node_of-Cat v) ∙ of_nodes v.items
-  where
-    of_nodes : (ns : List Node) → is_narrowed (cat_of ns) ≡ false
-    of_nodes [] = refl
-    of_nodes (m ∷ ms) = refl
+narrowed-rolled (Node-F.Cat v) h = row is_narrowed false v refl (λ first rest. refl)
 narrowed-rolled _ h = refl
 
 pub narrowed-other : (n : Node) → ((loopee : Box Node Global) (q : Quantifier) (groups : Range ℕ) → n ≡ Loop loopee q groups → ⊥) → is_narrowed (node_of n) ≡ false
@@ -88,11 +86,7 @@ narrowed-other = ind-Node (λ n. ((loopee : Box Node Global) (q : Quantifier) (g
 names-rolled : (x : Node-F Node) → ((id : ℕ) (contents : Box Node Global) (name : Option (String Global)) → roll-Node x ≡ CaptureGroup id contents name → ⊥) → is_nameless (node_of (roll-Node x)) ≡ true
 unfolding node_of roll-Node roll
 names-rolled (Node-F.CaptureGroup i n name) h = absurd (h i n name (sym (rolls-CaptureGroup i n name)))
-names-rolled (Node-F.Cat v) h = ap is_nameless (node_of-Cat v) ∙ of_nodes v.items
-  where
-    of_nodes : (ns : List Node) → is_nameless (cat_of ns) ≡ true
-    of_nodes [] = refl
-    of_nodes (m ∷ ms) = refl
+names-rolled (Node-F.Cat v) h = row is_nameless true v refl (λ first rest. refl)
 names-rolled _ h = refl
 
 pub names-other : (n : Node) → ((id : ℕ) (contents : Box Node Global) (name : Option (String Global)) → n ≡ CaptureGroup id contents name → ⊥) → is_nameless (node_of n) ≡ true
@@ -119,11 +113,7 @@ sound-rolled groups (Node-F.StringSet v i) h1 h2 h3 h4 h5 h6 h7 = absurd (h4 v i
 sound-rolled groups (Node-F.BackRef g i) h1 h2 h3 h4 h5 h6 h7 = absurd (h5 g i refl)
 sound-rolled groups (Node-F.Loop b q g) h1 h2 h3 h4 h5 h6 h7 = absurd (h6 b q g (sym (rolls-Loop b q g)))
 sound-rolled groups (Node-F.Loop1CharBody b q) h1 h2 h3 h4 h5 h6 h7 = absurd (h7 b q (sym (rolls-Loop1CharBody b q)))
-sound-rolled groups (Node-F.Cat v) h1 h2 h3 h4 h5 h6 h7 = ap (is_sound_by_itself groups) (node_of-Cat v) ∙ of_nodes v.items
-  where
-    of_nodes : (ns : List Node) → is_sound_by_itself groups (cat_of ns) ≡ true
-    of_nodes [] = refl
-    of_nodes (m ∷ ms) = refl
+sound-rolled groups (Node-F.Cat v) h1 h2 h3 h4 h5 h6 h7 = row (is_sound_by_itself groups) true v refl (λ first rest. refl)
 sound-rolled groups _ h1 h2 h3 h4 h5 h6 h7 = refl
 
 pub sound-other : (groups : ℕ) (n : Node) → ((v : Vec ℕ Global) → n ≡ CharSet v → ⊥) → ((v : Vec ℕ Global) → n ≡ ByteSet v → ⊥) → ((v : Vec ℕ Global) → n ≡ ByteSequence v → ⊥)

@@ -4,12 +4,11 @@ use Rattle.std.specs.Prelude.{if◌then◌else◌, nat_lt, ◌==◌, encode_utf8
 use Rattle.std.specs.List.{prefix_len}
 use Rattle.std.proofs.lemmas.Bool.{ltb-false, leb-true, eq-eqb}
 use Rattle.regex_meaning.specs.Lists.{numbers_from}
-use Rattle.regex_meaning.specs.Tree.{start_of_line, end_of_line}
 use Rattle.regex_meaning.specs.Text.{Text, rightwards, next_character, moved}
 use Rattle.regex_meaning.specs.Offsets.{IsText, offset, place_at}
-use Rattle.regex_meaning.specs.Outcomes.{is_some_and, anchor_holds, differ, is_at_word_boundary}
+use Rattle.regex_meaning.specs.Outcomes.{is_some_and}
 use Rattle.regex_meaning.specs.Ticks.{nearest_first}
-use Rattle.regex_meaning.specs.Layout.{Program, Insn, Goal, JustFail, Char, CharSet, ByteSet, ByteSeq, AsciiBracket, Bracket, MatchAny, MatchAnyExceptLineTerminator, StartOfLine, EndOfLine, WordBoundary, WordBoundaryUnicodeICase, Alt, Jump, EnterLoop, LoopAgain, ResetCaptureGroup, Loop1CharBody, BeginCaptureGroup, EndCaptureGroup, BackRef, Lookahead, Lookbehind}
+use Rattle.regex_meaning.specs.Layout.{Program, Insn, Goal, JustFail, Char, CharSet, ByteSet, ByteSeq, AsciiBracket, Bracket, MatchAny, MatchAnyExceptLineTerminator, Alt, Jump, EnterLoop, LoopAgain, ResetCaptureGroup, Loop1CharBody, BeginCaptureGroup, EndCaptureGroup, BackRef, Lookahead, Lookbehind}
 use Rattle.regex_meaning.proofs.TextLemmas.{offset-place_at}
 use Rattle.regress_machine.specs.Machine.{LoopData, State, running, waiting, Next, goes, asks, at_ip, next_ip, with_some, go, go_if, loop_turn, again_with, again_at, test_of, has_bytes, on_to, read_one, read_bytes, stay_if, run_states, scan, act_on, act, resumed, span}
 use Rattle.regress_machine.proofs.Beside.{Beside, nothing_left, one_more, beside, moved-zero}
@@ -194,10 +193,6 @@ module _ (program : Program) (text : Text) (is : IsText text) (may : ℕ → Boo
     nothing-insn (Some (Bracket index)) bar = nothing-read (test_of program (Some (Bracket index))) bar
     nothing-insn (Some MatchAny) bar = nothing-read (test_of program (Some MatchAny)) bar
     nothing-insn (Some MatchAnyExceptLineTerminator) bar = nothing-read (test_of program (Some MatchAnyExceptLineTerminator)) bar
-    nothing-insn (Some (StartOfLine multiline)) bar = nothing-stay (anchor_holds text start_of_line multiline) bar
-    nothing-insn (Some (EndOfLine multiline)) bar = nothing-stay (anchor_holds text end_of_line multiline) bar
-    nothing-insn (Some (WordBoundary invert)) bar = nothing-stay (λ p. differ invert (is_at_word_boundary text false p)) bar
-    nothing-insn (Some (WordBoundaryUnicodeICase invert)) bar = nothing-stay (λ p. differ invert (is_at_word_boundary text true p)) bar
     nothing-insn (Some (Alt secondary)) bar =
         nothing-more program text n rightwards (running (next_ip s)) (waiting (at_ip secondary s) ∷ [])
         (known (next_ip s) refl (or-false-left (may (s.ip + 1)) (may secondary) bar))
@@ -232,6 +227,7 @@ module _ (program : Program) (text : Text) (is : IsText text) (may : ℕ → Boo
     nothing-insn (Some (Lookahead negate start_group end_group continuation)) bar = nothing-ahead negate continuation bar
     nothing-insn (Some (Lookbehind negate start_group end_group continuation)) bar =
         λ k g e few. nothing-resumed negate (at_ip continuation s) g.end refl bar
+    nothing-insn (Some _) bar = nothing-stay _ bar
 
     pub insn-nothing : may_at program text s.pos may (slice_get program.insns s.ip) s.ip ≡ false → NothingBelow program text (suc n) rightwards 1 (running s ∷ [])
     insn-nothing bar =

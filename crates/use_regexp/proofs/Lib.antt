@@ -5,4 +5,3 @@ pub mod FoundStands
 pub mod TurnLemmas
 pub mod Replaced
 pub mod SplitLemmas
-pub mod Answering

@@ -1,10 +1,7 @@
--- Texts that are made piece by piece.
-use Rattle.std.proofs.Common.{◌≡◌, ℕ, List, [], ◌∷◌, ◌++◌, drop, length, map, refl, arith, sym, subst, ap, ◌∙◌, append_assoc}
-use Rattle.std.specs.Prelude.{slice_range}
+-- What is left of matches that are replaced one after the other.
+use Rattle.std.proofs.Common.{◌≡◌, ℕ, List, [], ◌∷◌, length, map, refl, arith, sym, subst}
 use Rattle.regex_meaning.specs.Names.{Answer}
-use Rattle.regex_meaning.specs.Replace.{replaced}
-use Rattle.use_regexp.specs.Replace.{StandInUnits, substituted}
-use Rattle.use_regexp.specs.Template.{substitution}
+use Rattle.use_regexp.specs.Replace.{StandInUnits}
 
 -- of nothing nothing is made
 pub map-none : {A B : Type 0} (f : A → B) (xs : List A) → length xs ≡ 0 → map f xs ≡ []
@@ -15,21 +12,3 @@ map-none f (x ∷ xs) e = absurd (omega arith)
 pub stand-behind : (us : List ℕ) (from to : ℕ) (left rest : List Answer) (m : Answer) → StandInUnits us from left → left ≡ m ∷ rest → to ≡ m.range.1
     → StandInUnits us to rest
 stand-behind us from to left rest m stand e t = subst (λ at. StandInUnits us at rest) (sym t) (subst (StandInUnits us from) e stand).2
-
-module _ (us template : List ℕ) where
-  -- what is made, with the matches that are left, is the whole: so it stays when one is replaced
-  pub replaced-more : (made reached next whole : List ℕ) (from to : ℕ) (left rest : List Answer) (m : Answer)
-      → made ++ replaced us from (substituted us template left) ≡ whole → left ≡ m ∷ rest
-      → reached ≡ made ++ slice_range us from m.range.0 → next ≡ reached ++ substitution us m template → to ≡ m.range.1
-      → next ++ replaced us to (substituted us template rest) ≡ whole
-  unfolding replaced
-  replaced-more made reached next whole from to left rest m e l r n t =
-      rw (n, r, t)
-      (append_assoc (made ++ slice_range us from m.range.0) (substitution us m template) _
-      ∙ append_assoc made (slice_range us from m.range.0) _
-      ∙ ap (λ ms. made ++ replaced us from (substituted us template ms)) (sym l) ∙ e)
-
-  pub replaced-end : (made final whole : List ℕ) (from : ℕ) (left : List Answer)
-      → made ++ replaced us from (substituted us template left) ≡ whole → left ≡ [] → final ≡ made ++ drop from us → final ≡ whole
-  unfolding replaced
-  replaced-end made final whole from left e l f = f ∙ ap (λ ms. made ++ replaced us from (substituted us template ms)) (sym l) ∙ e

@@ -1,12 +1,13 @@
 -- Names that are escaped one character after another.
-use Rattle.std.proofs.Common.{◌≡◌, ◌≢◌, ℕ, ◌+◌, ◌/◌, ◌%◌, ◌≤◌, Bool, true, false, inl, inr, List, [], ◌∷◌, ◌++◌, length, flat_map, refl, sym, ap, ap₂, ◌∙◌, arith, append_assoc, append-nil, lit<}
-use Rattle.std.specs.Prelude.{Result, Ok, Err, IfOk, is_ok, ◌==◌, ◌&&◌, nat_lt, nat_eq, if◌then◌else◌}
+use Rattle.std.proofs.Common.{◌≡◌, ◌≢◌, ℕ, ◌+◌, Bool, true, false, inl, inr, List, [], ◌∷◌, ◌++◌, length, flat_map, refl, sym, ap, ap₂, ◌∙◌, arith, append_assoc, append-nil, lit<}
+use Rattle.std.specs.Prelude.{Result, Ok, Err, IfOk, is_ok, nat_eq, if◌then◌else◌}
 use Rattle.std.specs.Char.{encode_utf8}
 use Rattle.std.proofs.lemmas.Grind.{flat_map-append}
 use Rattle.std.proofs.lemmas.Str.{encode_ascii}
 use Rattle.std.proofs.lemmas.List.{nil_from_length}
-use Rattle.std.proofs.lemmas.Bool.{cases_Bool, le-ltb, ne_eqb, eqb-true}
+use Rattle.std.proofs.lemmas.Bool.{ne_eqb, eqb-true}
 use Rattle.std.proofs.lemmas.Bool.Decides.{leb_tells}
+use Rattle.regex_grammar.proofs.Beyond.{encode-stays}
 use Rattle.serde_json.specs.Find.{unescape}
 use Rattle.use_validator.specs.Pointer.{escape, escaped}
 
@@ -15,30 +16,6 @@ use Rattle.use_validator.specs.Pointer.{escape, escaped}
 -- a byte that is neither `~` nor `/` stays
 escaped-other : (byte : ℕ) → byte ≢ 126 → byte ≢ 47 → escaped byte ≡ byte ∷ []
 escaped-other byte tilde slash = rw (ne_eqb byte 126 tilde, ne_eqb byte 47 slash) refl
-
--- bytes that escaping leaves as they are
-abbrev stays : List ℕ → Type 0
-stays bytes = flat_map escaped bytes ≡ bytes
-
-stays-cons : (byte : ℕ) (bytes : List ℕ) → 128 ≤ byte → stays bytes → stays (byte ∷ bytes)
-stays-cons byte bytes le h = ap₂ (λ a b. a ++ b) (escaped-other byte (λ e. omega arith) (λ e. omega arith)) h
-
--- a byte behind the first one of a character, by its bits
-abbrev next : ℕ → ℕ
-next bits = 128 + bits % 64
-
--- the bytes of a character that has two, three or four of them
-stays-by : (c : ℕ) (two three : Bool)
-    → stays (if two then (192 + c / 64) ∷ next c ∷ []
-    else if three then (224 + c / 4096) ∷ next (c / 64) ∷ next c ∷ []
-    else (240 + c / 262144) ∷ next (c / 4096) ∷ next (c / 64) ∷ next c ∷ [])
-stays-by c true three = stays-cons _ _ (omega arith) (stays-cons _ _ (omega arith) refl)
-stays-by c false true = stays-cons _ _ (omega arith) (stays-cons _ _ (omega arith) (stays-cons _ _ (omega arith) refl))
-stays-by c false false = stays-cons _ _ (omega arith) (stays-cons _ _ (omega arith) (stays-cons _ _ (omega arith) (stays-cons _ _ (omega arith) refl)))
-
-encode-stays : (c : ℕ) → 128 ≤ c → stays (encode_utf8 c)
-unfolding encode_utf8
-encode-stays c le = rw (le-ltb c 128 le) (stays-by c (nat_lt c 2048) (nat_lt c 65536))
 
 -- what is written for a character
 pub escape-tilde : escape (encode_utf8 126) ≡ 126 ∷ 48 ∷ []
@@ -52,7 +29,7 @@ escape-slash = rw (encode_ascii 47 (lit< tt)) refl
 pub escape-other : (c : ℕ) → c ≢ 126 → c ≢ 47 → escape (encode_utf8 c) ≡ encode_utf8 c
 unfolding escape
 escape-other c tilde slash = elim (leb_tells 128 c) [
-  | inl (e, high) ↦ encode-stays c high
+  | inl (e, high) ↦ encode-stays escaped (λ byte le. escaped-other byte (λ e. omega arith) (λ e. omega arith)) c high
   | inr (e, low) ↦ rw (encode_ascii c low, append-nil) (escaped-other c tilde slash)
 ]
 

@@ -6,9 +6,7 @@ use Rattle.regress_input.proofs.ByteTests.{byte_in_set, no_byte}
 use Rattle.regress_input.proofs.scm.matches_ascii.Goals as goal
 
 pub next_byte-requires : goal.next_byte-requires
-next_byte-requires g c =
-    let input = c.args.input.now in
-    record { inside = boundary_inside (g.Input.InputIndexer.text input) (g.met.Input.InputIndexer.is_text input) _ c.requires.at }
+next_byte-requires g c = record { inside = boundary_inside _ (g.met.Input.InputIndexer.is_text c.args.input.now) _ c.requires.at }
 
 pub returns-in-Some : goal.returns-in-Some
 returns-in-Some g c =

@@ -1,18 +1,18 @@
 use Rattle.std.proofs.Common.{arith}
-use Rattle.regress_input.proofs.Utf8Reads.{first_inside, second_inside, third_inside, fourth_inside, is_one, is_two, is_three, is_four}
+use Rattle.regress_input.proofs.Utf8Reads.{all_inside, is_one, is_two, is_three, is_four}
 use Rattle.regress_input.proofs.utf8.character_at.Goals as goal
 
 pub bounds-bytes-at : goal.bounds-bytes-at
-bounds-bytes-at c = first_inside c.args.bytes.now c.args.at c.requires
+bounds-bytes-at c = (all_inside c.args.bytes.now c.args.at c.requires).0
 
 pub overflow_add-result : goal.overflow_add-result
-overflow_add-result c = let inside = first_inside c.args.bytes.now c.args.at c.requires in omega arith
+overflow_add-result c = let inside = (all_inside c.args.bytes.now c.args.at c.requires).0 in omega arith
 
 pub returns-then-first-lt128 : goal.returns-then-first-lt128
 returns-then-first-lt128 c = λ d s. is_one c.args.bytes.now c.args.at d s c.if-first-lt128.true
 
 pub bounds-bytes-at-2 : goal.bounds-bytes-at-2
-bounds-bytes-at-2 c = second_inside c.args.bytes.now c.args.at c.requires c.if-first-lt128.false
+bounds-bytes-at-2 c = (all_inside c.args.bytes.now c.args.at c.requires).1 c.if-first-lt128.false
 
 pub character_of_two-requires : goal.character_of_two-requires
 character_of_two-requires c =
@@ -25,7 +25,7 @@ returns-then-first-lt224 c = λ d s.
     (omega (arith, is.0, c.character_of_two.ensures), is.1)
 
 pub bounds-bytes-at-3 : goal.bounds-bytes-at-3
-bounds-bytes-at-3 c = third_inside c.args.bytes.now c.args.at c.requires c.if-first-lt224.false
+bounds-bytes-at-3 c = (all_inside c.args.bytes.now c.args.at c.requires).2 c.if-first-lt224.false
 
 pub character_of_three-requires : goal.character_of_three-requires
 character_of_three-requires c =
@@ -38,7 +38,7 @@ returns-then-first-lt240 c = λ d s.
     (omega (arith, is.0, c.character_of_three.ensures), is.1)
 
 pub bounds-bytes-at-4 : goal.bounds-bytes-at-4
-bounds-bytes-at-4 c = fourth_inside c.args.bytes.now c.args.at c.requires c.if-first-lt240.false
+bounds-bytes-at-4 c = (all_inside c.args.bytes.now c.args.at c.requires).3 c.if-first-lt240.false
 
 pub character_of_four-requires : goal.character_of_four-requires
 character_of_four-requires c =

@@ -1,12 +1,12 @@
 use Rattle.std.proofs.Common.{arith}
-use Rattle.regress_input.proofs.Utf8Reads.{first_inside, is_one, is_two, is_three, is_four}
+use Rattle.regress_input.proofs.Utf8Reads.{all_inside, is_one, is_two, is_three, is_four}
 use Rattle.regress_input.proofs.utf8.end_of_character.Goals as goal
 
 pub bounds-bytes-at : goal.bounds-bytes-at
-bounds-bytes-at c = first_inside c.args.bytes.now c.args.at c.requires
+bounds-bytes-at c = (all_inside c.args.bytes.now c.args.at c.requires).0
 
 pub overflow_add-result : goal.overflow_add-result
-overflow_add-result c = let inside = first_inside c.args.bytes.now c.args.at c.requires in omega arith
+overflow_add-result c = let inside = (all_inside c.args.bytes.now c.args.at c.requires).0 in omega arith
 
 pub returns-then-first-lt128 : goal.returns-then-first-lt128
 returns-then-first-lt128 c = λ d s. (is_one c.args.bytes.now c.args.at d s c.if-first-lt128.true).1

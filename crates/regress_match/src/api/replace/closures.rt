@@ -2,7 +2,8 @@
 
 ghost use Rattle.std.specs.Prelude.{◌≡◌, ◌++◌, IfErr, IfOk, false, string_bytes, take};
 ghost use Rattle.std.specs.Result.{IsOkAnd};
-ghost use Rattle.regress_match.specs.Closures.{CanBeCalled, CanRefuseAnswer, CanRefuseWith, IsReplacedBy};
+ghost use Rattle.regress_match.specs.Answered.{CanRefuseAnswer};
+ghost use Rattle.regress_match.specs.Closures.{CanBeCalled, CanRefuseWith, IsReplacedBy};
 ghost use Rattle.regress_match.specs.Programs.{utf8_answers};
 ghost use Rattle.regress_match.specs.Replacements.{StandFrom};
 

@@ -1,25 +1,22 @@
-use Rattle.std.proofs.Common.{◌≡◌, ◌∙◌, ◌++◌, ap, string_bytes, subst}
+use Rattle.std.proofs.Common.{◌∙◌, ◌++◌, ap, string_bytes}
 use Rattle.regress_exec.specs.Answers.{answer_of}
 use Rattle.regress_exec.specs.ToCome.{ToCome}
-use Rattle.regress_match.proofs.CallerLemmas.{IsReached, reached-none, takes-next}
+use Rattle.regress_match.proofs.CallerLemmas.{reached-unlimited, takes-next}
 use Rattle.use_grep.specs.Selecting.{colored_from}
 use Rattle.use_grep.proofs.Parts.{red-more, red-end}
 use Rattle.use_grep.proofs.select.colored.Goals as goal
 
 pub loop-item-init : goal.loop-item-init
-loop-item-init c =
-    let line = c.args.line.now in
-    let matches = c.in_ok-item-items.item-items in
-    let left = c.into_iter-item-iterator.result in
-    let into : left ≡ matches = c.into_iter-item-iterator.ensures.into_iter_gives in
-    record {
-      can = tt;
-      finite = tt;
-      reached = subst (λ b. IsReached line b 0 left) c.in_ok-item-items.ensures.answers.unlimited (reached-none line 0 matches left c.utf8.line c.in_ok-item-items.ensures.stand into);
-      made =
-          ap (λ bs. bs ++ colored_from line 0 left.answers) c.new-made.ensures.bytes
-          ∙ ap (colored_from line 0) (ap (λ (it : ToCome). it.answers) into ∙ c.in_ok-item-items.ensures.answers.answers);
-    }
+loop-item-init c = record {
+  can = tt;
+  finite = tt;
+  reached =
+      reached-unlimited c.args.line.now _ _ c.utf8.line c.in_ok-item-items.ensures.answers.unlimited c.in_ok-item-items.ensures.stand
+      c.into_iter-item-iterator.ensures.into_iter_gives;
+  made =
+      ap (λ bs. bs ++ colored_from c.args.line.now 0 c.into_iter-item-iterator.result.answers) c.new-made.ensures.bytes
+      ∙ ap (colored_from c.args.line.now 0) (ap (λ (it : ToCome). it.answers) c.into_iter-item-iterator.ensures.into_iter_gives ∙ c.in_ok-item-items.ensures.answers.answers);
+}
 
 pub push_match-requires-clause-before : goal.push_match-requires-clause-before
 push_match-requires-clause-before c = (takes-next _ _ _ _ _ _ c.in_ok-found.found c.loop-item.invariant.reached c.in-Some.ensures.steps c.in_ok-found.was).before
@@ -41,17 +38,7 @@ loop-item-preserved c =
     }
 
 pub loop-item-preserved-in_ok-from : goal.loop-item-preserved-in_ok-from
-loop-item-preserved-in_ok-from c =
-    let line = c.args.line.now in
-    let takes = takes-next line _ _ c.loop-item.item-iterator c.next.new.self _ c.in_ok-found.found c.loop-item.invariant.reached c.in-Some.ensures.steps c.in_ok-found.was in
-    record {
-      can = tt;
-      finite = tt;
-      reached = takes.reached c.in_ok-from.from c.in_ok-from.ensures.behind;
-      made =
-          red-more line (string_bytes c.loop-item.made) (string_bytes c.push_match.new.made) _ c.loop-item.from c.in_ok-from.from c.loop-item.item-iterator.answers c.next.new.self.answers
-          (answer_of c.in_ok-found.found) c.loop-item.invariant.made takes.next c.in_ok-from.ensures.made c.in_ok-from.ensures.behind;
-    }
+loop-item-preserved-in_ok-from c = loop-item-preserved c
 
 pub returns-clause-colored : goal.returns-clause-colored
 returns-clause-colored c =

@@ -1,8 +1,9 @@
 use Rattle.std.proofs.Common.{◌∙◌, ◌++◌, ap, map, refl}
 use Rattle.std.proofs.lemmas.List.{take_rest}
 use Rattle.regress_exec.specs.Answers.{answer_of}
+use Rattle.regress_match.proofs.Answering.{ends, goes-answered, refuses-answered}
 use Rattle.regress_match.proofs.Replacing.{callable-next, callable-rest}
-use Rattle.use_regexp.proofs.Answering.{ends, goes-answered, refuses-answered}
+use Rattle.use_regexp.specs.Replace.{units_of}
 use Rattle.use_regexp.proofs.Replaced.{map-none, stand-behind}
 use Rattle.use_regexp.proofs.replacing.write_answers.Goals as goal
 
@@ -12,7 +13,7 @@ with-requires g c =
 
 pub returns-in_err-write_answer-clause-refused : goal.returns-in_err-write_answer-clause-refused
 returns-in_err-write_answer-clause-refused g c =
-    refuses-answered _ c.args.text.now (map answer_of c.args.matches.now) (map answer_of c.loop-found.rest.now) c.loop-found.from c.loop-found.made.items
+    refuses-answered _ units_of c.args.text.now (map answer_of c.args.matches.now) (map answer_of c.loop-found.rest.now) c.loop-found.from c.loop-found.made.items
     c.loop-found.invariant.begun (map answer_of c.in-Some.behind.now) (answer_of c.in-Some.found.now) c.with.result (ap (map answer_of) c.in-Some.ensures.cases.0)
     (_, refl, c.with.ensures) _ c.in_err-write_answer.field-0.0 c.from_residual-in_err-write_answer.ensures.1 c.in_err-write_answer.ensures.refused
 
@@ -26,7 +27,7 @@ loop-found-preserved g c =
       stand = stand-behind c.args.text.now c.loop-found.from c.in_ok-from.from left rest m c.loop-found.invariant.stand next c.in_ok-from.ensures.behind;
       callable = callable-rest _ left rest m c.loop-found.invariant.callable next;
       begun =
-          goes-answered _ c.args.text.now (map answer_of c.args.matches.now) left c.loop-found.from c.loop-found.made.items c.loop-found.invariant.begun
+          goes-answered _ units_of c.args.text.now (map answer_of c.args.matches.now) left c.loop-found.from c.loop-found.made.items c.loop-found.invariant.begun
           rest m c.with.result next (_, refl, c.with.ensures)
           c.in_ok-from.from c.reach.new.made.items c.write_answer.new.made.items c.in_ok-from.ensures.made c.in_ok-write_answer.ensures.made c.in_ok-from.ensures.behind;
     }
@@ -34,6 +35,6 @@ loop-found-preserved g c =
 pub returns-clause-made : goal.returns-clause-made
 returns-clause-made g c =
     let text = c.args.text.now in
-    ends _ text (map answer_of c.args.matches.now) (map answer_of c.loop-found.rest.now) c.loop-found.from c.loop-found.made.items c.loop-found.invariant.begun
+    ends _ units_of text (map answer_of c.args.matches.now) (map answer_of c.loop-found.rest.now) c.loop-found.from c.loop-found.made.items c.loop-found.invariant.begun
     _ (map-none answer_of c.loop-found.rest.now c.in_default.ensures.cases)
     (c.in_ok-extend_from_slice.ensures.items ∙ ap (λ t. c.loop-found.made.items ++ t) (take_rest text c.loop-found.from))

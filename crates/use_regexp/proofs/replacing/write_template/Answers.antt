@@ -1,7 +1,9 @@
 use Rattle.std.proofs.Common.{◌∙◌, ◌++◌, ap, map}
 use Rattle.std.proofs.lemmas.List.{take_rest}
 use Rattle.regress_exec.specs.Answers.{answer_of}
-use Rattle.use_regexp.proofs.Replaced.{map-none, replaced-end, replaced-more, stand-behind}
+use Rattle.regress_match.proofs.Replacing.{replaced-end, replaced-more}
+use Rattle.use_regexp.specs.Template.{substitution}
+use Rattle.use_regexp.proofs.Replaced.{map-none, stand-behind}
 use Rattle.use_regexp.proofs.replacing.write_template.Goals as goal
 
 pub loop-found-preserved : goal.loop-found-preserved
@@ -11,7 +13,7 @@ loop-found-preserved c =
     record {
       stand = stand-behind c.args.text.now from c.in_ok-from.from _ (map answer_of c.in-Some.behind.now) _ c.loop-found.invariant.stand next c.in_ok-from.ensures.behind;
       whole =
-          replaced-more c.args.text.now c.args.template.now c.loop-found.made.items c.reach.new.made.items c.substitute.new.out.items _ from c.in_ok-from.from
+          replaced-more c.args.text.now (λ m. substitution c.args.text.now m c.args.template.now) c.loop-found.made.items c.reach.new.made.items c.substitute.new.out.items _ from c.in_ok-from.from
           (map answer_of c.loop-found.rest.now) (map answer_of c.in-Some.behind.now) (answer_of c.in-Some.found.now) c.loop-found.invariant.whole next
           c.in_ok-from.ensures.made c.in_ok-substitute.ensures c.in_ok-from.ensures.behind;
     }
@@ -19,6 +21,6 @@ loop-found-preserved c =
 pub returns : goal.returns
 returns c =
     let text = c.args.text.now in
-    replaced-end text c.args.template.now c.loop-found.made.items _ _ c.loop-found.from (map answer_of c.loop-found.rest.now) c.loop-found.invariant.whole
+    replaced-end text (λ m. substitution text m c.args.template.now) c.loop-found.made.items _ _ c.loop-found.from (map answer_of c.loop-found.rest.now) c.loop-found.invariant.whole
     (map-none answer_of c.loop-found.rest.now c.in_default.ensures.cases)
     (c.in_ok-extend_from_slice.ensures.items ∙ ap (λ t. c.loop-found.made.items ++ t) (take_rest text c.loop-found.from))

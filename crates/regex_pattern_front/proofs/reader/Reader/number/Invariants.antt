@@ -5,7 +5,7 @@ use Rattle.regex_pattern_front.proofs.reader.Reader.number.Given as goal
 abbrev pub invariant-loop-digit : goal.invariant-loop-digit
 invariant-loop-digit l = record {
   moves : length l.self.rest.now < length l.fn.self.rest.now;
-  number : NumberSoFar 10 (2 ^ 64 - 1) l.fn.self.rest.now l.value l.self.rest.now;
+  number : NumberSoFar l.radix (2 ^ 64 - 1) l.fn.self.rest.now l.value l.self.rest.now;
 }
 
 abbrev pub decreases-loop-digit : goal.decreases-loop-digit

@@ -5,9 +5,7 @@ use Rattle.regress_input.proofs.ByteTests.{literal_accepts}
 use Rattle.regress_input.proofs.scm.MatchByteSeqSingleCharMatcher.matches.Goals as goal
 
 pub match_bytes-requires : goal.match_bytes-requires
-match_bytes-requires g c =
-    let input = c.args.input.now in
-    record { inside = boundary_inside (g.Input.InputIndexer.text input) (g.met.Input.InputIndexer.is_text input) _ c.requires.at }
+match_bytes-requires g c = record { inside = boundary_inside _ (g.met.Input.InputIndexer.is_text c.args.input.now) _ c.requires.at }
 
 pub returns-then-ARE_BYTES : goal.returns-then-ARE_BYTES
 returns-then-ARE_BYTES g c =

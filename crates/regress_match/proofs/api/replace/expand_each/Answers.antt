@@ -1,9 +1,9 @@
 use Rattle.std.proofs.Common.{◌∙◌, ◌++◌, ap, string_bytes}
-use Rattle.regex_meaning.specs.Replace.{replaced}
+use Rattle.regex_meaning.specs.Replace.{expansion, replaced}
 use Rattle.regress_exec.specs.ToCome.{ToCome}
 use Rattle.regress_match.specs.Replacements.{expanded}
 use Rattle.regress_match.proofs.CallerLemmas.{reached-none, takes-next}
-use Rattle.regress_match.proofs.Replacing.{expanded-more, expanded-end}
+use Rattle.regress_match.proofs.Replacing.{replaced-more, replaced-end}
 use Rattle.regress_match.proofs.api.replace.expand_each.Goals as goal
 
 pub loop-item-init : goal.loop-item-init
@@ -37,23 +37,14 @@ loop-item-preserved g c =
       finite = tt;
       reached = takes.reached c.in_ok-from.from c.in_ok-from.ensures.behind;
       begun =
-          expanded-more c.args.text.now c.args.replacement.now (string_bytes c.loop-item.made) (string_bytes c.reach.new.made) (string_bytes c.expand.new.out) _ c.loop-item.from c.in_ok-from.from
+          replaced-more c.args.text.now (λ m. expansion c.args.text.now m c.args.replacement.now) (string_bytes c.loop-item.made) (string_bytes c.reach.new.made) (string_bytes c.expand.new.out) _ c.loop-item.from c.in_ok-from.from
           c.loop-item.item-iterator.answers c.next.new.self.answers _ c.loop-item.invariant.begun takes.next c.in_ok-from.ensures.made c.in_ok-expand.ensures c.in_ok-from.ensures.behind;
     }
 
 pub loop-item-preserved-in_ok-expand : goal.loop-item-preserved-in_ok-expand
-loop-item-preserved-in_ok-expand g c =
-    let takes = takes-next c.args.text.now _ _ c.loop-item.item-iterator c.next.new.self _ c.in_ok-found.found c.loop-item.invariant.reached c.in-Some.ensures.steps c.in_ok-found.was in
-    record {
-      can = tt;
-      finite = tt;
-      reached = takes.reached c.in_ok-from.from c.in_ok-from.ensures.behind;
-      begun =
-          expanded-more c.args.text.now c.args.replacement.now (string_bytes c.loop-item.made) (string_bytes c.reach.new.made) (string_bytes c.expand.new.out) _ c.loop-item.from c.in_ok-from.from
-          c.loop-item.item-iterator.answers c.next.new.self.answers _ c.loop-item.invariant.begun takes.next c.in_ok-from.ensures.made c.in_ok-expand.ensures c.in_ok-from.ensures.behind;
-    }
+loop-item-preserved-in_ok-expand g c = loop-item-preserved g c
 
 pub returns-clause-made : goal.returns-clause-made
 returns-clause-made g c =
-    expanded-end c.args.text.now c.args.replacement.now (string_bytes c.loop-item.made) _ _ c.loop-item.from c.loop-item.item-iterator.answers c.loop-item.invariant.begun
+    replaced-end c.args.text.now (λ m. expansion c.args.text.now m c.args.replacement.now) (string_bytes c.loop-item.made) _ _ c.loop-item.from c.loop-item.item-iterator.answers c.loop-item.invariant.begun
     c.in-None.ensures.steps.0 c.in_ok-finish.ensures

@@ -2,7 +2,7 @@ use Rattle.std.proofs.Common.{◌≡◌, true, sym, subst}
 use Rattle.regress_ledger.specs.Whole.{HasBit}
 use Rattle.regress_memo.specs.Room.{Known}
 use Rattle.regress_memo.specs.Memo.{as_key, NotesEnd}
-use Rattle.regress_memo.proofs.MemoLemmas.{notes-end}
+use Rattle.regress_memo.proofs.MemoLemmas.{known_by, notes-end}
 use Rattle.regress_memo.proofs.memo.Memo.note_end.Goals as goal
 
 pub returns : goal.returns
@@ -10,13 +10,8 @@ returns c =
     let k = as_key c.args.key in
     let has = subst (λ (m : Known). HasBit m.ledger m.places k) (sym c.self.view_is) c.requires.key in
     let wanted = subst (λ (m : Known). m.with_ends ≡ true) (sym c.self.view_is) c.requires.wanted in
-    let old : Known = record {
-      ledger = c.self.inside.ledger;
-      places = c.self.inside.places;
-      with_ends = c.self.inside.with_ends;
-      failures = c.self.inside.failures.words.items;
-      ends = c.self.inside.ends.words.items;
-    } in
+    let m = c.self.inside in
+    let old = known_by m.ledger m.places m.with_ends m.failures.words.items m.ends.words.items in
     let new = c.set.new.self.words.items in
     subst (λ (m : Known). NotesEnd k m (record old { ends = new })) c.self.view_is
     (notes-end old c.self.invariant.coded k has c.bit_of-bit.result c.bit_of-bit.ensures.bit new wanted c.set.ensures.set)

@@ -2,20 +2,15 @@ use Rattle.std.proofs.Common.{sym, subst}
 use Rattle.regress_ledger.specs.Whole.{HasBit}
 use Rattle.regress_memo.specs.Room.{Known}
 use Rattle.regress_memo.specs.Memo.{as_key, NotesFailure}
-use Rattle.regress_memo.proofs.MemoLemmas.{notes-failure}
+use Rattle.regress_memo.proofs.MemoLemmas.{known_by, notes-failure}
 use Rattle.regress_memo.proofs.memo.Memo.note_failure.Goals as goal
 
 pub returns : goal.returns
 returns c =
     let k = as_key c.args.key in
     let has = subst (λ (m : Known). HasBit m.ledger m.places k) (sym c.self.view_is) c.requires in
-    let old : Known = record {
-      ledger = c.self.inside.ledger;
-      places = c.self.inside.places;
-      with_ends = c.self.inside.with_ends;
-      failures = c.self.inside.failures.words.items;
-      ends = c.self.inside.ends.words.items;
-    } in
+    let m = c.self.inside in
+    let old = known_by m.ledger m.places m.with_ends m.failures.words.items m.ends.words.items in
     let new = c.set.new.self.words.items in
     subst (λ (m : Known). NotesFailure k m (record old { failures = new })) c.self.view_is
     (notes-failure old c.self.invariant.coded k has c.bit_of-bit.result c.bit_of-bit.ensures.bit new c.set.ensures.set)

@@ -1,7 +1,7 @@
 use Rattle.std.proofs.Common.{◌≡◌, ap, refl, string_bytes}
 use Rattle.regress_exec.specs.Answers.{answer_of}
 use Rattle.regress_exec.specs.ToCome.{ToCome}
-use Rattle.regress_match.proofs.Closures.{begins, ends, goes-answered, refuses-answered}
+use Rattle.regress_match.proofs.Answering.{begins, ends, goes-answered, refuses-answered}
 use Rattle.regress_match.proofs.CallerLemmas.{reached-none, takes-next}
 use Rattle.regress_match.proofs.Replacing.{callable-all, callable-next, callable-rest}
 use Rattle.regress_match.proofs.api.replace.closures.write_each.Goals as goal
@@ -14,7 +14,7 @@ loop-item-init g c =
       finite = tt;
       reached = reached-none c.args.text.now 0 c.args.matches c.into_iter-item-iterator.result c.utf8.text c.requires.stand into;
       callable = callable-all _ c.into_iter-item-iterator.result.answers c.args.matches.answers c.requires.can (ap (λ (it : ToCome). it.answers) into);
-      begun = begins _ c.args.text.now c.args.matches.answers c.into_iter-item-iterator.result.answers _ (ap (λ (it : ToCome). it.answers) into) c.new-made.ensures.bytes;
+      begun = begins _ string_bytes c.args.text.now c.args.matches.answers c.into_iter-item-iterator.result.answers _ (ap (λ (it : ToCome). it.answers) into) c.new-made.ensures.bytes;
     }
 
 pub with-requires : goal.with-requires
@@ -25,7 +25,7 @@ with-requires g c =
 pub returns-in_err-write_answer-clause-refused : goal.returns-in_err-write_answer-clause-refused
 returns-in_err-write_answer-clause-refused g c = λ _.
     let takes = takes-next c.args.text.now _ _ c.loop-item.item-iterator c.next.new.self _ c.in_ok-found.found c.loop-item.invariant.reached c.in-Some.ensures.steps c.in_ok-found.was in
-    refuses-answered _ c.args.text.now c.args.matches.answers c.loop-item.item-iterator.answers c.loop-item.from (string_bytes c.loop-item.made) c.loop-item.invariant.begun
+    refuses-answered _ string_bytes c.args.text.now c.args.matches.answers c.loop-item.item-iterator.answers c.loop-item.from (string_bytes c.loop-item.made) c.loop-item.invariant.begun
     c.next.new.self.answers (answer_of c.in_ok-found.found) c.with.result takes.next
     (_, refl, c.with.ensures) _ c.in_err-write_answer.field-0.0 c.from_residual-in_err-write_answer.ensures.1 c.in_err-write_answer.ensures.refused
 
@@ -38,26 +38,15 @@ loop-item-preserved g c =
       reached = takes.reached c.in_ok-from.from c.in_ok-from.ensures.behind;
       callable = callable-rest _ c.loop-item.item-iterator.answers c.next.new.self.answers (answer_of c.in_ok-found.found) c.loop-item.invariant.callable takes.next;
       begun =
-          goes-answered _ c.args.text.now c.args.matches.answers c.loop-item.item-iterator.answers c.loop-item.from (string_bytes c.loop-item.made) c.loop-item.invariant.begun
+          goes-answered _ string_bytes c.args.text.now c.args.matches.answers c.loop-item.item-iterator.answers c.loop-item.from (string_bytes c.loop-item.made) c.loop-item.invariant.begun
           c.next.new.self.answers (answer_of c.in_ok-found.found) c.with.result takes.next (_, refl, c.with.ensures)
           c.in_ok-from.from (string_bytes c.reach.new.made) (string_bytes c.write_answer.new.made) c.in_ok-from.ensures.made c.in_ok-write_answer.ensures.made c.in_ok-from.ensures.behind;
     }
 
 pub loop-item-preserved-in_ok-write_answer : goal.loop-item-preserved-in_ok-write_answer
-loop-item-preserved-in_ok-write_answer g c =
-    let takes = takes-next c.args.text.now _ _ c.loop-item.item-iterator c.next.new.self _ c.in_ok-found.found c.loop-item.invariant.reached c.in-Some.ensures.steps c.in_ok-found.was in
-    record {
-      can = tt;
-      finite = tt;
-      reached = takes.reached c.in_ok-from.from c.in_ok-from.ensures.behind;
-      callable = callable-rest _ c.loop-item.item-iterator.answers c.next.new.self.answers (answer_of c.in_ok-found.found) c.loop-item.invariant.callable takes.next;
-      begun =
-          goes-answered _ c.args.text.now c.args.matches.answers c.loop-item.item-iterator.answers c.loop-item.from (string_bytes c.loop-item.made) c.loop-item.invariant.begun
-          c.next.new.self.answers (answer_of c.in_ok-found.found) c.with.result takes.next (_, refl, c.with.ensures)
-          c.in_ok-from.from (string_bytes c.reach.new.made) (string_bytes c.write_answer.new.made) c.in_ok-from.ensures.made c.in_ok-write_answer.ensures.made c.in_ok-from.ensures.behind;
-    }
+loop-item-preserved-in_ok-write_answer g c = loop-item-preserved g c
 
 pub returns-clause-made : goal.returns-clause-made
 returns-clause-made g c =
-    ends _ c.args.text.now c.args.matches.answers c.loop-item.item-iterator.answers c.loop-item.from (string_bytes c.loop-item.made) c.loop-item.invariant.begun
+    ends _ string_bytes c.args.text.now c.args.matches.answers c.loop-item.item-iterator.answers c.loop-item.from (string_bytes c.loop-item.made) c.loop-item.invariant.begun
     _ c.in-None.ensures.steps.0 c.in_ok-finish.ensures

@@ -1,7 +1,7 @@
 use Rattle.std.proofs.Common.{string_bytes}
 use Rattle.regress_match.specs.Closures.{CanBeCalled}
 use Rattle.regress_match.proofs.CallerLemmas.{IsReached}
-use Rattle.regress_match.proofs.Closures.{IsBegun}
+use Rattle.regress_match.proofs.Answering.{IsBegun}
 use Rattle.regress_match.proofs.api.replace.closures.write_each.Given as goal
 
 abbrev pub invariant-loop-item : goal.invariant-loop-item
@@ -10,5 +10,5 @@ invariant-loop-item g l = record {
   finite : (goal.iterator-loop-item g).is_finite l.item-iterator;
   reached : IsReached l.text l.fn.matches.limited l.from l.item-iterator;
   callable : CanBeCalled (goal.F-pre g l.with) l.item-iterator.answers;
-  begun : IsBegun (goal.F-post g l.with) l.text l.fn.matches.answers l.item-iterator.answers l.from (string_bytes l.made);
+  begun : IsBegun (goal.F-post g l.with) string_bytes l.text l.fn.matches.answers l.item-iterator.answers l.from (string_bytes l.made);
 }

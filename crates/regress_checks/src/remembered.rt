@@ -1,7 +1,6 @@
 //! Searches that end in time alone because what failed is remembered.
 
 use crate::lines::write_utf8;
-use crate::starts::is_start;
 use regex_pattern_front::flags::Flags;
 use regex_pattern_front::parse::try_parse;
 use regress_match::SearchError;
@@ -27,20 +26,20 @@ fn program_of(alloc: Global, pattern: &str) -> Option<CompiledRegex> {
     emit(alloc, &tree).ok()
 }
 
-// Writes the matches, by an executor that remembers from the first attempt on, or after some work.
-fn write_found(
+// Writes the matches, by an executor that remembers after some work.
+fn write_remembering(line: &mut String, re: &CompiledRegex, text: &str) -> Result<(), SearchError> {
+    let executor = DefaultExecutor::new(re, text)?;
+    write_utf8(line, &mut Matches::new(executor, 0), false)
+}
+
+// The same from the first attempt on.
+fn write_remembering_at_once(
     line: &mut String,
     re: &CompiledRegex,
     text: &str,
-    at_once: bool,
 ) -> Result<(), SearchError> {
-    if !is_start(text, 0) {
-        return Ok(line.push_str("no start")?);
-    }
     let mut executor = DefaultExecutor::new(re, text)?;
-    if at_once {
-        executor.remember();
-    }
+    executor.remember();
     write_utf8(line, &mut Matches::new(executor, 0), false)
 }
 
@@ -50,16 +49,13 @@ pub fn check_remembered(
     row: Row<'_>,
 ) -> Result<(), SearchError> {
     let (pattern, text) = row.asked.split_once('~').unwrap_or((row.asked, ""));
-    for (at_once, way) in [
-        (false, "after some work"),
-        (true, "from the first attempt on"),
-    ] {
-        let mut found = String::new(alloc);
-        match program_of(alloc, pattern) {
-            Some(re) => write_found(&mut found, &re, text, at_once)?,
-            None => found.push_str("no program")?,
-        }
-        compare(differing, row, &found, way)?;
-    }
-    Ok(())
+    let Some(re) = program_of(alloc, pattern) else {
+        return Ok(compare(differing, row, "no program", "")?);
+    };
+    let mut found = String::new(alloc);
+    write_remembering(&mut found, &re, text)?;
+    compare(differing, row, &found, "after some work")?;
+    let mut found = String::new(alloc);
+    write_remembering_at_once(&mut found, &re, text)?;
+    Ok(compare(differing, row, &found, "from the first attempt on")?)
 }

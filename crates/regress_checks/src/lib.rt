@@ -16,6 +16,8 @@ mod placed;
 #[cfg(test)]
 mod profile;
 #[cfg(test)]
+mod remembered;
+#[cfg(test)]
 mod searches;
 #[cfg(test)]
 mod starts;

@@ -4,6 +4,7 @@ use crate::anchored::{ANCHORED, check_anchored};
 use crate::limits::{LIMITS, check_limits};
 use crate::placed::{PLACED, check_placed};
 use crate::profile::{PROFILE, PROFILE_UNITS};
+use crate::remembered::{REMEMBERED, check_remembered};
 use crate::searches::check_search;
 use crate::table::SEARCHES;
 use crate::units::{BOUNDARIES, UNITS, check_boundaries, check_units};
@@ -21,9 +22,10 @@ enum Table {
     Boundaries,
     Anchored,
     Limits,
+    Remembered,
 }
 
-const TABLES: [(Table, &str); 8] = [
+const TABLES: [(Table, &str); 9] = [
     (Table::Searches, SEARCHES),
     (Table::Searches, PROFILE),
     (Table::Placed, PLACED),
@@ -32,6 +34,7 @@ const TABLES: [(Table, &str); 8] = [
     (Table::Boundaries, BOUNDARIES),
     (Table::Anchored, ANCHORED),
     (Table::Limits, LIMITS),
+    (Table::Remembered, REMEMBERED),
 ];
 
 // Notes what a row is answered in place of what it wants.
@@ -48,6 +51,7 @@ fn check_row(
         Table::Boundaries => check_boundaries(alloc, differing, row)?,
         Table::Anchored => check_anchored(alloc, differing, row)?,
         Table::Limits => check_limits(alloc, differing, row)?,
+        Table::Remembered => check_remembered(alloc, differing, row)?,
     }
     Ok(())
 }

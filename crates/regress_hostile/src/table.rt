@@ -26,6 +26,7 @@ a*~~aab~4~none
 (.)\\1~~units:D83D D83D DE00~0~apart~none~0..2 0..1
 (?<=(.))$~~units:D83D DE00~0~apart~2..2 0..2~2..2 1..2
 (?:a|b)+?c~~abac~0~0..4
+(?:a|a)*b~~baaaaaaaaaa~0~0..1
 (?:(?!(b))a|c)+~~aca~0~0..3 -
 [^a]~~aé~0~1..3~1..2
 cat:2 alt bytes:61,62,63 bytes:61,62,64 goal~tree~xabd~0~1..4~apart

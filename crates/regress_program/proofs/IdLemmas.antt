@@ -40,7 +40,7 @@ six a b c d e f = ap (λ t. t && (e && f)) (four a b c d) ∙ four (a && c) (b &
 -- ---- The table
 
 pub none-seen : (n k : ℕ) → is_seen (replicate n 0) k ≡ is_past n k
-none-seen n k = ap₂ (λ l b. is_past l k || b) (length-replicate n) (no-bits n k) ∙ or-false (is_past n k)
+none-seen n k = ap₂ (λ l b. is_past l k || b) (length-replicate n 0) (no-bits n k) ∙ or-false (is_past n k)
 
 pub seen-set : (bits : List ℕ) (id k : ℕ) → id / 64 < length bits → is_seen (with_bit bits id) k ≡ (is_seen bits k || k == id)
 seen-set bits id k within =

@@ -1,7 +1,6 @@
 -- What a node is that is none of some kinds.
 use Rattle.std.proofs.Common.{◌≡◌, ℕ, Bool, true, false, List, [], ◌∷◌, Option, Some, refl, sym, ap, ◌∙◌, Vec, Global, Box, String}
 use Rattle.regex_meaning.specs.Layout.{is_of_bytes}
-use Rattle.regex_meaning.specs.Tree.{cat, end_of_cat}
 use Rattle.regex_meaning.specs.Tree as tree
 use Rattle.regex_pattern_front.specs.TreeOf.{node_of}
 use Rattle.regex_pattern_front.specs.declared.ir.Node.{Node}
@@ -48,7 +47,7 @@ leaf-left n cat alt group look loop run =
 -- ---- One of another kind
 
 -- a row is the end of one, or a node and the rest
-row : {A : Type 0} (f : tree.Node → A) (a : A) (v : Vec Node Global) → f end_of_cat ≡ a → ((first rest : tree.Node) → f (cat first rest) ≡ a) → f (node_of (Cat v)) ≡ a
+row : {A : Type 0} (f : tree.Node → A) (a : A) (v : Vec Node Global) → f tree.end_of_cat ≡ a → ((first rest : tree.Node) → f (tree.cat first rest) ≡ a) → f (node_of (Cat v)) ≡ a
 row f a v none some = ap f (node_of-Cat v) ∙ by v.items
   where
     by : (ns : List Node) → f (cat_of ns) ≡ a

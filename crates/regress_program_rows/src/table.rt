@@ -211,7 +211,13 @@ verdicts /(?=[^])/ → at 0 0:yes 128:no 194:yes 245:no
 verdicts /(?=[а-п])/ → at 0 0:no 208:ask 209:no
 verdicts /(?=[\\u0400-\\u043f])/ → at 0 0:no 208:yes 209:no
 verdicts /(?<=a)/ → none
-verdicts /(?=)/ → none
+verdicts /(?=)/ → at 0 0:yes
+verdicts /(?=a*)/ → at 0 0:yes
+verdicts /(?!a*b?)/ → at 0 0:no
+verdicts /(?=ab*c*?)/ → at 0 0:no 97:yes 98:no
+verdicts /(?=a+)/ → at 0 0:no 97:ask 98:no
+verdicts /(?=a*b)/ → at 0 0:no 97:ask 99:no
+verdicts /(?=(a*))/ → none
 unit_verdicts /(?=é)/ → at 0 0:no 128:ask 129:no
 unit_verdicts /(?![^])/ → at 0 0:no 236:ask 238:no end:yes
 classes /a*/ → single 97:1 98:0

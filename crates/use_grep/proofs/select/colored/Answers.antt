@@ -38,7 +38,17 @@ loop-item-preserved c =
     }
 
 pub loop-item-preserved-in_ok-from : goal.loop-item-preserved-in_ok-from
-loop-item-preserved-in_ok-from c = loop-item-preserved c
+loop-item-preserved-in_ok-from c =
+    let line = c.args.line.now in
+    let takes = takes-next line _ _ c.loop-item.item-iterator c.next.new.self _ c.in_ok-found.found c.loop-item.invariant.reached c.in-Some.ensures.steps c.in_ok-found.was in
+    record {
+      can = tt;
+      finite = tt;
+      reached = takes.reached c.in_ok-from.from c.in_ok-from.ensures.behind;
+      made =
+          red-more line (string_bytes c.loop-item.made) (string_bytes c.push_match.new.made) _ c.loop-item.from c.in_ok-from.from c.loop-item.item-iterator.answers c.next.new.self.answers
+          (answer_of c.in_ok-found.found) c.loop-item.invariant.made takes.next c.in_ok-from.ensures.made c.in_ok-from.ensures.behind;
+    }
 
 pub returns-clause-colored : goal.returns-clause-colored
 returns-clause-colored c =

@@ -11,7 +11,7 @@ loop-item-init c = record {
   reached = (
     0,
     reached-unlimited c.args.line.now _ _ c.utf8.line c.in_ok-item-items.ensures.answers.unlimited c.in_ok-item-items.ensures.stand
-    c.into_iter-item-iterator.ensures.into_iter_gives,
+        c.into_iter-item-iterator.ensures.into_iter_gives,
   );
   parts =
       ap (λ (xs : List _). map (λ x. x.now) xs ++ matched_parts c.args.line.now c.into_iter-item-iterator.result.answers) c.new-parts.ensures.items

@@ -38,7 +38,21 @@ loop-item-preserved c =
     }
 
 pub loop-item-preserved-in_ok-push-2 : goal.loop-item-preserved-in_ok-push-2
-loop-item-preserved-in_ok-push-2 c = loop-item-preserved c
+loop-item-preserved-in_ok-push-2 c =
+    let text = c.args.text.now in
+    let found = c.in_ok-found.found in
+    let so_far = c.loop-item.pieces.items in
+    let takes = takes-next text false c.loop-item.from c.loop-item.item-iterator c.next.new.self _ found c.loop-item.invariant.reached c.in-Some.ensures.steps c.in_ok-found.was in
+    record {
+      can = tt;
+      finite = tt;
+      reached = takes.reached c.end-from.result c.end-from.ensures;
+      cut =
+          cut-more text (names_of c.args.tokens.now) _ c.loop-item.item-iterator.answers c.next.new.self.answers (answer_of found) c.loop-item.from c.end-from.result c.token_of-token.result
+          so_far c.push.new.pieces.items c.push-in-loop-item.new.pieces.items c.loop-item.invariant.cut takes.next takes.before takes.fits.whole c.end-from.ensures c.token_of-token.ensures
+          (c.in_ok-push.ensures ∙ ap (λ start. so_far ++ piece c.loop-item.from start None ∷ []) c.start.ensures)
+          (c.in_ok-push-2.ensures ∙ ap₂ (λ start end. c.push.new.pieces.items ++ piece start end (Some c.token_of-token.result) ∷ []) c.start-in-loop-item.ensures c.end.ensures);
+    }
 
 pub returns-clause-cut : goal.returns-clause-cut
 returns-clause-cut c =

@@ -42,7 +42,16 @@ loop-item-preserved g c =
     }
 
 pub loop-item-preserved-in_ok-expand : goal.loop-item-preserved-in_ok-expand
-loop-item-preserved-in_ok-expand g c = loop-item-preserved g c
+loop-item-preserved-in_ok-expand g c =
+    let takes = takes-next c.args.text.now _ _ c.loop-item.item-iterator c.next.new.self _ c.in_ok-found.found c.loop-item.invariant.reached c.in-Some.ensures.steps c.in_ok-found.was in
+    record {
+      can = tt;
+      finite = tt;
+      reached = takes.reached c.in_ok-from.from c.in_ok-from.ensures.behind;
+      begun =
+          replaced-more c.args.text.now (λ m. expansion c.args.text.now m c.args.replacement.now) (string_bytes c.loop-item.made) (string_bytes c.reach.new.made) (string_bytes c.expand.new.out) _ c.loop-item.from c.in_ok-from.from
+          c.loop-item.item-iterator.answers c.next.new.self.answers _ c.loop-item.invariant.begun takes.next c.in_ok-from.ensures.made c.in_ok-expand.ensures c.in_ok-from.ensures.behind;
+    }
 
 pub returns-clause-made : goal.returns-clause-made
 returns-clause-made g c =

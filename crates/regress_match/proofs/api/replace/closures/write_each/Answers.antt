@@ -44,7 +44,18 @@ loop-item-preserved g c =
     }
 
 pub loop-item-preserved-in_ok-write_answer : goal.loop-item-preserved-in_ok-write_answer
-loop-item-preserved-in_ok-write_answer g c = loop-item-preserved g c
+loop-item-preserved-in_ok-write_answer g c =
+    let takes = takes-next c.args.text.now _ _ c.loop-item.item-iterator c.next.new.self _ c.in_ok-found.found c.loop-item.invariant.reached c.in-Some.ensures.steps c.in_ok-found.was in
+    record {
+      can = tt;
+      finite = tt;
+      reached = takes.reached c.in_ok-from.from c.in_ok-from.ensures.behind;
+      callable = callable-rest _ c.loop-item.item-iterator.answers c.next.new.self.answers (answer_of c.in_ok-found.found) c.loop-item.invariant.callable takes.next;
+      begun =
+          goes-answered _ string_bytes c.args.text.now c.args.matches.answers c.loop-item.item-iterator.answers c.loop-item.from (string_bytes c.loop-item.made) c.loop-item.invariant.begun
+          c.next.new.self.answers (answer_of c.in_ok-found.found) c.with.result takes.next (_, refl, c.with.ensures)
+          c.in_ok-from.from (string_bytes c.reach.new.made) (string_bytes c.write_answer.new.made) c.in_ok-from.ensures.made c.in_ok-write_answer.ensures.made c.in_ok-from.ensures.behind;
+    }
 
 pub returns-clause-made : goal.returns-clause-made
 returns-clause-made g c =

@@ -43,6 +43,7 @@ pub mod Fronts
 pub mod RunFronts
 pub mod LazyBack
 pub mod Striding
+mod Waits
 pub mod MemoKeys
 pub mod RunKeys
 pub mod Rightness

@@ -15,6 +15,7 @@ pub mod Searches
 pub mod Searched
 pub mod Tried
 pub mod Going
+pub mod Frames
 pub mod Attempted
 pub mod Recorded
 pub mod Remembered

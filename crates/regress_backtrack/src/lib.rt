@@ -4,6 +4,7 @@
 mod attempts;
 mod back;
 pub mod classicalbacktrack;
+mod frames;
 mod groups;
 pub mod here;
 mod limited;

@@ -4,8 +4,10 @@ ghost use Rattle.std.specs.Prelude.{◌≡◌, ◌≢◌, ◌<◌, ◌≤◌, �
 ghost use Rattle.regress_backtrack.specs.Memory.{Held, undone, AreThere, first_slot as first_slot_at, seen, seen_change, AreFresh, change_of, since as noted_since, laid_out, state_of, loop_in, with_marks, IsUndone, IsSet, Becomes, with_open, without_range, with_range, with_iteration};
 ghost use Rattle.regress_backtrack.specs.Noted.{HasRoom, IsNotedAs};
 
+use crate::frames::Frame;
 use std::alloc::{AllocError, Global};
 use std::marker::Model;
+use std::mem;
 
 /// Of a group: the offset at which it was opened last, and its range in offsets, if it has one. Of a loop: the offset at
 /// which the current iteration began, and as `from` how many are finished.
@@ -68,6 +70,8 @@ pub struct Memory {
     free: usize,
     marks: Vec<Mark>,
     marked: usize,
+    // room for the searches that wait at lookarounds, kept from one attempt to the next
+    frames: Vec<Frame>,
 }
 
 impl Model for Memory {
@@ -318,6 +322,7 @@ impl Memory {
             free: 0,
             marks: Vec::new(alloc),
             marked: 0,
+            frames: Vec::new(alloc),
         }
     }
 
@@ -469,6 +474,28 @@ impl Memory {
         ensures { self.new ≡ with_marks (slice_set self.old.marks index mark) self.old }
     {
         self.marks[index] = mark;
+    }
+
+    // ---- Searches that wait
+
+    /// Hands out the room for them, in which there is none.
+    #[inline(always)]
+    pub(crate) fn take_frames(&mut self) -> Vec<Frame>
+        ensures none { result.items ≡ [] }
+        ensures same { self.new ≡ self.old }
+    {
+        let alloc = *self.frames.allocator();
+        let mut frames = mem::replace(&mut self.frames, Vec::new(alloc));
+        frames.truncate(0);
+        frames
+    }
+
+    /// Takes it back.
+    #[inline(always)]
+    pub(crate) fn keep_frames(&mut self, frames: Vec<Frame>)
+        ensures { self.new ≡ self.old }
+    {
+        self.frames = frames;
     }
 
     // ---- Groups

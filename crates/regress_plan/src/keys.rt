@@ -124,6 +124,20 @@ pub fn first_key(c: u32, units: Units) -> usize
     key.min(255) as usize
 }
 
+/// The keys of the first and the last character of an interval, without those of ASCII and without pairs.
+pub(crate) fn keys_between(interval: Interval, units: Units) -> (usize, usize)
+    ensures inside { result.1 < 256 }
+{
+    let first = interval.first.max(128);
+    match units {
+        Units::Bytes => (first_key(first, units), first_key(interval.last, units)),
+        Units::Wide => (
+            first_key(first.min(0xFFFF), units),
+            first_key(interval.last.min(0xFFFF), units),
+        ),
+    }
+}
+
 // The first byte of a character in UTF-8.
 fn first_byte(c: u32) -> u32
     ensures { result ≡ lead c }

@@ -49,6 +49,7 @@ impl Plan {
     }
 
     // The same where this lookaround stands first.
+    #[inline(never)]
     fn before_look(&self, look: Look, units: Units) -> Option<Before>
         requires { slice_get self.now.ops.items 0 ≡ Some (Op.Look look) }
         ensures { IfSome result (λ before. (program : Program)

@@ -131,7 +131,7 @@ impl Common {
 
 impl Prefix {
     /// What to look for first: in bytes units that are known, where some stand in a row; else bits of some units, if few
-    /// places have them.
+    /// places have them. Most patterns have none, and its room is cleared where it is called, so this stands apart.
     #[inline(never)]
     pub(crate) fn prefilter(&self, units: Units) -> Option<Prefilter>
         ensures { IfSome result (IsPrefilter (wide_of units) self.now) }

@@ -11,3 +11,4 @@ pub mod BeforeLemmas
 pub mod VerdictLemmas
 pub mod RoundLemmas
 mod StepLemmas
+mod IntervalLemmas

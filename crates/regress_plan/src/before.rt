@@ -48,7 +48,9 @@ impl Plan {
         }
     }
 
-    // The same where this lookaround stands first.
+    // The same where this lookaround stands first, which is seldom: sets take room that is cleared where they are made, so this
+    // stands apart.
+    #[inline(never)]
     fn before_look(&self, look: Look, units: Units) -> Option<Before>
         requires { slice_get self.now.ops.items 0 ≡ Some (Op.Look look) }
         ensures { IfSome result (λ before. (program : Program)

@@ -3,10 +3,10 @@
 //! A table has one entry for each key. A byte is its own key, and so is a 16-bit unit below 128. The other 16-bit
 //! units have a key for each 512 of them.
 
-ghost use Rattle.std.specs.Prelude.{◌≡◌, ◌<◌, ◌&&◌, ◌||◌, ℕ, true, false, is_some};
+ghost use Rattle.std.specs.Prelude.{◌≡◌, ◌<◌, ◌+◌, ◌/◌, ◌&&◌, ◌||◌, ℕ, min, true, false, is_some};
 ghost use Rattle.regex_meaning.specs.Units.{Encoding};
 ghost use Rattle.regress_simulation.specs.Tables.{is_character, first_key as first_key_in};
-ghost use Rattle.regress_plan.specs.Keys.{key as key_of, is_wide, is_lead, wide_of, may_begin_pair as is_high, AreBegun, lead, high};
+ghost use Rattle.regress_plan.specs.Keys.{key as key_of, is_wide, is_lead, wide_of, may_begin_pair as is_high, AreBegun, AreBetween, lead, high};
 
 use regex_pattern_front::codepointset::Interval;
 
@@ -122,6 +122,28 @@ pub fn first_key(c: u32, units: Units) -> usize
         }
     };
     key.min(255) as usize
+}
+
+/// The keys between which characters of an interval begin, those of ASCII and pairs apart.
+pub(crate) fn keys_between(interval: Interval, units: Units) -> (usize, usize)
+    ensures between { AreBetween (wide_of units) interval result.0 result.1 }
+    ensures inside { result.1 < 256 }
+{
+    let first = interval.first.max(128);
+    match units {
+        Units::Bytes => (
+            first_byte(first) as usize,
+            first_byte(interval.last).min(255) as usize,
+        ),
+        Units::Wide => (high_key(first), high_key(interval.last)),
+    }
+}
+
+// The key of a 16-bit unit from 128 on; of a number that is none, that of the last one.
+fn high_key(c: u32) -> usize
+    ensures { result ≡ 128 + min c 0xFFFF / 512 }
+{
+    128 + (c.min(0xFFFF) >> 9) as usize
 }
 
 // The first byte of a character in UTF-8.

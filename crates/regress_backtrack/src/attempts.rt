@@ -71,7 +71,7 @@ pub(crate) fn attempt<W: Planned, S: Steps, M: Remembers>(
     let loops = planned.loops() as usize;
     memory.begin(groups, loops, at)?;
     let start = Here { ip: 0, at };
-    match run(planned, true, start, memory, course) {
+    match run(planned, start, memory, course) {
         Ok(end) => Ok(end_in(planned, end)),
         Err(Stop) => Err(cause(&course.steps)),
     }

@@ -41,7 +41,7 @@ pub trait Steps: Copy {
         ensures stopped { OnErr result (IsTaken COUNTS 1 (budget self.old) (budget self.new)
             ⊎ IsRefused COUNTS 1 (budget self.old) (budget self.new)) };
 
-    /// So many units are read in one turn, which is work where they are many.
+    /// So many units are read in one turn, or so many marks are thrown away at once, which is work where they are many.
     fn read(&mut self, units: usize)
         ensures { budget self.new ≡ budget self.old };
 

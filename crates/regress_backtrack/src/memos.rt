@@ -15,7 +15,7 @@ use crate::memory::Memory;
 use crate::remembering::{Course, Key, Remembers};
 use crate::steps::Unbound;
 use regex_pattern_front::types::LoopID;
-use regress_ledger::codes::{Round, Rounds};
+use regress_ledger::codes::{HoldsRounds, Round};
 use regress_ledger::ledger::Ledger;
 use regress_memo::memo::{Key as Known, Memo};
 use regress_plan::insn::Insn;
@@ -23,7 +23,7 @@ use regress_plan::ops::Op;
 use regress_scan::planned::{Planned, text_end};
 use std::alloc::{AllocError, Global};
 
-impl Rounds for Memory {
+impl HoldsRounds for Memory {
     ghost rounds = { λ m. (state_of m 0 0).loops };
 
     #[inline(always)]

@@ -21,7 +21,7 @@ pub struct Round {
 }
 
 /// What loops hold.
-pub trait Rounds {
+pub trait HoldsRounds {
     ghost rounds: { Self → List LoopData };
 
     /// What a loop holds, if it is there.
@@ -29,7 +29,7 @@ pub trait Rounds {
         ensures { option_map data_of result ≡ slice_get (rounds self.now) id };
 }
 
-impl Rounds for Vec<Round> {
+impl HoldsRounds for Vec<Round> {
     ghost rounds = { λ v. map data_of v.items };
 
     fn round(&self, id: LoopID) -> Option<Round> {
@@ -46,7 +46,7 @@ struct Digits {
 
 impl Ledger {
     /// The code of a thread that stands at an instruction and an offset, by what loops hold.
-    pub fn code_at<R: Rounds>(&self, ip: usize, at: usize, rounds: &R) -> usize
+    pub fn code_at<R: HoldsRounds>(&self, ip: usize, at: usize, rounds: &R) -> usize
         requires { AreCoded self.now }
         ensures { (s : State) → s.pos ≡ at → s.loops ≡ R.rounds rounds.now
             → result ≡ code_of (questions_of self.now ip) s }

@@ -8,7 +8,7 @@ ghost use Rattle.regress_ledger.specs.Ledger.{account_of, way_of};
 ghost use Rattle.regress_ledger.specs.Sound.{way, AreFew, IsSoundBy, IsSoundRow};
 ghost use Rattle.regress_ledger.specs.Whole.{data_of};
 
-use crate::codes::{Round, Rounds};
+use crate::codes::{HoldsRounds, Round};
 use crate::ledger::{Count, Ledger, Row};
 
 // An offset in a text of so many units, from which a search goes on in a direction.
@@ -23,7 +23,7 @@ impl Ledger {
     /// Whether a thread at an instruction and an offset of a text of so many units is one that a search may come to, by what
     /// loops hold: iterations began at offsets that were passed, they read what the account says, and there were no more of
     /// them than units, but for those that it counts.
-    pub fn is_sound<R: Rounds>(&self, ip: usize, at: usize, units: usize, rounds: &R) -> bool
+    pub fn is_sound<R: HoldsRounds>(&self, ip: usize, at: usize, units: usize, rounds: &R) -> bool
         requires { units < 2 ^ 63 }
         ensures { (s : State) → s.ip ≡ ip → s.pos ≡ at → s.loops ≡ R.rounds rounds.now
             → IsTrue result ↔ IsSoundState (account_of self.now) units (way_of self.now ip) s }

@@ -8,7 +8,7 @@ ghost use Rattle.regress_memo.specs.Memo.{as_key, key_at as key_of_state, has_fa
 ghost use Rattle.regress_memo.specs.Room.{Known, HasRoom};
 
 use crate::bits::Bits;
-use regress_ledger::codes::Rounds;
+use regress_ledger::codes::HoldsRounds;
 use regress_ledger::ledger::Ledger;
 use std::alloc::{AllocError, Global};
 use std::marker::Model;
@@ -93,7 +93,7 @@ impl Memo {
 
     /// The key of a thread that stands at an instruction and an offset, by what loops hold; none where threads are not recorded.
     #[inline(always)]
-    pub fn key_at<R: Rounds>(&self, ip: usize, at: usize, rounds: &R) -> Option<Key>
+    pub fn key_at<R: HoldsRounds>(&self, ip: usize, at: usize, rounds: &R) -> Option<Key>
         ensures key { (s : State) → s.ip ≡ ip → s.pos ≡ at → s.loops ≡ R.rounds rounds.now
             → option_map as_key result ≡ key_of_state self.now.ledger s }
         ensures bit { at < self.now.places

@@ -8,7 +8,7 @@ use Rattle.regress_ledger.proofs.ledger.Ledger.code_at.Goals as goal
 pub with-digits-requires-clause-few : goal.with-digits-requires-clause-few
 with-digits-requires-clause-few g c =
     let up : ℕ → ℕ = λ i. (count_of c.args.self.now i).up_to in
-    let here = few-here up c.rows_at-rows.result.now c.loop-row.row-index _ c.loop-row-test.true c.args.at (g.R.Rounds.rounds c.args.rounds.now)
+    let here = few-here up c.rows_at-rows.result.now c.loop-row.row-index _ c.loop-row-test.true c.args.at (g.R.HoldsRounds.rounds c.args.rounds.now)
     c.loop-row.digits.code c.loop-row.digits.codes c.answers-answers.result c.answers-answers.ensures.answers c.loop-row.invariant in
     let same = ap (λ rows. codes_of (questions_on up rows)) c.rows_at-rows.ensures in
     let few = c.requires.few c.args.ip in
@@ -18,7 +18,7 @@ pub loop-row-preserved : goal.loop-row-preserved
 loop-row-preserved g c =
     let up : ℕ → ℕ = λ i. (count_of c.args.self.now i).up_to in
     let rows = c.rows_at-rows.result.now in
-    let loops = g.R.Rounds.rounds c.args.rounds.now in
+    let loops = g.R.HoldsRounds.rounds c.args.rounds.now in
     so-far-next up rows c.loop-row.row-index _ c.loop-row-test.true c.args.at loops c.loop-row.digits.code c.loop-row.digits.codes
     c.answers-answers.result c.answers-answers.ensures.answers c.loop-row.invariant _ c.round.ensures c.digit-digit.result c.digit-digit.ensures
     c.with-digits.result.code c.with-digits.result.codes (ap (λ (d : Digits). d.code) c.with-digits.ensures)
@@ -27,5 +27,5 @@ loop-row-preserved g c =
 pub returns : goal.returns
 returns g c =
     let up : ℕ → ℕ = λ i. (count_of c.args.self.now i).up_to in
-    so-far-done up c.rows_at-rows.result.now _ c.loop-row.row-index c.args.at (g.R.Rounds.rounds c.args.rounds.now) c.loop-row.digits.code
+    so-far-done up c.rows_at-rows.result.now _ c.loop-row.row-index c.args.at (g.R.HoldsRounds.rounds c.args.rounds.now) c.loop-row.digits.code
     c.loop-row.digits.codes c.rows_at-rows.ensures (omega arith) c.loop-row.invariant

@@ -6,4 +6,4 @@ use Rattle.regress_ledger.proofs.ledger.Ledger.code_at.Given as goal
 abbrev pub invariant-loop-row : goal.invariant-loop-row
 invariant-loop-row g l =
     let up : ℕ → ℕ = λ i. (count_of l.self i).up_to in
-    SoFar up l.rows (drop l.row-index l.rows) l.at (g.R.Rounds.rounds l.rounds) l.digits.code l.digits.codes
+    SoFar up l.rows (drop l.row-index l.rows) l.at (g.R.HoldsRounds.rounds l.rounds) l.digits.code l.digits.codes

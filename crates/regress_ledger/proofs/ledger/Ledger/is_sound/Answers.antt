@@ -13,21 +13,21 @@ returns-then-not-is_sound_row g c = λ s ip at loops. (
   λ sound.
       let forward = ap (λ (x : Line). x.forward) c.line-forward.ensures in
       let there = slice_get-get_or c.rows_at-rows.result.now c.loop-row.row-index _ c.loop-row-test.true in
-      let here = sound-row-there c.args.self.now c.args.units c.args.ip c.args.at (g.R.Rounds.rounds c.args.rounds.now)
+      let here = sound-row-there c.args.self.now c.args.units c.args.ip c.args.at (g.R.HoldsRounds.rounds c.args.rounds.now)
       c.line-forward.result.forward forward s ip at loops c.rows_at-rows.result.now c.rows_at-rows.ensures sound c.loop-row.row-index _ there in
       sym c.if-not-is_sound_row.true ∙ c.is_sound_row.ensures.1 (λ x held. here x (sym c.round-round.ensures ∙ held)),
 )
 
 pub loop-row-preserved : goal.loop-row-preserved
 loop-row-preserved g c =
-    let loops = g.R.Rounds.rounds c.args.rounds.now in
+    let loops = g.R.HoldsRounds.rounds c.args.rounds.now in
     rows-more (λ (row : Row). IsSoundRow c.args.self.now (way c.line-forward.result.forward) c.args.units c.args.at (slice_get loops row.id) row)
     c.rows_at-rows.result.now c.loop-row.row-index c.loop-row.invariant _ c.loop-row-test.true
     (λ x held. c.is_sound_row.ensures.0 c.if-not-is_sound_row.false x (c.round-round.ensures ∙ held))
 
 pub returns : goal.returns
 returns g c = λ s ip at loops.
-    let held = g.R.Rounds.rounds c.args.rounds.now in
+    let held = g.R.HoldsRounds.rounds c.args.rounds.now in
     let forward = ap (λ (x : Line). x.forward) c.line-forward.ensures in
     let past = c.if-at-units.false in (
       λ h. sound-all c.args.self.now c.args.units c.args.ip c.args.at held c.line-forward.result.forward forward s ip at loops (omega (arith, past))

@@ -33,4 +33,4 @@ returns-else-line-eq1-clause-bit g c =
     let code = c.code_at-code.result in
     subst (λ (m : Known). c.args.at < m.places → HasBit m.ledger m.places (record { ip = c.args.ip; at = c.args.at; code = code })) c.self.view_is
     (told-bit t c.args.ip x c.line-line.ensures records c.self.invariant.coded c.self.inside.places c.args.at code
-    (g.R.Rounds.rounds c.args.rounds.now) c.code_at-code.ensures)
+    (g.R.HoldsRounds.rounds c.args.rounds.now) c.code_at-code.ensures)

@@ -51,16 +51,18 @@ pub struct BacktrackExecutor<'r, Input: InputIndexer> {
         (failed_in (λ memo. has_failure memo.value) again.course.memo) } by { Prim.hlevel props },
 }
 
-// So much work for each offset of a text is more than most searches do.
+// So much work for each offset of a text is more than most searches do; and so much for each instruction, since before it
+// is remembered what failed, what decides a thread is found out for each of them.
 const WORK_FOR_EACH: u64 = 16;
 
 const MOST_WORK: u64 = 0x7FFF_FFFF_FFFF_FFFF;
 
-// How much work a search of so many units may do at first.
+// How much work a search of so many units with so many instructions may do at first.
 #[inline(always)]
-fn work_at_first(units: usize) -> u64 {
-    if units < 0x0400_0000_0000_0000 {
-        (units as u64 + 1) * WORK_FOR_EACH
+fn work_at_first(units: usize, insns: usize) -> u64 {
+    let each = units.saturating_add(insns);
+    if each < 0x0400_0000_0000_0000 {
+        (each as u64 + 1) * WORK_FOR_EACH
     } else {
         MOST_WORK
     }
@@ -72,7 +74,8 @@ impl<'r, Input: InputIndexer> BacktrackExecutor<'r, Input> {
         ensures { result.search ≡ search.entry }
     {
         let alloc = search.searched.program.allocator();
-        let work = work_at_first(search.searched.input.unit_count());
+        let units = search.searched.input.unit_count();
+        let work = work_at_first(units, search.program.insns().len());
         BacktrackExecutor {
             search,
             memory: Memory::new(alloc),

@@ -23,3 +23,4 @@ pub mod Course
 pub mod Memos
 pub mod RunRecords
 pub mod GoingOver
+pub mod Leaving

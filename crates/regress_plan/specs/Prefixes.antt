@@ -29,9 +29,10 @@ abbrev pub fits : Allowed → (units : List ℕ) → (at len : ℕ) → Bool
 fits allowed units at zero = true
 fits allowed units at (suc len) = fits allowed units at len && may_stand allowed len (slice_get units (at + len))
 
--- one unit alone may stand so many units on
+-- one unit may stand so many units on, and no other
 pub record IsRare (prefix : Prefix) (rare : Rare) : Type 0 where
   pub inside : rare.ahead < prefix.len
+  pub stands : allowed_of prefix rare.ahead rare.unit ≡ true
   pub only : (k : ℕ) → k < 256 → allowed_of prefix rare.ahead k ≡ true → k ≡ rare.unit
 
 -- units of which each alone may stand where it stands

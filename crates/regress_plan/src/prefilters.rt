@@ -238,7 +238,7 @@ impl Prefix {
         }
     }
 
-    // Whether this unit alone may stand there.
+    // Whether this unit may stand there, and no other.
     fn has_alone(&self, rare: Rare) -> bool
         ensures { result ≡ true → IsRare self.now rare }
     {
@@ -249,7 +249,7 @@ impl Prefix {
         for key in 0..KEYS {
             others |= self.may_stand(key, rare.ahead) & (key as u8 != rare.unit);
         }
-        !others
+        !others && self.may_stand(usize::from(rare.unit), rare.ahead)
     }
 
     // Bits to look for, if they are seldom.

@@ -86,6 +86,22 @@ module _ (allowed : Allowed) (us : List ℕ) (at : ℕ) where
           let less = one.1 in
           (one.0, omega (arith, less), one.2)
 
+  -- so many more behind those before
+  pub fits-row : (from more : ℕ) → fits allowed us at from ≡ true → ((i : ℕ) → i < more → stands (from + i) ≡ true) → fits allowed us at (from + more) ≡ true
+  fits-row from more before each = fits-all (from + more) (λ ahead less. elim (cases_lt ahead from) [
+    | inl early ↦ fits-each from ahead early before
+    | inr late ↦
+        let same : from + (ahead - from) ≡ ahead = omega (arith, late) in
+        ap stands (sym same) ∙ each (ahead - from) (omega (arith, less, late))
+  ])
+
+  -- where those before one do not fit, those before a later one do not
+  pub fits-still : (from to : ℕ) → from ≤ to → fits allowed us at from ≡ false → fits allowed us at to ≡ false
+  fits-still from to le none =
+      let one = fits-not from none in
+      let less = one.1 in
+      fits-fails to one.0 (omega (arith, less, le)) one.2
+
   -- one more
   pub fits-more : (len : ℕ) → fits allowed us at len ≡ true → stands len ≡ true → fits allowed us at (suc len) ≡ true
   fits-more len all here = and-both (fits allowed us at len) (stands len) all here
@@ -195,6 +211,19 @@ module _ (prefix : Prefix) (literal : Literal) (is : IsLiteral prefix literal) (
       by (inr past) =
           let never : true ≡ false = sym fit ∙ fits-past (allowed_of prefix) us at prefix.len (literal.ahead + i) within past in
           cc
+
+-- where those in a row stand, those before it fit with them
+pub literal-fits : (prefix : Prefix) (literal : Literal) → IsLiteral prefix literal → (us : List ℕ) (at : ℕ) → length (take literal.len literal.units) ≡ literal.len
+    → OccursAt us (take literal.len literal.units) (at + literal.ahead) → fits (allowed_of prefix) us at literal.ahead ≡ true
+    → fits (allowed_of prefix) us at (literal.ahead + literal.len) ≡ true
+literal-fits prefix literal is us at full there before =
+    fits-row (allowed_of prefix) us at literal.ahead literal.len before (λ i less.
+    let fewer : i < length (take literal.len literal.units) = omega (arith, less, full) in
+    let same : at + (literal.ahead + i) ≡ at + literal.ahead + i = omega arith in
+    unit-there (allowed_of prefix) us at (literal.ahead + i) (let inside = there.fits in omega (arith, inside, fewer))
+    ∙ ap (allowed_of prefix (literal.ahead + i))
+    (ap (slice_index us) same ∙ there.reads i fewer ∙ get_or-take literal.len literal.units i 0 less)
+    ∙ (is.alone i less).stands)
 
 -- ---- Searches
 

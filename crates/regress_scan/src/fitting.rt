@@ -1,7 +1,8 @@
 //! Places where each of the first units may stand.
 
-ghost use Rattle.std.specs.Prelude.{◌≡◌, ◌≤◌, ◌<◌, length, IfSome};
+ghost use Rattle.std.specs.Prelude.{◌≡◌, ◌≤◌, ◌<◌, ◌+◌, true, length, take, IfSome};
 ghost use Rattle.std.proofs.Props.{props};
+ghost use Rattle.memchr.specs.Find.{OccursAt};
 ghost use Rattle.regress_plan.specs.Prefixes.{allowed_of, fits, IsRare, IsLiteral};
 ghost use Rattle.regress_scan.specs.Fitting.{FindsFit};
 
@@ -36,7 +37,7 @@ impl ByteSearcher for Fitting<'_> {
 /// The first units of a match, of which some in a row are known, and what looks for these.
 #[derive(Drop)]
 pub(crate) struct InRow<'k, 'p> {
-    pub(crate) kept: Kept<'k>,
+    pub(crate) kept: &'k Kept<'k>,
     pub(crate) prefix: &'p Prefix,
     pub(crate) literal: &'p Literal,
     ghost some: { 0 < prefix.now.len },
@@ -50,7 +51,7 @@ impl ByteSearcher for InRow<'_, '_> {
 
     #[inline(always)]
     fn find_in(&self, bytes: &[u8]) -> Option<usize> {
-        find_literal(&self.kept, self.prefix, self.literal, bytes)
+        find_literal(self.kept, self.prefix, self.literal, bytes)
     }
 }
 
@@ -87,7 +88,7 @@ fn find_rare(prefix: &Prefix, rare: Rare, bytes: &[u8]) -> Option<usize>
             return None;
         };
         at += more;
-        if fits_at(prefix, bytes, at) {
+        if fits_between(prefix, bytes, at, 0, prefix.len) {
             return Some(at);
         }
         at += 1;
@@ -109,7 +110,7 @@ fn find_literal(kept: &Kept<'_>, prefix: &Prefix, literal: &Literal, bytes: &[u8
             return None;
         };
         at += more;
-        if fits_at(prefix, bytes, at) {
+        if fits_beside(prefix, literal, bytes, at) {
             return Some(at);
         }
         at += 1;
@@ -117,18 +118,34 @@ fn find_literal(kept: &Kept<'_>, prefix: &Prefix, literal: &Literal, bytes: &[u8
     None
 }
 
-// Whether all may stand at an index.
+// Whether all may stand at an index where those in a row do, which are not asked.
 #[inline(always)]
-fn fits_at(prefix: &Prefix, bytes: &[u8], at: usize) -> bool
-    requires { at ≤ length bytes.now }
+fn fits_beside(prefix: &Prefix, literal: &Literal, bytes: &[u8], at: usize) -> bool
+    requires literal { IsLiteral prefix.now literal.now }
+    requires row { OccursAt bytes.now (take literal.now.len literal.now.units) (at + literal.now.ahead) }
     ensures { result ≡ fits (allowed_of prefix.now) bytes.now at prefix.now.len }
 {
-    let left = bytes.len() - at;
-    if left < prefix.len {
+    if !fits_between(prefix, bytes, at, 0, literal.ahead) {
         return false;
     }
-    let mut ahead = 0;
-    'units: while ahead < prefix.len {
+    fits_between(prefix, bytes, at, literal.ahead + literal.len, prefix.len)
+}
+
+// Whether those before one may stand at an index, where those before another may, which are not asked.
+#[inline(always)]
+fn fits_between(prefix: &Prefix, bytes: &[u8], at: usize, from: usize, to: usize) -> bool
+    requires at { at ≤ length bytes.now }
+    requires order { from ≤ to }
+    requires inside { to ≤ prefix.now.len }
+    requires before { fits (allowed_of prefix.now) bytes.now at from ≡ true }
+    ensures { result ≡ fits (allowed_of prefix.now) bytes.now at to }
+{
+    let left = bytes.len() - at;
+    if left < to {
+        return false;
+    }
+    let mut ahead = from;
+    'units: while ahead < to {
         if !prefix.may_stand(usize::from(bytes[at + ahead]), ahead) {
             return false;
         }

@@ -28,17 +28,6 @@ impl<'p> Kept<'p> {
         Kept { finder }
     }
 
-    /// The same once more, for as long as this one is there.
-    #[inline(always)]
-    pub fn as_ref(&self) -> Kept<'_> {
-        match &self.finder {
-            Some(finder) => Kept {
-                finder: Some(finder.as_ref()),
-            },
-            None => Kept { finder: None },
-        }
-    }
-
     /// The first index at which a row stands, by what is kept if that looks for the row.
     #[inline(always)]
     pub fn find(&self, row: &[u8], bytes: &[u8]) -> Option<usize>

@@ -9,19 +9,13 @@ returns-in_default c = λ k less.
     (take_rest c.args.bytes.now (c.places.at + c.args.literal.now.ahead)) refl (needle-short c.args.literal.now) c.places.invariant.1
     c.in_default.ensures k
 
-pub fits_at-requires : goal.fits_at-requires
-fits_at-requires c =
-    literal-inside c.args.prefix.now c.args.literal.now c.requires.literal c.requires.some c.args.bytes.now (λ i. (c.type_inv.bytes i).fits) c.places.at _ _
-    (take_rest c.args.bytes.now (c.places.at + c.args.literal.now.ahead)) refl (needle-short c.args.literal.now) c.places.invariant.1
-    c.in-Some.more c.in-Some.ensures c.places-test.true
-
-pub returns-then-fits_at : goal.returns-then-fits_at
-returns-then-fits_at c = record {
+pub returns-then-fits_beside : goal.returns-then-fits_beside
+returns-then-fits_beside c = record {
   within =
       literal-within c.args.prefix.now c.args.literal.now c.requires.literal c.requires.some c.args.bytes.now (λ i. (c.type_inv.bytes i).fits) c.places.at _ _
       (take_rest c.args.bytes.now (c.places.at + c.args.literal.now.ahead)) refl (needle-short c.args.literal.now) c.places.invariant.1
-      c.in-Some.more c.in-Some.ensures (sym c.fits_at.ensures ∙ c.if-fits_at.true);
-  passes = sym c.fits_at.ensures ∙ c.if-fits_at.true;
+      c.in-Some.more c.in-Some.ensures (sym c.fits_beside.ensures ∙ c.if-fits_beside.true);
+  passes = sym c.fits_beside.ensures ∙ c.if-fits_beside.true;
   none_before =
       literal-before c.args.prefix.now c.args.literal.now c.requires.literal c.requires.some c.args.bytes.now (λ i. (c.type_inv.bytes i).fits) c.places.at _ _
       (take_rest c.args.bytes.now (c.places.at + c.args.literal.now.ahead)) refl (needle-short c.args.literal.now) c.places.invariant.1
@@ -36,7 +30,7 @@ places-preserved c =
       omega (arith, inside),
       literal-behind c.args.prefix.now c.args.literal.now c.requires.literal c.requires.some c.args.bytes.now (λ i. (c.type_inv.bytes i).fits) c.places.at _ _
           (take_rest c.args.bytes.now (c.places.at + c.args.literal.now.ahead)) refl (needle-short c.args.literal.now) c.places.invariant.1
-          c.in-Some.more c.in-Some.ensures (sym c.fits_at.ensures ∙ c.if-fits_at.false),
+          c.in-Some.more c.in-Some.ensures (sym c.fits_beside.ensures ∙ c.if-fits_beside.false),
     )
 
 pub returns : goal.returns

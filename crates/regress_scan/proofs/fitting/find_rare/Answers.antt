@@ -8,20 +8,13 @@ returns-in_default c = λ k less.
     rare-none c.args.prefix.now c.args.rare c.requires c.args.bytes.now (λ i. (c.type_inv.bytes i).fits) c.places.at _ (take_rest c.args.bytes.now (c.places.at + c.args.rare.ahead)) c.in_default.ensures
     c.places.invariant.1 k
 
-pub fits_at-requires : goal.fits_at-requires
-fits_at-requires c =
-    let inside =
-    rare-inside c.args.prefix.now c.args.rare c.requires c.args.bytes.now (λ i. (c.type_inv.bytes i).fits) c.places.at _ (take_rest c.args.bytes.now (c.places.at + c.args.rare.ahead)) c.in-Some.more c.in-Some.ensures
-    c.places.invariant.1 in
-    omega (arith, inside)
-
-pub returns-then-fits_at : goal.returns-then-fits_at
-returns-then-fits_at c =
+pub returns-then-fits_between : goal.returns-then-fits_between
+returns-then-fits_between c =
     let bytes : (i : ℕ) → slice_index c.args.bytes.now i < 256 = λ i. (c.type_inv.bytes i).fits in
     let before = c.places.invariant.1 in
     record {
       within = rare-inside c.args.prefix.now c.args.rare c.requires c.args.bytes.now bytes c.places.at _ (take_rest c.args.bytes.now (c.places.at + c.args.rare.ahead)) c.in-Some.more c.in-Some.ensures before;
-      passes = sym c.fits_at.ensures ∙ c.if-fits_at.true;
+      passes = sym c.fits_between.ensures ∙ c.if-fits_between.true;
       none_before = rare-before c.args.prefix.now c.args.rare c.requires c.args.bytes.now bytes c.places.at _ (take_rest c.args.bytes.now (c.places.at + c.args.rare.ahead)) c.in-Some.more c.in-Some.ensures before;
     }
 
@@ -32,7 +25,7 @@ places-preserved c =
     let inside = rare-inside c.args.prefix.now c.args.rare c.requires c.args.bytes.now bytes c.places.at _ (take_rest c.args.bytes.now (c.places.at + c.args.rare.ahead)) c.in-Some.more c.in-Some.ensures before in (
       omega (arith, inside),
       rare-behind c.args.prefix.now c.args.rare c.requires c.args.bytes.now bytes c.places.at _ (take_rest c.args.bytes.now (c.places.at + c.args.rare.ahead)) c.in-Some.more c.in-Some.ensures before
-          (sym c.fits_at.ensures ∙ c.if-fits_at.false),
+          (sym c.fits_between.ensures ∙ c.if-fits_between.false),
     )
 
 pub returns : goal.returns

@@ -1,7 +1,7 @@
 -- What must stand where a match begins, by the operations there.
 use Rattle.std.proofs.Common.{◌≡◌, ◌≢◌, ◌<◌, ◌≤◌, ℕ, zero, suc, ◌+◌, ◌-◌, ◌*◌, ◌/◌, ◌%◌, ◌^◌, min, max, Bool, true, false, not, ◌&&◌, ◌||◌, Option, Some, None, List, length, slice_get, slice_set, get_or, refl, sym, ap, ◌∙◌, subst, arith, bit_and, div-add-mod', pow_pos}
 use mathlib.Core.Logic.{◌⊎◌, inl, inr}
-use Rattle.std.specs.Prelude.{◌==◌, if◌then◌else◌, slice_index_or}
+use Rattle.std.specs.Prelude.{◌==◌, if◌then◌else◌, slice_index, slice_index_or}
 use Rattle.std.specs.Int.{bit_at}
 use Rattle.std.proofs.lemmas.Bool.{cases_lt, lt-ltb, le-ltb, eqb-true, eq-eqb, ne_eqb}
 use Rattle.std.proofs.lemmas.Nat.Bits.{bit_at_or, bit_at_and, bit_at_ones, bit_at_ones_above, bit_at_cat_low, bit_at_cat_high, bit_at-lt, bit_at-zero}
@@ -33,7 +33,7 @@ use Rattle.regress_plan.specs.declared.ops.Run as run
 use Rattle.regress_plan.specs.declared.plan.Plan.{Plan}
 use Rattle.regress_plan.specs.Keys.{key, is_wide, is_told, step_at, table_of}
 use Rattle.regress_plan.specs.Plans.{IsClass, reads_one, IsOpOf, Runs}
-use Rattle.regress_plan.specs.Prefixes.{allowed_of, PrefixAt, IsPrefixAt}
+use Rattle.regress_plan.specs.Prefixes.{allowed_of, PrefixAt, IsPrefixAt, StandsNone}
 use Rattle.regress_plan.specs.Leading.{joined_of, then_allowed, unit_of, units_of, leads_on, IsThen, IsOfEither, IsPath, AreOps, PrefixBehind, UnitsLead, Leads, LeadsFrom, LeadsFromRun}
 use Rattle.regress_plan.proofs.KeyLemmas.{first-key-at, first-key-below, key_of_first}
 use Rattle.regress_plan.proofs.ClosingLemmas.{told-some}
@@ -75,6 +75,34 @@ joined-behind first count behind ahead more few =
 and-clear : (x y ahead : ℕ) → (bit_at x ahead ≡ 0) ⊎ (bit_at y ahead ≡ 0) → bit_at (bit_and x y) ahead ≡ 0
 and-clear x y ahead (inl none) = bit_at_and x y ahead ∙ (let z : min (bit_at x ahead) (bit_at y ahead) ≡ 0 = omega (arith, none) in z)
 and-clear x y ahead (inr none) = bit_at_and x y ahead ∙ (let z : min (bit_at x ahead) (bit_at y ahead) ≡ 0 = omega (arith, none) in z)
+
+-- a bit that both together have each has
+both-set : (x y ahead : ℕ) → (bit_at (bit_and x y) ahead == 0) ≡ false → ((bit_at x ahead == 0) ≡ false) × ((bit_at y ahead == 0) ≡ false)
+both-set x y ahead set = (by-first (bit_at x ahead == 0) refl, by-second (bit_at y ahead == 0) refl)
+  where
+    no : bit_at (bit_and x y) ahead ≡ 0 → true ≡ false
+    no clear = sym (ap (λ b. b == 0) clear) ∙ set
+
+    by-first : (b : Bool) → (bit_at x ahead == 0) ≡ b → (bit_at x ahead == 0) ≡ false
+    by-first false is = is
+    by-first true is = is ∙ no (and-clear x y ahead (inl (eqb-true (bit_at x ahead) 0 is)))
+
+    by-second : (b : Bool) → (bit_at y ahead == 0) ≡ b → (bit_at y ahead == 0) ≡ false
+    by-second false is = is
+    by-second true is = is ∙ no (and-clear x y ahead (inr (eqb-true (bit_at y ahead) 0 is)))
+
+-- the bits that all masks from a key on have, with that of the next key
+pub barred-next : (prefix : Prefix) (from key barred ahead : ℕ)
+    → ((ahead : ℕ) → (bit_at barred ahead == 0) ≡ false → StandsNone prefix from key ahead)
+    → (bit_at (bit_and barred (slice_index prefix.masks key)) ahead == 0) ≡ false → StandsNone prefix from (key + 1) ahead
+barred-next prefix from key barred ahead before set k more less =
+    let both = both-set barred (slice_index prefix.masks key) ahead set in
+    elim (cases_lt k key) [
+      | inl early ↦ before ahead both.0 k more early
+      | inr last ↦
+          let here : k ≡ key = omega (arith, less, last) in
+          ap (λ i. bit_at (slice_index prefix.masks i) ahead == 0) here ∙ both.1
+    ]
 
 -- so many bits from one on are those that were not moved in
 pub clear-between : (from count ahead : ℕ) → from + count < 16 → from ≤ ahead → ahead < from + count → bit_at (joined_of 65535 from (65535 * 2 ^ count % 2 ^ 16)) ahead ≡ 0

@@ -29,6 +29,10 @@ abbrev pub fits : Allowed → (units : List ℕ) → (at len : ℕ) → Bool
 fits allowed units at zero = true
 fits allowed units at (suc len) = fits allowed units at len && may_stand allowed len (slice_get units (at + len))
 
+-- of the keys from one on up to another one there is none of which a unit may stand so many units on
+abbrev pub StandsNone : Prefix → (from end ahead : ℕ) → Type 0
+StandsNone prefix from end ahead = (k : ℕ) → from ≤ k → k < end → allowed_of prefix ahead k ≡ false
+
 -- one unit may stand so many units on, and no other
 pub record IsRare (prefix : Prefix) (rare : Rare) : Type 0 where
   pub inside : rare.ahead < prefix.len

@@ -1,6 +1,6 @@
 //! What is looked for before each of the first units of a match is asked.
 
-ghost use Rattle.std.specs.Prelude.{◌≡◌, ◌<◌, ℕ, true, IfSome};
+ghost use Rattle.std.specs.Prelude.{◌≡◌, ◌<◌, ◌≤◌, ℕ, true, IfSome};
 ghost use Rattle.regress_plan.specs.Prefixes.{allowed_of, passes as has_bits, IsRare, IsLiteral, IsProbe, AreProbes, IsPrefilter};
 ghost use Rattle.regress_plan.specs.Keys.{wide_of};
 
@@ -160,24 +160,27 @@ impl Prefix {
     // What the units have in common that may stand there, by how many units on that is; nothing where some are not below
     // 128.
     fn commons(&self) -> [Common; 16] {
-        let others = self.beyond_ascii();
+        let others = !self.barred(128, KEYS);
         let mut commons = [NO_UNIT; 16];
-        for key in 0..128 {
-            let mask = self.masks[key] | others;
-            if mask != u16::MAX {
-                add_key(&mut commons, self.len, mask, key as u8);
+        for block in 0..8 {
+            let from = block * 16;
+            if self.barred(from, from + 16) | others != u16::MAX {
+                self.add_keys(from, others, &mut commons);
             }
         }
         commons
     }
 
-    // A bit for each number of units on where some unit may stand that is not below 128.
-    fn beyond_ascii(&self) -> u16 {
-        let mut others = 0;
-        for key in 128..KEYS {
-            others |= !self.masks[key];
+    // Adds the units of 16 keys from one on, but those where others may stand.
+    fn add_keys(&self, from: usize, others: u16, commons: &mut [Common; 16])
+        requires { from ≤ 240 }
+    {
+        for key in from..from + 16 {
+            let mask = self.masks[key] | others;
+            if mask != u16::MAX {
+                add_key(commons, self.len, mask, key as u8);
+            }
         }
-        others
     }
 
     // The longest row of units that are known, if it is not a single one of more.
@@ -245,11 +248,10 @@ impl Prefix {
         if rare.ahead >= self.len {
             return false;
         }
-        let mut others = false;
-        for key in 0..KEYS {
-            others |= self.may_stand(key, rare.ahead) & (key as u8 != rare.unit);
-        }
-        !others && self.may_stand(usize::from(rare.unit), rare.ahead)
+        let unit = usize::from(rare.unit);
+        self.may_stand(unit, rare.ahead)
+            && self.stands_none(0, unit, rare.ahead)
+            && self.stands_none(unit + 1, KEYS, rare.ahead)
     }
 
     // Bits to look for, if they are seldom.
@@ -268,17 +270,17 @@ impl Prefix {
     fn has_probe(&self, probe: Probe) -> bool
         ensures { result ≡ true → IsProbe self.now probe }
     {
-        probe.ahead < self.len && self.is_in_ascii_at(probe.ahead) && self.all_pass(probe)
+        probe.ahead < self.len && self.is_in_ascii_at(probe.ahead) && self.ascii_passes(probe)
     }
 
-    // Whether only units that pass may stand there.
-    fn all_pass(&self, probe: Probe) -> bool
+    // Whether of the units below 128 only those that pass may stand there.
+    fn ascii_passes(&self, probe: Probe) -> bool
         requires { probe.ahead < 16 }
-        ensures { result ≡ true → (k : ℕ) → k < 256
+        ensures { result ≡ true → (k : ℕ) → k < 128
             → allowed_of self.now probe.ahead k ≡ true → has_bits probe k ≡ true }
     {
         let mut others = false;
-        for key in 0..KEYS {
+        for key in 0..128 {
             others |= self.may_stand(key, probe.ahead) & !probe.passes(key as u32);
         }
         !others

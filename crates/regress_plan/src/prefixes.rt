@@ -3,11 +3,11 @@
 //! It is read off the operations that stand at the beginning of a program: those that read no character lead on, and
 //! those that read one whose unit is known say what stands first. Where the operations do not tell it ends.
 
-ghost use Rattle.std.specs.Prelude.{Bool, ℕ, ◌≡◌, ◌<◌, ◌≤◌, ◌+◌, ◌^◌, true, length};
+ghost use Rattle.std.specs.Prelude.{Bool, ℕ, ◌≡◌, ◌==◌, ◌<◌, ◌≤◌, ◌+◌, ◌^◌, true, false, length};
 ghost use Rattle.std.specs.Int.{bit_at};
 ghost use Rattle.regex_meaning.specs.Layout.{Program};
 ghost use Rattle.regress_plan.specs.declared.ops.Op.TheVariants.{Unit, One, Enter};
-ghost use Rattle.regress_plan.specs.Prefixes.{allowed_of, IsPrefixAt, IsInAsciiAt};
+ghost use Rattle.regress_plan.specs.Prefixes.{allowed_of, IsPrefixAt, IsInAsciiAt, StandsNone};
 ghost use Rattle.regress_plan.specs.Leading.{unit_of, units_of, joined_of, leads_on as leads_on_op, IsThen, IsOfEither, AreOps, Leads, LeadsFrom, LeadsFromRun};
 
 use crate::first_set::FirstSet;
@@ -108,11 +108,29 @@ impl Prefix {
         requires { ahead < 16 }
         ensures { result ≡ true → IsInAsciiAt self.now ahead }
     {
-        let mut others = false;
-        for key in 128..KEYS {
-            others |= self.may_stand(key, ahead);
+        self.stands_none(128, KEYS, ahead)
+    }
+
+    // Whether no unit may stand so many units on whose key is one from one on up to another one.
+    pub(crate) fn stands_none(&self, from: usize, end: usize, ahead: usize) -> bool
+        requires inside { end ≤ 256 }
+        requires ahead { ahead < 16 }
+        ensures { result ≡ true → StandsNone self.now from end ahead }
+    {
+        !is_clear(self.barred(from, end), ahead)
+    }
+
+    /// A bit for each number of units on where no unit may stand whose key is one from one on up to another one.
+    pub(crate) fn barred(&self, from: usize, end: usize) -> u16
+        requires inside { end ≤ 256 }
+        ensures { (ahead : ℕ) → (bit_at result ahead == 0) ≡ false → StandsNone self.now from end ahead }
+    {
+        // With no way out of the loop it goes over many keys at a time.
+        let mut barred = u16::MAX;
+        for key in from..end {
+            barred &= self.masks[key];
         }
-        !others
+        barred
     }
 }
 
@@ -180,7 +198,8 @@ fn prefix_at(plan: &Plan, from: usize, steps: usize) -> Prefix
     prefix
 }
 
-// What an operation says.
+// What an operation says. It has room for a set, which is cleared and copied with each call, so this stands in its one caller.
+#[inline(always)]
 fn said_at(plan: &Plan, ip: usize) -> Ahead
     ensures { (wide : Bool) (program : Program)
         → AreOps wide program plan.now → Leads wide program ip result }
@@ -192,6 +211,7 @@ fn said_at(plan: &Plan, ip: usize) -> Ahead
 }
 
 // What the operation at this place says.
+#[inline(always)]
 fn said_of_op(plan: &Plan, op: Op, ip: usize) -> Ahead
     requires { ip < length plan.now.ops.items }
     ensures { LeadsFrom plan.now op ip result }

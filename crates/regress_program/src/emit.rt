@@ -30,7 +30,7 @@ use crate::emit::emitter::{Emitter, Mode};
 use crate::emit::names::names_by_id;
 use crate::emit::tally::Tally;
 pub use crate::emit::wellformed::is_well_formed;
-use crate::insn::{CompiledRegex, CompiledUnits, Emitted, GroupNames, Program, Run, placed};
+use crate::insn::{CompiledRegex, CompiledUnits, Emitted, GroupNames, Program, Run};
 use crate::startpredicate::predicate_for_re;
 use regex_pattern_front::ir;
 use regex_pattern_front::optimizer::optimize;
@@ -140,7 +140,6 @@ fn for_bytes(alloc: Global, re: &ir::Regex, program: Program) -> Result<Compiled
 {
     let start_pred = predicate_for_re(alloc, re)?;
     let plan = program.planned(Units::Bytes)?;
-    let plan = placed(alloc, plan)?;
     Ok(CompiledRegex {
         program,
         start_pred,
@@ -198,7 +197,6 @@ fn run_of(alloc: Global, code: Arc<Emitted, Global>, groups: u32) -> Result<Run,
         groups,
     };
     let plan = Plan::new(alloc, parts, Units::Wide)?;
-    let plan = placed(alloc, plan)?;
     Ok(Run { plan, code })
 }
 

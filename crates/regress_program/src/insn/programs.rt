@@ -113,9 +113,10 @@ impl Program {
     }
 
     // The plan of its own code, for executors that search texts of these units by plans.
-    pub(crate) fn planned(&self, units: Units) -> Result<Plan, AllocError>
+    pub(crate) fn planned(&self, units: Units) -> Result<Box<Plan>, AllocError>
         requires { size (tree_of self.now).root < 2 ^ 32 }
-        ensures { IfOk result (IsPlanOf (wide_of units) (compiled (tree_of self.now))) }
+        ensures { IfOk result (λ plan.
+            IsPlanOf (wide_of units) (compiled (tree_of self.now)) plan.value) }
     {
         let code = Code {
             insns: self.insns(),

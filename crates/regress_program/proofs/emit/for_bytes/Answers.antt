@@ -9,7 +9,7 @@ invariant_of-result c = record {
     predicate = rw c.requires.same c.in_ok-start_pred.ensures.predicate;
     short = c.in_ok-start_pred.ensures.short;
   };
-  planned = c.in_ok-plan-2.ensures _ _ c.in_ok-plan.ensures;
+  planned = c.in_ok-plan.ensures;
 }
 
 pub planned-requires : goal.planned-requires

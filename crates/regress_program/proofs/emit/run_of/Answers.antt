@@ -15,4 +15,4 @@ returns c = λ re is groups.
       brackets = ap (map contents_of) (c.deref-4.ensures.value ∙ ap (λ e. e.brackets.items) c.deref-3.ensures) ∙ is.brackets;
       groups = groups ∙ sym (groups-planned true (tree_of re));
     } in
-    record { planned = c.in_ok-plan-2.ensures _ _ (c.in_ok-plan.ensures (compiled run) has); code = is }
+    record { planned = c.in_ok-plan.ensures (compiled run) has; code = is }

@@ -16,4 +16,5 @@ pub mod Prefixes
 pub mod Arms
 pub mod Choices
 pub mod Rounds
+pub mod Idle
 pub mod Verdicts

@@ -7,4 +7,5 @@ pub mod Prefixes
 pub mod Runs
 pub mod Choices
 pub mod Rounds
+pub mod Idle
 pub mod Looks

@@ -5,6 +5,7 @@
 #![tactic(auto)]
 
 ghost use Rattle.regress_simulation.specs.Excluded.{ClosedSetsExclude};
+ghost use Rattle.regress_simulation.specs.Idle.{LastIterationWillDo};
 ghost use Rattle.regress_simulation.specs.Prefixes.{PrefixesExclude};
 ghost use Rattle.regress_simulation.specs.Simulates.{DroppingKeepsTheEnd, SimulatingEndsAlike};
 ghost use Rattle.regress_simulation.specs.Starts.{CoveredStartsExclude};
@@ -35,6 +36,11 @@ pub fn covered_tables_exclude()
 /// No match begins where the table of the first instruction excludes what stands there.
 pub fn covered_starts_exclude()
     ensures { CoveredStartsExclude }
+{}
+
+/// Of the iterations that a loop has to make whose body reads nothing the last may stand in place of any.
+pub fn last_iteration_will_do()
+    ensures { LastIterationWillDo }
 {}
 
 /// No match begins where a unit may not stand that must stand so many units on.

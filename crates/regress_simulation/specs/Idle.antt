@@ -1,0 +1,34 @@
+-- Loops whose body reads nothing.
+use Rattle.std.specs.Prelude.{◌≡◌, ◌<◌, ◌≤◌, ◌⊎◌, ℕ, ◌+◌, ◌-◌, false, [], ◌∷◌, Some, slice_get}
+use Rattle.regex_meaning.specs.Text.{Text, Direction}
+use Rattle.regex_meaning.specs.Layout.{Program, LoopFields, Insn, Jump, EnterLoop, LoopAgain, ResetCaptureGroup, BeginCaptureGroup, EndCaptureGroup}
+use Rattle.regress_machine.specs.Machine.{State, running}
+use Rattle.regress_machine.specs.Turns.{entered_at}
+use Rattle.regress_simulation.specs.Simulates.{Simulates}
+
+-- the instruction takes a group's range away, begins it, or gives it one
+abbrev pub ChangesGroup : Insn → Type 0
+ChangesGroup insn = (id : ℕ) × ((insn ≡ ResetCaptureGroup id) ⊎ ((insn ≡ BeginCaptureGroup id) ⊎ (insn ≡ EndCaptureGroup id)))
+
+-- the instruction leads to one that is nearer to this one
+abbrev pub LeadsTo : (stop ip : ℕ) → Insn → Type 0
+LeadsTo stop ip insn = (to : ℕ) × (insn ≡ Jump to) × (ip < to) × (to ≤ stop)
+
+-- from the first of these instructions a thread goes straight on to the last, and reads nothing
+abbrev pub ReadsNothing : Program → (from stop : ℕ) → Type 0
+ReadsNothing program from stop =
+    (ip : ℕ) → from ≤ ip → ip < stop → (insn : Insn) → slice_get program.insns ip ≡ Some insn → LeadsTo stop ip insn ⊎ ChangesGroup insn
+
+-- the loop that begins here has such a body
+pub record IsIdle (program : Program) (begin : ℕ) (f : LoopFields) : Type 0 where
+  pub stop : ℕ
+  pub behind : begin < stop
+  pub enters : slice_get program.insns begin ≡ Some (EnterLoop f)
+  pub goes_back : slice_get program.insns stop ≡ Some (LoopAgain begin)
+  pub reads_nothing : ReadsNothing program (begin + 1) stop
+
+-- Of the iterations that such a loop has to make the last may stand in place of any.
+abbrev pub LastIterationWillDo : Type 0
+LastIterationWillDo = (program : Program) (text : Text) (d : Direction) (begin : ℕ) (f : LoopFields) → IsIdle program begin f → f.min_iters ≤ f.max_iters
+    → (k : ℕ) → k < f.min_iters → (s : State)
+    → Simulates program text false d 0 (running (entered_at f.loop_id begin (f.min_iters - 1) s) ∷ []) (running (entered_at f.loop_id begin k s) ∷ [])

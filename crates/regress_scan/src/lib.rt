@@ -5,6 +5,7 @@ pub mod characters;
 mod few;
 mod fitting;
 pub mod further;
+pub mod idle;
 pub mod kept;
 pub mod looks_ahead;
 pub mod planned;

@@ -14,10 +14,14 @@ ChangesGroup insn = (id : ℕ) × ((insn ≡ ResetCaptureGroup id) ⊎ ((insn �
 abbrev pub LeadsTo : (stop ip : ℕ) → Insn → Type 0
 LeadsTo stop ip insn = (to : ℕ) × (insn ≡ Jump to) × (ip < to) × (to ≤ stop)
 
+-- or changes a group, and stays where it is in the text either way
+abbrev pub LeadsOn : (stop ip : ℕ) → Insn → Type 0
+LeadsOn stop ip insn = LeadsTo stop ip insn ⊎ ChangesGroup insn
+
 -- from the first of these instructions a thread goes straight on to the last, and reads nothing
 abbrev pub ReadsNothing : Program → (from stop : ℕ) → Type 0
 ReadsNothing program from stop =
-    (ip : ℕ) → from ≤ ip → ip < stop → (insn : Insn) → slice_get program.insns ip ≡ Some insn → LeadsTo stop ip insn ⊎ ChangesGroup insn
+    (ip : ℕ) → from ≤ ip → ip < stop → (insn : Insn) → slice_get program.insns ip ≡ Some insn → LeadsOn stop ip insn
 
 -- the loop that begins here has such a body
 pub record IsIdle (program : Program) (begin : ℕ) (f : LoopFields) : Type 0 where

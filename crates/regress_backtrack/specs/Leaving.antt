@@ -19,4 +19,5 @@ pub record IsIdling (w : Searching) (counts : Bool) (c : Counted) (k end : ℕ) 
   pub few : k < c.min
   pub fits : c.min ≤ c.max
   pub behind : c.begin < end
-  pub reads_nothing : ReadsNothing (program_of w) (c.begin + 1) end
+  pub forks : Bool
+  pub reads_nothing : ReadsNothing forks (program_of w) (c.begin + 1) end

@@ -6,13 +6,13 @@ use Rattle.std.proofs.lemmas.List.{length-set}
 use Rattle.std.proofs.lemmas.Option.{slice_get_within}
 use mathlib.Core.Logic.{inl, inr}
 use Rattle.regex_meaning.specs.Text.{Text, Direction}
-use Rattle.regex_meaning.specs.Layout.{Program, LoopFields, Insn, Jump, EnterLoop, LoopAgain, ResetCaptureGroup, BeginCaptureGroup, EndCaptureGroup}
+use Rattle.regex_meaning.specs.Layout.{Program, LoopFields, Insn, Jump, Alt, EnterLoop, LoopAgain, ResetCaptureGroup, BeginCaptureGroup, EndCaptureGroup}
 use Rattle.regex_meaning.proofs.Booleans.{and-left, and-right}
-use Rattle.regress_machine.specs.Machine.{LoopData, State, Thread, running, goes, stuck, at_ip, with_some, only_if, go, span, act_on, act}
+use Rattle.regress_machine.specs.Machine.{LoopData, State, Thread, running, waiting, goes, stuck, at_ip, with_some, only_if, go, span, loop_turn, act_on, act}
 use Rattle.regress_machine.proofs.Frames.{slice_get-set_same, slice_get-set_other}
-use Rattle.regress_simulation.specs.Idle.{ChangesGroup, LeadsTo, ReadsNothing, LastIterationWillDo}
+use Rattle.regress_simulation.specs.Idle.{LeadsTo, ForksOrChanges, LeadsOn, ReadsNothing, LastIterationWillDo}
 use Rattle.regress_simulation.specs.Simulates.{Simulates}
-use Rattle.regress_simulation.proofs.Simulates.{simulates-same, simulates-then, simulates-fewer, simulates-goes, simulates-both}
+use Rattle.regress_simulation.proofs.Simulates.{simulates-same, simulates-then, simulates-fewer, simulates-goes, simulates-waits, simulates-both, simulates-twice}
 use Rattle.regress_simulation.proofs.Loops.{again, again-counts, only-simulates, some-simulates}
 use Rattle.regress_simulation.proofs.Arms.{arm-jump, arm-again, loop-again}
 use Rattle.regress_simulation.proofs.Rounds.{set-twice}
@@ -321,7 +321,7 @@ module _ (program : Program) (text : Text) (d : Direction) where
           (λ both turn.
             let in_z = ltb-true id (length z.groups) (and-left _ _ both) in
             let in_y : id < length y.groups = omega (arith, in_z, a.groups_length, b.groups_length, groups_length) in
-            let begins_z = ltb-true id (length z.starts) (and-right _ _ both) in
+            let begins_z : id < length z.starts = ltb-true id (length z.starts) (and-right _ _ both) in
             let begins_y : id < length y.starts = omega (arith, begins_z, a.starts_length, b.starts_length, starts_length) in
             both-on y z (begun_at id y) (begun_at id z)
             (turn-at y ip (BeginCaptureGroup id) here is
@@ -335,7 +335,7 @@ module _ (program : Program) (text : Text) (d : Direction) where
             (λ n began on.
               let in_z = ltb-true id (length z.groups) inside in
               let in_y : id < length y.groups = omega (arith, in_z, a.groups_length, b.groups_length, groups_length) in
-              let begins_z = slice_get_within z.starts id n began in
+              let begins_z : id < length z.starts = slice_get_within z.starts id n began in
               let m = get-within y.starts id (omega (arith, begins_z, a.starts_length, b.starts_length, starts_length)) in
               both-on y z (closed_at id m.0 y) (closed_at id n z)
               (turn-at y ip (EndCaptureGroup id) here is ∙ ap (λ b. only_if b (with_some (slice_get y.starts id) (λ n. go (closed_at id n y)))) (lt-ltb id (length y.groups) in_y)
@@ -343,80 +343,147 @@ module _ (program : Program) (text : Text) (d : Direction) where
               (alike rest (closed_at id m.0 y) (closed_at id n z) (at_one id then_close e) (ap (λ n. n + 1) here) (ap (λ n. n + 1) there)
               (came-close d at w y e a id (y.ip + 1) m.0 in_y m.1) (came-close d at x z e b id (z.ip + 1) n in_z began) same)))
 
+-- ---- Several ways that change nothing
+
+data Ways (program : Program) (stop : ℕ) : (ip : ℕ) → Type 0 where
+  arrives : Ways program stop stop
+  leads : (ip to : ℕ) → slice_get program.insns ip ≡ Some (Jump to) → Ways program stop to → Ways program stop ip
+  forks : (ip other : ℕ) → slice_get program.insns ip ≡ Some (Alt other) → Ways program stop (ip + 1) → Ways program stop other → Ways program stop ip
+
+module _ (program : Program) (text : Text) (d : Direction) (stop : ℕ) (us : List Thread) (z : State) where
+  abbrev IntoFrom : ℕ → Type 0
+  IntoFrom ip = Simulates program text false d 0 us (running (at_ip ip z) ∷ [])
+
+  silent : {ip : ℕ} → Ways program stop ip → IntoFrom stop → IntoFrom ip
+  silent arrives on = on
+  silent (leads ip to is rest) on = one-on program text d stop z.pos (at_ip ip z) (at_ip to z) us (ap (λ i. act_on program text d i (at_ip ip z)) is) (silent rest on)
+  silent (forks ip other is next rest) on =
+      let after = at_ip other z in
+      let waits = simulates-fewer program text d 0 (1 + 0) us (waiting after ∷ []) (omega arith)
+      (simulates-then program text false d 1 0 (waiting after ∷ []) (running after ∷ []) us (simulates-waits program text false d after) (silent rest on)) in
+      simulates-fewer program text d 0 (1 + 0) us (running (at_ip ip z) ∷ []) (omega arith)
+      (simulates-then program text false d 1 0 (running (at_ip ip z) ∷ []) (running (at_ip (ip + 1) z) ∷ waiting after ∷ []) us
+      (simulates-goes program text false d (at_ip ip z) (running (at_ip (ip + 1) z) ∷ waiting after ∷ []) (ap (λ i. act_on program text d i (at_ip ip z)) is))
+      (simulates-twice program text d us (running (at_ip (ip + 1) z)) (waiting after) (silent next on) waits))
+
 -- ---- Iterations that have to be made
 
-module _ (program : Program) (text : Text) (d : Direction) (begin stop : ℕ) (f : LoopFields) (path : Path program stop (begin + 1))
+module _ (program : Program) (text : Text) (d : Direction) (begin stop : ℕ) (f : LoopFields)
     (goes_back : slice_get program.insns stop ≡ Some (LoopAgain begin)) (enters : slice_get program.insns begin ≡ Some (EnterLoop f))
     (last : ℕ) (least : f.min_iters ≡ last + 1) (fits : f.min_iters ≤ f.max_iters) where
-  abbrev done : ℕ → Effect
-  done = effects path (λ i. keeps)
+  -- from the end of one of them the next one begins
+  next-begins : (k : ℕ) (s z : State) → k < last → z.ip ≡ stop → z.loops ≡ slice_set s.loops f.loop_id (record { iters = k; entry = s.pos })
+      → (us : List Thread) → Simulates program text false d 0 us (running (again f begin (k + 1) z) ∷ []) → Simulates program text false d 0 us (running z ∷ [])
+  next-begins k s z few here loops us on =
+      arm-again program text d z false 0 us begin f (ap (slice_get program.insns) here ∙ goes_back) enters
+      (λ e known before.
+        let e_is : e ≡ record { iters = k; entry = s.pos } =
+        set-known s.loops f.loop_id (record { iters = k; entry = s.pos }) e (sym (ap (λ ls. slice_get ls f.loop_id) loops) ∙ known) in
+        let iters : e.iters ≡ k = ap (λ (e : LoopData). e.iters) e_is in
+        let turn : act program text d z ≡ loop_turn f begin (k + 1) z =
+        again-counts program text d z f begin e (ap (slice_get program.insns) here ∙ goes_back) enters known before (λ same. omega (arith, iters, few, least))
+        ∙ ap (λ n. loop_turn f begin (n + 1) z) iters in
+        simulates-fewer program text d 0 (1 + 0) us (running z ∷ []) (omega arith)
+        (simulates-then program text false d 1 0 (running z ∷ []) (running (again f begin (k + 1) z) ∷ []) us
+        (loop-again program text d z f begin (k + 1) turn false (omega (arith, few, least, fits)) (omega (arith, few, least))) on))
 
-  -- the last of them, from the state before one of them and from that behind it
-  last-alike : (k : ℕ) (s z : State) → Came d s.pos (again f begin k s) done z
-      → Simulates program text false d 0 (running (again f begin last s) ∷ []) (running (again f begin last z) ∷ [])
-  last-alike k s z came =
-      let w = again f begin last s in
-      let x = again f begin last z in
-      let set : slice_set z.loops f.loop_id (record { iters = last; entry = z.pos }) ≡ slice_set s.loops f.loop_id (record { iters = last; entry = s.pos }) =
-      ap (λ p. slice_set z.loops f.loop_id (record { iters = last; entry = p })) came.pos
-      ∙ ap (λ ls. slice_set ls f.loop_id (record { iters = last; entry = s.pos })) came.loops
-      ∙ set-twice s.loops f.loop_id (record { iters = k; entry = s.pos }) (record { iters = last; entry = s.pos }) in
-      alike program text d stop s.pos w x (sym set) (sym came.groups_length) (sym came.starts_length) path w x (λ i. keeps) refl refl (came-itself d w)
-      (subst (λ p. Came d p x (λ i. keeps) x) came.pos (came-itself d x))
-      (record {
-        groups = λ i. group-twice d s.pos (done i) (slice_get s.groups i) (slice_get s.starts i)
-            ∙ ap₂ (λ g n. group_by d s.pos (done i) g n) (sym (came.groups i)) (sym (came.starts i));
-        starts = λ i. start-twice d s.pos (done i) (slice_get s.starts i) ∙ ap (start_by d s.pos (done i)) (sym (came.starts i));
-      })
+  -- ---- One way through the body
 
-  last-will-do : (n k : ℕ) (s : State) → k + n ≡ last → Simulates program text false d 0 (running (again f begin last s) ∷ []) (running (again f begin k s) ∷ [])
-  last-will-do zero k s at =
-      let same : last ≡ k = omega (arith, at) in
-      subst (λ k. Simulates program text false d 0 (running (again f begin last s) ∷ []) (running (again f begin k s) ∷ [])) same
-      (simulates-same program text false d (running (again f begin last s) ∷ []))
-  last-will-do (suc n) k s at =
-      forward program text d stop s.pos path (again f begin k s) (again f begin k s) (λ i. keeps) refl (came-itself d (again f begin k s)) (running (again f begin last s) ∷ [])
-      (λ z here came.
-        arm-again program text d z false 0 (running (again f begin last s) ∷ []) begin f (ap (slice_get program.insns) here ∙ goes_back) enters
-        (λ e known before.
-          let e_is : e ≡ record { iters = k; entry = s.pos } =
-          set-known s.loops f.loop_id (record { iters = k; entry = s.pos }) e (sym (ap (λ ls. slice_get ls f.loop_id) came.loops) ∙ known) in
-          let iters : e.iters ≡ k = ap (λ (e : LoopData). e.iters) e_is in
-          let turn = again-counts program text d z f begin e (ap (slice_get program.insns) here ∙ goes_back) enters known before (λ same. omega (arith, iters, at, least)) in
-          let on = loop-again program text d z f begin (e.iters + 1) turn false (omega (arith, iters, at, least, fits)) (omega (arith, iters, at, least)) in
-          let rest = last-will-do n (e.iters + 1) z (omega (arith, iters, at)) in
-          simulates-fewer program text d 0 (1 + 0 + 0) _ _ (omega arith)
-          (simulates-then program text false d (1 + 0) 0 _ _ _ (simulates-then program text false d 1 0 _ _ _ on rest) (last-alike k s z came))))
+  module _ (path : Path program stop (begin + 1)) where
+    abbrev done : ℕ → Effect
+    done = effects path (λ i. keeps)
+
+    -- the last of them, from the state before one of them and from that behind it
+    last-alike : (k : ℕ) (s z : State) → Came d s.pos (again f begin k s) done z
+        → Simulates program text false d 0 (running (again f begin last s) ∷ []) (running (again f begin last z) ∷ [])
+    last-alike k s z came =
+        let w = again f begin last s in
+        let x = again f begin last z in
+        let set : slice_set z.loops f.loop_id (record { iters = last; entry = z.pos }) ≡ slice_set s.loops f.loop_id (record { iters = last; entry = s.pos }) =
+        ap (λ p. slice_set z.loops f.loop_id (record { iters = last; entry = p })) came.pos
+        ∙ ap (λ ls. slice_set ls f.loop_id (record { iters = last; entry = s.pos })) came.loops
+        ∙ set-twice s.loops f.loop_id (record { iters = k; entry = s.pos }) (record { iters = last; entry = s.pos }) in
+        alike program text d stop s.pos w x (sym set) (sym came.groups_length) (sym came.starts_length) path w x (λ i. keeps) refl refl (came-itself d w)
+        (subst (λ p. Came d p x (λ i. keeps) x) came.pos (came-itself d x))
+        (record {
+          groups = λ i. group-twice d s.pos (done i) (slice_get s.groups i) (slice_get s.starts i)
+              ∙ ap₂ (λ g n. group_by d s.pos (done i) g n) (sym (came.groups i)) (sym (came.starts i));
+          starts = λ i. start-twice d s.pos (done i) (slice_get s.starts i) ∙ ap (start_by d s.pos (done i)) (sym (came.starts i));
+        })
+
+    straight-will-do : (n k : ℕ) (s : State) → k + n ≡ last → Simulates program text false d 0 (running (again f begin last s) ∷ []) (running (again f begin k s) ∷ [])
+    straight-will-do zero k s at =
+        let same : last ≡ k = omega (arith, at) in
+        subst (λ k. Simulates program text false d 0 (running (again f begin last s) ∷ []) (running (again f begin k s) ∷ [])) same
+        (simulates-same program text false d (running (again f begin last s) ∷ []))
+    straight-will-do (suc n) k s at =
+        forward program text d stop s.pos path (again f begin k s) (again f begin k s) (λ i. keeps) refl (came-itself d (again f begin k s)) (running (again f begin last s) ∷ [])
+        (λ z here came.
+          next-begins k s z (omega (arith, at)) here came.loops (running (again f begin last s) ∷ [])
+          (simulates-then program text false d 0 0 (running (again f begin (k + 1) z) ∷ []) (running (again f begin last z) ∷ []) (running (again f begin last s) ∷ [])
+          (straight-will-do n (k + 1) z (omega (arith, at))) (last-alike k s z came)))
+
+  -- ---- Several ways that change nothing
+
+  module _ (ways : Ways program stop (begin + 1)) where
+    silent-will-do : (n k : ℕ) (s : State) → k + n ≡ last → Simulates program text false d 0 (running (again f begin last s) ∷ []) (running (again f begin k s) ∷ [])
+    silent-will-do zero k s at =
+        let same : last ≡ k = omega (arith, at) in
+        subst (λ k. Simulates program text false d 0 (running (again f begin last s) ∷ []) (running (again f begin k s) ∷ [])) same
+        (simulates-same program text false d (running (again f begin last s) ∷ []))
+    silent-will-do (suc n) k s at =
+        let us = running (again f begin last s) ∷ [] in
+        let z = at_ip stop (again f begin k s) in
+        let twice = set-twice s.loops f.loop_id (record { iters = k; entry = s.pos }) (record { iters = last; entry = s.pos }) in
+        silent program text d stop us z ways
+        (next-begins k s z (omega (arith, at)) refl refl us
+        (subst (λ ls. Simulates program text false d 0 (running (record (again f begin last s) { loops = ls }) ∷ []) (running (again f begin (k + 1) z) ∷ [])) twice
+        (silent-will-do n (k + 1) z (omega (arith, at)))))
 
 -- ---- Any of them
 
-module _ (program : Program) (from stop : ℕ) (reads : ReadsNothing program from stop) (inside : stop < length program.insns) where
-  one-more : (ip : ℕ) → from ≤ ip → ip < stop → ((to : ℕ) → ip < to → to ≤ stop → Path program stop to) → Path program stop ip
-  one-more ip after less rest =
-      let insn = get-within program.insns ip (omega (arith, less, inside)) in
-      by insn.0 insn.1 (reads ip after less insn.0 insn.1)
-    where
-      changes : (insn : Insn) → slice_get program.insns ip ≡ Some insn → Path program stop (ip + 1) → ChangesGroup insn → Path program stop ip
-      changes insn there on (id, inl is) = resets ip id (there ∙ ap Some is) on
-      changes insn there on (id, inr (inl is)) = opens ip id (there ∙ ap Some is) on
-      changes insn there on (id, inr (inr is)) = closes ip id (there ∙ ap Some is) on
+module _ (program : Program) (from stop : ℕ) (inside : stop < length program.insns) where
+  -- by the ways from what is nearer to the end
+  module _ (Way : ℕ → Type 0) (there : Way stop) (forks : Bool)
+      (on : (ip : ℕ) → (insn : Insn) → slice_get program.insns ip ≡ Some insn → LeadsOn forks stop ip insn → ((to : ℕ) → ip < to → to ≤ stop → Way to) → ip < stop → Way ip)
+      (reads : ReadsNothing forks program from stop) where
+    way-from : (n ip : ℕ) → from ≤ ip → ip ≤ stop → stop ≤ ip + n → Way ip
+    way-from zero ip after before near = let same : stop ≡ ip = omega (arith, before, near) in subst Way same there
+    way-from (suc n) ip after before near =
+        by (λ to further within. way-from n to (omega (arith, after, further)) within (omega (arith, near, further))) (cases_lt ip stop)
+      where
+        by : ((to : ℕ) → ip < to → to ≤ stop → Way to) → (ip < stop) ⊎ (stop ≤ ip) → Way ip
+        by rest (inl less) = let insn = get-within program.insns ip (omega (arith, less, inside)) in on ip insn.0 insn.1 (reads ip after less insn.0 insn.1) rest less
+        by rest (inr le) = let same : stop ≡ ip = omega (arith, before, le) in subst Way same there
 
-      by : (insn : Insn) → slice_get program.insns ip ≡ Some insn → LeadsTo stop ip insn ⊎ ChangesGroup insn → Path program stop ip
-      by insn there (inl to) = jumps ip to.0 (there ∙ ap Some to.1) (rest to.0 to.2 to.3)
-      by insn there (inr c) = changes insn there (rest (ip + 1) (omega arith) (omega (arith, less))) c
+  path-on : (ip : ℕ) → (insn : Insn) → slice_get program.insns ip ≡ Some insn → LeadsOn false stop ip insn → ((to : ℕ) → ip < to → to ≤ stop → Path program stop to) → ip < stop
+      → Path program stop ip
+  path-on ip insn there (inl to) rest less = jumps ip to.0 (there ∙ ap Some to.1) (rest to.0 to.2 to.3)
+  path-on ip insn there (inr (id, inl is)) rest less = resets ip id (there ∙ ap Some is) (rest (ip + 1) (omega arith) (omega (arith, less)))
+  path-on ip insn there (inr (id, inr (inl is))) rest less = opens ip id (there ∙ ap Some is) (rest (ip + 1) (omega arith) (omega (arith, less)))
+  path-on ip insn there (inr (id, inr (inr is))) rest less = closes ip id (there ∙ ap Some is) (rest (ip + 1) (omega arith) (omega (arith, less)))
 
-  path-of : (n ip : ℕ) → from ≤ ip → ip ≤ stop → stop ≤ ip + n → Path program stop ip
-  path-of zero ip after before near = let same : stop ≡ ip = omega (arith, before, near) in subst (λ ip. Path program stop ip) same stops
-  path-of (suc n) ip after before near =
-      by (λ less. one-more ip after less (λ to further within. path-of n to (omega (arith, after, further)) within (omega (arith, near, further)))) (cases_lt ip stop)
-    where
-      by : (ip < stop → Path program stop ip) → (ip < stop) ⊎ (stop ≤ ip) → Path program stop ip
-      by on (inl less) = on less
-      by on (inr le) = let same : stop ≡ ip = omega (arith, before, le) in subst (λ ip. Path program stop ip) same stops
+  ways-on : (ip : ℕ) → (insn : Insn) → slice_get program.insns ip ≡ Some insn → LeadsOn true stop ip insn → ((to : ℕ) → ip < to → to ≤ stop → Ways program stop to) → ip < stop
+      → Ways program stop ip
+  ways-on ip insn there (inl to) rest less = leads ip to.0 (there ∙ ap Some to.1) (rest to.0 to.2 to.3)
+  ways-on ip insn there (inr other) rest less =
+      forks ip other.0 (there ∙ ap Some other.1) (rest (ip + 1) (omega arith) (omega (arith, less))) (rest other.0 other.2 other.3)
 
 pub last-iteration-will-do : LastIterationWillDo
-last-iteration-will-do program text d begin f idle fits k few s =
-    let behind = idle.behind in
-    let inside = slice_get_within program.insns idle.stop (LoopAgain begin) idle.goes_back in
-    let path = path-of program (begin + 1) idle.stop idle.reads_nothing inside idle.stop (begin + 1) (omega arith) (omega (arith, behind)) (omega arith) in
-    last-will-do program text d begin idle.stop f path idle.goes_back idle.enters (f.min_iters - 1) (omega (arith, few)) fits (f.min_iters - 1 - k) k s (omega (arith, few))
+last-iteration-will-do program text d begin f idle fits k few s = by idle.forks idle.reads_nothing
+  where
+    inside : idle.stop < length program.insns
+    inside = slice_get_within program.insns idle.stop (LoopAgain begin) idle.goes_back
+
+    by : (forks : Bool) → ReadsNothing forks program (begin + 1) idle.stop
+        → Simulates program text false d 0 (running (again f begin (f.min_iters - 1) s) ∷ []) (running (again f begin k s) ∷ [])
+    by false reads =
+        let behind = idle.behind in
+        straight-will-do program text d begin idle.stop f idle.goes_back idle.enters (f.min_iters - 1) (omega (arith, few)) fits
+        (way-from program (begin + 1) idle.stop inside (λ ip. Path program idle.stop ip) stops false (path-on program (begin + 1) idle.stop inside) reads idle.stop (begin + 1)
+        (omega arith) (omega (arith, behind)) (omega arith)) (f.min_iters - 1 - k) k s (omega (arith, few))
+    by true reads =
+        let behind = idle.behind in
+        silent-will-do program text d begin idle.stop f idle.goes_back idle.enters (f.min_iters - 1) (omega (arith, few)) fits
+        (way-from program (begin + 1) idle.stop inside (λ ip. Ways program idle.stop ip) arrives true (ways-on program (begin + 1) idle.stop inside) reads idle.stop (begin + 1)
+        (omega arith) (omega (arith, behind)) (omega arith)) (f.min_iters - 1 - k) k s (omega (arith, few))

@@ -1,6 +1,6 @@
 //! Loops whose body reads nothing.
 
-ghost use Rattle.std.specs.Prelude.{◌≡◌, ◌<◌, ◌+◌, Bool, true, Some, slice_get};
+ghost use Rattle.std.specs.Prelude.{◌≡◌, ◌<◌, ◌≤◌, ◌+◌, Bool, true, Some, slice_get};
 ghost use Rattle.regex_meaning.specs.Layout.{Insn};
 ghost use Rattle.regress_simulation.specs.Idle.{LeadsOn, ReadsNothing};
 ghost use Rattle.regress_scan.specs.Searching.{program_of, insn_at};
@@ -44,11 +44,18 @@ fn leads_on<W: Planned>(planned: &W, forks: bool, ip: usize, end: usize) -> bool
 {
     planned.is_of_program();
     match planned.op_at(ip) {
-        Some(Op::Go(to)) => ip < *to as usize && *to as usize <= end,
-        Some(Op::Either(other)) => forks && ip < *other as usize && *other as usize <= end,
+        Some(Op::Go(to)) => is_nearer(ip, *to, end),
+        Some(Op::Either(other)) => forks && is_nearer(ip, *other, end),
         Some(Op::Reset(_)) => !forks,
         Some(Op::Open(_)) => !forks,
         Some(Op::Close(_)) => !forks,
         _ => false,
     }
+}
+
+// Whether an operation stands behind another one, and not behind an end.
+fn is_nearer(ip: usize, to: u32, end: usize) -> bool
+    ensures { result ≡ true → (ip < to) × (to ≤ end) }
+{
+    ip < to as usize && to as usize <= end
 }

@@ -1,4 +1,4 @@
-//! Searches that end in time alone because what failed is remembered.
+//! Searches that end in time alone because what failed is remembered, or because iterations that read nothing are made once.
 
 use crate::lines::write_utf8;
 use regex_pattern_front::flags::Flags;
@@ -11,11 +11,17 @@ use regress_rows::rows::{Row, compare};
 use std::alloc::Global;
 
 // Rows of three fields: a pattern, a text, and its matches. By what the patterns mean alone, each of these searches has more
-// ways than anyone can wait for.
+// ways, or more iterations, than anyone can wait for.
 pub const REMEMBERED: &str = "\
 (?:a|a)*b~aaaaaaaaaaaaaaaaaaaaaaaaaaaaaaaaaaaaaaaaaaaaaaaaaaaaaaaaaaaa~
 (a*)*b~aaaaaaaaaaaaaaaaaaaaaaaaaaaaaaaaaaaaaaaaaaaaaaaaaaaaaaaaaaaa~
 (x+x+)+y~xxxxxxxxxxxxxxxxxxxxxxxxxxxxxxxxxxxxxxxxxxxxxxxxxxxxxxxxxxxx~
+(?:){4294967295}~~0..0
+(){4294967295}~a~0..0 0..0; 1..1 1..1
+(?:|){4294967295}~a~0..0; 1..1
+(?:()|(?:|){4294967295,}b){2,}~b~0..1 -; 1..1 1..1
+a(?:()()){4294967294,4294967295}?b~ab~0..2 1..1 1..1
+(?<=(){4294967295}a)~a~1..1 0..0
 (?:(a|aa)+?c|b)~aaaaaaaaaaaaaaaaaaaaaaaaaaaaaaaaaaaaaaaaaaaaaaaaaaaaaaaaaaaab~60..61 -
 ";
 

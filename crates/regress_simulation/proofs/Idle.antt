@@ -264,19 +264,19 @@ module _ (program : Program) (text : Text) (d : Direction) where
     forward (resets ip id is rest) x y e here came us h =
         only-simulates program text d false 0 us y (nat_lt id (length y.groups)) (go (unset_at id y)) (turn-at y ip (ResetCaptureGroup id) here is)
         (λ inside turn. one-on y (unset_at id y) us turn
-          (forward rest x (unset_at id y) (at_one id then_reset e) (ap (λ n. n + 1) here)
-          (came-reset d at x y e came id (y.ip + 1) (ltb-true id (length y.groups) inside)) us h))
+        (forward rest x (unset_at id y) (at_one id then_reset e) (ap (λ n. n + 1) here)
+        (came-reset d at x y e came id (y.ip + 1) (ltb-true id (length y.groups) inside)) us h))
     forward (opens ip id is rest) x y e here came us h =
         only-simulates program text d false 0 us y (nat_lt id (length y.groups) && nat_lt id (length y.starts)) (go (begun_at id y)) (turn-at y ip (BeginCaptureGroup id) here is)
         (λ both turn. one-on y (begun_at id y) us turn
-          (forward rest x (begun_at id y) (at_one id (λ x. begun) e) (ap (λ n. n + 1) here)
-          (came-open d at x y e came id (y.ip + 1) (ltb-true id (length y.groups) (and-left _ _ both)) (ltb-true id (length y.starts) (and-right _ _ both))) us h))
+        (forward rest x (begun_at id y) (at_one id (λ x. begun) e) (ap (λ n. n + 1) here)
+        (came-open d at x y e came id (y.ip + 1) (ltb-true id (length y.groups) (and-left _ _ both)) (ltb-true id (length y.starts) (and-right _ _ both))) us h))
     forward (closes ip id is rest) x y e here came us h =
         only-simulates program text d false 0 us y (nat_lt id (length y.groups)) (with_some (slice_get y.starts id) (λ n. go (closed_at id n y))) (turn-at y ip (EndCaptureGroup id) here is)
         (λ inside turn. some-simulates program text d false 0 us y (slice_get y.starts id) (λ n. go (closed_at id n y)) turn
-          (λ n began on. one-on y (closed_at id n y) us on
-            (forward rest x (closed_at id n y) (at_one id then_close e) (ap (λ n. n + 1) here)
-            (came-close d at x y e came id (y.ip + 1) n (ltb-true id (length y.groups) inside) began) us h)))
+        (λ n began on. one-on y (closed_at id n y) us on
+        (forward rest x (closed_at id n y) (at_one id then_close e) (ap (λ n. n + 1) here)
+        (came-close d at x y e came id (y.ip + 1) n (ltb-true id (length y.groups) inside) began) us h)))
 
     -- ---- Two threads side by side
 
@@ -309,39 +309,39 @@ module _ (program : Program) (text : Text) (d : Direction) where
       alike (resets ip id is rest) y z e here there a b same =
           only-simulates program text d false 0 (running y ∷ []) z (nat_lt id (length z.groups)) (go (unset_at id z)) (turn-at z ip (ResetCaptureGroup id) there is)
           (λ inside turn.
-            let in_z = ltb-true id (length z.groups) inside in
-            let in_y : id < length y.groups = omega (arith, in_z, a.groups_length, b.groups_length, groups_length) in
-            both-on y z (unset_at id y) (unset_at id z)
-            (turn-at y ip (ResetCaptureGroup id) here is ∙ ap (λ b. only_if b (go (unset_at id y))) (lt-ltb id (length y.groups) in_y)) turn
-            (alike rest (unset_at id y) (unset_at id z) (at_one id then_reset e) (ap (λ n. n + 1) here) (ap (λ n. n + 1) there)
-            (came-reset d at w y e a id (y.ip + 1) in_y) (came-reset d at x z e b id (z.ip + 1) in_z) same))
+          let in_z = ltb-true id (length z.groups) inside in
+          let in_y : id < length y.groups = omega (arith, in_z, a.groups_length, b.groups_length, groups_length) in
+          both-on y z (unset_at id y) (unset_at id z)
+          (turn-at y ip (ResetCaptureGroup id) here is ∙ ap (λ b. only_if b (go (unset_at id y))) (lt-ltb id (length y.groups) in_y)) turn
+          (alike rest (unset_at id y) (unset_at id z) (at_one id then_reset e) (ap (λ n. n + 1) here) (ap (λ n. n + 1) there)
+          (came-reset d at w y e a id (y.ip + 1) in_y) (came-reset d at x z e b id (z.ip + 1) in_z) same))
       alike (opens ip id is rest) y z e here there a b same =
           only-simulates program text d false 0 (running y ∷ []) z (nat_lt id (length z.groups) && nat_lt id (length z.starts)) (go (begun_at id z))
           (turn-at z ip (BeginCaptureGroup id) there is)
           (λ both turn.
-            let in_z = ltb-true id (length z.groups) (and-left _ _ both) in
-            let in_y : id < length y.groups = omega (arith, in_z, a.groups_length, b.groups_length, groups_length) in
-            let begins_z : id < length z.starts = ltb-true id (length z.starts) (and-right _ _ both) in
-            let begins_y : id < length y.starts = omega (arith, begins_z, a.starts_length, b.starts_length, starts_length) in
-            both-on y z (begun_at id y) (begun_at id z)
-            (turn-at y ip (BeginCaptureGroup id) here is
-            ∙ ap (λ b. only_if b (go (begun_at id y))) (and_from _ _ (lt-ltb id (length y.groups) in_y) (lt-ltb id (length y.starts) begins_y))) turn
-            (alike rest (begun_at id y) (begun_at id z) (at_one id (λ x. begun) e) (ap (λ n. n + 1) here) (ap (λ n. n + 1) there)
-            (came-open d at w y e a id (y.ip + 1) in_y begins_y) (came-open d at x z e b id (z.ip + 1) in_z begins_z) same))
+          let in_z = ltb-true id (length z.groups) (and-left _ _ both) in
+          let in_y : id < length y.groups = omega (arith, in_z, a.groups_length, b.groups_length, groups_length) in
+          let begins_z : id < length z.starts = ltb-true id (length z.starts) (and-right _ _ both) in
+          let begins_y : id < length y.starts = omega (arith, begins_z, a.starts_length, b.starts_length, starts_length) in
+          both-on y z (begun_at id y) (begun_at id z)
+          (turn-at y ip (BeginCaptureGroup id) here is
+          ∙ ap (λ b. only_if b (go (begun_at id y))) (and_from _ _ (lt-ltb id (length y.groups) in_y) (lt-ltb id (length y.starts) begins_y))) turn
+          (alike rest (begun_at id y) (begun_at id z) (at_one id (λ x. begun) e) (ap (λ n. n + 1) here) (ap (λ n. n + 1) there)
+          (came-open d at w y e a id (y.ip + 1) in_y begins_y) (came-open d at x z e b id (z.ip + 1) in_z begins_z) same))
       alike (closes ip id is rest) y z e here there a b same =
           only-simulates program text d false 0 (running y ∷ []) z (nat_lt id (length z.groups)) (with_some (slice_get z.starts id) (λ n. go (closed_at id n z)))
           (turn-at z ip (EndCaptureGroup id) there is)
           (λ inside turn. some-simulates program text d false 0 (running y ∷ []) z (slice_get z.starts id) (λ n. go (closed_at id n z)) turn
-            (λ n began on.
-              let in_z = ltb-true id (length z.groups) inside in
-              let in_y : id < length y.groups = omega (arith, in_z, a.groups_length, b.groups_length, groups_length) in
-              let begins_z : id < length z.starts = slice_get_within z.starts id n began in
-              let m = get-within y.starts id (omega (arith, begins_z, a.starts_length, b.starts_length, starts_length)) in
-              both-on y z (closed_at id m.0 y) (closed_at id n z)
-              (turn-at y ip (EndCaptureGroup id) here is ∙ ap (λ b. only_if b (with_some (slice_get y.starts id) (λ n. go (closed_at id n y)))) (lt-ltb id (length y.groups) in_y)
-              ∙ ap (λ o. with_some o (λ n. go (closed_at id n y))) m.1) on
-              (alike rest (closed_at id m.0 y) (closed_at id n z) (at_one id then_close e) (ap (λ n. n + 1) here) (ap (λ n. n + 1) there)
-              (came-close d at w y e a id (y.ip + 1) m.0 in_y m.1) (came-close d at x z e b id (z.ip + 1) n in_z began) same)))
+          (λ n began on.
+          let in_z = ltb-true id (length z.groups) inside in
+          let in_y : id < length y.groups = omega (arith, in_z, a.groups_length, b.groups_length, groups_length) in
+          let begins_z : id < length z.starts = slice_get_within z.starts id n began in
+          let m = get-within y.starts id (omega (arith, begins_z, a.starts_length, b.starts_length, starts_length)) in
+          both-on y z (closed_at id m.0 y) (closed_at id n z)
+          (turn-at y ip (EndCaptureGroup id) here is ∙ ap (λ b. only_if b (with_some (slice_get y.starts id) (λ n. go (closed_at id n y)))) (lt-ltb id (length y.groups) in_y)
+          ∙ ap (λ o. with_some o (λ n. go (closed_at id n y))) m.1) on
+          (alike rest (closed_at id m.0 y) (closed_at id n z) (at_one id then_close e) (ap (λ n. n + 1) here) (ap (λ n. n + 1) there)
+          (came-close d at w y e a id (y.ip + 1) m.0 in_y m.1) (came-close d at x z e b id (z.ip + 1) n in_z began) same)))
 
 -- ---- Several ways that change nothing
 
@@ -377,15 +377,15 @@ module _ (program : Program) (text : Text) (d : Direction) (begin stop : ℕ) (f
   next-begins k s z few here loops us on =
       arm-again program text d z false 0 us begin f (ap (slice_get program.insns) here ∙ goes_back) enters
       (λ e known before.
-        let e_is : e ≡ record { iters = k; entry = s.pos } =
-        set-known s.loops f.loop_id (record { iters = k; entry = s.pos }) e (sym (ap (λ ls. slice_get ls f.loop_id) loops) ∙ known) in
-        let iters : e.iters ≡ k = ap (λ (e : LoopData). e.iters) e_is in
-        let turn : act program text d z ≡ loop_turn f begin (k + 1) z =
-        again-counts program text d z f begin e (ap (slice_get program.insns) here ∙ goes_back) enters known before (λ same. omega (arith, iters, few, least))
-        ∙ ap (λ n. loop_turn f begin (n + 1) z) iters in
-        simulates-fewer program text d 0 (1 + 0) us (running z ∷ []) (omega arith)
-        (simulates-then program text false d 1 0 (running z ∷ []) (running (again f begin (k + 1) z) ∷ []) us
-        (loop-again program text d z f begin (k + 1) turn false (omega (arith, few, least, fits)) (omega (arith, few, least))) on))
+      let e_is : e ≡ record { iters = k; entry = s.pos } =
+      set-known s.loops f.loop_id (record { iters = k; entry = s.pos }) e (sym (ap (λ ls. slice_get ls f.loop_id) loops) ∙ known) in
+      let iters : e.iters ≡ k = ap (λ (e : LoopData). e.iters) e_is in
+      let turn : act program text d z ≡ loop_turn f begin (k + 1) z =
+      again-counts program text d z f begin e (ap (slice_get program.insns) here ∙ goes_back) enters known before (λ same. omega (arith, iters, few, least))
+      ∙ ap (λ n. loop_turn f begin (n + 1) z) iters in
+      simulates-fewer program text d 0 (1 + 0) us (running z ∷ []) (omega arith)
+      (simulates-then program text false d 1 0 (running z ∷ []) (running (again f begin (k + 1) z) ∷ []) us
+      (loop-again program text d z f begin (k + 1) turn false (omega (arith, few, least, fits)) (omega (arith, few, least))) on))
 
   -- ---- One way through the body
 
@@ -419,9 +419,9 @@ module _ (program : Program) (text : Text) (d : Direction) (begin stop : ℕ) (f
     straight-will-do (suc n) k s at =
         forward program text d stop s.pos path (again f begin k s) (again f begin k s) (λ i. keeps) refl (came-itself d (again f begin k s)) (running (again f begin last s) ∷ [])
         (λ z here came.
-          next-begins k s z (omega (arith, at)) here came.loops (running (again f begin last s) ∷ [])
-          (simulates-then program text false d 0 0 (running (again f begin (k + 1) z) ∷ []) (running (again f begin last z) ∷ []) (running (again f begin last s) ∷ [])
-          (straight-will-do n (k + 1) z (omega (arith, at))) (last-alike k s z came)))
+        next-begins k s z (omega (arith, at)) here came.loops (running (again f begin last s) ∷ [])
+        (simulates-then program text false d 0 0 (running (again f begin (k + 1) z) ∷ []) (running (again f begin last z) ∷ []) (running (again f begin last s) ∷ [])
+        (straight-will-do n (k + 1) z (omega (arith, at))) (last-alike k s z came)))
 
   -- ---- Several ways that change nothing
 

@@ -6,7 +6,6 @@ use Rattle.std.proofs.lemmas.List.{length-map}
 use Rattle.std.proofs.lemmas.Option.{slice_get_past}
 use Rattle.std.specs.Prelude.{unwrap_or}
 use Rattle.std.proofs.lemmas.List.Sums.{sum_by-cons}
-use Rattle.regex_meaning.specs.Text.{Text}
 use Rattle.regex_meaning.specs.Offsets.{units}
 use Rattle.regex_meaning.specs.Layout.{Program, Insn, Loop1CharBody, Lookahead, Lookbehind}
 use Rattle.regress_plan.specs.Insns.{insn_of}

@@ -5,3 +5,4 @@ pub mod Bits
 pub mod WholeLemmas
 pub mod Ways
 pub mod SoundRows
+pub mod BoundLemmas

@@ -59,8 +59,8 @@ holds-in said l (x ∷ rows) h = by (λ k. holds-in said l rows k) ((x.id == l) 
 
 -- ---- One row after another
 
-module _ (P : Row → Type 0) (rows : List Row) (n : ℕ) (before : (k : ℕ) → k < n → (row : Row) → slice_get rows k ≡ Some row → P row) where
-  pub rows-more : (d : Row) → n < length rows → P (get_or rows n d) → (k : ℕ) → k < n + 1 → (row : Row) → slice_get rows k ≡ Some row → P row
+module _ {A : Type 0} (P : A → Type 0) (rows : List A) (n : ℕ) (before : (k : ℕ) → k < n → (row : A) → slice_get rows k ≡ Some row → P row) where
+  pub rows-more : (d : A) → n < length rows → P (get_or rows n d) → (k : ℕ) → k < n + 1 → (row : A) → slice_get rows k ≡ Some row → P row
   rows-more d less here k below row there = elim (cases_lt k n) [
     | inl early ↦ before k early row there
     | inr late ↦
@@ -70,7 +70,7 @@ module _ (P : Row → Type 0) (rows : List Row) (n : ℕ) (before : (k : ℕ) �
         subst P same here
   ]
 
-  pub rows-all : (all : List Row) → rows ≡ all → length rows ≤ n → (k : ℕ) (row : Row) → slice_get all k ≡ Some row → P row
+  pub rows-all : (all : List A) → rows ≡ all → length rows ≤ n → (k : ℕ) (row : A) → slice_get all k ≡ Some row → P row
   rows-all all same long k row there =
       let here : slice_get rows k ≡ Some row = ap (λ xs. slice_get xs k) same ∙ there in
       let within : k < length rows = slice_get_within rows k row here in

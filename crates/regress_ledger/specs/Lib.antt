@@ -3,3 +3,4 @@ pub mod Steps
 pub mod Checks
 pub mod Whole
 pub mod Sound
+pub mod Bound

@@ -1,5 +1,6 @@
 //! Laws of ledgers.
 
+ghost use Rattle.regress_ledger.specs.Bound.{LedgersBound};
 ghost use Rattle.regress_ledger.specs.Whole.{LedgersServe, WaysStay, KeysHaveBits};
 
 /// What is written of a program is a plan in each text: its keys decide, its turns are turns with records, and all attempts
@@ -16,4 +17,9 @@ pub fn keys_have_bits()
 /// A turn leaves threads at instructions that are searched in the same direction.
 pub fn ways_stay()
     ensures { WaysStay }
+{}
+
+/// Searches that are paid by what is written of a program do no more work for each place of a text than that says.
+pub fn ledgers_bound()
+    ensures { LedgersBound }
 {}

@@ -2,6 +2,7 @@
 //! they pay.
 #![tactic(auto)]
 
+pub mod bound;
 mod check;
 pub mod codes;
 mod edges;

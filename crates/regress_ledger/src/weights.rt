@@ -90,6 +90,7 @@ impl Ledger {
                 }
                 None => 0,
             },
+            Step::Look(look) => self.ready(ip + 1) + self.ready(look.past),
             _ => match edges(insns, ip) {
                 [Some(next), Some(other)] => self.ready_for_two(next.to, other.to),
                 [Some(next), None] => self.ready(next.to),

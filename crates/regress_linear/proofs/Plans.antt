@@ -65,7 +65,7 @@ module _ (program : Program) (text : Text) (a : Account) (questions : ℕ → Li
       step : (ts : List Thread) → act program text d s ≡ goes ts → Simulates program text false d 1 (threads_in (tries ts)) (running s ∷ [])
       step ts e = subst (λ us. Simulates program text false d 1 us (running s ∷ [])) (sym (threads-tries ts)) (simulates-goes program text false d s ts e)
 
-      own : IsRecorded program text a questions way ips taken d memory s → IsOf program text a keys d key (running s ∷ [])
+      pub own : IsRecorded program text a questions way ips taken d memory s → IsOf program text a keys d key (running s ∷ [])
       own r =
           plans-tell.has_key program text a questions way ips (plan_rows program text questions way) taken d s r.records r.goes r.of r.sound
           (ap (λ o. row_by program text questions way o (test_of program (slice_get program.insns s.ip)) (place_at text s.pos) key) r.no_body)

@@ -19,3 +19,6 @@ pub use Rattle.regress_linear.specs.Chains.{ChainsPay}
 pub use Rattle.regress_linear.specs.Reaching.{EndsAreReached, ReachedFail}
 pub use Rattle.regress_linear.specs.Leaves.{TurnsLeave}
 pub use Rattle.regress_linear.specs.Rests.{RowsRest}
+pub use Rattle.regress_linear.specs.Tight.{PricesAreFew}
+pub use Rattle.regress_linear.specs.Budget.{BudgetsAreEnough}
+pub use Rattle.regress_linear.specs.Beside.{OthersArePaid, ScansGive, LooksPay}

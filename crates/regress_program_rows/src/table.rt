@@ -246,7 +246,7 @@ ledger /(?:ab|cd){0,100}/ → none
 ledger /(a)\\1/ → none
 ledger /(?=(a))b/ → none
 ledger /(?!(a))b/ → for 0
-ledger /(?:(?=a)b)*d/ → 4x1 6x1 for 12
+ledger /(?:(?=a)b)*d/ → 4x1 6x1 for 14
 ledger /(x+x+)+y/ → 1x1 4x1 6x1 7x1 9x1 for 28
 ledger /^(\\w+\\s?)*$/ → 2x1 5x1 6x1 8x1 10x1 for 31
 ledger /(?:a|ab)(?:c|bcd)(?:d*)/ → 5x1 12x1 for 17

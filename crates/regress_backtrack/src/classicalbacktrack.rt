@@ -29,6 +29,7 @@ use regress_exec::places::Attempts;
 use regress_exec::searched::Searched;
 use regress_input::indexing::{AsciiInput, InputIndexer, Ucs2Input, Utf8Input, Utf16Input};
 use regress_program::insn::{CompiledRegex, CompiledUnits, Program};
+use regress_scan::leading::past_vain_run;
 use regress_scan::planned::{At, Planned, offset_in, position_in};
 use std::alloc::AllocError;
 
@@ -119,6 +120,19 @@ fn next_place<W: Planned>(planned: &W, from: At<W>) -> Option<At<W>>
     }
 }
 
+// The same behind a place that was tried in vain. Where each match begins with a run, that is gone over once more, so that
+// none of its places is tried if none can match: not where it is remembered what failed, since each place is gone over once there.
+#[inline(always)]
+fn next_place_behind<W: Planned>(planned: &W, remembers: bool, from: At<W>) -> Option<At<W>>
+    requires at { IsBoundary (W.searching planned.now).text (W.Input.Position.offset from) }
+    requires can { let w = W.searching planned.now in CanSearch (program_of w) w.tree w.text }
+    ensures { let w = W.searching planned.now in let at = W.Input.Position.offset in
+        IsNextTry w.tree w.text (at from) (option_map at result) }
+{
+    let past = past_vain_run(planned, remembers, offset_in(planned, from));
+    next_place(planned, position_in(planned, past))
+}
+
 impl<'r, Input: InputIndexer> Attempts for BacktrackExecutor<'r, Input> {
     type Input = Input;
 
@@ -188,7 +202,7 @@ impl<'r, Input: InputIndexer> Attempts for BacktrackExecutor<'r, Input> {
 
     fn place_behind(&self, tried: Input::Position) -> Option<Input::Position> {
         let next = self.search.searched.next_try(tried)?;
-        next_place(&self.search, next)
+        next_place_behind(&self.search, self.free.steps.is_spent(), next)
     }
 }
 

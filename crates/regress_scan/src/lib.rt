@@ -6,6 +6,7 @@ mod few;
 mod fitting;
 pub mod further;
 pub mod kept;
+pub mod leading;
 pub mod looks_ahead;
 pub mod planned;
 mod probing;

@@ -27,9 +27,10 @@ use crate::steps::{Free, Unbound};
 use regress_exec::exec::{Executor, MatchProducer, SearchError, Searcher};
 use regress_exec::places::Attempts;
 use regress_exec::searched::Searched;
+use regress_input::position::PositionType;
 use regress_input::indexing::{AsciiInput, InputIndexer, Ucs2Input, Utf8Input, Utf16Input};
 use regress_program::insn::{CompiledRegex, CompiledUnits, Program};
-use regress_scan::leading::past_vain_run;
+use regress_scan::leading::{begins_with_run, past_vain_run};
 use regress_scan::planned::{At, Planned, offset_in, position_in};
 use std::alloc::AllocError;
 
@@ -46,6 +47,9 @@ pub struct BacktrackExecutor<'r, Input: InputIndexer> {
     // The end that the last attempt came to that was made once more. A position shows the text's lifetime in this type,
     // which calls that are generic in the executor need to have.
     came: Option<Input::Position>,
+    // Whether a run is gone over once more behind a place that was tried in vain. What is remembered of what failed goes over
+    // each place once, so it is not where that is.
+    leads: bool,
     // What is known to fail does.
     ghost right: { IsRightOf (compiled (run_in search.program)) (Input.text search.searched.input)
         (terms_in (λ memo. terms_of memo.value.ledger) again.course.memo)
@@ -77,6 +81,7 @@ impl<'r, Input: InputIndexer> BacktrackExecutor<'r, Input> {
         let alloc = search.searched.program.allocator();
         let units = search.searched.input.unit_count();
         let work = work_at_first(units, search.program.insns().len());
+        let leads = begins_with_run(&search);
         BacktrackExecutor {
             search,
             memory: Memory::new(alloc),
@@ -94,6 +99,7 @@ impl<'r, Input: InputIndexer> BacktrackExecutor<'r, Input> {
                 began: false,
             },
             came: None,
+            leads,
         }
     }
 
@@ -120,16 +126,15 @@ fn next_place<W: Planned>(planned: &W, from: At<W>) -> Option<At<W>>
     }
 }
 
-// The same behind a place that was tried in vain. Where each match begins with a run, that is gone over once more, so that
-// none of its places is tried if none can match: not where it is remembered what failed, since each place is gone over once there.
-#[inline(always)]
-fn next_place_behind<W: Planned>(planned: &W, remembers: bool, from: At<W>) -> Option<At<W>>
+// The same where each match begins with a run: none of its places is tried if none can match.
+#[inline(never)]
+fn next_place_past<W: Planned>(planned: &W, from: At<W>) -> Option<At<W>>
     requires at { IsBoundary (W.searching planned.now).text (W.Input.Position.offset from) }
     requires can { let w = W.searching planned.now in CanSearch (program_of w) w.tree w.text }
     ensures { let w = W.searching planned.now in let at = W.Input.Position.offset in
         IsNextTry w.tree w.text (at from) (option_map at result) }
 {
-    let past = past_vain_run(planned, remembers, offset_in(planned, from));
+    let past = past_vain_run(planned, offset_in(planned, from));
     next_place(planned, position_in(planned, past))
 }
 
@@ -202,7 +207,11 @@ impl<'r, Input: InputIndexer> Attempts for BacktrackExecutor<'r, Input> {
 
     fn place_behind(&self, tried: Input::Position) -> Option<Input::Position> {
         let next = self.search.searched.next_try(tried)?;
-        next_place_behind(&self.search, self.free.steps.is_spent(), next)
+        let to = next_place(&self.search, next)?;
+        if self.leads && to.to_offset() == next.to_offset() && !self.free.steps.is_spent() {
+            return next_place_past(&self.search, to);
+        }
+        Some(to)
     }
 }
 

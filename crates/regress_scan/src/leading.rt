@@ -1,6 +1,6 @@
 //! The run with which each match begins, if one does.
 
-ghost use Rattle.std.specs.Prelude.{◌≡◌, ◌≤◌, ◌<◌, ℕ, Some, slice_get};
+ghost use Rattle.std.specs.Prelude.{◌≡◌, ◌≤◌, ◌<◌, ℕ, true, Some, slice_get};
 ghost use Rattle.regex_meaning.specs.Offsets.{IsBoundary};
 ghost use Rattle.regress_machine.specs.Finds.{CanSearch};
 ghost use Rattle.regress_scan.specs.LeftOut.{IsVain};
@@ -11,10 +11,18 @@ use crate::planned::{Planned, text_end};
 use crate::scans::behind_single_units;
 use regress_plan::ops::{Op, Run};
 
+/// Whether each match begins with a run that ends at its end alone.
+pub fn begins_with_run<W: Planned>(planned: &W) -> bool {
+    match planned.op_at(0) {
+        Some(Op::PossessiveRun(_)) => true,
+        _ => false,
+    }
+}
+
 /// The place behind the run with which each match begins, if from no place within it one can: the run ends at its end
-/// alone, and what stands there may not stand behind it. Elsewhere the place itself, and so where runs are not to be gone over.
+/// alone, and what stands there may not stand behind it. Elsewhere the place itself.
 #[inline(always)]
-pub fn past_vain_run<W: Planned>(planned: &W, stays: bool, from: usize) -> usize
+pub fn past_vain_run<W: Planned>(planned: &W, from: usize) -> usize
     requires at { IsBoundary (W.searching planned.now).text from }
     requires can { let w = W.searching planned.now in CanSearch (program_of w) w.tree w.text }
     ensures at { IsBoundary (W.searching planned.now).text result }
@@ -23,13 +31,13 @@ pub fn past_vain_run<W: Planned>(planned: &W, stays: bool, from: usize) -> usize
         (at : ℕ) → IsBoundary w.text at → from ≤ at → at < result → IsVain w true 0 at }
 {
     match planned.op_at(0) {
-        Some(Op::PossessiveRun(run)) if !stays => past_run(planned, *run, from),
+        Some(Op::PossessiveRun(run)) => past_run(planned, *run, from),
         _ => from,
     }
 }
 
 // The same where there is such a run.
-#[inline(never)]
+#[inline(always)]
 fn past_run<W: Planned>(planned: &W, run: Run, from: usize) -> usize
     requires run { slice_get (W.searching planned.now).plan.ops.items 0 ≡ Some (Op.PossessiveRun run) }
     requires at { IsBoundary (W.searching planned.now).text from }

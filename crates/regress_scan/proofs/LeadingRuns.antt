@@ -14,6 +14,7 @@ use Rattle.regex_meaning.proofs.TextLemmas.{IsBoundary-place, place_at-offset}
 use Rattle.regress_input.specs.Reading.{place}
 use Rattle.regress_machine.specs.Finds.{CanSearch, initial, turns_at}
 use Rattle.regress_machine.specs.Machine.{State, running, Next, stuck, with_some, scan, run_states, test_of, act, act_on}
+use Rattle.regress_machine.specs.Turns.{is_literal}
 use Rattle.regress_machine.proofs.Search.{never_stuck}
 use Rattle.regress_machine.proofs.Whole.{searches-find}
 use Rattle.regress_simulation.specs.Simulates.{FindsNothing}
@@ -22,16 +23,19 @@ use Rattle.regress_simulation.specs.Tables.{HasUnits}
 use Rattle.regress_simulation.proofs.Below.{NothingNext, NothingBelow, EachNothing, nothing-in_turn}
 use Rattle.regress_simulation.proofs.Prefixes.{nothing-below, nothing-turned}
 use Rattle.regress_simulation.proofs.Runs.{most-excluded}
+use Rattle.regress_program.specs.Texts.{IsInBytes}
 use Rattle.regress_plan.specs.Insns.{insn_of}
 use Rattle.regress_plan.specs.Keys.{is_wide}
-use Rattle.regress_plan.specs.Plans.{IsPlanOf, HasClass, Runs}
+use Rattle.regress_plan.specs.Plans.{IsPlanOf, IsClass, HasClass, Runs}
 use Rattle.regress_plan.specs.declared.class.Class.{Class}
 use Rattle.regress_plan.specs.declared.ops.Op.TheVariants.{PossessiveRun}
 use Rattle.regress_plan.specs.declared.ops.Run.{Run}
 use Rattle.regress_scan.specs.LeftOut.{IsVain, EndsAlone}
 use Rattle.regress_scan.specs.Ranges.{AreSingle}
-use Rattle.regress_scan.specs.Reached.{IsTestOf, HasAdvanced}
+use Rattle.regress_scan.specs.Reached.{IsReadable, IsTestOf, HasAdvanced}
 use Rattle.regress_scan.specs.Searching.{Searching, program_of, insn_at}
+use Rattle.regress_scan.proofs.Reach.{some-of}
+use Rattle.regress_scan.proofs.Scanning.{advanced-boundary}
 use Rattle.regress_scan.proofs.StopSets.{row-few}
 
 -- of characters in a row that pass so many are left behind some of them
@@ -45,10 +49,13 @@ prefix-left test (x ∷ xs) (suc j) le = by (prefix-left test xs j) (test x) ref
     by rest true e le = let same = rest (omega (arith, le)) in omega (arith, same)
     by rest false e le = absurd (omega (arith, le))
 
+drop-none : (n : ℕ) → drop {A = ℕ} n [] ≡ []
+drop-none zero = refl
+drop-none (suc n) = refl
+
 drop-both : (i j : ℕ) (xs : List ℕ) → drop j (drop i xs) ≡ drop (i + j) xs
 drop-both zero j xs = ap (λ n. drop n xs) (let z : j ≡ 0 + j = omega arith in z)
-drop-both (suc i) zero [] = refl
-drop-both (suc i) (suc j) [] = refl
+drop-both (suc i) j [] = drop-none j ∙ sym (drop-none (suc i + j))
 drop-both (suc i) j (x ∷ xs) = drop-both i j xs ∙ ap (λ n. drop n (x ∷ xs)) (let z : suc (i + j) ≡ suc i + j = omega arith in z)
 
 module _ (w : Searching) (has : HasUnits w.encoding w.text) (plan : IsPlanOf (is_wide w.encoding) (program_of w) w.plan) (r : Run)
@@ -97,8 +104,37 @@ module _ (w : Searching) (has : HasUnits w.encoding w.text) (plan : IsPlanOf (is
       by-first None none = absurd (never (ap (λ i. act_on (program_of w) w.text rightwards i s) none))
       by-first (Some insn) here = by-test insn (runs insn here) here (insn_at w 1) refl (test_of (program_of w) (insn_at w 1)) refl
 
-  pub leads-inside : Leads → r.class < length w.plan.classes.items
-  leads-inside l = slice_get_within w.plan.classes.items r.class l.class l.is_there
+  module _ (l : Leads) where
+    pub leads-inside : r.class < length w.plan.classes.items
+    leads-inside = slice_get_within w.plan.classes.items r.class l.class l.is_there
+
+    module _ (class : Class) (class_is : slice_get w.plan.classes.items r.class ≡ Some class) where
+      same-class : l.class ≡ class
+      same-class = let e : Some l.class ≡ Some class = sym l.is_there ∙ class_is in cc
+
+      tests-one : IsSome (test_of (program_of w) (Some (insn_of class.insn)))
+      tests-one = subst (λ (k : Class). IsSome (test_of (program_of w) (Some (insn_of k.insn)))) same-class l.tests
+
+      pub leads-readable : {are_bytes : Bool} → IsClass (is_wide w.encoding) (program_of w) class
+          → ((ip : ℕ) (insn : Insn) → insn_at w ip ≡ Some insn → IsTrue (is_literal insn) → IsInBytes w.text are_bytes) → IsReadable w class
+      leads-readable is_class literals = record {
+        is_class = is_class;
+        tests = tests-one;
+        bytes = λ literal. (literals 1 (insn_of class.insn) (l.body ∙ ap (λ (k : Class). Some (insn_of k.insn)) same-class) literal).reads;
+      }
+
+      module _ (from most count far : ℕ) (advanced : HasAdvanced w true class from most count far) where
+        tested-one : (test : ℕ → Bool) × IsTestOf w class test
+        tested-one = some-of (test_of (program_of w) (Some (insn_of class.insn))) tests-one
+
+        pub leads-boundary : IsBoundary w.text far
+        leads-boundary =
+            advanced-boundary w.text has.is_text tested-one.0 rightwards most (place w.text from) count far (advanced tested-one.0 tested-one.1)
+
+        pub leads-ahead : AreSingle w.text from count → from ≤ far
+        leads-ahead single =
+            let far_is = (advanced tested-one.0 tested-one.1).there ∙ single count (le_refl count) in
+            omega (arith, far_is)
 
   -- The run was gone over from a boundary to its end, behind which the thread may not go on.
   module _ (class : Class) (class_is : slice_get w.plan.classes.items r.class ≡ Some class) (from count far : ℕ) (on : IsBoundary w.text from)

@@ -47,8 +47,7 @@ pub struct BacktrackExecutor<'r, Input: InputIndexer> {
     // The end that the last attempt came to that was made once more. A position shows the text's lifetime in this type,
     // which calls that are generic in the executor need to have.
     came: Option<Input::Position>,
-    // Whether a run is gone over once more behind a place that was tried in vain. What is remembered of what failed goes over
-    // each place once, so it is not where that is.
+    // Whether each match begins with a run, of which no place need be tried where none can match.
     leads: bool,
     // What is known to fail does.
     ghost right: { IsRightOf (compiled (run_in search.program)) (Input.text search.searched.input)
@@ -101,6 +100,13 @@ impl<'r, Input: InputIndexer> BacktrackExecutor<'r, Input> {
             came: None,
             leads,
         }
+    }
+
+    // Whether the run that begins at a place that was tried in vain is gone over once more: where the next one is within it,
+    // and it is not remembered what failed, by which each place is gone over once.
+    #[inline(always)]
+    fn goes_over(&self, tried: Input::Position, next: Input::Position) -> bool {
+        next.to_offset() == tried.to_offset().wrapping_add(1) && !self.free.steps.is_spent()
     }
 
     /// From now on attempts remember what failed, as they do where much work was done. What is found is the same.
@@ -208,7 +214,7 @@ impl<'r, Input: InputIndexer> Attempts for BacktrackExecutor<'r, Input> {
     fn place_behind(&self, tried: Input::Position) -> Option<Input::Position> {
         let next = self.search.searched.next_try(tried)?;
         let to = next_place(&self.search, next)?;
-        if self.leads && to.to_offset() == next.to_offset() && !self.free.steps.is_spent() {
+        if self.leads && self.goes_over(tried, to) {
             return next_place_past(&self.search, to);
         }
         Some(to)

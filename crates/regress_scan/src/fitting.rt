@@ -1,6 +1,6 @@
 //! Places where each of the first units may stand.
 
-ghost use Rattle.std.specs.Prelude.{◌≡◌, ◌≤◌, ◌<◌, ◌+◌, ℕ, true, false, length, take, IfSome};
+ghost use Rattle.std.specs.Prelude.{◌≡◌, ◌≤◌, ◌<◌, ◌+◌, true, length, take, IfSome};
 ghost use Rattle.std.proofs.Props.{props};
 ghost use Rattle.memchr.specs.Find.{OccursAt};
 ghost use Rattle.regress_plan.specs.Prefixes.{allowed_of, fits, IsRare, IsLiteral};
@@ -10,9 +10,6 @@ use crate::kept::Kept;
 use memchr::memchr;
 use regress_input::front::ByteSearcher;
 use regress_plan::prefix::{Literal, Prefix, Rare, is_clear};
-
-/// A unit that is looked for alone stands once in so many, or else the units in a row are looked for.
-const SELDOM: usize = 192;
 
 /// The first units of a match, of which one may be known.
 #[derive(Clone, Copy)]
@@ -37,16 +34,14 @@ impl ByteSearcher for Fitting<'_> {
     }
 }
 
-/// The first units of a match, of which some in a row are known, and what looks for these; and one that is seldom, if one is.
+/// The first units of a match, of which some in a row are known, and what looks for these.
 #[derive(Drop)]
 pub(crate) struct InRow<'k, 'p> {
     pub(crate) kept: &'k Kept<'k>,
     pub(crate) prefix: &'p Prefix,
     pub(crate) literal: &'p Literal,
-    pub(crate) rare: Option<Rare>,
     ghost some: { 0 < prefix.now.len },
     ghost is_literal: { IsLiteral prefix.now literal.now } by { Prim.hlevel props },
-    ghost is_rare: { IfSome rare (λ r. IsRare prefix.now r) } by { Prim.hlevel props },
 }
 
 impl ByteSearcher for InRow<'_, '_> {
@@ -56,10 +51,7 @@ impl ByteSearcher for InRow<'_, '_> {
 
     #[inline(always)]
     fn find_in(&self, bytes: &[u8]) -> Option<usize> {
-        match self.rare {
-            Some(rare) => find_rarely(self.kept, self.prefix, self.literal, rare, bytes),
-            None => find_literal(self.kept, self.prefix, self.literal, bytes, 0),
-        }
+        find_literal(self.kept, self.prefix, self.literal, bytes)
     }
 }
 
@@ -104,56 +96,15 @@ fn find_rare(prefix: &Prefix, rare: Rare, bytes: &[u8]) -> Option<usize>
     None
 }
 
-// The same in a long text, for as long as that unit turns out to be seldom; behind that by those in a row.
+// The same, by units in a row that alone may stand where they stand.
 #[inline(always)]
-fn find_rarely(
-    kept: &Kept<'_>,
-    prefix: &Prefix,
-    literal: &Literal,
-    rare: Rare,
-    bytes: &[u8],
-) -> Option<usize>
+fn find_literal(kept: &Kept<'_>, prefix: &Prefix, literal: &Literal, bytes: &[u8]) -> Option<usize>
     requires some { 0 < prefix.now.len }
     requires literal { IsLiteral prefix.now literal.now }
-    requires rare { IsRare prefix.now rare }
-    ensures { FindsFit prefix.now bytes.now result }
-{
-    let mut at = 0;
-    let mut enough = SELDOM;
-    'places: while at + rare.ahead < bytes.len() {
-        let Some(more) = memchr(rare.unit, &bytes[at + rare.ahead..]) else {
-            return None;
-        };
-        at += more;
-        if fits_between(prefix, bytes, at, 0, prefix.len) {
-            return Some(at);
-        }
-        at += 1;
-        if at < enough {
-            return find_literal(kept, prefix, literal, bytes, at);
-        }
-        enough = enough.saturating_add(SELDOM);
-    }
-    None
-}
-
-// The same from an index on, by units in a row that alone may stand where they stand.
-#[inline(always)]
-fn find_literal(
-    kept: &Kept<'_>,
-    prefix: &Prefix,
-    literal: &Literal,
-    bytes: &[u8],
-    from: usize,
-) -> Option<usize>
-    requires some { 0 < prefix.now.len }
-    requires literal { IsLiteral prefix.now literal.now }
-    requires from { from ≤ length bytes.now + 1 }
-    requires before { (k : ℕ) → k < from → fits (allowed_of prefix.now) bytes.now k prefix.now.len ≡ false }
     ensures { FindsFit prefix.now bytes.now result }
 {
     let needle = &literal.units[..literal.len];
-    let mut at = from;
+    let mut at = 0;
     'places: while at + literal.ahead < bytes.len() {
         let Some(more) = kept.find(needle, &bytes[at + literal.ahead..]) else {
             return None;

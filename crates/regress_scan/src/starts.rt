@@ -168,25 +168,24 @@ fn next_fitting<W: Planned>(
     find(planned, &fitting, from)
 }
 
-// The same, by those that are known: by those in a row, or by one that is seldom.
+// The same, by those in a row that are known.
 #[inline(never)]
 fn next_in_row<W: Planned>(
     planned: &W,
     prefix: &Prefix,
-    known: &Known,
+    literal: &Literal,
     from: usize,
 ) -> Option<usize>
     requires at { IsBoundary (W.searching planned.now).text from }
     requires bytes { is_wide (W.searching planned.now).encoding ≡ false }
     requires prefix { (0 < prefix.now.len) × IsInAscii prefix.now }
-    requires known { AreKnown prefix.now known.now }
+    requires literal { IsLiteral prefix.now literal.now }
     ensures { IsFirstFitting (W.searching planned.now) prefix.now from result }
 {
     let in_row = InRow {
         kept: planned.kept(),
         prefix,
-        literal: &known.literal,
-        rare: known.rare,
+        literal,
     };
     find(planned, &in_row, from)
 }
@@ -202,7 +201,7 @@ fn next_known<W: Planned>(planned: &W, prefix: &Prefix, known: &Known, from: usi
     ensures { IsFirstFitting (W.searching planned.now) prefix.now from result }
 {
     if text_end(planned).saturating_sub(from) > LONG {
-        return next_in_row(planned, prefix, known, from);
+        return next_in_row(planned, prefix, &known.literal, from);
     }
     next_in_short(planned, prefix, known, from)
 }

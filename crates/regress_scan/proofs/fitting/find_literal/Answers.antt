@@ -3,9 +3,6 @@ use Rattle.std.proofs.lemmas.List.{take_rest}
 use Rattle.regress_scan.proofs.FirstUnits.{needle-short, literal-past, literal-none, literal-inside, literal-before, literal-within, literal-behind}
 use Rattle.regress_scan.proofs.fitting.find_literal.Goals as goal
 
-pub places-init : goal.places-init
-places-init c = (c.requires.from, c.requires.before)
-
 pub returns-in_default : goal.returns-in_default
 returns-in_default c = λ k less.
     literal-none c.args.prefix.now c.args.literal.now c.requires.literal c.requires.some c.args.bytes.now (λ i. (c.type_inv.bytes i).fits) c.places.at _ _

@@ -42,8 +42,8 @@ returns-then-goes_over-clause-next g c =
     let last = option_map offset c.next_place_past.result in
     next-further (tree_of s.program.regex) text behind to last
     (next-further (tree_of s.program.regex) text behind next (Some to)
-        (subst (λ re. IsNextTry (tree_of re) text behind (Some next)) (sym s.same) c.in_ok-next.ensures)
-        (next-tree s.program.wide (tree_of s.program.regex) _ can.well_formed next (Some to) c.in_ok-to.ensures))
+    (subst (λ re. IsNextTry (tree_of re) text behind (Some next)) (sym s.same) c.in_ok-next.ensures)
+    (next-tree s.program.wide (tree_of s.program.regex) _ can.well_formed next (Some to) c.in_ok-to.ensures))
     (next-tree s.program.wide (tree_of s.program.regex) _ can.well_formed to last c.next_place_past.ensures)
 
 pub returns-clause-next : goal.returns-clause-next

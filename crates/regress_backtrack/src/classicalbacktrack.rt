@@ -28,7 +28,9 @@ use regress_exec::exec::{Executor, MatchProducer, SearchError, Searcher};
 use regress_exec::places::Attempts;
 use regress_exec::searched::Searched;
 use regress_input::indexing::{AsciiInput, InputIndexer, Ucs2Input, Utf8Input, Utf16Input};
+use regress_input::position::PositionType;
 use regress_program::insn::{CompiledRegex, CompiledUnits, Program};
+use regress_scan::leading::{begins_with_run, past_vain_run};
 use regress_scan::planned::{At, Planned, offset_in, position_in};
 use std::alloc::AllocError;
 
@@ -45,6 +47,8 @@ pub struct BacktrackExecutor<'r, Input: InputIndexer> {
     // The end that the last attempt came to that was made once more. A position shows the text's lifetime in this type,
     // which calls that are generic in the executor need to have.
     came: Option<Input::Position>,
+    // Whether each match begins with a run, of which no place need be tried where none can match.
+    leads: bool,
     // What is known to fail does.
     ghost right: { IsRightOf (compiled (run_in search.program)) (Input.text search.searched.input)
         (terms_in (λ memo. terms_of memo.value.ledger) again.course.memo)
@@ -76,6 +80,7 @@ impl<'r, Input: InputIndexer> BacktrackExecutor<'r, Input> {
         let alloc = search.searched.program.allocator();
         let units = search.searched.input.unit_count();
         let work = work_at_first(units, search.program.insns().len());
+        let leads = begins_with_run(&search);
         BacktrackExecutor {
             search,
             memory: Memory::new(alloc),
@@ -93,7 +98,15 @@ impl<'r, Input: InputIndexer> BacktrackExecutor<'r, Input> {
                 began: false,
             },
             came: None,
+            leads,
         }
+    }
+
+    // Whether the run that begins at a place that was tried in vain is gone over once more: where the next one is within it,
+    // and it is not remembered what failed, by which each place is gone over once.
+    #[inline(always)]
+    fn goes_over(&self, tried: Input::Position, next: Input::Position) -> bool {
+        next.to_offset() == tried.to_offset().wrapping_add(1) && !self.free.steps.is_spent()
     }
 
     /// From now on attempts remember what failed, as they do where much work was done. What is found is the same.
@@ -117,6 +130,18 @@ fn next_place<W: Planned>(planned: &W, from: At<W>) -> Option<At<W>>
         Some(at) => Some(position_in(planned, at)),
         None => None,
     }
+}
+
+// The same where each match begins with a run: none of its places is tried if none can match.
+#[inline(never)]
+fn next_place_past<W: Planned>(planned: &W, from: At<W>) -> Option<At<W>>
+    requires at { IsBoundary (W.searching planned.now).text (W.Input.Position.offset from) }
+    requires can { let w = W.searching planned.now in CanSearch (program_of w) w.tree w.text }
+    ensures { let w = W.searching planned.now in let at = W.Input.Position.offset in
+        IsNextTry w.tree w.text (at from) (option_map at result) }
+{
+    let past = past_vain_run(planned, offset_in(planned, from));
+    next_place(planned, position_in(planned, past))
 }
 
 impl<'r, Input: InputIndexer> Attempts for BacktrackExecutor<'r, Input> {
@@ -188,7 +213,11 @@ impl<'r, Input: InputIndexer> Attempts for BacktrackExecutor<'r, Input> {
 
     fn place_behind(&self, tried: Input::Position) -> Option<Input::Position> {
         let next = self.search.searched.next_try(tried)?;
-        next_place(&self.search, next)
+        let to = next_place(&self.search, next)?;
+        if self.leads && self.goes_over(tried, to) {
+            return next_place_past(&self.search, to);
+        }
+        Some(to)
     }
 }
 

@@ -7,6 +7,7 @@ mod fitting;
 pub mod further;
 pub mod idle;
 pub mod kept;
+pub mod leading;
 pub mod looks_ahead;
 pub mod planned;
 mod probing;

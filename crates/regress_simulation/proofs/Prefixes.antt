@@ -29,13 +29,13 @@ use Rattle.regress_simulation.proofs.Tables.{seen-next}
 use Rattle.regress_simulation.proofs.Units.{passes-one, one-unit-on}
 
 -- what finds nothing does so in searches of less than any number of steps
-nothing-below : (program : Program) (text : Text) (n : ℕ) (s : State) → FindsNothing program text rightwards (running s)
+pub nothing-below : (program : Program) (text : Text) (n : ℕ) (s : State) → FindsNothing program text rightwards (running s)
     → NothingBelow program text n rightwards 1 (running s ∷ [])
 nothing-below program text n s h = record { within = λ turns vs f few q. h.within turns vs f q }
 
 module _ (program : Program) (text : Text) (s : State) where
   -- a turn behind which nothing is found finds nothing
-  nothing-turned : ((n : ℕ) → NothingNext program text n rightwards (act program text rightwards s)) → FindsNothing program text rightwards (running s)
+  pub nothing-turned : ((n : ℕ) → NothingNext program text n rightwards (act program text rightwards s)) → FindsNothing program text rightwards (running s)
   nothing-turned next = finds-nothing program text rightwards (running s) by
     where
       by : (n : ℕ) → NothingBelow program text n rightwards 1 (running s ∷ [])

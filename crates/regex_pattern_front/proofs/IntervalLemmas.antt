@@ -48,9 +48,7 @@ Above-zero xs h = Above-from_order 0 xs (λ d _. omega arith) h
 pub order-from_Above : (n : ℕ) (xs : List Interval) → Above n xs → AreInOrder (map interval_of xs)
 order-from_Above n [] h = tt
 order-from_Above n (i ∷ []) h = h.1
-order-from_Above n (i ∷ j ∷ xs) h =
-    let past : i.last + 1 ≤ j.first = h.2.0 in
-    (h.1, omega arith, order-from_Above (i.last + 1) (j ∷ xs) h.2)
+order-from_Above n (i ∷ j ∷ xs) h = (h.1, omega (arith, h.2.0), order-from_Above (i.last + 1) (j ∷ xs) h.2)
 
 Rises-weaker : (m n : ℕ) (xs : List Interval) → m ≤ n → Rises n xs → Rises m xs
 Rises-weaker m n [] h r = tt
@@ -124,9 +122,7 @@ Spaced-merged gap n now (next ∷ others) g l h r =
 pub apart-from_Apart : (n : ℕ) (xs : List Interval) → Apart n xs → AreApart (map interval_of xs)
 apart-from_Apart n [] h = tt
 apart-from_Apart n (i ∷ []) h = h.1
-apart-from_Apart n (i ∷ j ∷ xs) h =
-    let past : i.last + 2 ≤ j.first = h.2.0 in
-    (h.1, omega arith, apart-from_Apart (i.last + 2) (j ∷ xs) h.2)
+apart-from_Apart n (i ∷ j ∷ xs) h = (h.1, omega (arith, h.2.0), apart-from_Apart (i.last + 2) (j ∷ xs) h.2)
 
 -- ---- What stands between
 

@@ -88,7 +88,7 @@ ends_in_goal-optimized (cat first rest) = rw (is_end_of_cat-optimized rest, ends
 ends_in_goal-optimized (loop q s e loopee) = loop-keeps ends_in_goal q s e loopee refl refl
 ends_in_goal-optimized _ = refl
 
-one_character-optimized : (n : Node) → is_one_character n ≡ true → optimized n ≡ n
+pub one_character-optimized : (n : Node) → is_one_character n ≡ true → optimized n ≡ n
 unfolding optimized
 one_character-optimized (cat first rest) h = grind arith
 one_character-optimized (alt left right) h = grind arith
@@ -98,7 +98,7 @@ one_character-optimized (loop q s e loopee) h = grind arith
 one_character-optimized (loop_1_char_body q loopee) h = grind arith
 one_character-optimized _ h = refl
 
-is_one-reads : (n : Node) → reads_one_character n ≡ true → is_one_character n ≡ true
+pub is_one-reads : (n : Node) → reads_one_character n ≡ true → is_one_character n ≡ true
 is_one-reads (char c) h = refl
 is_one-reads (char_set members) h = refl
 is_one-reads (byte_set members) h = refl

@@ -10,5 +10,6 @@ pub mod PrefixLemmas
 pub mod BeforeLemmas
 pub mod VerdictLemmas
 pub mod RoundLemmas
+mod FiledLemmas
 mod StepLemmas
 mod IntervalLemmas

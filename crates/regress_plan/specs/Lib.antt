@@ -11,6 +11,7 @@ pub mod Before
 pub mod BeforeKeys
 pub mod Choices
 pub mod Told
+pub mod Filed
 pub mod Verdicts
 pub mod Deciding
 pub mod Rounds

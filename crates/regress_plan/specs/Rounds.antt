@@ -1,5 +1,5 @@
 -- Over which units loops go that cannot be left before them.
-use Rattle.std.specs.Prelude.{◌≡◌, ◌<◌, ℕ, Bool, true, false, Some, slice_get, slice_index_or}
+use Rattle.std.specs.Prelude.{◌≡◌, ◌<◌, ℕ, Bool, true, false, Some, slice_index_or}
 use Rattle.regex_meaning.specs.Layout.{Program}
 use Rattle.regex_meaning.specs.Text.{Text, rightwards}
 use Rattle.regex_meaning.specs.Units.{Encoding}
@@ -7,13 +7,12 @@ use Rattle.regress_machine.specs.Machine.{State}
 use Rattle.regress_simulation.specs.Rounds.{GoesRound}
 use Rattle.regress_plan.specs.declared.rounds.Over.{Over}
 use Rattle.regress_plan.specs.declared.rounds.Rounds.{Rounds}
+use Rattle.regress_plan.specs.Filed.{IsFiled}
 use Rattle.regress_plan.specs.Verdicts.{StandsWhere}
 
 -- the units over which the loop goes whose body ends at an operation
-pub record AreUnitsOf (r : Rounds) (end : ℕ) (over : Over) : Type 0 where
-  pub number : ℕ
-  pub end_has : slice_get r.ends.items end ≡ Some number
-  pub there : slice_get r.units.items number ≡ Some over
+abbrev pub AreUnitsOf : Rounds → (end : ℕ) → Over → Type 0
+AreUnitsOf r end over = IsFiled r.ends.items r.units.items end over
 
 -- where a unit of this key stands next, a loop goes round over it whose body ends at an instruction
 abbrev pub IsRound : (wide : Bool) → Program → (k end : ℕ) → Type 0

@@ -4,6 +4,7 @@ use Rattle.std.specs.Prelude.{if◌then◌else◌, not}
 use Rattle.std.proofs.lemmas.Bool.{and_parts}
 use Rattle.regex_meaning.specs.Tree.{Node, cat, alt, capture_group, lookaround, loop, loop_1_char_body, every}
 use Rattle.regex_pattern_front.specs.Optimized.{reads_one_character, optimized}
+use Rattle.regex_pattern_front.proofs.OptimizedLemmas.{one_character-optimized, is_one-reads}
 use Rattle.regress_program.specs.Code.{size, loop_count, brackets_of}
 use Rattle.regress_program.specs.Nodes.{is_leaf, is_narrowed}
 use Rattle.regress_program.specs.Emitting.{shaped}
@@ -29,16 +30,6 @@ shaped-plain (loop q s e loopee) = rw (shaped-plain loopee) refl
 shaped-plain (loop_1_char_body q loopee) = rw (shaped-plain loopee) refl
 shaped-plain _ = refl
 
-shaped-one : (n : Node) → reads_one_character n ≡ true → shaped true n ≡ n
-unfolding shaped
-shaped-one (cat first rest) h = grind arith
-shaped-one (alt left right) h = grind arith
-shaped-one (capture_group id name contents) h = grind arith
-shaped-one (lookaround l contents) h = grind arith
-shaped-one (loop q s e loopee) h = grind arith
-shaped-one (loop_1_char_body q loopee) h = grind arith
-shaped-one _ h = refl
-
 -- where they are narrow, it is the optimized one
 pub shaped-narrow : (n : Node) → shaped true n ≡ optimized n
 unfolding shaped optimized
@@ -46,7 +37,8 @@ shaped-narrow (cat first rest) = rw (shaped-narrow first, shaped-narrow rest) re
 shaped-narrow (alt left right) = rw (shaped-narrow left, shaped-narrow right) refl
 shaped-narrow (capture_group id name contents) = rw (shaped-narrow contents) refl
 shaped-narrow (lookaround l contents) = rw (shaped-narrow contents) refl
-shaped-narrow (loop q s e loopee) = go (reads_one_character loopee) (shaped-one loopee) (shaped-narrow loopee)
+shaped-narrow (loop q s e loopee) =
+    go (reads_one_character loopee) (λ one. shaped-narrow loopee ∙ one_character-optimized loopee (is_one-reads loopee one)) (shaped-narrow loopee)
   where
     go : (r : Bool) → (r ≡ true → shaped true loopee ≡ loopee) → shaped true loopee ≡ optimized loopee
         → (if r then loop_1_char_body q (shaped true loopee) else loop q s e (shaped true loopee)) ≡ (if r then loop_1_char_body q loopee else loop q s e (optimized loopee))

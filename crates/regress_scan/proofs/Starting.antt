@@ -294,10 +294,15 @@ few-found w has us len from bytes leads inside found f = by f.0 f.1 found f.2
 
 -- the first place at which they fit, found in bytes
 pub fitting-found : (w : Searching) → HasUnits w.encoding w.text → (prefix : Prefix) → is_wide w.encoding ≡ false → 0 < prefix.len → IsInAscii prefix → (from : ℕ)
-    → (found : Option ℕ) → IsFoundFrom true (λ bytes index. fits (allowed_of prefix) bytes index prefix.len) (bytes_of w.text) from found
+    → (found : Option ℕ) → IsFoundIn w (λ bytes index. fits (allowed_of prefix) bytes index prefix.len) from found
     → IsFirstWhere w (fits_in w prefix) from found
-fitting-found w has prefix single_unit some ascii from found f = by f.0 f.1 found f.2
+fitting-found w has prefix single_unit some ascii from found f = by in_bytes.0 in_bytes.1 found in_bytes.2
   where
+    in_bytes : IsFoundFrom true (λ bytes index. fits (allowed_of prefix) bytes index prefix.len) (bytes_of w.text) from found
+    in_bytes =
+        subst (λ b. IsFoundFrom b (λ bytes index. fits (allowed_of prefix) bytes index prefix.len) (bytes_of w.text) from found)
+        (single_unit-bytes w.encoding single_unit) f
+
     all : List ℕ
     all = bytes_of w.text
 

@@ -10,8 +10,8 @@ pub returns : goal.returns
 returns g c =
     let searched = c.args.self.now in
     let tree = tree_of searched.program.now in
-    let text = g.Input.InputIndexer.text searched.input in
     let is = g.met.Input.InputIndexer.is_text searched.input in
+    let text = g.Input.InputIndexer.text searched.input in
     let at = g.Input.Position.PositionType.offset c.args.tried in
     subst (IsNextTry tree text (at + 1)) (sym c.behind_tried.ensures) (tried-behind tree text is at c.is_anchored.result (λ e.
     let known = anchored-by searched.start_pred (λ p. start_of p.now) (compiled tree).start_pred c.is_anchored.result c.is_anchored.ensures searched.predicted e in

@@ -3,28 +3,16 @@ use Rattle.regress_ledger.proofs.Bits.{bit-bound}
 use Rattle.regress_ledger.proofs.ledger.Ledger.bit_at.Goals as goal
 
 pub overflow_mul-result : goal.overflow_mul-result
-overflow_mul-result c =
-    let bound = bit-bound c.args.self.now c.requires.coded c.args.places _ c.requires.key c.line-line.result c.line-line.ensures in
-    let fits = c.requires.fits in
-    omega (arith, bound, fits)
+overflow_mul-result c = omega (arith, c.requires.fits, bit-bound c.args.self.now c.requires.coded c.args.places _ c.requires.key c.line-line.result c.line-line.ensures)
 
 pub overflow_mul-result-2 : goal.overflow_mul-result-2
-overflow_mul-result-2 c =
-    let bound = bit-bound c.args.self.now c.requires.coded c.args.places _ c.requires.key c.line-line.result c.line-line.ensures in
-    let fits = c.requires.fits in
-    omega (arith, bound, fits)
+overflow_mul-result-2 c = omega (arith, c.requires.fits, bit-bound c.args.self.now c.requires.coded c.args.places _ c.requires.key c.line-line.result c.line-line.ensures)
 
 pub overflow_add-result : goal.overflow_add-result
-overflow_add-result c =
-    let bound = bit-bound c.args.self.now c.requires.coded c.args.places _ c.requires.key c.line-line.result c.line-line.ensures in
-    let fits = c.requires.fits in
-    omega (arith, bound, fits)
+overflow_add-result c = omega (arith, c.requires.fits, bit-bound c.args.self.now c.requires.coded c.args.places _ c.requires.key c.line-line.result c.line-line.ensures)
 
 pub overflow_add-result-2 : goal.overflow_add-result-2
-overflow_add-result-2 c =
-    let bound = bit-bound c.args.self.now c.requires.coded c.args.places _ c.requires.key c.line-line.result c.line-line.ensures in
-    let fits = c.requires.fits in
-    omega (arith, bound, fits)
+overflow_add-result-2 c = omega (arith, c.requires.fits, bit-bound c.args.self.now c.requires.coded c.args.places _ c.requires.key c.line-line.result c.line-line.ensures)
 
 pub returns-clause-below : goal.returns-clause-below
 returns-clause-below c =

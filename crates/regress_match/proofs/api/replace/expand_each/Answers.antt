@@ -1,9 +1,11 @@
-use Rattle.std.proofs.Common.{◌∙◌, ◌++◌, ap, string_bytes}
+use Rattle.std.proofs.Common.{◌≡◌, ◌∙◌, ◌++◌, ap, string_bytes}
 use Rattle.regex_meaning.specs.Replace.{expansion, replaced}
 use Rattle.regress_exec.specs.ToCome.{ToCome}
 use Rattle.regress_match.specs.Replacements.{expanded}
-use Rattle.regress_match.proofs.CallerLemmas.{reached-none, takes-next}
+use Rattle.regress_match.proofs.CallerLemmas.{IsReached, reached-none, takes-next}
 use Rattle.regress_match.proofs.Replacing.{replaced-more, replaced-end}
+use Rattle.regress_match.proofs.api.replace.expand_each.Given.{Over}
+use Rattle.regress_match.proofs.api.replace.expand_each.Goals.{In_ok-expand}
 use Rattle.regress_match.proofs.api.replace.expand_each.Goals as goal
 
 pub loop-item-init : goal.loop-item-init
@@ -29,29 +31,23 @@ reach-requires-clause-boundary g c = c.loop-item.invariant.reached.boundary
 pub reach-requires-clause-fits : goal.reach-requires-clause-fits
 reach-requires-clause-fits g c = (takes-next _ _ _ _ _ _ c.in_ok-found.found c.loop-item.invariant.reached c.in-Some.ensures.steps c.in_ok-found.was).fits
 
+-- what holds once a match is expanded
+written : (g : Over) (c : In_ok-expand g)
+    → IsReached c.args.text.now c.args.matches.limited c.in_ok-from.from c.next.new.self
+    × (string_bytes c.expand.new.out ++ replaced c.args.text.now c.in_ok-from.from (expanded c.args.text.now c.args.replacement.now c.next.new.self.answers)
+    ≡ replaced c.args.text.now 0 (expanded c.args.text.now c.args.replacement.now c.args.matches.answers))
+written g c =
+    let takes = takes-next c.args.text.now _ _ c.loop-item.item-iterator c.next.new.self _ c.in_ok-found.found c.loop-item.invariant.reached c.in-Some.ensures.steps c.in_ok-found.was in (
+      takes.reached c.in_ok-from.from c.in_ok-from.ensures.behind,
+      replaced-more c.args.text.now (λ m. expansion c.args.text.now m c.args.replacement.now) (string_bytes c.loop-item.made) (string_bytes c.reach.new.made) (string_bytes c.expand.new.out) _ c.loop-item.from c.in_ok-from.from
+      c.loop-item.item-iterator.answers c.next.new.self.answers _ c.loop-item.invariant.begun takes.next c.in_ok-from.ensures.made c.in_ok-expand.ensures c.in_ok-from.ensures.behind,
+    )
+
 pub loop-item-preserved : goal.loop-item-preserved
-loop-item-preserved g c =
-    let takes = takes-next c.args.text.now _ _ c.loop-item.item-iterator c.next.new.self _ c.in_ok-found.found c.loop-item.invariant.reached c.in-Some.ensures.steps c.in_ok-found.was in
-    record {
-      can = tt;
-      finite = tt;
-      reached = takes.reached c.in_ok-from.from c.in_ok-from.ensures.behind;
-      begun =
-          replaced-more c.args.text.now (λ m. expansion c.args.text.now m c.args.replacement.now) (string_bytes c.loop-item.made) (string_bytes c.reach.new.made) (string_bytes c.expand.new.out) _ c.loop-item.from c.in_ok-from.from
-          c.loop-item.item-iterator.answers c.next.new.self.answers _ c.loop-item.invariant.begun takes.next c.in_ok-from.ensures.made c.in_ok-expand.ensures c.in_ok-from.ensures.behind;
-    }
+loop-item-preserved g c = let w = written g (goal.at.loop-item-preserved g c).In_ok-expand in record { can = tt; finite = tt; reached = w.0; begun = w.1 }
 
 pub loop-item-preserved-in_ok-expand : goal.loop-item-preserved-in_ok-expand
-loop-item-preserved-in_ok-expand g c =
-    let takes = takes-next c.args.text.now _ _ c.loop-item.item-iterator c.next.new.self _ c.in_ok-found.found c.loop-item.invariant.reached c.in-Some.ensures.steps c.in_ok-found.was in
-    record {
-      can = tt;
-      finite = tt;
-      reached = takes.reached c.in_ok-from.from c.in_ok-from.ensures.behind;
-      begun =
-          replaced-more c.args.text.now (λ m. expansion c.args.text.now m c.args.replacement.now) (string_bytes c.loop-item.made) (string_bytes c.reach.new.made) (string_bytes c.expand.new.out) _ c.loop-item.from c.in_ok-from.from
-          c.loop-item.item-iterator.answers c.next.new.self.answers _ c.loop-item.invariant.begun takes.next c.in_ok-from.ensures.made c.in_ok-expand.ensures c.in_ok-from.ensures.behind;
-    }
+loop-item-preserved-in_ok-expand g c = let w = written g (goal.at.loop-item-preserved-in_ok-expand g c).In_ok-expand in record { can = tt; finite = tt; reached = w.0; begun = w.1 }
 
 pub returns-clause-made : goal.returns-clause-made
 returns-clause-made g c =

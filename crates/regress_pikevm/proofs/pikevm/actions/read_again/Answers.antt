@@ -13,12 +13,11 @@ use Rattle.regress_pikevm.proofs.pikevm.actions.read_again.Goals as goal
 pub returns-in_default : goal.returns-in_default
 returns-in_default g c =
     let text = g.Input.InputIndexer.text c.args.searched.now.input in
-    let is = g.met.Input.InputIndexer.is_text c.args.searched.now.input in
     let offset = g.Input.Position.PositionType.offset in
     let d = heading g.Dir.Direction.FORWARD in
     let s = state_of offset c.args.state in
     let can = subst (λ r. CanTake (read_group text c.args.icase d (range_of offset r) s)) c.in_default.is c.requires.can in
-    nothing-read text is c.args.icase d s can ∙ ap (λ r. read_group text c.args.icase d (range_of offset r) s) (sym c.in_default.is)
+    nothing-read text (g.met.Input.InputIndexer.is_text c.args.searched.now.input) c.args.icase d s can ∙ ap (λ r. read_group text c.args.icase d (range_of offset r) s) (sym c.in_default.is)
 
 -- where it goes, by whether they stand there
 again : (g : Over) (c : After-stands_again g) (b : Bool) → c.stands_again.result ≡ b

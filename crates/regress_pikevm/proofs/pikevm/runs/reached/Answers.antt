@@ -12,16 +12,14 @@ use Rattle.regress_pikevm.proofs.pikevm.runs.reached.Goals as goal
 pub characters-init : goal.characters-init
 characters-init g c =
     let text = g.Input.InputIndexer.text c.args.searched.now.input in
-    let is = g.met.Input.InputIndexer.is_text c.args.searched.now.input in
     let offset = g.Input.Position.PositionType.offset in
-    let d = heading g.Dir.Direction.FORWARD in
     let s = state_of offset c.args.state.now in
     record {
       boundary = c.requires.boundary;
       fits = omega arith;
       reaching = λ test p e f.
-          subst (λ l. IsReaching text test d c.args.run.min_iters c.args.run.max_iters p s 0 (offset c.args.state.now.pos) (map (λ s. state_of offset s) l)) (sym c.new-states.ensures.items)
-          (reach-none text is test d c.args.run.min_iters c.args.run.max_iters p s f);
+          subst (λ l. IsReaching text test (heading g.Dir.Direction.FORWARD) c.args.run.min_iters c.args.run.max_iters p s 0 (offset c.args.state.now.pos) (map (λ s. state_of offset s) l)) (sym c.new-states.ensures.items)
+          (reach-none text (g.met.Input.InputIndexer.is_text c.args.searched.now.input) test (heading g.Dir.Direction.FORWARD) c.args.run.min_iters c.args.run.max_iters p s f);
     }
 
 pub returns-then-count-run : goal.returns-then-count-run

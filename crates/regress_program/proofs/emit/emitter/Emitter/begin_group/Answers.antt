@@ -12,13 +12,12 @@ use Rattle.regress_program.proofs.emit.emitter.Emitter.begin_group.Goals as goal
 pub returns : goal.returns
 unfolding with_left is_ready load_of weight
 returns c =
-    let u = c.args.mode.unicode in
-    let d = c.args.mode.behind in
-    let n = shaped c.args.mode.narrow (node_of c.args.contents.now) in
+    let m = c.args.mode in
+    let n = shaped m.narrow (node_of c.args.contents.now) in
     let s = state_of c.args.self.now in
     let t = state_of c.put.new.self in
-    let inside = with_code u d n t in
-    begun-two (with_code u d (capture_group c.args.id [] n)) (load (capture_group c.args.id [] n)) c.args.rest.now.items c.push.new.self.items c.push-2.new.self.items _ _ s t
+    let inside = with_code m.unicode m.behind n t in
+    begun-two (with_code m.unicode m.behind (capture_group c.args.id [] n)) (load (capture_group c.args.id [] n)) c.args.rest.now.items c.push.new.self.items c.push-2.new.self.items _ _ s t
     c.in_ok-push.ensures.items c.in_ok-push-2.ensures.items
-    (with_code-capture_group u d c.args.id [] n s t inside (with_insn (EndCaptureGroup c.args.id) inside) c.in_ok-put.ensures refl refl)
+    (with_code-capture_group m.unicode m.behind c.args.id [] n s t inside (with_insn (EndCaptureGroup c.args.id) inside) c.in_ok-put.ensures refl refl)
     (grows-put (BeginCaptureGroup c.args.id) s t c.in_ok-put.ensures) refl c.requires.sets (omega arith)

@@ -13,13 +13,12 @@ use Rattle.regress_program.proofs.emit.emitter.Emitter.begin_loop_1_char.Goals a
 pub returns : goal.returns
 unfolding with_left is_ready load_of weight
 returns c =
-    let u = c.args.mode.unicode in
-    let d = c.args.mode.behind in
+    let m = c.args.mode in
     let q = quantifier_of c.args.quant.now in
-    let n = shaped c.args.mode.narrow (node_of c.args.loopee.now) in
+    let n = shaped m.narrow (node_of c.args.loopee.now) in
     let s = state_of c.args.self.now in
     let t = state_of c.put.new.self in
     let head : t ≡ with_insn (Loop1CharBody q.min (most_of q) q.greedy) s = rw (← c.unwrap_or.ensures) c.in_ok-put.ensures in
-    begun-one (with_code u d (loop_1_char_body q n)) (load (loop_1_char_body q n)) c.args.rest.now.items c.push.new.self.items _ s t c.in_ok-push.ensures.items
-    (with_code-loop_1_char_body u d q n s t (with_code u d n t) head refl) (grows-put (Loop1CharBody q.min (most_of q) q.greedy) s t head)
+    begun-one (with_code m.unicode m.behind (loop_1_char_body q n)) (load (loop_1_char_body q n)) c.args.rest.now.items c.push.new.self.items _ s t c.in_ok-push.ensures.items
+    (with_code-loop_1_char_body m.unicode m.behind q n s t (with_code m.unicode m.behind n t) head refl) (grows-put (Loop1CharBody q.min (most_of q) q.greedy) s t head)
     c.requires.sets (omega arith)

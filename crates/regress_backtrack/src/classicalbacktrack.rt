@@ -80,7 +80,7 @@ impl<'r, Input: InputIndexer> BacktrackExecutor<'r, Input> {
         let alloc = search.searched.program.allocator();
         let units = search.searched.input.unit_count();
         let work = work_at_first(units, search.program.insns().len());
-        let leads = begins_with_run(&search);
+        let leads = begins_with_run(search.program.plan());
         BacktrackExecutor {
             search,
             memory: Memory::new(alloc),
@@ -140,6 +140,7 @@ fn next_place_past<W: Planned>(planned: &W, from: At<W>) -> Option<At<W>>
     ensures { let w = W.searching planned.now in let at = W.Input.Position.offset in
         IsNextTry w.tree w.text (at from) (option_map at result) }
 {
+    planned.is_of_program();
     let past = past_vain_run(planned, offset_in(planned, from));
     next_place(planned, position_in(planned, past))
 }

@@ -10,20 +10,23 @@ use crate::looks_ahead::possessive_end;
 use crate::planned::{Planned, text_end};
 use crate::scans::behind_single_units;
 use regress_plan::ops::{Op, Run};
+use regress_plan::plan::Plan;
 
 /// Whether each match begins with a run that ends at its end alone and has no maximum, so that an attempt goes over all of
 /// it, too.
-pub fn begins_with_run<W: Planned>(planned: &W) -> bool {
-    match planned.op_at(0) {
-        Some(Op::PossessiveRun(run)) => is_unlimited(planned, run.bounds as usize),
+pub fn begins_with_run(plan: &Plan) -> bool {
+    if plan.ops.len() == 0 {
+        return false;
+    }
+    match &plan.ops[0] {
+        Op::PossessiveRun(run) => is_unlimited(plan, run.bounds as usize),
         _ => false,
     }
 }
 
 // Whether there are bounds of this number, and no maximum in them.
-fn is_unlimited<W: Planned>(planned: &W, number: usize) -> bool {
-    let bounds = &planned.plan().bounds;
-    number < bounds.len() && bounds[number].max == usize::MAX
+fn is_unlimited(plan: &Plan, number: usize) -> bool {
+    number < plan.bounds.len() && plan.bounds[number].max == usize::MAX
 }
 
 /// The place behind the run with which each match begins, if from no place within it one can: the run ends at its end

@@ -10,6 +10,6 @@ returns g c =
     let past = c.past_vain_run-past.result in
     let behind = c.past_vain_run-past.ensures in
     let tried =
-    past-tried w (g.met.W.Planned.has_units c.args.planned.now) (g.met.W.Planned.is_of_program c.args.planned.now) c.requires.can c.offset_in.result past behind.at behind.ahead behind.vain in
+    past-tried w (g.met.W.Planned.has_units c.args.planned.now) c.is_of_program.ensures c.requires.can c.offset_in.result past behind.at behind.ahead behind.vain in
     rw (← c.offset_in.ensures)
     (next-further w.tree w.text c.offset_in.result past _ tried (rw (← c.position_in.ensures) c.next_place.ensures))

@@ -26,9 +26,10 @@ returns-in_err-to-clause-next g c =
     let offset = g.Input.Position.PositionType.offset in
     let behind = offset c.args.tried + 1 in
     let next = offset c.in_ok-next.next in
-    next-further (tree_of s.program.regex) text behind next None
+    subst (λ o. IsNextTry (tree_of s.program.regex) text behind (option_map offset o)) (sym c.from_residual-in_err-to.ensures)
+    (next-further (tree_of s.program.regex) text behind next None
     (subst (λ re. IsNextTry (tree_of re) text behind (Some next)) (sym s.same) c.in_ok-next.ensures)
-    (next-tree s.program.wide (tree_of s.program.regex) _ can.well_formed next None c.in_err-to.ensures)
+    (next-tree s.program.wide (tree_of s.program.regex) _ can.well_formed next None c.in_err-to.ensures))
 
 pub returns-then-goes_over-clause-next : goal.returns-then-goes_over-clause-next
 returns-then-goes_over-clause-next g c =

@@ -6,14 +6,14 @@ use Rattle.regress_backtrack.proofs.NextStarts.{next-further}
 use Rattle.regress_backtrack.proofs.InPlace.{can-be, search-planned, next-tree}
 use Rattle.regress_backtrack.proofs.classicalbacktrack.BacktrackExecutorAttempts.place_behind.Goals as goal
 
-pub next_place-requires-clause-at : goal.next_place-requires-clause-at
-next_place-requires-clause-at g c = c.in_ok-next.ensures.0
-
 pub next_place-requires-clause-can : goal.next_place-requires-clause-can
 next_place-requires-clause-can g c =
     let s = c.args.self.now.search in
     search-planned s.program.wide (tree_of s.program.regex) (g.Input.InputIndexer.text s.searched.input)
     (can-be s.same s.searched.well_formed s.searched.unicode s.searched.bytes) (g.met.Input.InputIndexer.is_text s.searched.input)
+
+pub next_place-requires-clause-at : goal.next_place-requires-clause-at
+next_place-requires-clause-at g c = c.in_ok-next.ensures.0
 
 pub returns-clause-next : goal.returns-clause-next
 returns-clause-next g c =

@@ -1,12 +1,12 @@
 -- The same where any other parenthesis opens.
-use Rattle.std.proofs.Common.{◌≡◌, ℕ, Bool, true, false, List, [], ◌∷◌, true≢false, refl, sym, ap, ap₂, subst, ◌∙◌, ◌↔◌}
+use Rattle.std.proofs.Common.{◌≡◌, ℕ, Bool, true, false, List, [], ◌∷◌, nat_eq, true≢false, refl, sym, ap, ap₂, subst, ◌∙◌, ◌↔◌}
 use Rattle.regex_meaning.specs.Tree.{Node, Lookaround, lookaround, capture_group}
 use Rattle.std.proofs.lemmas.Bool.{and_parts}
 use Rattle.regex_grammar.specs.Reading.{Text, Place, Whole, groups_at, ◌▸◌, at, opening, begins}
 use Rattle.regex_grammar.specs.Characters.{GroupName, group_name, begins_name}
-use Rattle.regex_grammar.specs.Grammar.{Disjunction, Term, Atom, opener, assertion, atom, quantified, start, end, boundary, look, leaf, group, named_group, plain_group}
+use Rattle.regex_grammar.specs.Grammar.{Disjunction, Term, Assertion, Atom, opener, assertion, atom, quantified, start, end, boundary, look, leaf, group, named_group, plain_group}
 use Rattle.regex_grammar.specs.Open.{Level, nothing_read, Open, Opened, captures, plain, looks, IsTerm, once, repeated, Closes, looked, captured, enclosed, CompletesAll}
-use Rattle.regex_grammar.proofs.OneTree.{ends_here, behind_word, places_differ, first, third, rest_of, leaf_begins, name_from, of_look, look_word, meant}
+use Rattle.regex_grammar.proofs.OneTree.{ends_here, behind_word, places_differ, unlike, first, third, rest_of, leaf_begins, name_from, of_look, look_word, meant}
 use Rattle.regex_grammar.proofs.Leaves.{one_name}
 use Rattle.regex_grammar.proofs.Members.{leaf_apart}
 use Rattle.regex_grammar.proofs.Stack.{begin}
@@ -31,6 +31,20 @@ module _ (w : Whole) (gs : List Text) (l : Level) (around : List Open) (t : Node
 
     pub enter_by : CompletesAll w gs (opens_here l o p ∷ around) (nothing_read b) inner t ↔ CompletesAll w gs around l p t
     enter_by = (from, to)
+
+-- where a parenthesis opens, an assertion is a lookaround; and where the third character is that of none that looks ahead, it looks behind
+abbrev IsBehind : Place → Type 0
+IsBehind p = (third p.text ≡ 60) × (sign : ℕ) × (begins_name sign ≡ false) × (rest : Text) × (rest_of (rest_of (rest_of p.text)) ≡ sign ∷ rest)
+
+looks_behind : {w : Whole} {p s : Place} {m : Node} → first p.text ≡ 40 → nat_eq (third p.text) 61 ≡ false → nat_eq (third p.text) 33 ≡ false → Assertion w p s m → IsBehind p
+looks_behind f g h (start e) = absurd (unlike 94 40 refl (sym (ap (λ x. first x.text) e) ∙ f))
+looks_behind f g h (end e) = absurd (unlike 36 40 refl (sym (ap (λ x. first x.text) e) ∙ f))
+looks_behind f g h (boundary false e) = absurd (unlike 92 40 refl (sym (ap (λ x. first x.text) e) ∙ f))
+looks_behind f g h (boundary true e) = absurd (unlike 92 40 refl (sym (ap (λ x. first x.text) e) ∙ f))
+looks_behind {p = p} f g h (look false false e d k) = absurd (unlike (third p.text) 61 g (ap (λ x. third x.text) e))
+looks_behind {p = p} f g h (look true false e d k) = absurd (unlike (third p.text) 33 h (ap (λ x. third x.text) e))
+looks_behind f g h (look false true e d k) = (ap (λ x. third x.text) e, 61, refl, _, ap (λ x. rest_of (rest_of (rest_of x.text))) e)
+looks_behind f g h (look true true e d k) = (ap (λ x. third x.text) e, 33, refl, _, ap (λ x. rest_of (rest_of (rest_of x.text))) e)
 
 is_plain : Opened → Bool
 is_plain plain = true
@@ -58,14 +72,9 @@ module _ (w : Whole) (gs : List Text) (l : Level) (around : List Open) (t : Node
   in_atom (plain_group {r = x} {s = y} {n = c} f d close) k = (x, y, c, subst (λ a. Disjunction w l.behind a x c) (behind_word "(?:" f e) d, close, enclosed refl k)
 
   found : {s : Place} {m : Node} → Term w l.behind p s m → Found s m
-  found (assertion (start f)) = absurd (places_differ first e f refl)
-  found (assertion (end f)) = absurd (places_differ first e f refl)
-  found (assertion (boundary true f)) = absurd (places_differ first e f refl)
-  found (assertion (boundary false f)) = absurd (places_differ first e f refl)
-  found (assertion (look false false f d g)) = absurd (places_differ third e f refl)
-  found (assertion (look true false f d g)) = absurd (places_differ third e f refl)
-  found (assertion (look false true f d g)) = absurd (places_differ third e f refl)
-  found (assertion (look true true f d g)) = absurd (places_differ third e f refl)
+  found (assertion a) =
+      let b = looks_behind (ap (λ x. first x.text) e) (subst (λ x. nat_eq (third x.text) 61 ≡ false) (sym e) refl) (subst (λ x. nat_eq (third x.text) 33 ≡ false) (sym e) refl) a in
+      absurd (unlike 58 60 refl (sym (ap (λ x. third x.text) e) ∙ b.0))
   found (atom a k) = in_atom a (once k)
   found (quantified a k) = in_atom a (repeated k)
 
@@ -125,14 +134,9 @@ module _ (w : Whole) (gs : List Text) (l : Level) (around : List Open) (t : Node
       )
 
   found_named : {s : Place} {m : Node} → Term w l.behind p s m → Found_named s m
-  found_named (assertion (start f)) = absurd (places_differ first e f refl)
-  found_named (assertion (end f)) = absurd (places_differ first e f refl)
-  found_named (assertion (boundary true f)) = absurd (places_differ first e f refl)
-  found_named (assertion (boundary false f)) = absurd (places_differ first e f refl)
-  found_named (assertion (look false false f d g)) = absurd (places_differ third e f refl)
-  found_named (assertion (look true false f d g)) = absurd (places_differ third e f refl)
-  found_named (assertion (look false true f d g)) = absurd (no_sign 61 refl is (ap (λ x. rest_of (rest_of (rest_of x.text))) (sym e ∙ f)))
-  found_named (assertion (look true true f d g)) = absurd (no_sign 33 refl is (ap (λ x. rest_of (rest_of (rest_of x.text))) (sym e ∙ f)))
+  found_named (assertion a) =
+      let b = looks_behind (ap (λ x. first x.text) e) (subst (λ x. nat_eq (third x.text) 61 ≡ false) (sym e) refl) (subst (λ x. nat_eq (third x.text) 33 ≡ false) (sym e) refl) a in
+      absurd (no_sign b.1 b.2 is (sym (ap (λ x. rest_of (rest_of (rest_of x.text))) e) ∙ b.4))
   found_named (atom a k) = in_named a (once k)
   found_named (quantified a k) = in_named a (repeated k)
 

@@ -69,10 +69,9 @@ pub returns-in-Ok-clause-steps : goal.returns-in-Ok-clause-steps
 returns-in-Ok-clause-steps g c =
     let w = g.W.Planned.searching c.args.planned.now in
     let at = g.W.Input.Position.PositionType.offset c.args.pos in
-    let b = search-here g (goal.at.returns-in-Ok-clause-steps g c).In_ok-begin in
-    let first = state-here g (goal.at.returns-in-Ok-clause-steps g c).In_ok-begin in
+    let begun = (goal.at.returns-in-Ok-clause-steps g c).In_ok-begin in
     let budget = g.S.Steps.budget in
-    attempt-spends w at c.pos_to_offset-at.result c.begin.new.self (budget c.args.course.now.steps) (budget c.run.new.course.steps) g.S.Steps.COUNTS b first
+    attempt-spends w at c.pos_to_offset-at.result c.begin.new.self (budget c.args.course.now.steps) (budget c.run.new.course.steps) g.S.Steps.COUNTS (search-here g begun) (state-here g begun)
     c.run.new.memory c.in-Ok.end c.end_in.result c.in-Ok.ensures.ran
 
 pub returns-in-Err-clause-steps : goal.returns-in-Err-clause-steps

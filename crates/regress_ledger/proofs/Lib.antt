@@ -5,4 +5,6 @@ pub mod Bits
 pub mod WholeLemmas
 pub mod Ways
 pub mod SoundRows
+pub mod NoBodies
+pub mod Outside
 pub mod BoundLemmas

@@ -15,8 +15,10 @@ use Rattle.regress_ledger.specs.declared.ledger.Ledger.{Ledger}
 use Rattle.regress_ledger.specs.declared.ledger.Line.{Line}
 use Rattle.regress_ledger.specs.declared.steps.Step.{Step}
 use Rattle.regress_ledger.specs.declared.steps.Step.TheVariants.{Run as AsRun, Look as AsLook}
+use Rattle.regress_ledger.specs.Bodies.{LeadsPast}
 use Rattle.regress_ledger.specs.Checks.{unlimited}
 use Rattle.regress_ledger.specs.Ledger.{line_of, account_of, questions_of, recorded, weights_of, price_of, way_of}
+use Rattle.regress_ledger.specs.Steps.{step_in}
 use Rattle.regress_ledger.specs.Whole.{IsLedgerOf}
 
 -- what the keys of an instruction cost at one place, if it records
@@ -51,9 +53,10 @@ module _ (t : Ledger) where
   StepIsBounded (AsRun b) ip = b.greedy ≡ false → b.most ≡ unlimited → (line_of t ip).forward ≡ true
   StepIsBounded _ ip = Unit {0}
 
-  -- something stands ready for each thread
+  -- Something stands ready for each thread, and none comes to a run's body, where keys are the run's.
   pub record IsBounded (program : Program) : Type 0 where
     pub ready : (ip : ℕ) → 1 ≤ (line_of t ip).ready
+    pub past : (ip : ℕ) → LeadsPast program (step_in ip (slice_get program.insns ip)) ip
     pub insns : (ip : ℕ) → InsnIsBounded (slice_get program.insns ip) ip
 
 -- ---- Laws

@@ -7,6 +7,7 @@ ghost use Rattle.regress_ledger.specs.Bound.{price_of_line, price_of_all, work_f
 ghost use Rattle.regress_ledger.specs.Ledger.{line_of};
 ghost use Rattle.regress_ledger.specs.Steps.{HasInsns, step_in};
 
+use crate::bodies::all_lead_past;
 use crate::ledger::{Ledger, Line};
 use crate::steps::{Look, Step, step_at};
 use regress_plan::insn::Insn;
@@ -40,8 +41,8 @@ impl Ledger {
         Some(all)
     }
 
-    // Whether each search does what is paid: no record is thrown away where a lookaround's contents have found an end, and no
-    // lazy run without a maximum goes to the left.
+    // Whether each search does what is paid: no record is thrown away where a lookaround's contents have found an end, no lazy
+    // run without a maximum goes to the left, and no thread comes to the body of a run.
     fn all_is_paid(&self, insns: &[Insn]) -> bool
         ensures { result ≡ true → (program : Program) → HasInsns program insns.now → IsBounded self.now program }
     {
@@ -50,7 +51,7 @@ impl Ledger {
                 return false;
             }
         }
-        self.all_are_ready()
+        self.all_are_ready() && all_lead_past(insns)
     }
 
     // Whether something stands ready for each thread.

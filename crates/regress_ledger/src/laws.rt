@@ -1,5 +1,6 @@
 //! Laws of ledgers.
 
+ghost use Rattle.regress_ledger.specs.Bodies.{BodiesStayApart};
 ghost use Rattle.regress_ledger.specs.Bound.{LedgersBound};
 ghost use Rattle.regress_ledger.specs.Whole.{LedgersServe, WaysStay, KeysHaveBits};
 
@@ -17,6 +18,11 @@ pub fn keys_have_bits()
 /// A turn leaves threads at instructions that are searched in the same direction.
 pub fn ways_stay()
     ensures { WaysStay }
+{}
+
+/// Where it is checked that no instruction leads to the body of a run, a turn leaves no thread there.
+pub fn bodies_stay_apart()
+    ensures { BodiesStayApart }
 {}
 
 /// Searches that are paid by what is written of a program do no more work for each place of a text than that says.

@@ -2,6 +2,7 @@
 //! they pay.
 #![tactic(auto)]
 
+mod bodies;
 pub mod bound;
 mod check;
 pub mod codes;

@@ -21,4 +21,5 @@ pub use Rattle.regress_linear.specs.Leaves.{TurnsLeave}
 pub use Rattle.regress_linear.specs.Rests.{RowsRest}
 pub use Rattle.regress_linear.specs.Tight.{PricesAreFew}
 pub use Rattle.regress_linear.specs.Budget.{BudgetsAreEnough}
+pub use Rattle.regress_linear.specs.LaidOut.{StatesStayLaidOut}
 pub use Rattle.regress_linear.specs.Beside.{OthersArePaid, ScansGive, LooksPay}

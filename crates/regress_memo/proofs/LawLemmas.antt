@@ -87,7 +87,7 @@ memos-hold = record {
 
 -- ---- Keys that there are
 
-records-there : (t : Ledger) (ip : ℕ) → (line_of t ip).records ≡ true → is_one_of (recorded t) ip ≡ true
+pub records-there : (t : Ledger) (ip : ℕ) → (line_of t ip).records ≡ true → is_one_of (recorded t) ip ≡ true
 records-there t ip records = true_from_ne_false (is_one_of (recorded t) ip) (λ other. true≢false (not-recorded t ip other true records))
 
 module _ (program : Program) (text : Text) (t : Ledger) (of : IsLedgerOf program t) where

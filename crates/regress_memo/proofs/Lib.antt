@@ -1,2 +1,3 @@
 pub mod MemoLemmas
 pub mod LawLemmas
+pub mod SearchLemmas

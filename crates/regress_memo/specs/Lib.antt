@@ -2,3 +2,4 @@ pub mod Bits
 pub mod Room
 pub mod Memo
 pub mod Laws
+pub mod Search

@@ -1,6 +1,7 @@
 //! Laws of memories.
 
 ghost use Rattle.regress_memo.specs.Laws.{MemosHold, MemosAreTrue, KeysAreThere};
+ghost use Rattle.regress_memo.specs.Search.{SearchesArePaid};
 
 /// What a memory knows is a list of keys, to which a key is added where one is noted.
 pub fn memos_hold()
@@ -16,4 +17,10 @@ pub fn memos_are_true()
 /// have such keys.
 pub fn keys_are_there()
     ensures { KeysAreThere }
+{}
+
+/// Where a ledger is bounded, each thread of a search has its key where its instruction records, and each turn, each way back and
+/// each record that is reached is paid.
+pub fn searches_are_paid()
+    ensures { SearchesArePaid }
 {}

@@ -1,6 +1,7 @@
 //! A memory of failures, and of keys that find an end.
 
 ghost use Rattle.std.specs.Prelude.{◌≡◌, ◌≤◌, ◌<◌, ◌*◌, ◌^◌, ◌↔◌, true, option_map, IfOk, IfSome, IsTrue, MatchOption};
+ghost use Rattle.std.specs.Arc.{arc_value};
 ghost use Rattle.regress_machine.specs.Machine.{State};
 ghost use Rattle.regress_ledger.specs.Ledger.{bit_of as bit_of_key};
 ghost use Rattle.regress_ledger.specs.Whole.{AreCoded, HasBit};
@@ -12,6 +13,7 @@ use regress_ledger::codes::HoldsRounds;
 use regress_ledger::ledger::Ledger;
 use std::alloc::{AllocError, Global};
 use std::marker::Model;
+use std::sync::Arc;
 
 /// What is remembered of a thread that stands at an instruction and an offset, with a code for what loops hold.
 #[derive(Clone, Copy)]
@@ -24,7 +26,7 @@ pub struct Key {
 /// What is known of a program's keys in a text, by the program's ledger and for so many offsets.
 #[derive(Drop)]
 pub struct Memo {
-    ledger: Ledger,
+    ledger: Arc<Ledger, Global>,
     places: usize,
     with_ends: bool,
     failures: Bits,
@@ -35,14 +37,14 @@ impl Model for Memo {
     ghost Value = { Known };
 
     ghost view = { λ m. record {
-      ledger = m.ledger;
+      ledger = arc_value m.ledger;
       places = m.places;
       with_ends = m.with_ends;
       failures = m.failures.words.items;
       ends = m.ends.words.items;
     } };
 
-    ghost invariant = { λ m. HasRoom m.ledger m.places m.with_ends m.failures.words.items m.ends.words.items };
+    ghost invariant = { λ m. HasRoom (arc_value m.ledger) m.places m.with_ends m.failures.words.items m.ends.words.items };
 }
 
 impl Memo {
@@ -60,6 +62,25 @@ impl Memo {
         requires { AreCoded ledger }
         ensures { IfOk result (λ found. MatchOption found (2 ^ 64 ≤ ledger.codes * places)
             (IsBegun ledger places with_ends)) }
+    {
+        let ledger = Arc::new(alloc, ledger)?;
+        Memo::sharing(alloc, ledger, places, with_ends)
+    }
+
+    /// The same by a ledger that has other owners.
+    ///
+    /// # Errors
+    ///
+    /// A growth was refused.
+    pub fn sharing(
+        alloc: Global,
+        ledger: Arc<Ledger, Global>,
+        places: usize,
+        with_ends: bool,
+    ) -> Result<Option<Memo>, AllocError>
+        requires { AreCoded (arc_value ledger) }
+        ensures { IfOk result (λ found. MatchOption found (2 ^ 64 ≤ (arc_value ledger).codes * places)
+            (IsBegun (arc_value ledger) places with_ends)) }
     {
         let Some(count) = ledger.codes.checked_mul(places) else {
             return Ok(None);

@@ -1,4 +1,6 @@
-use Rattle.std.proofs.Common.{◌≡◌, true, sym, subst}
+use Rattle.std.proofs.Common.{◌≡◌, true, sym, subst, ap, ◌∙◌}
+use Rattle.std.specs.Arc.{arc_value}
+use Rattle.regress_ledger.specs.Ledger.{bit_of}
 use Rattle.regress_ledger.specs.Whole.{HasBit}
 use Rattle.regress_memo.specs.Room.{Known}
 use Rattle.regress_memo.specs.Memo.{as_key, NotesEnd}
@@ -11,7 +13,8 @@ returns c =
     let has = subst (λ (m : Known). HasBit m.ledger m.places k) (sym c.self.view_is) c.requires.key in
     let wanted = subst (λ (m : Known). m.with_ends ≡ true) (sym c.self.view_is) c.requires.wanted in
     let m = c.self.inside in
-    let old = known_by m.ledger m.places m.with_ends m.failures.words.items m.ends.words.items in
+    let old = known_by (arc_value m.ledger) m.places m.with_ends m.failures.words.items m.ends.words.items in
     let new = c.set.new.self.words.items in
+    let bit = c.bit_of-bit.ensures.bit ∙ ap (λ t. bit_of t m.places k.ip k.at k.code) c.deref.ensures in
     subst (λ (m : Known). NotesEnd k m (record old { ends = new })) c.self.view_is
-    (notes-end old c.self.invariant.coded k has c.bit_of-bit.result c.bit_of-bit.ensures.bit new wanted c.set.ensures.set)
+    (notes-end old c.self.invariant.coded k has c.bit_of-bit.result bit new wanted c.set.ensures.set)

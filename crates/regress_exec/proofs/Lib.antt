@@ -10,3 +10,4 @@ pub mod Skips
 pub mod Budget
 pub mod Walking
 pub mod OnePlace
+pub mod InWork

@@ -4,3 +4,4 @@ pub mod Attempts
 pub mod InTurn
 pub mod Positions
 pub mod Spends
+pub mod Worked

@@ -1,6 +1,6 @@
 //! Finding matches in turn.
 
-ghost use Rattle.std.specs.Prelude.{◌≡◌, ◌<◌, ◌≤◌, ◌⊎◌, ℕ, Bool, false, Option, map, option_map, IfOk, IfErr, OnErr, OnSome, IfNone, if◌then◌else◌, nat_le, not, Some, None, string_bytes};
+ghost use Rattle.std.specs.Prelude.{◌≡◌, ◌<◌, ◌≤◌, ◌⊎◌, ℕ, Bool, true, false, Option, map, option_map, IfOk, IfErr, OnErr, OnSome, IfNone, if◌then◌else◌, nat_le, not, Some, None, string_bytes};
 ghost use Rattle.std.specs.Iterator.{at_most};
 ghost use Rattle.std.specs.Option.{ForSome};
 ghost use Rattle.regex_meaning.specs.Tree.{Tree};
@@ -11,6 +11,7 @@ ghost use Rattle.regex_meaning.specs.Steps.{answers_within, end_within, need_fro
 ghost use Rattle.regex_pattern_front.specs.TreeOf.{tree_of};
 ghost use Rattle.regress_exec.specs.Spends.{GoesOn, Spends, cause_of};
 ghost use Rattle.regress_exec.specs.ToCome.{ToCome, coming, Gives, LastMatchEnds, items_left};
+ghost use Rattle.regress_exec.specs.Worked.{CallGoesOn, SearchGoesOn, is_enough};
 
 use regress_input::position::PositionType;
 use regress_program::insn::{CompiledRegex, GroupNames};
@@ -21,8 +22,10 @@ use thiserror::Error;
 
 mod in_turn;
 mod parts;
+mod worked;
 
 pub use self::in_turn::{Groups, NamedGroups};
+pub use self::worked::{WorkError, WorkMatches, Worker};
 
 /// Why a search was refused.
 #[derive(Clone, Copy, Debug, PartialEq, Eq, Error)]
@@ -109,6 +112,13 @@ pub trait MatchProducer {
 
     ghost out_of_steps: { Self → Bool } = { λ _. false };
 
+    // the work that may be done is enough for attempts in turn, each as far as `ahead` or further
+    ghost enough: { Self → Bool } = { λ _. true };
+
+    ghost ahead: { Self → ℕ } = { λ _. 0 };
+
+    ghost out_of_work: { Self → Bool } = { λ _. false };
+
     /// The position of an offset in units, which is a boundary or past the end; none where it is past the end.
     fn initial_position(&self, offset: usize) -> Option<Self::Position>
         requires { IsBoundary (text self.now) offset ⊎ (units (text self.now) < offset) }
@@ -136,6 +146,8 @@ pub trait MatchProducer {
         ensures steps { Spends (need_from (tree self.old) (text self.old) (Self.Position.offset pos))
             (budget self.old) result (budget self.new) }
         ensures cause { IfErr result (λ e. e ≡ cause_of (out_of_steps self.new)) }
+        ensures work { let at = Self.Position.offset in SearchGoesOn (enough self.old) (ahead self.old) (at pos)
+            result (enough self.new) (ahead self.new) (option_map at next_start.new) (out_of_work self.new) }
         ensures same { (tree self.new ≡ tree self.old) × (text self.new ≡ text self.old) };
 
     ghost is_text: { (it : Self) → IsText (text it) };
@@ -210,17 +222,38 @@ impl<P: MatchProducer + Drop> Iterator for Matches<P> {
 
     /// The next match; none for good once there is no other, or after a refusal.
     fn next(&mut self) -> Option<Result<Match, SearchError>> {
-        let pos = self.position?;
-        match self.mp.next_match(pos, &mut self.position) {
-            Ok(Some(found)) => Some(Ok(found)),
-            Ok(None) => {
-                self.position = None;
-                None
-            }
-            Err(refused) => {
-                self.position = None;
-                Some(Err(refused))
-            }
+        next_of(&mut self.mp, &mut self.position)
+    }
+}
+
+// The next match from a position on, if there is one, which becomes that from which the list goes on.
+fn next_of<P: MatchProducer>(
+    mp: &mut P,
+    position: &mut Option<P::Position>,
+) -> Option<Result<Match, SearchError>>
+    requires at { ForSome position.old (λ p. IsBoundary (P.text mp.old) (P.Position.offset p)) }
+    ensures at { ForSome position.new (λ p. IsBoundary (P.text mp.new) (P.Position.offset p)) }
+    ensures gives { let offset = option_map P.Position.offset in
+        let before = coming (P.tree mp.old) (P.text mp.old) (P.budget mp.old) (offset position.old)
+        (P.out_of_steps mp.old) in
+        let behind = coming (P.tree mp.new) (P.text mp.new) (P.budget mp.new) (offset position.new)
+        (P.out_of_steps mp.new) in
+        Gives before result behind }
+    ensures work { let offset = option_map P.Position.offset in
+        let before = is_enough (P.enough mp.old) (P.ahead mp.old) (offset position.old) in
+        let behind = is_enough (P.enough mp.new) (P.ahead mp.new) (offset position.new) in
+        CallGoesOn before result behind (P.out_of_work mp.new) }
+{
+    let pos = (*position)?;
+    match mp.next_match(pos, position) {
+        Ok(Some(found)) => Some(Ok(found)),
+        Ok(None) => {
+            *position = None;
+            None
+        }
+        Err(refused) => {
+            *position = None;
+            Some(Err(refused))
         }
     }
 }

@@ -1,6 +1,6 @@
 //! The walk over the places of a text, once for all executors.
 
-ghost use Rattle.std.specs.Prelude.{◌≡◌, ◌+◌, ◌<◌, ◌≤◌, ◌⊎◌, ℕ, ⊤, Bool, false, IfErr, IfOk, IsSome, None, Option, map, option_map, length};
+ghost use Rattle.std.specs.Prelude.{◌≡◌, ◌+◌, ◌<◌, ◌≤◌, ◌⊎◌, ℕ, ⊤, Bool, true, false, IfErr, IfOk, IsSome, None, Option, map, option_map, length};
 ghost use Rattle.regex_meaning.specs.Tree.{Tree};
 ghost use Rattle.regex_meaning.specs.Text.{Text};
 ghost use Rattle.regex_meaning.specs.Offsets.{IsText, IsBoundary, units};
@@ -12,6 +12,7 @@ ghost use Rattle.regress_exec.specs.Answers.{answer_by, answer_of, range_of};
 ghost use Rattle.regress_exec.specs.Attempts.{IsNextTry, IsVain, ends_with, end_from, first_tried, next_tried, offset_behind, ticks_from};
 ghost use Rattle.regress_exec.specs.Positions.{span_of};
 ghost use Rattle.regress_exec.specs.Spends.{Spends, TakesIfBegun, Tells, cause_of};
+ghost use Rattle.regress_exec.specs.Worked.{AttemptGoesOn};
 
 use crate::exec::{Match, MatchProducer, SearchError};
 use regress_input::indexing::InputIndexer;
@@ -21,7 +22,8 @@ use std::ops::Range;
 
 /// An executor that tries one place at a time. Contracts see the tree whose program it runs, the text, the steps that
 /// it may still take where they are counted, whether steps were refused in the last attempt and whether it has begun,
-/// which also takes memory, and the groups of the last one that found an end.
+/// which also takes memory, and the groups of the last one that found an end. Where work is counted they see whether
+/// it is enough for attempts in turn, which offset is the next in turn, and whether work was refused in the last one.
 ///
 /// Where steps are counted, the places that are tried are those that the start predicate lets through.
 pub trait Attempts {
@@ -37,6 +39,13 @@ pub trait Attempts {
     ghost out_of_steps: { Self → Bool } = { λ _. false };
 
     ghost has_begun: { Self → Type 0 } = { λ _. ⊤ };
+
+    // the work that may be done is enough for attempts in turn, each as far as `ahead` or further
+    ghost enough: { Self → Bool } = { λ _. true };
+
+    ghost ahead: { Self → ℕ } = { λ _. 0 };
+
+    ghost out_of_work: { Self → Bool } = { λ _. false };
 
     ghost groups: { Self → Groups };
 
@@ -65,6 +74,8 @@ pub trait Attempts {
             Spends (ticks (Self.Input.Position.offset pos)) (budget self.old) result (budget self.new) }
         ensures begun { TakesIfBegun (has_begun self.new) (budget self.old) result (budget self.new) }
         ensures cause { Tells result (out_of_steps self.new) }
+        ensures work { let at = Self.Input.Position.offset in AttemptGoesOn at (enough self.old) (ahead self.old)
+            (at pos) result (enough self.new) (ahead self.new) (out_of_work self.new) }
         ensures same { (tree self.new ≡ tree self.old) × (text self.new ≡ text self.old) };
 
     /// How many groups the last attempt that found an end had.
@@ -180,6 +191,12 @@ impl<A: Attempts> MatchProducer for A {
     ghost budget = { A.budget };
 
     ghost out_of_steps = { A.out_of_steps };
+
+    ghost enough = { A.enough };
+
+    ghost ahead = { A.ahead };
+
+    ghost out_of_work = { A.out_of_work };
 
     ghost is_text = { A.is_text };
 

@@ -1,5 +1,6 @@
 use Rattle.regex_pattern_front.specs.TreeOf.{tree_of}
 use Rattle.regress_backtrack.specs.Memory.{state_of}
+use Rattle.regress_exec.proofs.InWork.{goes-on-free}
 use Rattle.regress_backtrack.proofs.InPlace.{can-be, can-planned, ends-planned}
 use Rattle.regress_backtrack.proofs.classicalbacktrack.BacktrackExecutorAttempts.attempt.Goals as goal
 
@@ -41,3 +42,12 @@ returns-clause-found g c =
     let offset = g.Input.Position.PositionType.offset in
     ends-planned offset s.program.wide (tree_of s.program.regex) (g.Input.InputIndexer.text s.searched.input) can.well_formed (offset c.args.pos)
     (state_of c.attempt_again-2.new.memory 0 0).groups c.attempt_again-2.result c.attempt_again-2.ensures.found
+
+pub returns-then-is_spent-clause-work : goal.returns-then-is_spent-clause-work
+returns-then-is_spent-clause-work g c = goes-on-free g.Input.Position.PositionType.offset (g.Input.Position.PositionType.offset c.args.pos) c.attempt_again.result
+
+pub returns-then-is_ok-clause-work : goal.returns-then-is_ok-clause-work
+returns-then-is_ok-clause-work g c = goes-on-free g.Input.Position.PositionType.offset (g.Input.Position.PositionType.offset c.args.pos) c.attempt-end.result
+
+pub returns-clause-work : goal.returns-clause-work
+returns-clause-work g c = goes-on-free g.Input.Position.PositionType.offset (g.Input.Position.PositionType.offset c.args.pos) c.attempt_again-2.result

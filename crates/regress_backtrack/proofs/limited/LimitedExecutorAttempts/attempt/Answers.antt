@@ -4,6 +4,7 @@ use Rattle.regex_meaning.specs.Text.{utf8_text}
 use Rattle.regex_pattern_front.specs.TreeOf.{tree_of}
 use Rattle.regress_exec.specs.Attempts.{end_from, ticks_from}
 use Rattle.regress_exec.specs.Spends.{Spends}
+use Rattle.regress_exec.proofs.InWork.{goes-on-free}
 use Rattle.regress_backtrack.proofs.InPlace.{can-be, can-planned, planned-single_unit}
 use Rattle.regress_backtrack.proofs.limited.LimitedExecutorAttempts.attempt.Goals as goal
 
@@ -25,3 +26,6 @@ returns-clause-steps c =
     let text = utf8_text search.searched.input.input.now search.searched.input.unicode in
     let is = planned-single_unit search.program.wide (tree_of search.program.regex) search.wide in
     subst (λ t. Spends (ticks_from t text c.args.pos.offset) (Some c.args.self.now.steps.left) c.attempt-end.result (Some c.attempt-end.new.course.steps.left)) is c.attempt-end.ensures.steps
+
+pub returns-clause-work : goal.returns-clause-work
+returns-clause-work c = goes-on-free _ c.args.pos.offset c.attempt-end.result

@@ -1,4 +1,4 @@
-use Rattle.std.proofs.Common.{◌<◌, Option, Some, ap, sym, refl, subst, ◌∙◌, option_map}
+use Rattle.std.proofs.Common.{◌+◌, ◌<◌, Option, Some, None, ap, sym, refl, subst, ◌∙◌, option_map}
 use Rattle.regex_meaning.specs.Offsets.{IsBoundary}
 use Rattle.regex_meaning.specs.Tree.{Tree}
 use Rattle.regex_meaning.specs.Names.{names_by_id}
@@ -6,9 +6,11 @@ use Rattle.regex_meaning.specs.Steps.{need_from}
 use Rattle.regress_exec.specs.Answers.{answer_by}
 use Rattle.regress_exec.specs.Attempts.{offset_behind}
 use Rattle.regress_exec.specs.declared.exec.Match.{Match}
+use Rattle.regress_exec.specs.Worked.{is_enough}
 use Rattle.regress_exec.specs.declared.exec.SearchError.TheVariants.{Memory}
 use Rattle.regress_exec.proofs.Budget.{handed, refused-last, spent-begins}
 use Rattle.regress_exec.proofs.Skips.{untried, walk-begins}
+use Rattle.regress_exec.proofs.InWork.{enough-behind, enough-next, turn-behind}
 use Rattle.regress_exec.proofs.Walking.{walk-at, attempt-refused, found-there, goes-there}
 use Rattle.regress_exec.proofs.places.AnyMatchProducer.next_match.Goals as goal
 
@@ -20,6 +22,11 @@ places-init g c = record {
   };
   same_tree = refl;
   same_text = refl;
+  turn =
+      let a = g.A.Attempts in
+      let offset = g.A.Input.Position.PositionType.offset in
+      let self = c.args.self.now in
+      enough-next (a.enough self) (a.ahead self) (a.tree self) (a.text self) (offset c.args.pos) (option_map offset c.place_from-next.result) c.place_from-next.ensures.next;
   next_start = refl;
 }
 
@@ -49,6 +56,23 @@ returns-in-Some-2-clause-steps g c =
     c.places.invariant.walk c.in-Some.is c.places.invariant.same_tree c.places.invariant.same_text c.in_ok-end.ensures.found c.in_ok-end.ensures.steps c.in-Some-2.is in
     found.spends
 
+pub returns-in-Some-2-clause-work : goal.returns-in-Some-2-clause-work
+returns-in-Some-2-clause-work g c = λ begins.
+    let a = g.A.Attempts in
+    let offset = g.A.Input.Position.PositionType.offset in
+    let invariant = c.places.invariant in
+    let self = c.args.self.now in
+    let old = c.places.self in
+    let new = c.attempt.new.self in
+    let is = g.met.A.Attempts.is_text self in
+    let found = found-there offset (a.groups new) is
+    invariant.walk c.in-Some.is invariant.same_tree invariant.same_text c.in_ok-end.ensures.found c.in_ok-end.ensures.steps c.in-Some-2.is in
+    let text = c.input.ensures ∙ c.in_ok-end.ensures.same.1 ∙ invariant.same_text in
+    let turn = turn-behind (a.enough old) (a.ahead old) (a.enough new) (a.ahead new) (a.out_of_work new) offset c.places.next _ (Some c.in-Some-2.end) c.in-Some.start
+    c.in-Some.is (invariant.turn begins) c.in_ok-end.ensures.work c.in-Some-2.is in
+    ap (is_enough (a.enough new) (a.ahead new)) (c.position_behind.ensures ∙ ap (λ x. offset_behind x (offset c.in-Some.start) (offset c.in-Some-2.end)) text)
+    ∙ enough-behind (a.enough new) (a.ahead new) (a.tree self) (a.text self) is (offset c.in-Some.start) (offset c.in-Some-2.end) found.boundary turn
+
 pub places-smaller : goal.places-smaller
 places-smaller g c =
     let goes = goes-there g.A.Input.Position.PositionType.offset (g.A.Attempts.groups c.attempt.new.self) (g.met.A.Attempts.is_text c.args.self.now)
@@ -64,7 +88,20 @@ places-preserved g c =
     let goes = goes-there g.A.Input.Position.PositionType.offset (g.A.Attempts.groups c.attempt.new.self) (g.met.A.Attempts.is_text c.args.self.now)
     c.places.invariant.walk c.in-Some.is c.places.invariant.same_tree c.places.invariant.same_text c.in_ok-end.ensures.found c.in_ok-end.ensures.steps
     c.in_default-2.is c.in_ok-end.ensures.same.0 c.in_ok-end.ensures.same.1 c.place_behind-next.ensures.next c.place_behind-next.ensures.counted in
-    record { walk = goes.walk; same_tree = c.in_ok-end.ensures.same.0 ∙ invariant.same_tree; same_text = c.in_ok-end.ensures.same.1 ∙ invariant.same_text; next_start = invariant.next_start }
+    record {
+      walk = goes.walk;
+      same_tree = c.in_ok-end.ensures.same.0 ∙ invariant.same_tree;
+      same_text = c.in_ok-end.ensures.same.1 ∙ invariant.same_text;
+      turn = λ begins.
+          let a = g.A.Attempts in
+          let offset = g.A.Input.Position.PositionType.offset in
+          let old = c.places.self in
+          let new = c.attempt.new.self in
+          enough-next (a.enough new) (a.ahead new) (a.tree new) (a.text new) (offset c.in-Some.start + 1) (option_map offset c.place_behind-next.result) c.place_behind-next.ensures.next
+          (turn-behind (a.enough old) (a.ahead old) (a.enough new) (a.ahead new) (a.out_of_work new) offset c.places.next _ None c.in-Some.start
+          c.in-Some.is (invariant.turn begins) c.in_ok-end.ensures.work c.in_default-2.is);
+      next_start = invariant.next_start;
+    }
 
 pub returns-in_err-end-clause-steps : goal.returns-in_err-end-clause-steps
 returns-in_err-end-clause-steps g c =

@@ -1,4 +1,5 @@
-use Rattle.std.proofs.Common.{◌≡◌, option_map}
+use Rattle.std.proofs.Common.{◌≡◌, option_map, true}
+use Rattle.regress_exec.specs.Worked.{IsInTurn, is_enough}
 use Rattle.regress_exec.proofs.Skips.{untried}
 use Rattle.regress_exec.proofs.Walking.{Walk}
 use Rattle.regress_exec.proofs.places.AnyMatchProducer.next_match.Given as goal
@@ -11,6 +12,7 @@ invariant-places g l =
       walk : Walk (a.tree l.initial.self) (a.text l.initial.self) (offset l.fn.pos) (a.budget l.initial.self) (a.budget l.self) (option_map offset l.next);
       same_tree : a.tree l.self ≡ a.tree l.initial.self;
       same_text : a.text l.self ≡ a.text l.initial.self;
+      turn : IsInTurn (a.enough l.initial.self) (a.ahead l.initial.self) (offset l.fn.pos) → is_enough (a.enough l.self) (a.ahead l.self) (option_map offset l.next) ≡ true;
       next_start : l.next_start ≡ l.initial.next_start;
     }
 

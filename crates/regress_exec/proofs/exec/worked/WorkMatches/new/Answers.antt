@@ -1,0 +1,13 @@
+use Rattle.std.proofs.Common.{ap, not}
+use Rattle.regress_exec.proofs.Coming.{new-comes}
+use Rattle.regress_exec.proofs.exec.worked.WorkMatches.new.Goals as goal
+
+pub returns-clause-answers : goal.returns-clause-answers
+returns-clause-answers g c =
+    let p = g.P.MatchProducer in
+    (new-comes (p.tree c.args.mp) (p.text c.args.mp) (g.met.P.MatchProducer.is_text c.args.mp) (p.budget c.args.mp) c.args.start _ c.initial_position-position.ensures).0
+
+pub returns-clause-limited : goal.returns-clause-limited
+returns-clause-limited g c =
+    let p = g.P.MatchProducer in
+    ap not (new-comes (p.tree c.args.mp) (p.text c.args.mp) (g.met.P.MatchProducer.is_text c.args.mp) (p.budget c.args.mp) c.args.start _ c.initial_position-position.ensures).1

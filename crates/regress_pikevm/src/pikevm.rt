@@ -13,10 +13,10 @@ ghost use Rattle.regress_machine.specs.Turns.{CanTake};
 ghost use Rattle.regress_pikevm.specs.Acting.{end_with, search_at, turn_at, HasRun};
 ghost use Rattle.regress_pikevm.specs.States.{groups_of, next_of, waiting_of, to_try, preferred_last, TakesUp};
 
-mod actions;
-mod passing;
-mod runs;
-mod states;
+pub mod actions;
+pub mod passing;
+pub mod runs;
+pub mod states;
 
 use self::actions::take_turn;
 use self::states::{State, Turn, initial_state, resume};

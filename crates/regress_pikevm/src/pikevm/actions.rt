@@ -26,7 +26,7 @@ use std::alloc::AllocError;
 
 /// What the instruction at the state does.
 #[inline(always)]
-pub(crate) fn take_turn<Input: InputIndexer, Dir: Direction>(
+pub fn take_turn<Input: InputIndexer, Dir: Direction>(
     searched: &Searched<'_, Input>,
     insns: &[Insn],
     dir: Dir,

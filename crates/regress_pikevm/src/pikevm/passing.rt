@@ -16,7 +16,7 @@ use regress_scan::reading::{accepts, at_line_end, at_line_start, at_word_boundar
 /// Whether the next character in the direction is accepted by the instruction, which reads one. Then the position is
 /// past it, and else it is not specified.
 #[inline(always)]
-pub(crate) fn accepts_next<Input: InputIndexer, Dir: Direction>(
+pub fn accepts_next<Input: InputIndexer, Dir: Direction>(
     searched: &Searched<'_, Input>,
     insn: Insn,
     dir: Dir,

@@ -101,8 +101,8 @@ fn keep<P: PositionType>(
     Ok(())
 }
 
-// The state behind a loop over one character at a position.
-fn behind<P: PositionType>(at: P, state: &State<P>) -> Result<State<P>, AllocError>
+/// The state behind a loop over one character at a position.
+pub fn behind<P: PositionType>(at: P, state: &State<P>) -> Result<State<P>, AllocError>
     requires { state.now.ip + 2 < 2 ^ 64 }
     ensures { IfOk result (λ s. state_of P.offset s
         ≡ behind_at (P.offset at) (state_of P.offset state.now)) }

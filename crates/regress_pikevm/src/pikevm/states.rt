@@ -14,24 +14,24 @@ use std::alloc::{AllocError, Global};
 
 /// A loop's finished iterations, and where the current one began.
 #[derive(Clone, Copy)]
-pub(crate) struct LoopData<P> {
-    pub(crate) iters: usize,
-    pub(crate) entry: P,
+pub struct LoopData<P> {
+    pub iters: usize,
+    pub entry: P,
 }
 
 /// Where a thread stands: an instruction and a position, the groups, where each open group began, and the loops.
 #[derive(Drop)]
-pub(crate) struct State<P> {
-    pub(crate) ip: usize,
-    pub(crate) pos: P,
-    pub(crate) groups: Vec<Option<(P, P)>>,
-    pub(crate) starts: Vec<P>,
-    pub(crate) loops: Vec<LoopData<P>>,
+pub struct State<P> {
+    pub ip: usize,
+    pub pos: P,
+    pub groups: Vec<Option<(P, P)>>,
+    pub starts: Vec<P>,
+    pub loops: Vec<LoopData<P>>,
 }
 
 /// What comes next, the preferred state first.
 #[derive(Drop)]
-pub(crate) enum Turn<P> {
+pub enum Turn<P> {
     /// The thread has failed.
     Dead,
     Go(State<P>),
@@ -74,10 +74,7 @@ fn copies<T: Copy>(alloc: Global, value: T, count: usize) -> Result<Vec<T>, Allo
 }
 
 /// The state before the first instruction.
-pub(crate) fn initial_state<P: PositionType>(
-    program: &Program,
-    pos: P,
-) -> Result<State<P>, AllocError>
+pub fn initial_state<P: PositionType>(program: &Program, pos: P) -> Result<State<P>, AllocError>
     ensures { IfOk result (λ s. state_of P.offset s
         ≡ initial (compiled (tree_of program.now)) (P.offset pos)) }
 {

@@ -1,0 +1,201 @@
+-- Attempts in so much work: how one begins, what it finds, and that the next ones may be made.
+use Rattle.std.proofs.Common.{◌≡◌, ◌≤◌, ◌<◌, ◌^◌, ℕ, ◌+◌, ◌*◌, Bool, false, List, [], ◌∷◌, Option, Some, None, refl, sym, ap, ◌∙◌, subst, arith}
+use Rattle.std.specs.Prelude.{option_map, Ok, IsSome}
+use Rattle.regex_meaning.specs.Text.{Text, rightwards}
+use Rattle.regex_meaning.specs.Offsets.{IsText, IsBoundary, units}
+use Rattle.regex_meaning.specs.Tree.{Tree}
+use Rattle.regress_program.specs.Code.{compiled}
+use Rattle.regress_exec.specs.Attempts.{turns_from, search_from}
+use Rattle.regress_exec.proofs.Attempts.{begins}
+use Rattle.regex_meaning.specs.Layout.{Program}
+use Rattle.regress_machine.specs.Finds.{initial, CanSearch}
+use Rattle.regress_machine.specs.Machine as machine
+use Rattle.regress_machine.specs.Machine.{Thread, running, ends, act, Found, search}
+use Rattle.regress_linear.specs.Account.{ReadsAsBytes}
+use Rattle.regress_linear.specs.Turns.{Key, Entry, tried, tries, Answers}
+use Rattle.regress_ledger.specs.declared.ledger.Ledger.{Ledger}
+use Rattle.regress_ledger.specs.Bound.{first_row, work_for_each, price_of_all}
+use Rattle.regress_ledger.specs.Ledger.{line_of}
+use Rattle.regress_memo.specs.Laws.{Holds}
+use Rattle.regress_memo.specs.Memo.{has_failure, IsBegun}
+use Rattle.regress_memo.specs.Room.{Known}
+use Rattle.regress_memo.proofs.LawLemmas.{memos-are-true}
+use Rattle.regress_scan.proofs.Reach.{some-of}
+use Rattle.regress_memo.specs.Search.{HasCome}
+use Rattle.regress_exec.specs.Worked.{further_on}
+use Rattle.regress_bounded.specs.declared.course.Course.{Course}
+use Rattle.regress_pikevm.specs.declared.pikevm.states.State.{State}
+use Rattle.regress_bounded.specs.Bounds.{HasBound, work_per_unit}
+use Rattle.regress_bounded.specs.Courses.{IsPaid, IsRight, Begin, Begins, Stands, IsOver, EndsAt, Runs, front_of}
+use Rattle.regress_bounded.specs.Paying.{HasWalked, IsWalked, IsTrying}
+use Rattle.regress_pikevm.specs.States.{state_of}
+use Rattle.regress_bounded.specs.Walks.{Walked}
+use Rattle.regress_bounded.proofs.Ends.{ends-itself}
+use Rattle.regress_bounded.proofs.PaidSearches.{memory-of, then-starts, in-hand, in-order, still-onward, so-far, behind-end, then-ends, then-none}
+use Rattle.regress_bounded.proofs.Standing.{row-none}
+use Rattle.regress_bounded.proofs.Standing as standing
+
+module _ {P : Type 0} (offset : P → ℕ) (program : Program) (text : Text) where
+  -- ---- It begins
+
+  pub begins-stands : (at : ℕ) (c : Course) (b : Begin) (start : State P) → Begins program text at c b → at ≤ units text
+      → state_of offset start ≡ initial program at → Stands offset program text b (front_of offset (Some start)) [] c
+  begins-stands at c b start h inside is =
+      let right = h.right in
+      let paid = right.paid in
+      let t = c.memo.ledger in
+      let inside' : b.at ≤ units text = subst (λ n. n ≤ units text) (sym h.at) inside in
+      let same : initial program b.at ≡ state_of offset start = ap (initial program) h.at ∙ sym is in
+      let first = in-hand program t paid.ledger text paid.is_text paid.bytes paid.short b.at inside' b.memory in
+      record {
+        right = right;
+        inside = inside';
+        is_memory = h.is_memory;
+        answers = h.answers;
+        work = 0;
+        now = b.memory;
+        row = [];
+        comes = subst (λ u. HasCome program text t rightwards b.memory (tries (first_row program b.at)) 0 b.memory (tried (running u) ∷ [])) same first;
+        is = tt;
+        holds = h.holds;
+        spent = (let t = h.total in omega (arith, t));
+      }
+
+  -- one that has what is known as its memory
+  pub record Attempt (at : ℕ) (c : Course) (searched : Option Found) : Type 0 where
+    pub begin : Begin
+    pub begins : Begins program text at c begin
+    pub found : searched ≡ Some begin.found
+
+  pub attempt-begins : (at turns : ℕ) (c : Course) → IsRight program text c.memo → IsSome (search program text turns rightwards (first_row program at))
+      → Attempt at c (search program text turns rightwards (first_row program at))
+  attempt-begins at turns c right answers =
+      let f = some-of (search program text turns rightwards (first_row program at)) answers in
+      let m = memos-are-true.failures program text c.memo right.is_true in
+      record {
+        begin = record { at = at; memory = m.memory; total = c.left; turns = turns; found = f.0 };
+        begins = record { right = right; at = refl; is_memory = m.is; holds = m.holds; total = refl; answers = f.1 };
+        found = f.1;
+      }
+
+  -- ---- What it finds
+
+  module _ (b : Begin) (c : Course) where
+    pub nothing-found : Stands offset program text b [] [] c → b.found.end ≡ None
+    nothing-found h =
+        let none : h.row ≡ [] = row-none offset program text h.row h.is in
+        standing.then-none program text c.memo.ledger h.right.paid b h.is_memory h.answers h.work h.now
+        (subst (HasCome program text c.memo.ledger rightwards b.memory (tries (first_row program b.at)) h.work h.now) none h.comes)
+
+    pub end-found : (end : State P) → EndsAt offset program text b end c → b.found.end ≡ Some (state_of offset end)
+    end-found end h =
+        let s = h.stands in
+        standing.then-ends program text c.memo.ledger s.right.paid b s.is_memory s.answers s.work s.now h.from (state_of offset end) s.row s.comes h.ends
+
+  -- its end is inside the text
+  pub end-inside : (b : Begin) (c : Course) (end : State P) → EndsAt offset program text b end c → offset end.pos ≤ units text
+  end-inside b c end h =
+      let own : offset end.pos ≡ h.from.pos = ap (λ (u : machine.State). u.pos) (ends-itself program text rightwards h.from (state_of offset end) h.ends) in
+      let within = h.stands.comes.keyed.0.sound.within in
+      omega (arith, own, within)
+
+  pub runs-found : (b : Begin) (c : Course) (end : Option (State P)) → Runs offset program text b (Ok end) c → b.found.end ≡ option_map (λ e. state_of offset e) end
+  runs-found b c None h = nothing-found b c h
+  runs-found b c (Some e) h = end-found b c e h
+
+  -- ---- What the next ones may do
+
+  module _ (at ahead : ℕ) (old new : Course) (same : new.memo.ledger ≡ old.memo.ledger) (walked : Walked program text old ahead) (le : ahead ≤ at) (inside : at ≤ units text)
+      (answered : Answers program text rightwards (first_row program at)) where
+    abbrev t : Ledger
+    t = new.memo.ledger
+
+    -- the attempt from what was known
+    abbrev pub its : Begin
+    its = record { at = at; memory = walked.walked.memory; total = old.left; turns = answered.turns; found = answered.found }
+
+    pub its-begins : IsRight program text old.memo → Begins program text at old its
+    its-begins right = record { right = right; at = refl; is_memory = walked.walked.has.is; holds = walked.walked.holds; total = refl; answers = answered.searches }
+
+    has : HasWalked program text t ahead walked.done walked.walked.memory
+    has = subst (λ t. HasWalked program text t ahead walked.done walked.walked.memory) (sym same) walked.walked.has
+
+    module _ (paid : IsPaid program text t) where
+      trying : (known : Key → Bool) (work : ℕ) (now : List Key) (row : List Entry) → HasCome program text t rightwards its.memory (tries (first_row program at)) work now row → Holds known now
+          → IsTrying program text t known at walked.done work row
+      trying known work now row h holds = record {
+        memory = its.memory;
+        now = now;
+        has = still-onward program t paid.ledger text paid.is_text paid.bytes paid.short ahead walked.done its.memory has at le;
+        comes = h;
+        holds = holds;
+      }
+
+      still-enough : (work : ℕ) → work + new.left ≡ old.left → work_per_unit t * (units text + 1) ≤ walked.done + work + new.left
+      still-enough work spent =
+          let e = walked.enough in
+          let u = ap (λ t. work_per_unit t * (units text + 1)) same in
+          omega (arith, e, u, spent)
+
+      -- none begins there
+      pub walked-none : Stands offset program text its [] [] new → Walked program text new (at + 1)
+      walked-none h =
+          let none : h.row ≡ [] = row-none offset program text h.row h.is in
+          let come = subst (HasCome program text t rightwards its.memory (tries (first_row program at)) h.work h.now) none h.comes in
+          record {
+            done = walked.done + h.work;
+            walked = then-none program t paid.ledger text paid.is_text paid.bytes paid.short (has_failure new.memo) at walked.done h.work answered (trying (has_failure new.memo) h.work h.now [] come h.holds);
+            enough = still-enough h.work h.spent;
+          }
+
+      -- a match ends it
+      pub walked-found : (end : State P) → EndsAt offset program text its end new → Walked program text new (further_on at (offset end.pos))
+      walked-found end h =
+          let s = h.stands in
+          let own : offset end.pos ≡ h.from.pos = ap (λ (u : machine.State). u.pos) (ends-itself program text rightwards h.from (state_of offset end) h.ends) in
+          let order : at ≤ h.from.pos = in-order program t paid.ledger text paid.is_text paid.bytes paid.short at its.memory s.work s.now (running h.from) s.row s.comes in
+          let on = behind-end at (offset end.pos) (omega (arith, own, order)) in
+          record {
+            done = walked.done + s.work;
+            walked = then-ends program t paid.ledger text paid.is_text paid.bytes paid.short (has_failure new.memo) at walked.done s.work (running h.from) s.row answered
+                (trying (has_failure new.memo) s.work s.now (tried (running h.from) ∷ s.row) s.comes s.holds)
+                (further_on at (offset end.pos)) (let a = on.0 in omega (arith, a, own)) on.1;
+            enough = still-enough s.work s.spent;
+          }
+
+      -- work is never wanting
+      pub never-over : IsOver offset program text its new → ⊥
+      never-over h =
+          let all =
+          so-far program t paid.ledger text paid.is_text paid.bytes paid.short at walked.done its.memory
+          (still-onward program t paid.ledger text paid.is_text paid.bytes paid.short ahead walked.done its.memory has at le) answered h.work h.now h.row inside h.comes in
+          let third : work_per_unit t ≡ 1 + (work_for_each t + (price_of_all t + (line_of t 0).ready)) = omega arith in
+          let same_all = ap (λ m. m * (units text + 1)) third in
+          let u = ap (λ t. work_per_unit t * (units text + 1)) same in
+          let e = walked.enough in
+          let over : old.left < h.work = h.over in
+          absurd (omega (arith, all, same_all, u, e, over))
+
+-- ---- Before the first one
+
+module _ (program : Program) (text : Text) (is_text : IsText text) (bytes : ReadsAsBytes program text) (short : units text < 2 ^ 63) (t : Ledger) (has : HasBound program t)
+    (m : Known) (begun : IsBegun t (units text + 1) false m) where
+  its-paid : IsPaid program text t
+  its-paid = record { ledger = has.ledger; bounded = has.bounded; no_look = has.no_look; is_text = is_text; bytes = bytes; short = short }
+
+  pub begun-right : IsRight program text m
+  begun-right = record { paid = subst (IsPaid program text) (sym begun.ledger) its-paid; is_true = memos-are-true.begun program text t false m has.ledger begun }
+
+  pub begun-walked : (left : ℕ) → work_per_unit t * (units text + 1) ≤ left → Walked program text (record { memo = m; left = left }) 0
+  begun-walked left enough = record {
+    done = 0;
+    walked = subst (λ t. IsWalked program text t (has_failure m) 0 0) (sym begun.ledger)
+        (then-starts program t has.ledger text is_text bytes short (has_failure m) (memory-of t (units text + 1) false m begun) 0);
+    enough = (let same = ap (λ t. work_per_unit t * (units text + 1)) begun.ledger in omega (arith, same, enough));
+  }
+
+-- the search of an attempt answers
+pub answered-at : (tree : Tree) (text : Text) → CanSearch (compiled tree) tree text → (at : ℕ) → IsBoundary text at → Answers (compiled tree) text rightwards (first_row (compiled tree) at)
+answered-at tree text can at on =
+    let s = some-of (search_from tree text at rightwards (initial (compiled tree) at)) (begins tree text at can on).answers in
+    record { turns = turns_from tree text at; found = s.0; searches = s.1 }

@@ -1,0 +1,15 @@
+pub mod Bodies
+pub mod Ending
+pub mod Ends
+pub mod Furthest
+pub mod GreedyMet
+pub mod Lazily
+pub mod Looks
+pub mod Meeting
+pub mod PaidRuns
+pub mod PaidSearches
+pub mod Passed
+pub mod Standing
+pub mod Stopping
+pub mod Taken
+pub mod Turning

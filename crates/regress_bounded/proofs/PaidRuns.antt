@@ -1,0 +1,792 @@
+-- Runs in a search that remembers: what they leave has keys, and each turn of one is paid.
+use Rattle.std.proofs.Common.{◌≡◌, ◌≤◌, ◌<◌, ◌^◌, ℕ, zero, suc, ◌+◌, ◌-◌, Bool, true, false, min, List, [], ◌∷◌, ◌++◌, map, reverse, length, Some, None, refl, sym, ap, ap₂, ◌∙◌, subst, arith, append_assoc, append-nil, slice_get, sum_by}
+use Rattle.std.specs.Prelude.{if◌then◌else◌, ◌≢◌}
+use mathlib.Core.Logic.{inl, inr}
+use Rattle.std.proofs.lemmas.Bool.{cases_lt}
+use Rattle.std.proofs.lemmas.List.{length-map, length-reverse, reverse-reverse, reverse-append}
+use Rattle.std.proofs.lemmas.List.Sums.{sum_by-cons}
+use Rattle.regex_meaning.specs.Laws.{Each}
+use Rattle.regex_meaning.specs.Lists.{numbers_from}
+use Rattle.regex_meaning.specs.Text.{Text, Direction, rightwards, leftwards, last_place, moved, characters_left}
+use Rattle.regex_meaning.specs.Offsets.{IsText, offset, place_at, units}
+use Rattle.regex_meaning.specs.Layout.{Program, Loop1CharBody}
+use Rattle.regex_meaning.proofs.Each.{Each-append, Each-map, Each-reverse}
+use Rattle.regex_meaning.proofs.Lists.{length-numbers_from}
+use Rattle.regex_meaning.proofs.TextLemmas.{offset-place_at, offset-less}
+use Rattle.regress_machine.specs.Machine.{State, Thread, running, waiting, scans, in_turn, run_states, test_of, act}
+use Rattle.regress_machine.proofs.Beside.{moved-zero}
+use Rattle.regress_machine.proofs.Run.{numbers_between}
+use Rattle.regress_simulation.specs.Runs.{behind, most_first}
+use Rattle.regress_simulation.specs.Simulates.{FindNothing}
+use Rattle.regress_simulation.proofs.Runs.{behind-from, run-turn}
+use Rattle.regress_simulation.proofs.Simulates.{simulates-same}
+use Rattle.regress_linear.specs.Account.{Agree, outermost, ReadsAsBytes}
+use Rattle.regress_linear.specs.Alike.{Relation, AlikeThreads}
+use Rattle.regress_linear.specs.Beside.{ScanIsPaid, ScanGives}
+use Rattle.regress_linear.specs.Codes.{IsStateOf, plan_code, key_of}
+use Rattle.regress_linear.specs.Distinct.{IsNew}
+use Rattle.regress_linear.specs.LaidOut.{state_of_thread}
+use Rattle.regress_linear.specs.Paid.{weight_by, IsPaid, RunIsPaid, LazyRunIsPaid, RunTurnsArePaid, LazyTurnsArePaid}
+use Rattle.regress_linear.specs.Plans.{IsRecorded, plan_taken}
+use Rattle.regress_linear.specs.RunKeys.{run_at, RunRecords, run_key}
+use Rattle.regress_linear.specs.Runs.{passing, run_from, waits_from}
+use Rattle.regress_linear.specs.RunTurns.{placed, AreUnknown, AtRun, GreedyGives, LazyGives}
+use Rattle.regress_linear.specs.Turns.{Key, Entry, tried, kept, noted, tries, threads_in, weighs, GoesOnward, IsOf, AreSound, Gives, Comes, gives}
+use Rattle.regress_linear.specs.Weights.{is_one_of, each_noted}
+use Rattle.regress_linear.proofs.Beside.{others-paid, scans-give}
+use Rattle.regress_linear.proofs.Distinct.{Each-left, Each-right}
+use Rattle.regress_linear.proofs.Looks.{soundness-stays}
+use Rattle.regress_linear.proofs.Paid.{turns-paid, one-weighs}
+use Rattle.regress_linear.proofs.Plans.{plans-take}
+use Rattle.regress_linear.proofs.RunKeys.{runs-have-keys}
+use Rattle.regress_linear.proofs.Runs.{passing-left, passing-on, runs-begin, lazy-runs-go-on}
+use Rattle.regress_linear.proofs.RunTurns.{runs-give}
+use Rattle.regress_linear.proofs.Turns.{threads-tries, threads-joined, turns-right}
+use Rattle.regress_linear.proofs.Weights.{turns-give}
+use Rattle.regress_ledger.specs.declared.ledger.Ledger.{Ledger}
+use Rattle.regress_ledger.specs.Bodies.{LeadsPast}
+use Rattle.regress_ledger.specs.Bound.{IsBounded}
+use Rattle.regress_ledger.specs.Checks.{StepIsRight, unlimited}
+use Rattle.regress_ledger.specs.Ledger.{line_of, account_of, questions_of, recorded, weights_of, price_of, way_of}
+use Rattle.regress_ledger.specs.Steps.{step_in}
+use Rattle.regress_ledger.specs.Whole.{IsLedgerOf, Serves}
+use Rattle.regress_ledger.proofs.WholeLemmas.{recorded-is, ledgers-serve}
+use Rattle.regress_memo.specs.Laws.{ledger_keys, KeyFails}
+use Rattle.regress_memo.specs.Memo.{key_at}
+use Rattle.regress_memo.specs.Search.{IsKeyed, AreKeyed, HasCome}
+use Rattle.regress_memo.proofs.LawLemmas.{keys-are-there, records-there}
+use Rattle.regress_scan.proofs.Reach.{numbers-last}
+use Rattle.regress_bounded.specs.Paying.{IsEndless, key_on, row_on, row_of_places}
+
+-- ---- Numbers
+
+number-in : (P : ℕ → Type 0) (least count : ℕ) → Each P (numbers_from least count) → (n : ℕ) → least ≤ n → n < least + count → P n
+number-in P least zero h n le less = absurd (omega (arith, le, less))
+number-in P least (suc count) h n le less = elim (cases_lt least n) [
+  | inl further ↦ number-in P (least + 1) count h.1 n (omega (arith, further)) (omega (arith, less))
+  | inr same ↦ let e : least ≡ n = omega (arith, le, same) in subst P e h.0
+]
+
+each-number : (P : ℕ → Type 0) (least count : ℕ) → ((n : ℕ) → least ≤ n → n < least + count → P n) → Each P (numbers_from least count)
+each-number P least count h = Each-map _ P (λ n within. h n within.0 within.1) (numbers_from least count) (numbers_between least count)
+
+-- the preferred one first, or the other way about
+either-way : (P : ℕ → Type 0) (ns : List ℕ) → Each P ns → (b : Bool) → Each P (if b then reverse ns else ns)
+either-way P ns h true = Each-reverse P ns h
+either-way P ns h false = h
+
+of-either-way : (P : ℕ → Type 0) (ns : List ℕ) (b : Bool) → Each P (if b then reverse ns else ns) → Each P ns
+of-either-way P ns true h = subst (Each P) (reverse-reverse ns) (Each-reverse P (reverse ns) h)
+of-either-way P ns false h = h
+
+-- ---- Threads in a row
+
+module _ (P : State → Type 0) (f : ℕ → State) where
+  -- what holds of the state of each thread
+  abbrev AreSo : List Thread → Type 0
+  AreSo ts = Each (λ u. P (state_of_thread u)) ts
+
+  waits-so : (ns : List ℕ) → Each (λ n. P (f n)) ns → AreSo (map waiting (map f ns))
+  waits-so [] h = tt
+  waits-so (n ∷ ns) h = (h.0, waits-so ns h.1)
+
+  turn-so : (ns : List ℕ) → Each (λ n. P (f n)) ns → AreSo (in_turn (map f ns))
+  turn-so [] h = tt
+  turn-so (n ∷ ns) h = (h.0, waits-so ns h.1)
+
+  of-waits : (ns : List ℕ) → AreSo (map waiting (map f ns)) → Each (λ n. P (f n)) ns
+  of-waits [] h = tt
+  of-waits (n ∷ ns) h = (h.0, of-waits ns h.1)
+
+  of-turn : (ns : List ℕ) → AreSo (in_turn (map f ns)) → Each (λ n. P (f n)) ns
+  of-turn [] h = tt
+  of-turn (n ∷ ns) h = (h.0, of-waits ns h.1)
+
+module _ (R : Relation) where
+  alike-each : (ts : List Thread) → AlikeThreads R ts ts → Each (λ u. R (state_of_thread u) (state_of_thread u)) ts
+  alike-each [] h = tt
+  alike-each (running s ∷ ts) h = (h.0, alike-each ts h.1)
+  alike-each (waiting s ∷ ts) h = (h.0, alike-each ts h.1)
+
+  each-alike : (ts : List Thread) → Each (λ u. R (state_of_thread u) (state_of_thread u)) ts → AlikeThreads R ts ts
+  each-alike [] h = tt
+  each-alike (running s ∷ ts) h = (h.0, each-alike ts h.1)
+  each-alike (waiting s ∷ ts) h = (h.0, each-alike ts h.1)
+
+-- ---- Texts
+
+-- a place is not beyond its offset
+pub places-few : (text : Text) → IsText text → (q : ℕ) → q ≤ last_place text → q ≤ offset text q
+places-few text is zero inside = omega arith
+places-few text is (suc q) inside =
+    let more = offset-less text q (suc q) is (omega arith) inside in
+    let before = places-few text is q (omega (arith, inside)) in
+    omega (arith, more, before)
+
+pub left-few : (text : Text) (d : Direction) (p : ℕ) → p ≤ last_place text → characters_left text d p ≤ last_place text
+left-few text rightwards p le = omega arith
+left-few text leftwards p le = le
+
+place-inside : (text : Text) (d : Direction) (n p : ℕ) → p ≤ last_place text → n ≤ characters_left text d p → moved text d n p ≤ last_place text
+place-inside text rightwards n p inside few = omega (arith, few, inside)
+place-inside text leftwards n p inside few = omega (arith, inside)
+
+moved-twice : (text : Text) (d : Direction) (m n p : ℕ) → moved text d n (moved text d m p) ≡ moved text d (m + n) p
+moved-twice text rightwards m n p = omega arith
+moved-twice text leftwards m n p = omega arith
+
+-- ---- Keys of threads
+
+-- what a state's key says of it
+record HasKey (t : Ledger) (s : State) (k : Key) : Type 0 where
+  records : (line_of t s.ip).records ≡ true
+  is : key_of (plan_code (questions_of t)) s ≡ k
+
+has-key : (t : Ledger) (s : State) (k : Key) → key_at t s ≡ Some k → HasKey t s k
+has-key t s k is = by (line_of t s.ip).records refl is
+  where
+    by : (b : Bool) → (line_of t s.ip).records ≡ b → (if b then Some (key_of (plan_code (questions_of t)) s) else None) ≡ Some k → HasKey t s k
+    by false e h = absurd (let no : ⊥ = cc in no)
+    by true e h = record { records = e; is = cc }
+
+no-key : (t : Ledger) (s : State) → key_at t s ≡ None → is_one_of (recorded t) s.ip ≡ false
+no-key t s none = by (is_one_of (recorded t) s.ip) refl
+  where
+    by : (b : Bool) → is_one_of (recorded t) s.ip ≡ b → is_one_of (recorded t) s.ip ≡ false
+    by false e = e
+    by true e =
+        let some : Some (key_of (plan_code (questions_of t)) s) ≡ None =
+        sym (ap (λ b. if b then Some (key_of (plan_code (questions_of t)) s) else None) (recorded-is t s.ip e)) ∙ none in
+        absurd (let no : ⊥ = cc in no)
+
+-- ---- Runs
+
+module _ (program : Program) (t : Ledger) (of : IsLedgerOf program t) (bounded : IsBounded t program) (text : Text) (is_text : IsText text) (bytes : ReadsAsBytes program text)
+    (less : units text < 2 ^ 63) (d : Direction) where
+  abbrev Keyed : State → Type 0
+  Keyed s = IsKeyed program text t d s
+
+  abbrev AllKeyed : List Thread → Type 0
+  AllKeyed ts = AreKeyed program text t d ts
+
+  abbrev served : Serves program t text
+  served = ledgers-serve program t of text is_text bytes less
+
+  -- threads of entries that stand above a row
+  keyed-over : (entries rest : List Entry) → AllKeyed (threads_in entries) → AllKeyed (threads_in rest) → AllKeyed (threads_in (entries ++ rest))
+  keyed-over entries rest above below =
+      subst AllKeyed (sym (threads-joined entries rest))
+      (Each-append (λ u. Keyed (state_of_thread u)) (threads_in entries) (threads_in rest) above below)
+
+  -- few threads, at states behind the run, which have keys
+  record LeavesFew (s : State) (least most n : ℕ) (ts : List Thread) : Type 0 where
+    states : List State
+    are : in_turn states ≡ ts
+    few : n ≤ most
+    as_many : length states ≤ most + 1 - least
+    there : Each (λ u. u.ip ≡ s.ip + 2) states
+    keyed : AllKeyed (threads_in (tries ts))
+
+  module _ (s : State) (keyed : Keyed s) (least most : ℕ) (greedy : Bool) (run : slice_get program.insns s.ip ≡ Some (Loop1CharBody least most greedy))
+      (test : ℕ → Bool) (body : test_of program (slice_get program.insns (s.ip + 1)) ≡ Some test) (place : ℕ) (at : place_at text s.pos ≡ Some place) where
+    -- how many characters it takes at most
+    abbrev furthest : ℕ
+    furthest = min most (passing text test d place)
+
+    abbrev its-places : List ℕ
+    its-places = numbers_from least (furthest + 1 - least)
+
+    turn : act program text d s ≡ scans (min most (passing text test d place + 1)) (in_turn (run_states text greedy d least furthest place s))
+    turn = run-turn program text d place s least most greedy test run body at
+
+    each-sound : Each (λ n. Agree (account_of t) (units text) outermost d (behind text d place s n) (behind text d place s n)) its-places
+    each-sound =
+        let R : Relation = λ u v. Agree (account_of t) (units text) outermost d u v in
+        let all = (soundness-stays program text (account_of t) served.plan.account d).scans outermost s _ _ keyed.sound turn in
+        of-either-way _ its-places greedy
+        (of-turn (λ u. R u u) (behind text d place s) (if greedy then reverse its-places else its-places) (alike-each R _ all))
+
+    -- a state that is keyed at a run stays keyed behind its characters
+    pub scan-keyed : (n : ℕ) → least ≤ n → n ≤ most → n ≤ passing text test d place → Keyed (behind text d place s n)
+    scan-keyed n le few passes =
+        let right = subst (λ o. StepIsRight t program (step_in s.ip o) s.ip) run (of.steps s.ip) in
+        let past = subst (λ o. LeadsPast program (step_in s.ip o) s.ip) run (bounded.past s.ip) in
+        record {
+          of = record { groups = keyed.of.groups; starts = keyed.of.starts; loops = keyed.of.loops };
+          sound = number-in _ least (furthest + 1 - least) each-sound n le (omega (arith, le, few, passes));
+          way = right.way ∙ keyed.way;
+          no_body = past;
+        }
+
+    -- what one turn over its characters leaves
+    module _ (n : ℕ) (ts : List Thread) (turned : act program text d s ≡ scans n ts) where
+      abbrev its-states : List State
+      its-states = run_states text greedy d least furthest place s
+
+      same-turn : scans n ts ≡ scans (min most (passing text test d place + 1)) (in_turn its-states)
+      same-turn = sym turned ∙ turn
+
+      same-count : n ≡ min most (passing text test d place + 1)
+      same-count = let same = same-turn in cc
+
+      same-threads : in_turn its-states ≡ ts
+      same-threads = let same = same-turn in cc
+
+      places-keyed : Each (λ m. Keyed (behind text d place s m)) its-places
+      places-keyed = each-number _ least (furthest + 1 - least) (λ m le few. scan-keyed m le (omega (arith, le, few)) (omega (arith, le, few)))
+
+      as-many : length its-states ≤ most + 1 - least
+      as-many =
+          let a = length-map (if greedy then reverse its-places else its-places) (behind text d place s) in
+          let b = by greedy in
+          omega (arith, a, b)
+        where
+          by : (b : Bool) → length (if b then reverse its-places else its-places) ≡ furthest + 1 - least
+          by true = length-reverse its-places ∙ length-numbers_from least (furthest + 1 - least)
+          by false = length-numbers_from least (furthest + 1 - least)
+
+      all-there : (ns : List ℕ) → Each (λ (u : State). u.ip ≡ s.ip + 2) (map (behind text d place s) ns)
+      all-there [] = tt
+      all-there (m ∷ ns) = (refl, all-there ns)
+
+      leaves-few : LeavesFew s least most n ts
+      leaves-few = record {
+        states = its-states;
+        are = same-threads;
+        few = let e = same-count in omega (arith, e);
+        as_many = as-many;
+        there = all-there (if greedy then reverse its-places else its-places);
+        keyed =
+            subst AllKeyed (sym (threads-tries ts))
+            (subst AllKeyed same-threads
+            (turn-so Keyed (behind text d place s) (if greedy then reverse its-places else its-places) (either-way _ its-places places-keyed greedy)));
+      }
+
+-- ---- Runs without a maximum: their keys, and the places that they leave
+
+module _ (program : Program) (t : Ledger) (of : IsLedgerOf program t) (bounded : IsBounded t program) (text : Text) (is_text : IsText text) (bytes : ReadsAsBytes program text)
+    (less : units text < 2 ^ 63) (d : Direction) (s : State) (test : ℕ → Bool) (least : ℕ) (greedy : Bool) (endless : IsEndless program s test least greedy) where
+  abbrev serves-here : Serves program t text
+  serves-here = served program t of bounded text is_text bytes less d
+
+  -- behind the run the way is the same
+  way-behind : way_of t (s.ip + 2) ≡ way_of t s.ip
+  way-behind = (subst (λ o. StepIsRight t program (step_in s.ip o) s.ip) endless.run (of.steps s.ip)).way
+
+  run-records : way_of t s.ip ≡ d → RunRecords program (account_of t) (questions_of t) (way_of t) (recorded t) d test greedy s.ip
+  run-records way =
+      let written = of.runs s.ip least unlimited greedy endless.run in
+      record {
+        run = ap run_at endless.run;
+        body = endless.body;
+        goes = written.way ∙ way;
+        records = records-there t (s.ip + 1) (written.records refl);
+        asks = written.asks refl;
+        inside = λ l asked. ((serves-here.only.only (s.ip + 2)).empty l asked).0;
+      }
+
+  -- The state at the run's body has the key of what the run leaves from there.
+  pub key-is : way_of t s.ip ≡ d → (place n : ℕ)
+      → key_at t (record s { ip = s.ip + 1; pos = offset text (moved text d n place) }) ≡ Some (key_on program text t d test place s n)
+  key-is way place n = keys-are-there.run program text t d test greedy s (moved text d n place) (run-records way)
+
+  pub key-here : way_of t s.ip ≡ d → (place : ℕ) → place_at text s.pos ≡ Some place
+      → key_at t (record s { ip = s.ip + 1 }) ≡ Some (key_on program text t d test place s 0)
+  key-here way place at =
+      let here : s.pos ≡ offset text (moved text d 0 place) = sym (offset-place_at text s.pos place is_text at).0 ∙ ap (offset text) (sym (moved-zero text d place)) in
+      ap (λ pos. key_at t (record s { ip = s.ip + 1; pos = pos })) here ∙ key-is way place 0
+
+  module _ (place : ℕ) (inside : place ≤ last_place text) where
+    abbrev passes : ℕ
+    passes = passing text test d place
+
+    abbrev at-place : ℕ → State
+    at-place n = behind text d place s n
+
+    -- fewer characters pass than the maximum
+    passes-few : passes < unlimited
+    passes-few =
+        let a = passing-left text test d place inside in
+        let b = left-few text d place inside in
+        let c = places-few text is_text (last_place text) (omega arith) in
+        omega (arith, a, b, c, less)
+
+    further-inside : (n : ℕ) → n ≤ passes → moved text d n place ≤ last_place text
+    further-inside n few = let left = passing-left text test d place inside in place-inside text d n place inside (omega (arith, left, few))
+
+    -- ---- What waits of a lazy run
+
+    pub lazy-waits : (n : ℕ) → n ≤ passes → waits_from text test d n place s ≡ waits_from text test d 0 (moved text d n place) s
+    lazy-waits n few = (lazy-runs-go-on text test d place s inside).waits n few
+
+    -- the next character is accepted
+    pub lazy-later : (n : ℕ) → n ≤ passes → passing text test d (moved text d n place) ≡ 1 + passing text test d (moved text d (n + 1) place)
+        → waits_from text test d (n + 1) place s ≡ waits_from text test d 0 (moved text d (n + 1) place) s
+    lazy-later n few more = let sum = passing-on text test d n place inside few in lazy-waits (n + 1) (omega (arith, sum, more))
+
+    -- or it is not, and none waits
+    pub lazy-last : (n : ℕ) → n ≤ passes → passing text test d (moved text d n place) ≡ 0 → waits_from text test d (n + 1) place s ≡ []
+    lazy-last n few none =
+        let sum = passing-on text test d n place inside few in
+        let same : n + 1 ≡ passes + 1 = omega (arith, sum, none) in
+        ap (λ m. waits_from text test d m place s) same ∙ (lazy-runs-go-on text test d place s inside).last
+
+    -- ---- Rows of a greedy run
+
+    abbrev its-row : ℕ → List Thread
+    its-row n = row_on program text t d test place s n
+
+    abbrev its-key : ℕ → Key
+    its-key n = key_on program text t d test place s n
+
+    abbrev its-waiting : ℕ → List (Thread × Key)
+    its-waiting count = placed program text (account_of t) (questions_of t) (way_of t) (recorded t) (plan_taken program) d test s place least count
+
+    abbrev its-places-row : ℕ → List Entry
+    its-places-row count = row_of_places program text t d test place s least count
+
+    row-next : (n : ℕ) → n + 1 ≤ passes → its-row (n + 1) ++ waiting (at-place n) ∷ [] ≡ its-row n
+    row-next n few =
+        let q = moved text d n place in
+        let sum = passing-on text test d n place inside (omega (arith, few)) in
+        let zero_on : n + 0 ≡ n = omega arith in
+        let here : behind text d q s 0 ≡ at-place n = sym (behind-from text d place s n 0) ∙ ap at-place zero_on in
+        sym (runs-begin text test d q 0 1 s (further-inside n (omega (arith, few))) (omega arith) (omega (arith, sum, few))
+        ∙ ap₂ (λ r u. run_from text test d 0 r s ++ waiting u ∷ []) (moved-twice text d n 1 place) here)
+
+    row-last : (n : ℕ) → n ≡ passes → running (at-place n) ∷ [] ≡ its-row n
+    row-last n same =
+        let q = moved text d n place in
+        let sum = passing-on text test d n place inside (omega (arith, same)) in
+        let one : 1 ≡ passing text test d q + 1 - 0 = omega (arith, sum, same) in
+        let zero_on : n ≡ n + 0 = omega arith in
+        let here : at-place n ≡ behind text d q s 0 = ap at-place zero_on ∙ behind-from text d place s n 0 in
+        ap (λ u. running u ∷ []) here ∙ ap (λ m. in_turn (most_first text d q s 0 m)) one
+
+    waiting-back : (count : ℕ) → its-waiting (suc count) ≡ (waiting (at-place (least + count)), its-key (least + count)) ∷ its-waiting count
+    waiting-back count =
+        let pair : ℕ → Thread × Key = λ n. (waiting (at-place n), its-key n) in
+        let more : suc count ≡ count + 1 = omega arith in
+        ap (map pair)
+        (ap (λ m. reverse (numbers_from least m)) more ∙ ap reverse (numbers-last least count) ∙ reverse-append (numbers_from least count) ((least + count) ∷ []))
+
+    -- the places above records are those of the law
+    rows-are : (count : ℕ) → least + count ≤ passes → each_noted (its-row (least + count)) (its-waiting count) ≡ its-places-row count
+    rows-are zero few = refl
+    rows-are (suc count) few =
+        let n = least + count in
+        let next : least + suc count ≡ n + 1 = omega arith in
+        let here : its-row (least + suc count) ++ waiting (at-place n) ∷ [] ≡ its-row n =
+        ap (λ m. its-row m ++ waiting (at-place n) ∷ []) next ∙ row-next n (omega (arith, few)) in
+        ap (each_noted (its-row (least + suc count))) (waiting-back count)
+        ∙ ap (λ ts. tried (waiting (at-place n)) ∷ noted (its-key n) ts ∷ each_noted ts (its-waiting count)) here
+        ∙ ap (λ row. tried (waiting (at-place n)) ∷ noted (its-key n) (its-row n) ∷ row) (rows-are count (omega (arith, few)))
+
+    rows-from : (n : ℕ) → least ≤ n → n ≤ passes → each_noted (its-row n) (its-waiting (n - least)) ≡ its-places-row (n - least)
+    rows-from n le few =
+        let same : n ≡ least + (n - least) = omega (arith, le) in
+        ap (λ m. each_noted (its-row m) (its-waiting (n - least))) same ∙ rows-are (n - least) (omega (arith, le, few))
+
+    -- ---- Keyed places
+
+    module _ (keyed : IsKeyed program text t d s) (at : place_at text s.pos ≡ Some place) where
+      place-keyed : (n : ℕ) → least ≤ n → n ≤ passes → IsKeyed program text t d (at-place n)
+      place-keyed n le few =
+          let below = passes-few in
+          scan-keyed program t of bounded text is_text bytes less d s keyed least unlimited greedy endless.run test endless.body place at n le (omega (arith, few, below)) few
+
+      row-keyed : (n : ℕ) → least ≤ n → n ≤ passes → AreKeyed program text t d (its-row n)
+      row-keyed n le few =
+          let q = moved text d n place in
+          let count = passing text test d q + 1 - 0 in
+          let sum = passing-on text test d n place inside few in
+          turn-so (IsKeyed program text t d) (behind text d q s) (reverse (numbers_from 0 count))
+          (Each-reverse _ (numbers_from 0 count)
+          (each-number _ 0 count (λ m first last.
+          subst (IsKeyed program text t d) (behind-from text d place s n m) (place-keyed (n + m) (omega (arith, le)) (omega (arith, sum, last))))))
+
+      waits-keyed : (n : ℕ) → least ≤ n → AreKeyed program text t d (waits_from text test d n place s)
+      waits-keyed n le =
+          let count = passes + 1 - n in
+          waits-so (IsKeyed program text t d) at-place (numbers_from n count)
+          (each-number _ n count (λ m first last. place-keyed m (omega (arith, le, first)) (omega (arith, first, last))))
+
+      places-keyed-over : (rest : List Entry) → AreKeyed program text t d (threads_in rest) → (count : ℕ) → least + count ≤ passes + 1
+          → AreKeyed program text t d (threads_in (its-places-row count ++ rest))
+      places-keyed-over rest below zero few = below
+      places-keyed-over rest below (suc count) few =
+          (place-keyed (least + count) (omega arith) (omega (arith, few)), places-keyed-over rest below count (omega (arith, few)))
+
+      at-run : AtRun program text (account_of t) (questions_of t) (way_of t) (recorded t) (plan_taken program) d test s greedy least unlimited place
+      at-run = record {
+        run = endless.run;
+        records = run-records keyed.way;
+        at = at;
+        unlimited = passes-few;
+        of = keyed.of;
+        sound = keyed.sound;
+      }
+
+module _ (program : Program) (text : Text) (t : Ledger) (d : Direction) where
+  keyed-sound : (ts : List Thread) → AreKeyed program text t d ts → AreSound program text (account_of t) (ledger_keys program text t) d ts
+  keyed-sound ts h =
+      each-alike (Agree (account_of t) (units text) outermost d) ts
+      (Each-map (λ u. IsKeyed program text t d (state_of_thread u)) _ (λ u k. k.sound) ts h)
+
+-- ---- Turns
+
+module _ (program : Program) (t : Ledger) (of : IsLedgerOf program t) (bounded : IsBounded t program) (text : Text) (is_text : IsText text) (bytes : ReadsAsBytes program text)
+    (less : units text < 2 ^ 63) (d : Direction) (memory : List Key) (first : List Entry) (work : ℕ) (now : List Key) (rest : List Entry) where
+  abbrev Come : (work : ℕ) → List Key → List Entry → Type 0
+  Come work now row = HasCome program text t d memory first work now row
+
+  abbrev Steps : (work : ℕ) → List Entry → Type 0
+  Steps work row =
+      Comes program text (account_of t) (ledger_keys program text t) d (λ k. price_of t k.ip) (weight_by program (weights_of t) (price_of t) (recorded t))
+      memory first work now row
+
+  abbrev serves : Serves program t text
+  serves = served program t of bounded text is_text bytes less d
+
+  abbrev Paid : (more : ℕ) → (front entries : List Entry) → Type 0
+  Paid more front entries = IsPaid program (weights_of t) (price_of t) (recorded t) more front entries
+
+  -- ---- A run with a maximum: one turn over characters
+
+  module _ (s : State) (least most : ℕ) (greedy : Bool) (run : slice_get program.insns s.ip ≡ Some (Loop1CharBody least most greedy))
+      (test : ℕ → Bool) (body : test_of program (slice_get program.insns (s.ip + 1)) ≡ Some test) (place : ℕ) (at : place_at text s.pos ≡ Some place)
+      (limited : most ≢ unlimited) (n : ℕ) (ts : List Thread) (turned : act program text d s ≡ scans n ts) where
+    abbrev left : IsKeyed program text t d s → LeavesFew program t of bounded text is_text bytes less d s least most n ts
+    left keyed = leaves-few program t of bounded text is_text bytes less d s keyed least most greedy run test body place at n ts turned
+
+    abbrev paid-for : ScanIsPaid program (weights_of t) (price_of t) (recorded t) (plan_code (questions_of t)) s least most
+    paid-for =
+        others-paid.scans program (weights_of t) (price_of t) (recorded t) of.paid (plan_code (questions_of t)) s least most
+        ((of.runs s.ip least most greedy run).limited limited)
+
+    abbrev given : ScanGives program text (account_of t) (questions_of t) (way_of t) (recorded t) (plan_taken program) d now s
+    given = scans-give program text (account_of t) (questions_of t) (way_of t) (recorded t) (plan_taken program) serves.plan d now s
+
+    pub limited-turned : key_at t s ≡ None → Come work now (tried (running s) ∷ rest) → Come (work + (n + 1)) now (tries ts ++ rest)
+    limited-turned none h =
+        let l = left h.keyed.0 in
+        record {
+          comes = gives work (n + 1) now (tried (running s) ∷ []) (tries ts) rest tt h.comes (given.turned n ts turned)
+              (subst (λ us. Paid (n + 1) (tried (running s) ∷ []) (tries us)) l.are (paid-for.passed n l.states l.few l.as_many l.there (no-key t s none)));
+          keyed = keyed-over program t of bounded text is_text bytes less d (tries ts) rest l.keyed h.keyed.1;
+        }
+
+    with-its-key : HasKey t s (key_of (plan_code (questions_of t)) s) → IsNew (key_of (plan_code (questions_of t)) s) now → Come work now (tried (running s) ∷ rest)
+        → Come (work + (n + 1)) now (tries ts ++ noted (key_of (plan_code (questions_of t)) s) (running s ∷ []) ∷ rest)
+    with-its-key has new h =
+        let key = key_of (plan_code (questions_of t)) s in
+        let its = noted key (running s ∷ []) in
+        let keyed = h.keyed.0 in
+        let l = left keyed in
+        let there = records-there t s.ip has.records in
+        let rec : IsRecorded program text (account_of t) (questions_of t) (way_of t) (recorded t) (plan_taken program) d now s = record {
+          records = there;
+          goes = keyed.way;
+          no_body = keyed.no_body;
+          of = keyed.of;
+          sound = keyed.sound;
+          one = plans-take.threads program key keyed.no_body;
+          new = new;
+        } in
+        subst (Come (work + (n + 1)) now) (append_assoc (tries ts) (its ∷ []) rest) (record {
+          comes = gives work (n + 1) now (tried (running s) ∷ []) (tries ts ++ its ∷ []) rest tt h.comes (given.recorded n ts turned rec)
+              (subst (λ us. Paid (n + 1) (tried (running s) ∷ []) (tries us ++ its ∷ [])) l.are (paid-for.recorded n l.states l.few l.as_many l.there there));
+          keyed =
+              subst (λ row. AreKeyed program text t d (threads_in row)) (sym (append_assoc (tries ts) (its ∷ []) rest))
+              (keyed-over program t of bounded text is_text bytes less d (tries ts) (its ∷ rest) l.keyed h.keyed.1);
+        })
+
+    pub limited-recorded : (k : Key) → key_at t s ≡ Some k → IsNew k now → Come work now (tried (running s) ∷ rest)
+        → Come (work + (n + 1)) now (tries ts ++ noted k (running s ∷ []) ∷ rest)
+    limited-recorded k is new h =
+        let has = has-key t s k is in
+        subst (λ k. Come (work + (n + 1)) now (tries ts ++ noted k (running s ∷ []) ∷ rest)) has.is
+        (with-its-key (record { records = has.records; is = refl }) (subst (λ k. IsNew k now) (sym has.is) new) h)
+
+  -- ---- A greedy run without one
+
+  module _ (s : State) (test : ℕ → Bool) (least place : ℕ) (endless : IsEndless program s test least true) (at : place_at text s.pos ≡ Some place) where
+    -- the keys of its places behind `least` characters up to before so many are new
+    abbrev pub New : (n : ℕ) → Type 0
+    New n = AreUnknown program text (account_of t) (questions_of t) (way_of t) (recorded t) (plan_taken program) d test s now place least n
+
+    pub new-none : New least
+    new-none n le few = absurd (omega (arith, le, few))
+
+    pub new-more : (n : ℕ) → New n → IsNew (key_on program text t d test place s n) now → New (n + 1)
+    new-more n before new m le few = elim (cases_lt m n) [
+      | inl nearer ↦ before m le nearer
+      | inr past ↦ let same : n ≡ m = omega (arith, past, few) in subst (λ k. IsNew (key_on program text t d test place s k) now) same new
+    ]
+
+    pub row-none : row_of_places program text t d test place s least (least - least) ≡ []
+    row-none = let none : least - least ≡ 0 = omega arith in ap (row_of_places program text t d test place s least) none
+
+    pub row-more : (n : ℕ) → least ≤ n
+        → row_of_places program text t d test place s least (n + 1 - least)
+        ≡ tried (waiting (behind text d place s n)) ∷ noted (key_on program text t d test place s n) (row_on program text t d test place s n)
+        ∷ row_of_places program text t d test place s least (n - least)
+    row-more n le =
+        let more : n + 1 - least ≡ suc (n - least) = omega (arith, le) in
+        let last : least + (n - least) ≡ n = omega (arith, le) in
+        ap (row_of_places program text t d test place s least) more
+        ∙ ap (λ m. tried (waiting (behind text d place s m)) ∷ noted (key_on program text t d test place s m) (row_on program text t d test place s m)
+        ∷ row_of_places program text t d test place s least (n - least)) last
+
+    on-text : place ≤ last_place text
+    on-text = (offset-place_at text s.pos place is_text at).1
+
+    abbrev greedy-gives : IsKeyed program text t d s → GreedyGives program text (account_of t) (questions_of t) (way_of t) (recorded t) (plan_taken program) d test s now place least
+    greedy-gives keyed =
+        runs-give.greedy program text (account_of t) (questions_of t) (way_of t) (recorded t) (plan_taken program) d test s now place least unlimited serves.plan.account
+        (at-run program t of bounded text is_text bytes less d s test least true endless place on-text keyed at)
+        (λ n. let k = key_on program text t d test place s n in plans-take.greedy program s.ip k.at k.code (ap run_at endless.run))
+
+    abbrev greedy-ready : RunIsPaid program (weights_of t) (price_of t) (recorded t) least s.ip
+    greedy-ready = (of.runs s.ip least unlimited true endless.run).greedy refl refl
+
+    abbrev greedy-paid : RunTurnsArePaid program (weights_of t) (price_of t) (recorded t) text (account_of t) (questions_of t) (way_of t) (plan_taken program) d test s place least
+    greedy-paid =
+        turns-paid.runs program (weights_of t) (price_of t) (recorded t) text (account_of t) (questions_of t) (way_of t) (plan_taken program) d test s place least greedy-ready
+
+    -- what is known to fail from a place on finds nothing
+    row-fails : IsKeyed program text t d s → (n : ℕ) → least ≤ n → n ≤ passing text test d place → KeyFails program text t (key_on program text t d test place s n)
+        → FindNothing program text d (row_on program text t d test place s n)
+    row-fails keyed n le few fails =
+        let row = row_on program text t d test place s n in
+        fails d row
+        ((runs-have-keys program text (account_of t) (questions_of t) (way_of t) (recorded t) (plan_taken program) d test (moved text d n place) s is_text
+        (further-inside program t of bounded text is_text bytes less d s test least true endless place on-text n few) keyed.of).greedy
+        (run-records program t of bounded text is_text bytes less d s test least true endless keyed.way)
+        (keyed-sound program text t d row (row-keyed program t of bounded text is_text bytes less d s test least true endless place on-text keyed at n le few)))
+
+    keyed-places : IsKeyed program text t d s → AreKeyed program text t d (threads_in rest) → (n : ℕ) → least ≤ n → n ≤ passing text test d place
+        → AreKeyed program text t d (threads_in (row_of_places program text t d test place s least (n - least) ++ rest))
+    keyed-places keyed below n le few =
+        places-keyed-over program t of bounded text is_text bytes less d s test least true endless place on-text keyed at rest below (n - least) (omega (arith, le, few))
+
+    -- from a place on it is known to fail, so nearer places are left
+    pub greedy-known : (n : ℕ) → least ≤ n → n ≤ passing text test d place → KeyFails program text t (key_on program text t d test place s n) → New n
+        → Come work now (tried (running s) ∷ rest) → Come (work + (n + 2)) now (row_of_places program text t d test place s least (n - least) ++ rest)
+    greedy-known n le few fails new h =
+        let keyed = h.keyed.0 in
+        let waiting_there = its-waiting program t of bounded text is_text bytes less d s test least true endless place on-text (n - least) in
+        let row = row_on program text t d test place s n in
+        record {
+          comes = subst (λ entries. Steps (work + (n + 2)) (entries ++ rest))
+              (rows-from program t of bounded text is_text bytes less d s test least true endless place on-text n le few)
+              (gives work (n + 2) now (tried (running s) ∷ []) (each_noted row waiting_there) rest tt h.comes
+              ((greedy-gives keyed).known n le few (row-fails keyed n le few fails) new) (greedy-paid.known n le));
+          keyed = keyed-places keyed h.keyed.1 n le few;
+        }
+
+    -- from none it is, so the furthest is taken
+    pub greedy-all : (n : ℕ) → n ≡ passing text test d place → least ≤ n → New (n + 1) → Come work now (tried (running s) ∷ rest)
+        → Come (work + (n + 2)) now (tried (running (behind text d place s n)) ∷ noted (key_on program text t d test place s n) (row_on program text t d test place s n)
+        ∷ row_of_places program text t d test place s least (n - least) ++ rest)
+    greedy-all n same le new h =
+        let keyed = h.keyed.0 in
+        let few : n ≤ passing text test d place = omega (arith, same) in
+        let waiting_there = its-waiting program t of bounded text is_text bytes less d s test least true endless place on-text (n - least) in
+        let furthest_one = running (behind text d place s n) in
+        let key = key_on program text t d test place s n in
+        let entries_are : each_noted [] ((furthest_one, key) ∷ waiting_there)
+        ≡ tried furthest_one ∷ noted key (row_on program text t d test place s n) ∷ row_of_places program text t d test place s least (n - least) =
+        ap (λ ts. tried furthest_one ∷ noted key ts ∷ each_noted ts waiting_there) (row-last program t of bounded text is_text bytes less d s test least true endless place on-text n same)
+        ∙ ap (λ row. tried furthest_one ∷ noted key (row_on program text t d test place s n) ∷ row)
+        (rows-from program t of bounded text is_text bytes less d s test least true endless place on-text n le few) in
+        record {
+          comes = subst (λ entries. Steps (work + (n + 2)) (entries ++ rest)) entries_are
+              (gives work (n + 2) now (tried (running s) ∷ []) (each_noted [] ((furthest_one, key) ∷ waiting_there)) rest tt h.comes
+              ((greedy-gives keyed).all n same le new) (greedy-paid.all n le));
+          keyed = (
+            place-keyed program t of bounded text is_text bytes less d s test least true endless place on-text keyed at n le few,
+            keyed-places keyed h.keyed.1 n le few,
+          );
+        }
+
+    -- there are too few characters
+    pub greedy-none : passing text test d place < least → Come work now (tried (running s) ∷ rest) → Come (work + (passing text test d place + 2)) now rest
+    greedy-none few h = record {
+      comes = gives work (passing text test d place + 2) now (tried (running s) ∷ []) [] rest tt h.comes ((greedy-gives h.keyed.0).none few)
+          ((others-paid.ends program (weights_of t) (price_of t) (recorded t) s).short least (passing text test d place) greedy-ready (omega (arith, few)));
+      keyed = h.keyed.1;
+    }
+
+  -- ---- A lazy one
+
+  module _ (s : State) (test : ℕ → Bool) (least place : ℕ) (endless : IsEndless program s test least false) where
+    abbrev lazy-ready : LazyRunIsPaid program (weights_of t) (price_of t) (recorded t) least s.ip
+    lazy-ready = (of.runs s.ip least unlimited false endless.run).lazy refl refl
+
+    abbrev lazy-paid : LazyTurnsArePaid program (weights_of t) (price_of t) (recorded t) text (account_of t) (questions_of t) (way_of t) (plan_taken program) d test s place least
+    lazy-paid =
+        turns-paid.lazy_runs program (weights_of t) (price_of t) (recorded t) text (account_of t) (questions_of t) (way_of t) (plan_taken program) d test s place least lazy-ready
+
+    -- ---- It begins
+
+    module _ (at : place_at text s.pos ≡ Some place) where
+      abbrev on-its-text : place ≤ last_place text
+      on-its-text = (offset-place_at text s.pos place is_text at).1
+
+      abbrev lazy-gives : IsKeyed program text t d s → LazyGives program text (account_of t) (questions_of t) (way_of t) (recorded t) (plan_taken program) d test s now place least
+      lazy-gives keyed =
+          runs-give.lazy program text (account_of t) (questions_of t) (way_of t) (recorded t) (plan_taken program) d test s now place least unlimited serves.plan.account
+          (at-run program t of bounded text is_text bytes less d s test least false endless place on-its-text keyed at)
+
+      -- the nearest place is taken, and the others wait
+      pub lazy-first : least ≤ passing text test d place → Come work now (tried (running s) ∷ rest)
+          → Come (work + (least + 2)) now (tried (running (behind text d place s least)) ∷ kept (waits_from text test d (least + 1) place s) ∷ rest)
+      lazy-first le h =
+          let keyed = h.keyed.0 in
+          let waits = waits_from text test d (least + 1) place s in
+          record {
+            comes = gives work (least + 2) now (tried (running s) ∷ []) (tried (running (behind text d place s least)) ∷ kept waits ∷ []) rest tt h.comes
+                ((lazy-gives keyed).first le) lazy-paid.taken_up;
+            keyed = (
+              place-keyed program t of bounded text is_text bytes less d s test least false endless place on-its-text keyed at least (omega arith) le,
+              Each-append (λ u. IsKeyed program text t d (state_of_thread u)) waits (threads_in rest)
+                  (waits-keyed program t of bounded text is_text bytes less d s test least false endless place on-its-text keyed at (least + 1) (omega arith)) h.keyed.1,
+            );
+          }
+
+      -- there are too few characters
+      pub lazy-none : passing text test d place < least → Come work now (tried (running s) ∷ rest) → Come (work + (passing text test d place + 2)) now rest
+      lazy-none few h = record {
+        comes = gives work (passing text test d place + 2) now (tried (running s) ∷ []) [] rest tt h.comes ((lazy-gives h.keyed.0).none few)
+            ((others-paid.ends program (weights_of t) (price_of t) (recorded t) s).short_lazy least (passing text test d place) lazy-ready (omega (arith, few)));
+        keyed = h.keyed.1;
+      }
+
+    -- ---- It is come back to
+
+    module _ (inside : place ≤ last_place text) where
+      abbrev its-waits : List Thread
+      its-waits = waits_from text test d 0 place s
+
+      abbrev more-waits : List Thread
+      more-waits = waits_from text test d 1 place s
+
+      abbrev nearest : State
+      nearest = behind text d place s 0
+
+      abbrev its-first-key : Key
+      its-first-key = key_on program text t d test place s 0
+
+      nearest-first : its-waits ≡ waiting nearest ∷ more-waits
+      nearest-first = (lazy-runs-go-on text test d place s inside).next
+
+      -- what is known of what waits, and of the run
+      record Waits : Type 0 where
+        nearest_keyed : IsKeyed program text t d nearest
+        more_keyed : AreKeyed program text t d more-waits
+        all_keyed : AreKeyed program text t d its-waits
+        below : AreKeyed program text t d (threads_in rest)
+
+      waits-known : Come work now (kept its-waits ∷ rest) → Waits
+      waits-known h =
+          let all = Each-left (λ u. IsKeyed program text t d (state_of_thread u)) its-waits (threads_in rest) h.keyed in
+          let both = subst (AreKeyed program text t d) nearest-first all in
+          record {
+            nearest_keyed = both.0;
+            more_keyed = both.1;
+            all_keyed = all;
+            below = Each-right (λ u. IsKeyed program text t d (state_of_thread u)) its-waits (threads_in rest) h.keyed;
+          }
+
+      run-way : Waits → way_of t s.ip ≡ d
+      run-way w = sym (way-behind program t of bounded text is_text bytes less d s test least false endless) ∙ w.nearest_keyed.way
+
+      run-state : Waits → IsStateOf program s
+      run-state w = let k = w.nearest_keyed in record { groups = k.of.groups; starts = k.of.starts; loops = k.of.loops }
+
+      its-records : Waits → RunRecords program (account_of t) (questions_of t) (way_of t) (recorded t) d test false s.ip
+      its-records w = run-records program t of bounded text is_text bytes less d s test least false endless (run-way w)
+
+      waits-sound : Waits → AreSound program text (account_of t) (ledger_keys program text t) d its-waits
+      waits-sound w = keyed-sound program text t d its-waits w.all_keyed
+
+      waits-of-key : Waits → IsOf program text (account_of t) (ledger_keys program text t) d its-first-key its-waits
+      waits-of-key w =
+          let here : run_key program text (account_of t) (questions_of t) (way_of t) (recorded t) (plan_taken program) d place s ≡ its-first-key =
+          ap (λ q. run_key program text (account_of t) (questions_of t) (way_of t) (recorded t) (plan_taken program) d q s) (sym (moved-zero text d place)) in
+          subst (λ k. IsOf program text (account_of t) (ledger_keys program text t) d k its-waits) here
+          ((runs-have-keys program text (account_of t) (questions_of t) (way_of t) (recorded t) (plan_taken program) d test place s is_text inside (run-state w)).lazy
+          (its-records w) (waits-sound w))
+
+      alone : threads_in (kept its-waits ∷ []) ≡ its-waits
+      alone = append-nil its-waits
+
+      -- something stands ready for it
+      some-ready : 1 ≤ sum_by (weighs (weight_by program (weights_of t) (price_of t) (recorded t))) (kept its-waits ∷ [])
+      some-ready =
+          let weight : List Thread → ℕ = λ ts. weight_by program (weights_of t) (price_of t) (recorded t) ts in
+          let x = one-weighs program (weights_of t) (price_of t) (recorded t) (kept its-waits) in
+          let y : weight its-waits ≡ (line_of t (s.ip + 2)).ready + 1 = ap weight nearest-first in
+          omega (arith, x, y)
+
+      pub lazy-way : Come work now (kept its-waits ∷ rest) → way_of t s.ip ≡ d
+      lazy-way h = run-way (waits-known h)
+
+      -- the state at the run's body has the key of what waits
+      pub lazy-key : Come work now (kept its-waits ∷ rest) → key_at t (record s { ip = s.ip + 1; pos = offset text place }) ≡ Some its-first-key
+      lazy-key h =
+          ap (λ p. key_at t (record s { ip = s.ip + 1; pos = offset text p })) (sym (moved-zero text d place))
+          ∙ key-is program t of bounded text is_text bytes less d s test least false endless (lazy-way h) place 0
+
+      -- what waits is known to fail
+      pub lazy-known : KeyFails program text t its-first-key → Come work now (kept its-waits ∷ rest) → Come (work + 1) now rest
+      lazy-known fails h =
+          let w = waits-known h in
+          record {
+            comes = gives work 1 now (kept its-waits ∷ []) [] rest tt h.comes
+                (subst (λ ts. Gives program text (account_of t) (ledger_keys program text t) d now ts []) (sym alone)
+                ((turns-right program text (account_of t) (ledger_keys program text t) serves.plan.account serves.serves.keys d).dropped now its-first-key its-waits fails (waits-of-key w)))
+                (let some = some-ready in omega (arith, some));
+            keyed = w.below;
+          }
+
+      -- or the nearest place is taken once more, above a record
+      pub lazy-again : IsNew its-first-key now → Come work now (kept its-waits ∷ rest)
+          → Come (work + 2) now (tried (running nearest) ∷ kept more-waits ∷ noted its-first-key its-waits ∷ rest)
+      lazy-again new h =
+          let w = waits-known h in
+          let entries = tried (running nearest) ∷ kept more-waits ∷ noted its-first-key its-waits ∷ [] in
+          record {
+            comes = gives work 2 now (kept its-waits ∷ []) entries rest tt h.comes
+                (subst (λ ts. Gives program text (account_of t) (ledger_keys program text t) d now ts entries) (sym alone)
+                (runs-give.lazy_again program text (account_of t) (questions_of t) (way_of t) (recorded t) (plan_taken program) d test s now place serves.plan.account inside
+                (its-records w) (run-state w) (waits-sound w) (plans-take.lazy program s.ip its-first-key.at its-first-key.code (ap run_at endless.run)) new))
+                lazy-paid.again;
+            keyed = (w.nearest_keyed, Each-append (λ u. IsKeyed program text t d (state_of_thread u)) more-waits (threads_in rest) w.more_keyed w.below);
+          }
+
+-- ---- None waits
+
+module _ (program : Program) (t : Ledger) (text : Text) (memory : List Key) (first : List Entry) (work : ℕ) (now : List Key) (rest : List Entry) (r : State) where
+  stays-on : (d : Direction) → GoesOnward d (running r ∷ []) (tried (running r) ∷ [])
+  stays-on rightwards = (omega arith, tt, tt)
+  stays-on leftwards = tt
+
+  -- a mark behind which no thread waits is dropped
+  pub kept-none : (d : Direction) → HasCome program text t d memory first work now (tried (running r) ∷ kept [] ∷ rest)
+      → HasCome program text t d memory first work now (tried (running r) ∷ rest)
+  kept-none d h =
+      let front = tried (running r) ∷ kept [] ∷ [] in
+      let weight : List Thread → ℕ = λ ts. weight_by program (weights_of t) (price_of t) (recorded t) ts in
+      let x = sum_by-cons (weighs weight) (tried (running r)) (kept [] ∷ []) in
+      let y = one-weighs program (weights_of t) (price_of t) (recorded t) (tried (running r)) in
+      let none : work + 0 ≡ work = omega arith in
+      record {
+        comes = subst (λ n. Comes program text (account_of t) (ledger_keys program text t) d (λ k. price_of t k.ip) weight memory first n now (tried (running r) ∷ rest)) none
+            (gives work 0 now front (tried (running r) ∷ []) rest tt h.comes
+            ((turns-give program text (account_of t) (ledger_keys program text t) d now).passed 0 (tried (running r) ∷ []) (running r ∷ []) tt
+            (simulates-same program text false d (running r ∷ [])) (stays-on d))
+            (omega (arith, x, y)));
+        keyed = h.keyed;
+      }

@@ -1,0 +1,239 @@
+-- One turn of a search in so much work: what it can do, and what becomes of what it leaves.
+use Rattle.std.proofs.Common.{◌≡◌, ◌≤◌, ◌<◌, ℕ, ◌+◌, Bool, true, false, min, List, [], ◌∷◌, ◌++◌, map, length, Option, Some, None, refl, sym, ap, ◌∙◌, subst, arith, inl, inr, append_assoc, append-nil, slice_get}
+use Rattle.std.specs.Prelude.{◌==◌, if◌then◌else◌, is_some, option_map, get_or}
+use Rattle.std.proofs.Math.Logic.{∥∥₁_elim}
+use Rattle.std.proofs.Props.{props}
+use Rattle.std.proofs.lemmas.Bool.{eqb-true}
+use Rattle.regex_meaning.specs.Text.{Text, Direction, rightwards, last_place}
+use Rattle.regex_meaning.specs.Offsets.{IsText, units}
+use Rattle.regex_meaning.specs.Layout.{Program, Insn, Loop1CharBody}
+use Rattle.regex_meaning.proofs.TextLemmas.{offset-place_at}
+use Rattle.regex_pattern_front.specs.TreeOf.{tree_of}
+use Rattle.regex_pattern_front.specs.declared.ir.Regex.{Regex}
+use Rattle.regress_plan.specs.Insns.{insn_of}
+use Rattle.regress_plan.specs.declared.insn.Insn.{Insn as Coded}
+use Rattle.regress_plan.specs.declared.insn.Insn.TheVariants.{Loop1CharBody as CodedRun}
+use Rattle.regress_program.specs.Code.{compiled}
+use Rattle.regress_machine.specs.Machine as machine
+use Rattle.regress_machine.specs.Machine.{Thread, running, waiting, Next, goes, scans, ends, asks, stuck, in_turn, test_of, act}
+use Rattle.regress_machine.specs.Turns.{CanTake}
+use Rattle.regress_machine.proofs.Fetched.{act-some, fetched-below}
+use Rattle.regress_simulation.proofs.Runs.{run-turn}
+use Rattle.regress_linear.specs.Runs.{passing}
+use Rattle.regress_linear.specs.Turns.{Key, Entry, tried, tries}
+use Rattle.regress_linear.proofs.Runs.{passing-left}
+use Rattle.regress_ledger.specs.Bound.{first_row}
+use Rattle.regress_ledger.specs.Checks.{unlimited}
+use Rattle.regress_memo.specs.declared.memo.Key.{Key as Stored}
+use Rattle.regress_memo.specs.Memo.{as_key}
+use Rattle.regress_memo.specs.Search.{HasCome}
+use Rattle.regress_bounded.specs.declared.course.Course.{Course}
+use Rattle.regress_bounded.specs.declared.row.Waiting.{Waiting}
+use Rattle.regress_bounded.specs.declared.row.Waiting.TheVariants.{Thread as AsThread}
+use Rattle.regress_pikevm.specs.declared.pikevm.states.State.{State}
+use Rattle.regress_bounded.specs.Courses.{Begin, IsStanding, IsRow, Stands, IsTurn, HasTaken, IsRunHere, front_of, known_of, endless_of}
+use Rattle.regress_pikevm.specs.States.{state_of, preferred_last, waiting_of}
+use Rattle.regress_pikevm.proofs.Fetching.{insn-here}
+use Rattle.regress_pikevm.proofs.Remains.{scan-threads, waiting-append}
+use Rattle.regress_bounded.proofs.Bodies.{body-tested, body-insn, body-below}
+use Rattle.regress_bounded.proofs.Ends.{asks-none, scans-run}
+use Rattle.regress_bounded.proofs.Meeting.{scans-at}
+use Rattle.regress_bounded.proofs.PaidRuns.{left-few, places-few}
+use Rattle.regress_bounded.proofs.Stopping.{some-key}
+use Rattle.regress_bounded.proofs.Standing.{row-push, stands-with, can-turn, inside}
+
+-- ---- What the thread in hand can do
+
+-- whether an instruction can run
+abbrev can_take : Next → Bool
+can_take stuck = false
+can_take _ = true
+
+can-yes : (n : Next) → CanTake n → can_take n ≡ true
+can-yes (goes ts) h = refl
+can-yes (scans tries ts) h = refl
+can-yes (ends s) h = refl
+can-yes (asks d negate u s) h = refl
+can-yes stuck h = absurd h
+
+yes-can : (n : Next) → can_take n ≡ true → CanTake n
+yes-can (goes ts) h = tt
+yes-can (scans tries ts) h = tt
+yes-can (ends s) h = tt
+yes-can (asks d negate u s) h = tt
+yes-can stuck h = cc
+
+module _ {P : Type 0} (offset : P → ℕ) (program : Program) (text : Text) (s : machine.State) {stack : List (Waiting P)} {c : Course}
+    (there : IsStanding offset program text (tried (running s) ∷ []) stack c) where
+  pub standing-can : CanTake (act program text rightwards s)
+  standing-can =
+      yes-can (act program text rightwards s)
+      (∥∥₁_elim there (Prim.hlevel props) (λ h. can-yes (act program text rightwards s) (can-turn offset program text h.begin s h.stands)))
+
+  pub standing-inside : s.pos ≤ units text
+  standing-inside = ∥∥₁_elim there (Prim.hlevel props) (λ h. inside offset program text h.begin s h.stands)
+
+  -- what is remembered has a bit for each offset of the text
+  pub standing-place : s.pos < c.memo.places
+  standing-place =
+      ∥∥₁_elim there (Prim.hlevel props) (λ h.
+      let within = inside offset program text h.begin s h.stands in let all = h.stands.right.is_true.places in omega (arith, within, all))
+
+  -- it asks nothing
+  pub standing-asks : (inner : Direction) (negate : Bool) (u t : machine.State) → act program text rightwards s ≡ asks inner negate u t → ⊥
+  standing-asks inner negate u t is =
+      ∥∥₁_elim there (Prim.hlevel props) (λ h. asks-none program text rightwards s inner negate u t is (h.stands.right.paid.no_look s.ip))
+
+-- a key that is known
+pub record IsKnownKey (test : Key → Bool) (o : Option Key) : Type 0 where
+  pub key : Key
+  pub is : o ≡ Some key
+  pub known : test key ≡ true
+
+pub known-key : (test : Key → Bool) (key : Option Stored) (o : Option Key) → option_map as_key key ≡ o → known_of test (option_map as_key key) ≡ true → IsKnownKey test o
+known-key test None o e h = cc
+known-key test (Some k) o e h = record { key = as_key k; is = sym e; known = h }
+
+-- ---- What stands there
+
+-- no other instruction is a run
+pub endless-other : (insn : Coded) → ((greedy : Bool) (least most : ℕ) → insn ≡ CodedRun greedy least most → ⊥) → None ≡ endless_of (insn_of insn)
+endless-other (CodedRun greedy least most) other = absurd (other greedy least most refl)
+endless-other insn other = refl
+
+-- one that has a maximum
+pub has-maximum : (greedy : Bool) (least most : ℕ) → None ≡ endless_of (Loop1CharBody least most greedy) → (most == unlimited) ≡ false
+has-maximum greedy least most none = by (most == unlimited) refl
+  where
+    by : (b : Bool) → (most == unlimited) ≡ b → (most == unlimited) ≡ false
+    by true e = let never : false ≡ true = ap is_some (none ∙ ap (λ b. if b then Some (least, greedy) else None) e) in cc
+    by false e = e
+
+endless-run : (insn : Insn) (greedy : Bool) (least : ℕ) → Some (least, greedy) ≡ endless_of insn → insn ≡ Loop1CharBody least unlimited greedy
+endless-run (Loop1CharBody l m g) greedy least found = by (m == unlimited) refl
+  where
+    by : (b : Bool) → (m == unlimited) ≡ b → Loop1CharBody l m g ≡ Loop1CharBody least unlimited greedy
+    by true e =
+        let same : Some (least, greedy) ≡ Some (l, g) = found ∙ ap (λ b. if b then Some (l, g) else None) e in
+        let pair = some-key same in
+        ap (λ n. Loop1CharBody l n g) (eqb-true m unlimited e) ∙ ap (λ p. Loop1CharBody p.0 unlimited p.1) (sym pair)
+    by false e = let never : true ≡ false = ap is_some (found ∙ ap (λ b. if b then Some (l, g) else None) e) in cc
+endless-run insn greedy least found = cc
+
+module _ {P : Type 0} (offset : P → ℕ) (re : Regex) (text : Text) (insns : List Coded) (s : machine.State) where
+  -- a run without a maximum, and the instruction that it reads by
+  pub record RunAt (greedy : Bool) (least : ℕ) : Type 0 where
+    pub below : s.ip + 1 < length insns
+    pub reads : (body : Coded) → body ≡ get_or insns (s.ip + 1) body → slice_get (compiled (tree_of re)).insns (s.ip + 1) ≡ Some (insn_of body)
+    pub here : (body : Coded) → body ≡ get_or insns (s.ip + 1) body → (which : Bool) → greedy ≡ which
+        → IsRunHere offset (compiled (tree_of re)) text (record { body = body; least = least }) which s
+
+module _ {P : Type 0} (offset : P → ℕ) (re : Regex) (text : Text) (insns : List Coded) (code : map insn_of insns ≡ (compiled (tree_of re)).insns) (s : machine.State)
+    {stack : List (Waiting P)} {c : Course} (there : IsStanding offset (compiled (tree_of re)) text (tried (running s) ∷ []) stack c) where
+  abbrev its-program : Program
+  its-program = compiled (tree_of re)
+
+  its-can : CanTake (act its-program text rightwards s)
+  its-can = standing-can offset its-program text s there
+
+  pub here-below : s.ip < length insns
+  here-below = fetched-below insn_of insns its-program.insns s.ip code (act-some its-program text rightwards (slice_get its-program.insns s.ip) s its-can)
+
+  pub here-insn : (insn : Coded) → insn ≡ get_or insns s.ip insn → slice_get its-program.insns s.ip ≡ Some (insn_of insn)
+  here-insn insn is = insn-here re insns code text rightwards s its-can insn is
+
+  pub run-at : (insn : Coded) → insn ≡ get_or insns s.ip insn → (greedy : Bool) (least : ℕ) → Some (least, greedy) ≡ endless_of (insn_of insn)
+      → RunAt offset re text insns s greedy least
+  run-at insn is greedy least found =
+      let run = here-insn insn is ∙ ap Some (endless-run (insn_of insn) greedy least found) in
+      let at = scans-at its-program text s least unlimited greedy run its-can in
+      let tested = body-tested its-program s.ip at.test at.body in
+      record {
+        below = body-below re insns code s.ip tested;
+        reads = λ body body_is. body-insn re insns code s.ip tested body body_is;
+        here = λ body body_is which same. record {
+          insn = run ∙ ap (λ b. Some (Loop1CharBody least unlimited b)) same;
+          body = body-insn re insns code s.ip tested body body_is;
+        };
+      }
+
+-- ---- What its turn is
+
+-- how many characters it tries
+abbrev tried-in : Next → ℕ
+tried-in (scans tries ts) = tries
+tried-in _ = 0
+
+module _ {P : Type 0} (offset : P → ℕ) (program : Program) (text : Text) (s : machine.State) where
+  pub turn-goes : (ts : List Thread) → act program text rightwards s ≡ goes ts → IsTurn offset program text s 1 ts
+  turn-goes ts is = inl (is, refl)
+
+  module _ (tries : ℕ) (ts : List Thread) (is : act program text rightwards s ≡ scans tries ts) where
+    pub turn-scans : ((least most : ℕ) (greedy : Bool) → slice_get program.insns s.ip ≡ Some (Loop1CharBody least most greedy) → (most == unlimited) ≡ false)
+        → IsTurn offset program text s (tries + 1) ts
+    turn-scans limited =
+        let r = scans-run program text rightwards s tries ts is in
+        inr (record { least = r.least; most = r.most; greedy = r.greedy; run = r.is; limited = limited r.least r.most r.greedy r.is; tries = tries; acts = is; is = refl })
+
+    -- no more characters are tried than there are, and one
+    pub tries-few : IsText text → tries ≤ units text + 1
+    tries-few is_text =
+        let r = scans-run program text rightwards s tries ts is in
+        let at = scans-at program text s r.least r.most r.greedy r.is (subst CanTake (sym is) tt) in
+        let place = (offset-place_at text s.pos at.place is_text at.at).1 in
+        let few : tries ≡ min r.most (passing text at.test rightwards at.place + 1) =
+        ap tried-in (sym is ∙ run-turn program text rightwards at.place s r.least r.most r.greedy at.test r.is at.body at.at) in
+        let a = passing-left text at.test rightwards at.place place in
+        let b = left-few text rightwards at.place place in
+        let c = places-few text is_text (last_place text) (omega arith) in
+        omega (arith, few, a, b, c)
+
+-- ---- What becomes of what it leaves
+
+-- one thread more behind others
+tries-on : (us : List Thread) (u : Thread) (row : List Entry) → tries (us ++ u ∷ []) ++ row ≡ tries us ++ tried u ∷ row
+tries-on [] u row = refl
+tries-on (v ∷ us) u row = ap (λ l. tried v ∷ l) (tries-on us u row)
+
+module _ {P : Type 0} (offset : P → ℕ) (program : Program) (text : Text) where
+  -- these wait as well, the last one first
+  rows-push : (others : List (State P)) (old : List (Waiting P)) (row : List Entry) → IsRow offset program text old row
+      → IsRow offset program text (old ++ map (λ o. AsThread o) others) (tries (waiting_of offset others) ++ row)
+  rows-push [] old row r = subst (λ l. IsRow offset program text l row) (sym (append-nil old)) r
+  rows-push (s ∷ others) old row r =
+      let more = row-push offset program text old (AsThread s) (tried (waiting (state_of offset s))) row refl r in
+      let all = rows-push others (old ++ AsThread s ∷ []) (tried (waiting (state_of offset s)) ∷ row) more in
+      let order : tries (waiting_of offset (s ∷ others)) ++ row ≡ tries (waiting_of offset others) ++ tried (waiting (state_of offset s)) ∷ row =
+      ap (λ us. tries us ++ row) (waiting-append offset (s ∷ []) others) ∙ tries-on (waiting_of offset others) (waiting (state_of offset s)) row in
+      subst (λ l. IsRow offset program text (old ++ map (λ o. AsThread o) (s ∷ others)) l) (sym order)
+      (subst (λ l. IsRow offset program text l (tries (waiting_of offset others) ++ tried (waiting (state_of offset s)) ∷ row))
+      (append_assoc old (AsThread s ∷ []) (map (λ o. AsThread o) others)) all)
+
+  module _ (b : Begin) {c : Course} where
+    -- what is in hand is parted otherwise
+    parted : {front : List Entry} {stack : List (Waiting P)} (h : Stands offset program text b front stack c) (front' row' : List Entry) (stack' : List (Waiting P))
+        → front ++ h.row ≡ front' ++ row' → IsRow offset program text stack' row' → Stands offset program text b front' stack' c
+    parted h front' row' stack' same is =
+        stands-with offset program text b h front' row' stack' h.work c.left
+        (subst (HasCome program text c.memo.ledger rightwards b.memory (tries (first_row program b.at)) h.work h.now) same h.comes) is h.spent c.memo refl
+
+    -- the second one waits
+    pub one-waits : (u : Thread) (s : State P) (stack : List (Waiting P))
+        → Stands offset program text b (tries (u ∷ waiting (state_of offset s) ∷ [])) stack c → Stands offset program text b (tries (u ∷ [])) (stack ++ AsThread s ∷ []) c
+    one-waits u s stack h =
+        let e : Entry = tried (waiting (state_of offset s)) in
+        parted h (tries (u ∷ [])) (e ∷ h.row) (stack ++ AsThread s ∷ []) refl (row-push offset program text stack (AsThread s) e h.row refl h.is)
+
+    -- the preferred one is taken
+    pub one-taken : (states : List (State P)) (next : Option (State P)) (old new : List (Waiting P)) → HasTaken offset states old next new
+        → Stands offset program text b (tries (in_turn (preferred_last offset states))) old c → Stands offset program text b (front_of offset next) new c
+    one-taken states None old new t h =
+        subst (λ l. Stands offset program text b [] l c) (sym t.1)
+        (subst (λ l. Stands offset program text b (tries (in_turn (preferred_last offset l))) old c) t.0 h)
+    one-taken states (Some s) old new t h =
+        let order : in_turn (preferred_last offset states) ≡ running (state_of offset s) ∷ waiting_of offset t.others =
+        sym (append-nil (in_turn (preferred_last offset states))) ∙ sym (scan-threads offset states t.others [] s t.is) in
+        let h' : Stands offset program text b (tries (running (state_of offset s) ∷ waiting_of offset t.others)) old c =
+        subst (λ us. Stands offset program text b (tries us) old c) order h in
+        subst (λ l. Stands offset program text b (front_of offset (Some s)) l c) (sym t.wait)
+        (parted h' (front_of offset (Some s)) (tries (waiting_of offset t.others) ++ h'.row) (old ++ map (λ o. AsThread o) t.others) refl (rows-push t.others old h'.row h'.is))

@@ -1,0 +1,40 @@
+use Rattle.std.proofs.Common.{◌≡◌, ◌≤◌, ◌^◌, ◌+◌, ◌*◌, false, ap, sym, subst, ◌∙◌, arith}
+use Rattle.std.specs.Arc.{arc_value}
+use Rattle.std.specs.Prelude.{MatchOption}
+use Rattle.std.proofs.Math.Logic.{∥∥₁_map, ∥∥₁_elim}
+use Rattle.std.proofs.Props.{props}
+use Rattle.std.proofs.lemmas.Bool.{leb-true}
+use Rattle.regex_meaning.specs.Offsets.{units}
+use Rattle.regex_pattern_front.specs.TreeOf.{tree_of}
+use Rattle.regress_memo.specs.Memo.{IsBegun}
+use Rattle.regress_program.specs.Code.{compiled}
+use Rattle.regress_pikevm.proofs.Remains.{reads-literals}
+use Rattle.regress_bounded.specs.Bounds.{work_per_unit}
+use Rattle.regress_bounded.proofs.Ending.{begun-right, begun-walked}
+use Rattle.regress_bounded.proofs.executor.BoundedExecutor.over.Goals as goal
+
+pub memory-requires : goal.memory-requires
+memory-requires g c = ∥∥₁_elim c.requires (Prim.hlevel props) (λ b. b.has.ledger.coded)
+
+pub invariant_of-result : goal.invariant_of-result
+invariant_of-result g c =
+    let searched = c.args.searched in
+    let tree = tree_of searched.program.now in
+    let program = compiled tree in
+    let text = g.Input.InputIndexer.text searched.input in
+    let is = g.met.Input.InputIndexer.is_text searched.input in
+    let short = g.met.Input.InputIndexer.offsets_fit searched.input in
+    let bytes = reads-literals tree text searched.bytes in
+    let t = arc_value c.args.bound.now.ledger in
+    let m = c.in-Some.memo in
+    let places = c.unit_count-places.result + 1 in
+    let begun' : IsBegun t places false m = subst (λ o. MatchOption o (2 ^ 64 ≤ t.codes * places) (IsBegun t places false)) c.in-Some.is c.in_ok-memo.ensures in
+    let begun : IsBegun t (units text + 1) false m = subst (λ n. IsBegun t (n + 1) false m) c.unit_count-places.ensures begun' in
+    record {
+      right = ∥∥₁_map c.requires (λ b. begun-right program text is bytes short t b.has m begun);
+      walked = λ e. ∥∥₁_map c.requires (λ b.
+          let fits : c.per_unit.result * places ≤ c.args.work = leb-true (c.per_unit.result * places) c.args.work (sym c.is_enough-enough.ensures ∙ e) in
+          let same : c.per_unit.result * places ≡ work_per_unit t * (units text + 1) = ap (λ p. p * places) (c.per_unit.ensures ∙ b.per_unit) ∙ ap (λ n. work_per_unit t * (n + 1)) c.unit_count-places.ensures in
+          begun-walked program text is bytes short t b.has m begun c.args.work (omega (arith, fits, same)));
+      spent = λ e. absurd (let no : ⊥ = cc in no);
+    }

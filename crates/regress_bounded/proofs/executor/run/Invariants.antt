@@ -1,0 +1,19 @@
+use Rattle.std.proofs.Common.{◌≡◌, [], Some}
+use Rattle.regex_pattern_front.specs.TreeOf.{tree_of}
+use Rattle.regress_program.specs.Code.{compiled}
+use Rattle.regress_bounded.specs.Courses.{Begin, Stands, IsStanding, front_of}
+use Rattle.regress_bounded.proofs.executor.run.Given as goal
+
+abbrev pub invariant-search : goal.invariant-search
+invariant-search g l =
+    let program = compiled (tree_of l.searched.program.now) in
+    let text = g.Input.InputIndexer.text l.searched.input in
+    let offset = g.Input.Position.PositionType.offset in
+    record {
+      stands : IsStanding offset program text (front_of offset l.next) l.stack.items l.course;
+      from : (b : Begin) → Stands offset program text b (front_of offset (Some l.fn.start)) [] l.fn.course → Stands offset program text b (front_of offset l.next) l.stack.items l.course;
+      ledger : l.course.memo.ledger ≡ l.fn.course.memo.ledger;
+    }
+
+abbrev pub decreases-search : goal.decreases-search
+decreases-search g l = l.course.left

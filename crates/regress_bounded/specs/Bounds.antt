@@ -1,0 +1,46 @@
+-- Bounds of programs: how much work is enough for all matches of a text together.
+use Rattle.std.specs.Arc.{arc_value}
+use Rattle.std.specs.Prelude.{◌≡◌, ℕ, ◌+◌, ◌*◌, ◌/◌, Bool, nat_le, slice_get, Option, None}
+use Rattle.regex_meaning.specs.Layout.{Program}
+use Rattle.regex_meaning.specs.Text.{Text}
+use Rattle.regex_meaning.specs.Tree.{Tree}
+use Rattle.regex_meaning.specs.Offsets.{units}
+use Rattle.regress_linear.specs.Behind.{look_at}
+use Rattle.regress_program.specs.Code.{compiled}
+use Rattle.regress_ledger.specs.declared.ledger.Ledger.{Ledger}
+use Rattle.regress_ledger.specs.Bound.{IsBounded, work_for_each}
+use Rattle.regress_ledger.specs.Whole.{IsLedgerOf}
+use Rattle.regress_bounded.specs.declared.bounds.WorkBound.{WorkBound}
+
+-- What is enough for each unit, and one: to pass a place, and what the ledger says of all searches together and of one more.
+abbrev pub work_per_unit : Ledger → ℕ
+work_per_unit t = 1 + (work_for_each t + work_for_each t / 3)
+
+-- searches with the program are paid by the ledger, and none looks aside
+pub record HasBound (program : Program) (t : Ledger) : Type 0 where
+  pub ledger : IsLedgerOf program t
+  pub bounded : IsBounded t program
+  pub no_look : (ip : ℕ) → look_at (slice_get program.insns ip) ≡ None
+
+-- a bound is one of the program of a tree
+pub record Bounds (tree : Tree) (bound : WorkBound) : Type 0 where
+  pub has : HasBound (compiled tree) (arc_value bound.ledger)
+  pub per_unit : bound.per_unit ≡ work_per_unit (arc_value bound.ledger)
+
+abbrev pub IsBoundOf : Tree → WorkBound → Type 0
+IsBoundOf tree bound = ∥ Bounds tree bound ∥₁
+
+-- whether so much work is enough for all matches of a text
+abbrev pub is_enough_for : (per_unit : ℕ) → Text → (work : ℕ) → Bool
+is_enough_for per_unit text work = nat_le (per_unit * (units text + 1)) work
+
+-- What a caller sees of an executor at its start: a tree and a text, no limit of steps, and so much work that is left; whether
+-- it is enough; and no attempt was made yet.
+pub record IsAtStart (tree : Tree) (text : Text) (per_unit work : ℕ)
+    (its_tree : Tree) (its_text : Text) (budget : Option ℕ) (enough : Bool) (ahead left : ℕ) : Type 0 where
+  pub of_tree : its_tree ≡ tree
+  pub of_text : its_text ≡ text
+  pub unlimited : budget ≡ None
+  pub is_enough : enough ≡ is_enough_for per_unit text work
+  pub first : ahead ≡ 0
+  pub has_left : left ≡ work

@@ -1,0 +1,5 @@
+pub mod Bounds
+pub mod Courses
+pub mod Paying
+pub mod Spending
+pub mod Walks

@@ -9,6 +9,7 @@ pub mod Meeting
 pub mod PaidRuns
 pub mod PaidSearches
 pub mod Passed
+pub mod Sizes
 pub mod Standing
 pub mod Stopping
 pub mod Taken

@@ -290,12 +290,6 @@ module _ (program : Program) (t : Ledger) (of : IsLedgerOf program t) (bounded :
       → key_at t (record s { ip = s.ip + 1; pos = offset text (moved text d n place) }) ≡ Some (key_on program text t d test place s n)
   key-is way place n = keys-are-there.run program text t d test greedy s (moved text d n place) (run-records way)
 
-  pub key-here : way_of t s.ip ≡ d → (place : ℕ) → place_at text s.pos ≡ Some place
-      → key_at t (record s { ip = s.ip + 1 }) ≡ Some (key_on program text t d test place s 0)
-  key-here way place at =
-      let here : s.pos ≡ offset text (moved text d 0 place) = sym (offset-place_at text s.pos place is_text at).0 ∙ ap (offset text) (sym (moved-zero text d place)) in
-      ap (λ pos. key_at t (record s { ip = s.ip + 1; pos = pos })) here ∙ key-is way place 0
-
   module _ (place : ℕ) (inside : place ≤ last_place text) where
     abbrev passes : ℕ
     passes = passing text test d place
@@ -514,29 +508,6 @@ module _ (program : Program) (t : Ledger) (of : IsLedgerOf program t) (bounded :
     -- the keys of its places behind `least` characters up to before so many are new
     abbrev pub New : (n : ℕ) → Type 0
     New n = AreUnknown program text (account_of t) (questions_of t) (way_of t) (recorded t) (plan_taken program) d test s now place least n
-
-    pub new-none : New least
-    new-none n le few = absurd (omega (arith, le, few))
-
-    pub new-more : (n : ℕ) → New n → IsNew (key_on program text t d test place s n) now → New (n + 1)
-    new-more n before new m le few = elim (cases_lt m n) [
-      | inl nearer ↦ before m le nearer
-      | inr past ↦ let same : n ≡ m = omega (arith, past, few) in subst (λ k. IsNew (key_on program text t d test place s k) now) same new
-    ]
-
-    pub row-none : row_of_places program text t d test place s least (least - least) ≡ []
-    row-none = let none : least - least ≡ 0 = omega arith in ap (row_of_places program text t d test place s least) none
-
-    pub row-more : (n : ℕ) → least ≤ n
-        → row_of_places program text t d test place s least (n + 1 - least)
-        ≡ tried (waiting (behind text d place s n)) ∷ noted (key_on program text t d test place s n) (row_on program text t d test place s n)
-        ∷ row_of_places program text t d test place s least (n - least)
-    row-more n le =
-        let more : n + 1 - least ≡ suc (n - least) = omega (arith, le) in
-        let last : least + (n - least) ≡ n = omega (arith, le) in
-        ap (row_of_places program text t d test place s least) more
-        ∙ ap (λ m. tried (waiting (behind text d place s m)) ∷ noted (key_on program text t d test place s m) (row_on program text t d test place s m)
-        ∷ row_of_places program text t d test place s least (n - least)) last
 
     on-text : place ≤ last_place text
     on-text = (offset-place_at text s.pos place is_text at).1

@@ -1,27 +1,25 @@
 -- All attempts of an iteration that remembers are paid together.
-use Rattle.std.proofs.Common.{◌≡◌, ◌≤◌, ◌<◌, ◌^◌, ℕ, zero, suc, ◌+◌, ◌-◌, ◌*◌, ◌/◌, Bool, true, false, if◌then◌else◌, List, [], ◌∷◌, length, Some, refl, ap, sym, ◌∙◌, subst, arith, slice_get, sum_by}
+use Rattle.std.proofs.Common.{◌≡◌, ◌≤◌, ◌<◌, ◌^◌, ℕ, zero, suc, ◌+◌, ◌-◌, ◌*◌, Bool, true, false, if◌then◌else◌, List, [], ◌∷◌, length, Some, refl, ap, ◌∙◌, arith, slice_get, sum_by}
 use Rattle.std.specs.Prelude.{unwrap_or, nat_lt}
 use Rattle.std.proofs.lemmas.Bool.{ltb-true}
 use Rattle.std.proofs.Math.Nat.{add-mul, mul-add}
 use Rattle.std.proofs.lemmas.List.Sums.{sum_by-cons}
-use Rattle.regex_meaning.specs.Tree.{Tree}
 use Rattle.regex_meaning.specs.Text.{Text, rightwards}
-use Rattle.regex_meaning.specs.Offsets.{IsText, place_at, units}
+use Rattle.regex_meaning.specs.Offsets.{IsText, units}
 use Rattle.regex_meaning.specs.Layout.{Program}
-use Rattle.regex_meaning.proofs.TextLemmas.{offset-place_at}
-use Rattle.regress_machine.specs.Finds.{initial, CanSearch, turns_at, SearchesFindFirst}
+use Rattle.regress_machine.specs.Finds.{initial}
 use Rattle.regress_machine.specs.Machine.{Thread, running}
 use Rattle.regress_linear.specs.Account.{ReadsAsBytes}
 use Rattle.regress_linear.specs.Budget.{price_at_one}
 use Rattle.regress_linear.specs.Codes.{plan_codes}
-use Rattle.regress_linear.specs.Distinct.{IsIn, IsNew}
+use Rattle.regress_linear.specs.Distinct.{IsIn}
 use Rattle.regress_linear.specs.Paid.{weight_by}
 use Rattle.regress_linear.specs.Starts.{at_first, passed, failed, found}
 use Rattle.regress_linear.specs.Turns.{Key, Entry, tried, noted, tries, keys_in, at_of, weighs, AreOnward, Answers, IsMemory}
 use Rattle.regress_linear.specs.Turns as turns
 use Rattle.regress_linear.proofs.Distinct.{Each-right, distinct-right}
 use Rattle.regress_linear.proofs.Paid.{one-weighs}
-use Rattle.regress_linear.proofs.Turns.{turns-go-on, work-is-bounded, reached-fail}
+use Rattle.regress_linear.proofs.Turns.{turns-go-on, work-is-bounded}
 use Rattle.regress_linear.proofs.Weights.{places-keys}
 use Rattle.regress_ledger.specs.declared.ledger.Ledger.{Ledger}
 use Rattle.regress_ledger.specs.declared.ledger.Line.{Line}
@@ -30,8 +28,8 @@ use Rattle.regress_ledger.specs.Ledger.{no_line, line_of, account_of, questions_
 use Rattle.regress_ledger.specs.Whole.{AreCoded, IsLedgerOf, Serves}
 use Rattle.regress_ledger.proofs.BoundLemmas.{ledgers-bound}
 use Rattle.regress_ledger.proofs.WholeLemmas.{ledgers-serve}
-use Rattle.regress_memo.specs.Laws.{ledger_keys, KeyFails, Holds}
-use Rattle.regress_memo.specs.Memo.{has_failure, IsBegun, NotesFailure}
+use Rattle.regress_memo.specs.Laws.{ledger_keys, Holds}
+use Rattle.regress_memo.specs.Memo.{has_failure, IsBegun}
 use Rattle.regress_memo.specs.Room.{Known}
 use Rattle.regress_memo.specs.Search.{HasCome}
 use Rattle.regress_memo.proofs.LawLemmas.{memos-hold}
@@ -43,21 +41,6 @@ use Rattle.regress_bounded.specs.Paying.{HasWalked, IsWalked, IsTrying}
 -- at first nothing is
 pub memory-of : (t : Ledger) (places : ℕ) (with_ends : Bool) (m : Known) → IsBegun t places with_ends m → Holds (has_failure m) []
 memory-of t places with_ends m begun = (memos-hold.begun t places with_ends m begun).0
-
--- a key that is not known is new
-pub memory-new : (m : Known) (memory : List Key) (k : Key) → Holds (has_failure m) memory → has_failure m k ≡ false → IsNew k memory
-memory-new m memory k holds unknown = memos-hold.new (has_failure m) memory k holds unknown
-
--- another memory that knows the same holds the same
-pub memory-still : (m n : Known) (memory : List Key) → ((k : Key) → has_failure n k ≡ has_failure m k) → Holds (has_failure m) memory → Holds (has_failure n) memory
-memory-still m n memory same holds = record {
-  only = λ k is_in. same k ∙ holds.only k is_in;
-  all = λ k known. holds.all k (sym (same k) ∙ known);
-}
-
--- one key more is noted
-pub memory-attempted : (k : Key) (m n : Known) (memory : List Key) → NotesFailure k m n → Holds (has_failure m) memory → Holds (has_failure n) (k ∷ memory)
-memory-attempted k m n memory notes holds = memos-hold.failure k m n memory notes holds
 
 -- ---- Places
 
@@ -124,13 +107,6 @@ module _ (program : Program) (t : Ledger) (of : IsLedgerOf program t) (text : Te
   -- the search at an offset answers
   abbrev Answered : ℕ → Type 0
   Answered at = Answers program text rightwards (first_row program at)
-
-  -- as it does where the program can search the text
-  pub answers-at : SearchesFindFirst → (tree : Tree) → CanSearch program tree text → (at place : ℕ) → place_at text at ≡ Some place → Answered at
-  answers-at law tree can at place here =
-      let both = offset-place_at text at place is_text here in
-      let first = law program tree text can place both.1 in
-      subst Answered both.0 (record { turns = turns_at tree text place; found = first.found; searches = first.searches })
 
   abbrev served : Serves program t text
   served = ledgers-serve program t of text is_text bytes less
@@ -255,13 +231,6 @@ module _ (program : Program) (t : Ledger) (of : IsLedgerOf program t) (text : Te
     is = still-memory at done memory w answers more now (tried u ∷ rest) h;
   }
 
-  -- the key of a record that is reached fails
-  pub then-fails : (at done : ℕ) (memory : List Key) → Walked at done memory → Answered at → (more : ℕ) (now : List Key) (k : Key) (ts : List Thread) (rest : List Entry)
-      → Come at memory more now (noted k ts ∷ rest) → KeyFails program text t k
-  then-fails at done memory w answers more now k ts rest h =
-      reached-fail program text (account_of t) (ledger_keys program text t) served.plan.account served.serves.keys rightwards now k ts rest answers.found
-      (stands-so at done memory w answers more now (noted k ts ∷ rest) h).stands
-
   -- ---- With what is known
 
   module _ (known : Key → Bool) where
@@ -273,16 +242,6 @@ module _ (program : Program) (t : Ledger) (of : IsLedgerOf program t) (text : Te
 
     pub then-starts : Holds known [] → (at : ℕ) → Behind at 0
     then-starts holds at = record { memory = []; has = stands-still at; holds = holds }
-
-    -- the next attempt
-    pub then-can : (ahead done at : ℕ) → Behind ahead done → ahead ≤ at → at ≤ units text → Trying at done 0 (tries (first_row program at))
-    then-can ahead done at b le inside = record {
-      memory = b.memory;
-      now = b.memory;
-      has = still-onward ahead done b.memory b.has at le;
-      comes = in-hand at inside b.memory;
-      holds = b.holds;
-    }
 
     -- a match ends it
     pub then-ends : (at done work : ℕ) (u : Thread) (rest : List Entry) → Answered at → Trying at done work (tried u ∷ rest)
@@ -300,17 +259,3 @@ module _ (program : Program) (t : Ledger) (of : IsLedgerOf program t) (text : Te
       has = then-failed at done b.memory b.has answers work b.now b.comes;
       holds = b.holds;
     }
-
-    -- ---- What it may cost
-
-    abbrev per_unit : ℕ
-    per_unit = 1 + work_for_each t + work_for_each t / 3
-
-    -- where so much may be done for each place, it is never exceeded
-    pub within-budget : (budget at done work : ℕ) (row : List Entry) → per_unit * (units text + 1) ≤ budget → at ≤ units text → Answered at → Trying at done work row
-        → done + work ≤ budget
-    within-budget budget at done work row enough inside answers b =
-        let all = so-far at done b.memory b.has answers work b.now row inside b.comes in
-        let third : per_unit ≡ 1 + (work_for_each t + (price_of_all t + (line_of t 0).ready)) = omega arith in
-        let same = ap (λ m. m * (units text + 1)) third in
-        omega (arith, all, same, enough)

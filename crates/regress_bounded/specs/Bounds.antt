@@ -1,7 +1,8 @@
 -- Bounds of programs: how much work is enough for all matches of a text together.
 use Rattle.std.specs.Arc.{arc_value}
-use Rattle.std.specs.Prelude.{◌≡◌, ℕ, ◌+◌, ◌*◌, ◌/◌, Bool, nat_le, slice_get, Option, None}
-use Rattle.regex_meaning.specs.Layout.{Program}
+use Rattle.std.specs.List.{fold, sum_by}
+use Rattle.std.specs.Prelude.{◌≡◌, ◌≤◌, ℕ, ◌+◌, ◌*◌, ◌/◌, ◌==◌, Bool, if◌then◌else◌, max, nat_le, slice_get, Option, None}
+use Rattle.regex_meaning.specs.Layout.{Program, Insn, Loop1CharBody}
 use Rattle.regex_meaning.specs.Text.{Text}
 use Rattle.regex_meaning.specs.Tree.{Tree}
 use Rattle.regex_meaning.specs.Offsets.{units}
@@ -9,6 +10,7 @@ use Rattle.regress_linear.specs.Behind.{look_at}
 use Rattle.regress_program.specs.Code.{compiled}
 use Rattle.regress_ledger.specs.declared.ledger.Ledger.{Ledger}
 use Rattle.regress_ledger.specs.Bound.{IsBounded, work_for_each}
+use Rattle.regress_ledger.specs.Checks.{unlimited}
 use Rattle.regress_ledger.specs.Whole.{IsLedgerOf}
 use Rattle.regress_bounded.specs.declared.bounds.WorkBound.{WorkBound}
 
@@ -16,16 +18,29 @@ use Rattle.regress_bounded.specs.declared.bounds.WorkBound.{WorkBound}
 abbrev pub work_per_unit : Ledger → ℕ
 work_per_unit t = 1 + (work_for_each t + work_for_each t / 3)
 
+-- How large an instruction is: 1, and of a run of one character its maximum too, or its minimum where it has none.
+abbrev pub size_of_insn : Insn → ℕ
+size_of_insn (Loop1CharBody least most greedy) = 1 + (if most == unlimited then least else most)
+size_of_insn _ = 1
+
+abbrev pub size : Program → ℕ
+size program = sum_by size_of_insn program.insns
+
+-- the most answers of its loops that an instruction has
+abbrev pub most_codes_of : Ledger → ℕ
+most_codes_of t = fold (λ most x. max most x.codes) 0 t.lines.items
+
 -- searches with the program are paid by the ledger, and none looks aside
 pub record HasBound (program : Program) (t : Ledger) : Type 0 where
   pub ledger : IsLedgerOf program t
   pub bounded : IsBounded t program
   pub no_look : (ip : ℕ) → look_at (slice_get program.insns ip) ≡ None
 
--- a bound is one of the program of a tree
+-- A bound is one of the program of a tree, and at most a constant times the program's size, for each answer of its loops.
 pub record Bounds (tree : Tree) (bound : WorkBound) : Type 0 where
   pub has : HasBound (compiled tree) (arc_value bound.ledger)
   pub per_unit : bound.per_unit ≡ work_per_unit (arc_value bound.ledger)
+  pub few : bound.per_unit ≤ 64 * (size (compiled tree) * most_codes_of (arc_value bound.ledger))
 
 abbrev pub IsBoundOf : Tree → WorkBound → Type 0
 IsBoundOf tree bound = ∥ Bounds tree bound ∥₁

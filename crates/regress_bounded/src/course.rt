@@ -1,6 +1,6 @@
 //! What an attempt goes by: what failed, and how much work may still be done.
 
-ghost use Rattle.std.specs.Prelude.{◌≡◌, ◌<◌, OnOk, IfErr, IfSome, option_map};
+ghost use Rattle.std.specs.Prelude.{◌≡◌, ◌<◌, ◌≤◌, OnOk, IfErr, IfSome, option_map};
 ghost use Rattle.regress_ledger.specs.Whole.{HasBit};
 ghost use Rattle.regress_memo.specs.Memo.{as_key, key_at as key_of_state};
 ghost use Rattle.regress_pikevm.specs.States.{state_of};
@@ -42,6 +42,7 @@ impl Course {
     #[inline(always)]
     pub(crate) fn spend(&mut self, work: u64) -> Result<(), Refusal>
         ensures memo { self.new.memo ≡ self.old.memo }
+        ensures left { self.new.left ≤ self.old.left }
         ensures spent { OnOk result (HasSpent work self.old.left self.new.left) }
         ensures over { IfErr result (λ e. (e ≡ Work) × IsSpent work self.old.left self.new.left) }
     {

@@ -1,21 +1,18 @@
 //! The executor that does no more than so much work: it copies its states, and remembers each failure from the first attempt on.
 
-ghost use Rattle.std.specs.Prelude.{◌≡◌, ◌≤◌, ◌<◌, ◌^◌, ◌*◌, ◌+◌, ℕ, nat_le, IfErr, IfOk, IsAscii, None, Some, [], ◌∷◌, false, map, true};
+ghost use Rattle.std.specs.Prelude.{◌≡◌, ◌≤◌, ◌<◌, ◌^◌, ◌*◌, ◌+◌, nat_le, IfErr, IfOk, IsAscii, None, Some, [], false, true};
 ghost use Rattle.std.proofs.Props.{props};
-ghost use Rattle.regex_meaning.specs.Offsets.{IsBoundary, units};
+ghost use Rattle.regex_meaning.specs.Offsets.{IsBoundary};
 ghost use Rattle.regex_meaning.specs.Text.{ascii_text, ucs2_text, utf16_text, utf8_text};
 ghost use Rattle.regex_pattern_front.specs.TreeOf.{tree_of};
 ghost use Rattle.regress_exec.specs.Attempts.{end_from};
 ghost use Rattle.regress_exec.specs.Worked.{further_on};
 ghost use Rattle.regress_exec.specs.declared.exec.SearchError.TheVariants.{Memory};
-ghost use Rattle.regress_linear.specs.Turns.{tried};
-ghost use Rattle.regress_machine.specs.Machine.{running};
 ghost use Rattle.regress_program.specs.Code.{compiled};
-ghost use Rattle.regress_program.specs.Insns.{insn_of};
 ghost use Rattle.regress_pikevm.specs.Acting.{end_with};
 ghost use Rattle.regress_bounded.specs.Bounds.{IsAtStart, IsBoundOf, is_enough_for};
 ghost use Rattle.regress_bounded.specs.Courses.{Begin, Begins, KnowsRightly, Stands, IsStanding, Runs, front_of};
-ghost use Rattle.regress_pikevm.specs.States.{groups_of, state_of};
+ghost use Rattle.regress_pikevm.specs.States.{groups_of};
 ghost use Rattle.regress_bounded.specs.Walks.{HasWalked};
 
 use crate::bounds::WorkBound;
@@ -65,6 +62,7 @@ fn run<Input: InputIndexer>(
     ensures right { let s = searched.now in
         KnowsRightly (compiled (tree_of s.program.now)) (Input.text s.input) course.new.memo }
     ensures ledger { course.new.memo.ledger ≡ course.old.memo.ledger }
+    ensures left { course.new.left ≤ course.old.left }
     ensures runs { let at = Input.Position.offset in let s = searched.now in
         let program = compiled (tree_of s.program.now) in let text = Input.text s.input in
         (b : Begin) → Stands at program text b (front_of at (Some start)) [] course.old
@@ -102,6 +100,7 @@ fn preferred_end<Input: InputIndexer>(
     ensures found { let s = searched.now in IfOk result (λ end. end_with Input.Position.offset end
         ≡ end_from (tree_of s.program.now) (Input.text s.input) (Input.Position.offset pos)) }
     ensures ledger { course.new.memo.ledger ≡ course.old.memo.ledger }
+    ensures left { course.new.left ≤ course.old.left }
     ensures runs { let at = Input.Position.offset in let s = searched.now in
         let program = compiled (tree_of s.program.now) in let text = Input.text s.input in
         (b : Begin) → Begins program text (at pos) course.old b → Runs at program text b result course.new }
@@ -125,6 +124,8 @@ impl<'r, Input: InputIndexer> Attempts for BoundedExecutor<'r, Input> {
     ghost ahead = { λ e. e.ahead };
 
     ghost out_of_work = { λ e. e.out };
+
+    ghost left = { λ e. e.course.left };
 
     ghost is_text = { λ e. Input.is_text e.searched.input };
 
@@ -188,8 +189,6 @@ fn further_on(at: usize, end: usize) -> usize
 }
 
 impl<'r, Input: InputIndexer> Worker for BoundedExecutor<'r, Input> {
-    ghost left = { λ e. e.course.left };
-
     fn work_left(&self) -> u64 {
         self.course.left
     }
@@ -256,9 +255,8 @@ impl<'r, 't> BoundedExecutor<'r, Utf8Input<'t>> {
     ) -> Result<Self, SearchError>
         requires bound { IsBoundOf (tree_of re.now) bound.now }
         ensures start { let e = ⟦<BoundedExecutor<'r, Utf8Input<'t>> as MatchProducer>⟧ in
-            let left = ⟦<BoundedExecutor<'r, Utf8Input<'t>> as Worker>⟧.left in
             IfOk result (λ x. IsAtStart (tree_of re.now) (utf8_text text.now (tree_of re.now).flags.unicode)
-            bound.now.per_unit work (e.tree x) (e.text x) (e.budget x) (e.enough x) (e.ahead x) (left x)) }
+            bound.now.per_unit work (e.tree x) (e.text x) (e.budget x) (e.enough x) (e.ahead x) (e.left x)) }
         ensures refused { IfErr result (λ e. e ≡ Memory) }
     {
         BoundedExecutor::over(Searched::in_utf8(re, text), bound, work)
@@ -280,9 +278,8 @@ impl<'r, 't> BoundedExecutor<'r, AsciiInput<'t>> {
         requires bound { IsBoundOf (tree_of re.now) bound.now }
         requires ascii { IsAscii text.now }
         ensures start { let e = ⟦<BoundedExecutor<'r, AsciiInput<'t>> as MatchProducer>⟧ in
-            let left = ⟦<BoundedExecutor<'r, AsciiInput<'t>> as Worker>⟧.left in
             IfOk result (λ x. IsAtStart (tree_of re.now) (ascii_text text.now (tree_of re.now).flags.unicode)
-            bound.now.per_unit work (e.tree x) (e.text x) (e.budget x) (e.enough x) (e.ahead x) (left x)) }
+            bound.now.per_unit work (e.tree x) (e.text x) (e.budget x) (e.enough x) (e.ahead x) (e.left x)) }
         ensures refused { IfErr result (λ e. e ≡ Memory) }
     {
         BoundedExecutor::over(Searched::in_ascii(re, text), bound, work)
@@ -303,9 +300,8 @@ impl<'r, 't> BoundedExecutor<'r, Utf16Input<'t>> {
     ) -> Result<Self, SearchError>
         requires bound { IsBoundOf (tree_of re.now) bound.now }
         ensures start { let e = ⟦<BoundedExecutor<'r, Utf16Input<'t>> as MatchProducer>⟧ in
-            let left = ⟦<BoundedExecutor<'r, Utf16Input<'t>> as Worker>⟧.left in
             IfOk result (λ x. IsAtStart (tree_of re.now) (utf16_text text.now (tree_of re.now).flags.unicode)
-            bound.now.per_unit work (e.tree x) (e.text x) (e.budget x) (e.enough x) (e.ahead x) (left x)) }
+            bound.now.per_unit work (e.tree x) (e.text x) (e.budget x) (e.enough x) (e.ahead x) (e.left x)) }
         ensures refused { IfErr result (λ e. e ≡ Memory) }
     {
         BoundedExecutor::over(Searched::in_utf16(re, text), bound, work)
@@ -326,9 +322,8 @@ impl<'r, 't> BoundedExecutor<'r, Ucs2Input<'t>> {
     ) -> Result<Self, SearchError>
         requires bound { IsBoundOf (tree_of re.now) bound.now }
         ensures start { let e = ⟦<BoundedExecutor<'r, Ucs2Input<'t>> as MatchProducer>⟧ in
-            let left = ⟦<BoundedExecutor<'r, Ucs2Input<'t>> as Worker>⟧.left in
             IfOk result (λ x. IsAtStart (tree_of re.now) (ucs2_text text.now (tree_of re.now).flags.unicode)
-            bound.now.per_unit work (e.tree x) (e.text x) (e.budget x) (e.enough x) (e.ahead x) (left x)) }
+            bound.now.per_unit work (e.tree x) (e.text x) (e.budget x) (e.enough x) (e.ahead x) (e.left x)) }
         ensures refused { IfErr result (λ e. e ≡ Memory) }
     {
         BoundedExecutor::over(Searched::in_ucs2(re, text), bound, work)

@@ -1,8 +1,7 @@
 //! Runs without a maximum: each place behind one has a record.
 
-ghost use Rattle.std.specs.Prelude.{◌≡◌, ◌<◌, ◌≤◌, ◌^◌, ◌+◌, ℕ, Bool, true, false, Some, IfOk, OnOk, IsSome, [], ◌∷◌, ◌++◌, map};
-ghost use Rattle.regex_meaning.specs.Offsets.{IsBoundary, place_at, offset as text_offset, units};
-ghost use Rattle.regex_meaning.specs.Text.{rightwards, moved};
+ghost use Rattle.std.specs.Prelude.{◌≡◌, ◌<◌, ◌≤◌, ◌^◌, ◌+◌, ℕ, Bool, true, false, Some, IfOk, IsSome, [], ◌∷◌, ◌++◌, map};
+ghost use Rattle.regex_meaning.specs.Offsets.{IsBoundary, place_at};
 ghost use Rattle.regex_pattern_front.specs.TreeOf.{tree_of};
 ghost use Rattle.regress_linear.specs.Runs.{passing};
 ghost use Rattle.regress_linear.specs.Turns.{tried};
@@ -77,6 +76,7 @@ pub(crate) fn meet_run<Input: InputIndexer>(
         IsStanding Input.Position.offset (compiled (tree_of s.program.now)) (Input.text s.input)
         (tried (running (state_of Input.Position.offset state.now)) ∷ []) stack.old.items course.old }
     ensures memo { course.new.memo ≡ course.old.memo }
+    ensures left { course.new.left ≤ course.old.left }
     ensures goes { let at = Input.Position.offset in let s = searched.now in
         let program = compiled (tree_of s.program.now) in let text = Input.text s.input in
         (b : Begin) → Stands at program text b (tried (running (state_of at state.now)) ∷ []) stack.old.items course.old
@@ -153,6 +153,7 @@ pub(crate) fn meet_lazy<Input: InputIndexer>(
         IsStanding Input.Position.offset (compiled (tree_of s.program.now)) (Input.text s.input)
         (tried (running (state_of Input.Position.offset state)) ∷ []) stack.old.items course.old }
     ensures memo { course.new.memo ≡ course.old.memo }
+    ensures left { course.new.left ≤ course.old.left }
     ensures goes { let at = Input.Position.offset in let s = searched.now in
         let program = compiled (tree_of s.program.now) in let text = Input.text s.input in
         (b : Begin) → Stands at program text b (tried (running (state_of at state)) ∷ []) stack.old.items course.old
@@ -207,6 +208,7 @@ pub(crate) fn back_to_run<Input: InputIndexer>(
         IsStanding Input.Position.offset (compiled (tree_of s.program.now)) (Input.text s.input)
         [] (stack.old.items ++ AsRun state ∷ []) course.old }
     ensures memo { course.new.memo ≡ course.old.memo }
+    ensures left { course.new.left ≤ course.old.left }
     ensures goes { let at = Input.Position.offset in let s = searched.now in
         let program = compiled (tree_of s.program.now) in let text = Input.text s.input in
         (b : Begin) → Stands at program text b [] (stack.old.items ++ AsRun state ∷ []) course.old

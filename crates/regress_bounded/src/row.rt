@@ -1,6 +1,6 @@
 //! What waits behind the thread in hand: threads, runs that go on from further places, and records.
 
-ghost use Rattle.std.specs.Prelude.{◌≡◌, ◌++◌, ◌∷◌, [], map, option_map, slice_get, OnOk};
+ghost use Rattle.std.specs.Prelude.{◌≡◌, ◌++◌, ◌∷◌, [], map, OnOk};
 ghost use Rattle.regress_pikevm.specs.States.{loop_of};
 
 use regress_input::front::LoopID;

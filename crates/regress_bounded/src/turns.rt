@@ -1,6 +1,6 @@
 //! Turns of threads and ways back, each with the work that it is.
 
-ghost use Rattle.std.specs.Prelude.{◌≡◌, ◌<◌, ◌+◌, ◌==◌, ℕ, Bool, List, false, true, IfOk, IfSome, OnOk, Some, [], ◌∷◌, ◌++◌, map, option_map, slice_get};
+ghost use Rattle.std.specs.Prelude.{◌≡◌, ◌≤◌, ◌==◌, ℕ, Bool, List, false, IfOk, IfSome, Some, [], ◌∷◌, ◌++◌, map, option_map, slice_get};
 ghost use Rattle.regex_meaning.specs.Layout.{Program as Code, Loop1CharBody};
 ghost use Rattle.regex_meaning.specs.Text.{Text};
 ghost use Rattle.regex_pattern_front.specs.TreeOf.{tree_of};
@@ -47,6 +47,7 @@ pub(crate) fn turn<Input: InputIndexer>(
         IsStanding Input.Position.offset (compiled (tree_of s.program.now)) (Input.text s.input)
         (tried (running (state_of Input.Position.offset state)) ∷ []) stack.old.items course.old }
     ensures memo { course.new.memo ≡ course.old.memo }
+    ensures left { course.new.left ≤ course.old.left }
     ensures goes { let at = Input.Position.offset in let s = searched.now in
         let program = compiled (tree_of s.program.now) in let text = Input.text s.input in
         (b : Begin) → Stands at program text b (tried (running (state_of at state)) ∷ []) stack.old.items course.old
@@ -122,6 +123,7 @@ fn turn_above<Input: InputIndexer>(
         → slice_get (compiled (tree_of searched.now.program.now)).insns state.ip ≡ Some (Loop1CharBody least most greedy)
         → (most == unlimited) ≡ false }
     ensures memo { course.new.memo ≡ course.old.memo }
+    ensures left { course.new.left ≤ course.old.left }
     ensures goes { let at = Input.Position.offset in let s = searched.now in
         let program = compiled (tree_of s.program.now) in let text = Input.text s.input in
         (b : Begin) → Stands at program text b (tried (running (state_of at state)) ∷ []) stack.old.items course.old
@@ -159,6 +161,7 @@ fn leave<P: PositionType>(
     course: &mut Course,
 ) -> Result<(), Refusal>
     ensures memo { course.new.memo ≡ course.old.memo }
+    ensures left { course.new.left ≤ course.old.left }
     ensures leaves { (program : Code) (text : Text) (b : Begin) (s : MachineState) (ts : List Thread)
         → IsTurn P.offset program text s work ts → HasKeyHere course.old.memo s key
         → Stands P.offset program text b (tried (running s) ∷ []) stack.old.items course.old
@@ -203,6 +206,7 @@ pub(crate) fn back_to<Input: InputIndexer>(
     ensures right { let s = searched.now in
         KnowsRightly (compiled (tree_of s.program.now)) (Input.text s.input) course.new.memo }
     ensures ledger { course.new.memo.ledger ≡ course.old.memo.ledger }
+    ensures left { course.new.left ≤ course.old.left }
     ensures goes { let at = Input.Position.offset in let s = searched.now in
         let program = compiled (tree_of s.program.now) in let text = Input.text s.input in
         (b : Begin) → Stands at program text b [] (stack.old.items ++ waiting ∷ []) course.old

@@ -64,9 +64,13 @@ MayRefuse WorkLimit before behind = (before.enough ≡ false) × (behind.left �
 
 -- One call: the head of the list, which leaves its tail; none exactly where the list is empty; or a refusal, where it had not
 -- ended, which ends it. Work that is enough stays so while nothing is refused.
-abbrev pub GivesInWork : InWork → Option (Result Match WorkError) → InWork → Type 0
-GivesInWork s None t = (s.come.answers ≡ []) × HasEnded t.come × (s.enough ≡ true → t.enough ≡ true)
-GivesInWork s (Some (Ok m)) t =
+abbrev pub Yields : InWork → Option (Result Match WorkError) → InWork → Type 0
+Yields s None t = (s.come.answers ≡ []) × HasEnded t.come × (s.enough ≡ true → t.enough ≡ true)
+Yields s (Some (Ok m)) t =
     (s.come.answers ≡ answer_of m ∷ t.come.answers) × (s.come.ended ≡ false) × (t.come.text_end ≡ s.come.text_end)
     × (t.come.ended ≡ (m.range.start == s.come.text_end)) × (s.enough ≡ true → t.enough ≡ true)
-GivesInWork s (Some (Err e)) t = MayRefuse e s t × (s.come.ended ≡ false) × HasEnded t.come
+Yields s (Some (Err e)) t = MayRefuse e s t × (s.come.ended ≡ false) × HasEnded t.come
+
+-- And no call gives back work that was done.
+abbrev pub GivesInWork : InWork → Option (Result Match WorkError) → InWork → Type 0
+GivesInWork s result t = Yields s result t × (t.left ≤ s.left)

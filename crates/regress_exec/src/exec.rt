@@ -119,6 +119,9 @@ pub trait MatchProducer {
 
     ghost out_of_work: { Self → Bool } = { λ _. false };
 
+    // how much work may still be done, where it is counted
+    ghost left: { Self → ℕ } = { λ _. 0 };
+
     /// The position of an offset in units, which is a boundary or past the end; none where it is past the end.
     fn initial_position(&self, offset: usize) -> Option<Self::Position>
         requires { IsBoundary (text self.now) offset ⊎ (units (text self.now) < offset) }
@@ -148,6 +151,7 @@ pub trait MatchProducer {
         ensures cause { IfErr result (λ e. e ≡ cause_of (out_of_steps self.new)) }
         ensures work { let at = Self.Position.offset in SearchGoesOn (enough self.old) (ahead self.old) (at pos)
             result (enough self.new) (ahead self.new) (option_map at next_start.new) (out_of_work self.new) }
+        ensures left { left self.new ≤ left self.old }
         ensures same { (tree self.new ≡ tree self.old) × (text self.new ≡ text self.old) };
 
     ghost is_text: { (it : Self) → IsText (text it) };
@@ -243,6 +247,7 @@ fn next_of<P: MatchProducer>(
         let before = is_enough (P.enough mp.old) (P.ahead mp.old) (offset position.old) in
         let behind = is_enough (P.enough mp.new) (P.ahead mp.new) (offset position.new) in
         CallGoesOn before result behind (P.out_of_work mp.new) }
+    ensures left { P.left mp.new ≤ P.left mp.old }
 {
     let pos = (*position)?;
     match mp.next_match(pos, position) {

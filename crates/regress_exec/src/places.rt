@@ -47,6 +47,9 @@ pub trait Attempts {
 
     ghost out_of_work: { Self → Bool } = { λ _. false };
 
+    // how much work may still be done, where it is counted
+    ghost left: { Self → ℕ } = { λ _. 0 };
+
     ghost groups: { Self → Groups };
 
     /// The program that is run.
@@ -76,6 +79,7 @@ pub trait Attempts {
         ensures cause { Tells result (out_of_steps self.new) }
         ensures work { let at = Self.Input.Position.offset in AttemptGoesOn at (enough self.old) (ahead self.old)
             (at pos) result (enough self.new) (ahead self.new) (out_of_work self.new) }
+        ensures left { left self.new ≤ left self.old }
         ensures same { (tree self.new ≡ tree self.old) × (text self.new ≡ text self.old) };
 
     /// How many groups the last attempt that found an end had.
@@ -197,6 +201,8 @@ impl<A: Attempts> MatchProducer for A {
     ghost ahead = { A.ahead };
 
     ghost out_of_work = { A.out_of_work };
+
+    ghost left = { A.left };
 
     ghost is_text = { A.is_text };
 

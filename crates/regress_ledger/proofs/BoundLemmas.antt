@@ -10,7 +10,7 @@ use Rattle.regex_meaning.specs.Offsets.{units}
 use Rattle.regex_meaning.specs.Layout.{Program, Insn, Loop1CharBody, Lookahead, Lookbehind}
 use Rattle.regress_plan.specs.Insns.{insn_of}
 use Rattle.regress_plan.specs.declared.insn.Insn as declared
-use Rattle.regress_linear.specs.Behind.{Look}
+use Rattle.regress_linear.specs.Behind.{Look, look_at}
 use Rattle.regress_machine.specs.Finds.{initial}
 use Rattle.regress_machine.specs.Machine.{running}
 use Rattle.regress_linear.specs.Budget.{price_at_one, enough_for_one}
@@ -73,7 +73,7 @@ module _ (t : Ledger) (coded : AreCoded t) where
       let codes : plan_codes (questions_of t) i ≡ x.codes = coded.counted i (inside t.lines.items i x e) ∙ ap (λ (y : Line). y.codes) there in
       ap cost at ∙ ap (λ (y : Line). y.price * plan_codes (questions_of t) i) there ∙ ap (λ n. x.price * n) codes
 
-  prices-of-all : price_at_one (questions_of t) (recorded t) (price_of t) ≡ price_of_all t
+  pub prices-of-all : price_at_one (questions_of t) (recorded t) (price_of t) ≡ price_of_all t
   prices-of-all = of-lines cost 0 t.lines.items as-written
 
 pub ledgers-bound : LedgersBound
@@ -126,21 +126,21 @@ ready-all lines each ip = by (slice_get lines ip) refl
     by (Some x) e = each ip x e
 
 module _ (t : Ledger) where
+  bounded-look : (x : Option Insn) (ip : ℕ) (its : Look) → look_at x ≡ Some its
+      → ((least : ℕ) → x ≡ Some (Loop1CharBody least unlimited false) → ⊥) → LookIsBounded t its.continuation ip → InsnIsBounded t x ip
+  bounded-look x ip its is no_run h = record {
+    look = λ l e. subst (λ (l : Look). LookIsBounded t l.continuation ip) (some-is (sym is ∙ e)) h;
+    lazy = λ least e. absurd (no_run least e);
+  }
+    where
+      some-is : {l : Look} → Some its ≡ Some l → its ≡ l
+      some-is e = cc
+
   bounded-insn : (x : Option Insn) (ip : ℕ) → StepIsBounded t (step_in ip x) ip → InsnIsBounded t x ip
-  bounded-insn (Some (Lookahead negate start_group end_group continuation)) ip h = record {
-    look = λ l e. subst (λ (l : Look). LookIsBounded t l.continuation ip) (some-is _ _ e) (record { contents = h.0; silent = h.1 });
-    lazy = λ least e. cc;
-  }
-    where
-      some-is : (a b : Look) → Some a ≡ Some b → a ≡ b
-      some-is a b e = cc
-  bounded-insn (Some (Lookbehind negate start_group end_group continuation)) ip h = record {
-    look = λ l e. subst (λ (l : Look). LookIsBounded t l.continuation ip) (some-is _ _ e) (record { contents = h.0; silent = h.1 });
-    lazy = λ least e. cc;
-  }
-    where
-      some-is : (a b : Look) → Some a ≡ Some b → a ≡ b
-      some-is a b e = cc
+  bounded-insn (Some (Lookahead negate start_group end_group continuation)) ip h =
+      bounded-look (Some (Lookahead negate start_group end_group continuation)) ip _ refl (λ least e. cc) (record { contents = h.0; silent = h.1 })
+  bounded-insn (Some (Lookbehind negate start_group end_group continuation)) ip h =
+      bounded-look (Some (Lookbehind negate start_group end_group continuation)) ip _ refl (λ least e. cc) (record { contents = h.0; silent = h.1 })
   bounded-insn (Some (Loop1CharBody least most greedy)) ip h = record {
     look = λ l e. absurd (no-look e);
     lazy = λ few e. let g : greedy ≡ false = cc in let m : most ≡ unlimited = cc in h g m;

@@ -40,7 +40,7 @@ use Rattle.regress_memo.proofs.LawLemmas.{thread-key, records-there}
 -- ---- Keys
 
 -- a state has none where its instruction does not record
-no-key : (t : Ledger) (s : State) → key_at t s ≡ None → is_one_of (recorded t) s.ip ≡ false
+pub no-key : (t : Ledger) (s : State) → key_at t s ≡ None → is_one_of (recorded t) s.ip ≡ false
 no-key t s none = by (is_one_of (recorded t) s.ip) refl
   where
     by : (b : Bool) → is_one_of (recorded t) s.ip ≡ b → is_one_of (recorded t) s.ip ≡ false
@@ -55,7 +55,7 @@ pub record HasKey (t : Ledger) (s : State) (k : Key) : Type 0 where
   pub records : (line_of t s.ip).records ≡ true
   pub is : key_of (plan_code (questions_of t)) s ≡ k
 
-has-key : (t : Ledger) (s : State) (k : Key) → key_at t s ≡ Some k → HasKey t s k
+pub has-key : (t : Ledger) (s : State) (k : Key) → key_at t s ≡ Some k → HasKey t s k
 has-key t s k is = by (line_of t s.ip).records refl is
   where
     by : (b : Bool) → (line_of t s.ip).records ≡ b → (if b then Some (key_of (plan_code (questions_of t)) s) else None) ≡ Some k → HasKey t s k
@@ -74,7 +74,7 @@ module _ (program : Program) (text : Text) (t : Ledger) (d : Direction) where
       (record { of = of.0; sound = sound.0; way = way.0; no_body = apart.0 }, all-keyed ts of.1 sound.1 way.1 apart.1)
 
   -- those of entries that stand above a row
-  keyed-joined : (entries rest : List Entry) → AreKeyed program text t d (threads_in entries) → AreKeyed program text t d (threads_in rest)
+  pub keyed-joined : (entries rest : List Entry) → AreKeyed program text t d (threads_in entries) → AreKeyed program text t d (threads_in rest)
       → AreKeyed program text t d (threads_in (entries ++ rest))
   keyed-joined entries rest above below =
       subst (AreKeyed program text t d) (sym (threads-joined entries rest))

@@ -23,19 +23,17 @@ pub enum WorkError {
     WorkLimit,
 }
 
-/// What finds matches in so much work. Contracts see how much is left, and whether that is enough for attempts in turn
-/// (`enough` of `MatchProducer`).
+/// What finds matches in so much work. Contracts see how much is left, which never rises, and whether that is enough for
+/// attempts in turn (`left` and `enough` of `MatchProducer`).
 pub trait Worker: MatchProducer {
-    ghost left: { Self → ℕ };
-
     /// How much work it may still do.
     fn work_left(&self) -> u64
-        ensures { result ≡ left self.now };
+        ensures { result ≡ Self.left self.now };
 
     /// Whether its last attempt would have had to do more than it may: then none is left.
     fn is_out(&self) -> bool
         ensures limit { result ≡ Self.out_of_work self.now }
-        ensures spent { result ≡ true → left self.now ≡ 0 };
+        ensures spent { result ≡ true → Self.left self.now ≡ 0 };
 }
 
 /// The matches of a pattern in a text from a start on, in so much work. Contracts see the answers still to come, how much work

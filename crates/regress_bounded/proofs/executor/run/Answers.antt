@@ -1,4 +1,4 @@
-use Rattle.std.proofs.Common.{[], Some, ap, sym, subst, refl, ◌∙◌}
+use Rattle.std.proofs.Common.{[], Some, ap, sym, subst, refl, ◌∙◌, arith}
 use Rattle.std.specs.Prelude.{Ok}
 use Rattle.regex_pattern_front.specs.TreeOf.{tree_of}
 use Rattle.regress_memo.specs.Room.{Known}
@@ -18,6 +18,7 @@ search-init g c =
       stands = subst (λ xs. IsStanding offset program text (front_of offset (Some c.args.start)) xs c.args.course.now) (sym c.clear.ensures.items) c.requires.stands;
       from = λ b h. subst (λ xs. Stands offset program text b (front_of offset (Some c.args.start)) xs c.args.course.now) (sym c.clear.ensures.items) h;
       ledger = refl;
+      left = omega arith;
     }
 
 pub turn-requires-clause-stands : goal.turn-requires-clause-stands
@@ -124,6 +125,7 @@ search-preserved-in-On g c =
       stands = standing-on offset program text (subst (λ n. IsStanding offset program text (front_of offset n) c.search.stack.items c.search.course) c.in-Some.is c.search.invariant.stands) came;
       from = λ b h. came b (subst (λ n. Stands offset program text b (front_of offset n) c.search.stack.items c.search.course) c.in-Some.is (c.search.invariant.from b h));
       ledger = ap (λ (m : Known). m.ledger) c.turn.ensures.memo ∙ c.search.invariant.ledger;
+      left = omega (arith, c.turn.ensures.left, c.search.invariant.left);
     }
 
 pub search-smaller : goal.search-smaller
@@ -144,4 +146,5 @@ search-preserved g c =
           (subst (λ n. IsStanding offset program text (front_of offset n) c.search.stack.items c.search.course) c.in-None.is c.search.invariant.stands)) (λ b h. (c.in_ok-next-in-Some-pop.ensures.goes b h).stands);
       from = λ b h. (c.in_ok-next-in-Some-pop.ensures.goes b (subst (λ xs. Stands offset program text b [] xs c.search.course) c.in-Some-pop.ensures.items (subst (λ n. Stands offset program text b (front_of offset n) c.search.stack.items c.search.course) c.in-None.is (c.search.invariant.from b h)))).stands;
       ledger = c.back_to.ensures.ledger ∙ c.search.invariant.ledger;
+      left = omega (arith, c.back_to.ensures.left, c.search.invariant.left);
     }

@@ -1,4 +1,4 @@
-use Rattle.std.proofs.Common.{◌≡◌, [], Some}
+use Rattle.std.proofs.Common.{◌≡◌, ◌≤◌, [], Some}
 use Rattle.regex_pattern_front.specs.TreeOf.{tree_of}
 use Rattle.regress_program.specs.Code.{compiled}
 use Rattle.regress_bounded.specs.Courses.{Begin, Stands, IsStanding, front_of}
@@ -13,6 +13,7 @@ invariant-search g l =
       stands : IsStanding offset program text (front_of offset l.next) l.stack.items l.course;
       from : (b : Begin) → Stands offset program text b (front_of offset (Some l.fn.start)) [] l.fn.course → Stands offset program text b (front_of offset l.next) l.stack.items l.course;
       ledger : l.course.memo.ledger ≡ l.fn.course.memo.ledger;
+      left : l.course.left ≤ l.fn.course.left;
     }
 
 abbrev pub decreases-search : goal.decreases-search

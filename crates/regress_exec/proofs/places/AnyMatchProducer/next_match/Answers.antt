@@ -1,4 +1,4 @@
-use Rattle.std.proofs.Common.{◌+◌, ◌<◌, Option, Some, None, ap, sym, refl, subst, ◌∙◌, option_map}
+use Rattle.std.proofs.Common.{◌+◌, ◌<◌, Option, Some, None, ap, sym, refl, subst, ◌∙◌, arith, option_map}
 use Rattle.regex_meaning.specs.Offsets.{IsBoundary}
 use Rattle.regex_meaning.specs.Tree.{Tree}
 use Rattle.regex_meaning.specs.Names.{names_by_id}
@@ -28,6 +28,7 @@ places-init g c = record {
       let self = c.args.self.now in
       enough-next (a.enough self) (a.ahead self) (a.tree self) (a.text self) (offset c.args.pos) (option_map offset c.place_from-next.result) c.place_from-next.ensures.next;
   next_start = refl;
+  left = omega arith;
 }
 
 pub position_behind-requires : goal.position_behind-requires
@@ -101,6 +102,7 @@ places-preserved g c =
           (turn-behind (a.enough old) (a.ahead old) (a.enough new) (a.ahead new) (a.out_of_work new) offset c.places.next _ None c.in-Some.start
           c.in-Some.is (invariant.turn begins) c.in_ok-end.ensures.work c.in_default-2.is);
       next_start = invariant.next_start;
+      left = omega (arith, c.in_ok-end.ensures.left, invariant.left);
     }
 
 pub returns-in_err-end-clause-steps : goal.returns-in_err-end-clause-steps

@@ -1,4 +1,4 @@
-use Rattle.std.proofs.Common.{◌≡◌, option_map, true}
+use Rattle.std.proofs.Common.{◌≡◌, ◌≤◌, option_map, true}
 use Rattle.regress_exec.specs.Worked.{IsInTurn, is_enough}
 use Rattle.regress_exec.proofs.Skips.{untried}
 use Rattle.regress_exec.proofs.Walking.{Walk}
@@ -14,6 +14,7 @@ invariant-places g l =
       same_text : a.text l.self ≡ a.text l.initial.self;
       turn : IsInTurn (a.enough l.initial.self) (a.ahead l.initial.self) (offset l.fn.pos) → is_enough (a.enough l.self) (a.ahead l.self) (option_map offset l.next) ≡ true;
       next_start : l.next_start ≡ l.initial.next_start;
+      left : a.left l.self ≤ a.left l.initial.self;
     }
 
 abbrev pub decreases-places : goal.decreases-places

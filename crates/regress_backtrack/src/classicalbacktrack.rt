@@ -1,12 +1,12 @@
 //! The executor that keeps one state and undoes its changes.
 
-ghost use Rattle.std.specs.Prelude.{◌≡◌, IsAscii, IfOk, None, option_map, ⊤, ℕ, List};
+ghost use Rattle.std.specs.Prelude.{◌≡◌, ◌≤◌, IsAscii, IfOk, None, option_map, ⊤, ℕ, List};
 ghost use Rattle.std.specs.Borrow.{Bor};
 ghost use Rattle.std.proofs.Props.{props};
 ghost use Rattle.regex_meaning.specs.Offsets.{IsBoundary};
 ghost use Rattle.regex_meaning.specs.Text.{ascii_text, utf8_text, utf16_text, ucs2_text};
 ghost use Rattle.regex_pattern_front.specs.TreeOf.{tree_of};
-ghost use Rattle.regress_exec.specs.Attempts.{IsNextTry};
+ghost use Rattle.regress_exec.specs.Attempts.{IsNextTry, IsVain};
 ghost use Rattle.regress_machine.specs.Finds.{CanSearch};
 ghost use Rattle.regress_scan.specs.Searching.{program_of};
 ghost use Rattle.regress_memo.specs.Memo.{has_failure};
@@ -30,7 +30,7 @@ use regress_exec::searched::Searched;
 use regress_input::indexing::{AsciiInput, InputIndexer, Ucs2Input, Utf8Input, Utf16Input};
 use regress_input::position::PositionType;
 use regress_program::insn::{CompiledRegex, CompiledUnits, Program};
-use regress_scan::leading::{begins_with_run, past_vain_run};
+use regress_scan::leading::{past_vain_run, units_of_leading_run};
 use regress_scan::planned::{At, Planned, offset_in, position_in};
 use std::alloc::AllocError;
 
@@ -47,8 +47,9 @@ pub struct BacktrackExecutor<'r, Input: InputIndexer> {
     // The end that the last attempt came to that was made once more. A position shows the text's lifetime in this type,
     // which calls that are generic in the executor need to have.
     came: Option<Input::Position>,
-    // Whether each match begins with a run, of which no place need be tried where none can match.
-    leads: bool,
+    // How many units a character has at most of the run with which each match begins, if it is gone over behind a place tried
+    // in vain, by which none of its places is tried. Else 0.
+    leads: usize,
     // What is known to fail does.
     ghost right: { IsRightOf (compiled (run_in search.program)) (Input.text search.searched.input)
         (terms_in (λ memo. terms_of memo.value.ledger) again.course.memo)
@@ -80,7 +81,7 @@ impl<'r, Input: InputIndexer> BacktrackExecutor<'r, Input> {
         let alloc = search.searched.program.allocator();
         let units = search.searched.input.unit_count();
         let work = work_at_first(units, search.program.insns().len());
-        let leads = begins_with_run(search.program.plan());
+        let leads = units_of_leading_run(search.program.plan());
         BacktrackExecutor {
             search,
             memory: Memory::new(alloc),
@@ -102,11 +103,11 @@ impl<'r, Input: InputIndexer> BacktrackExecutor<'r, Input> {
         }
     }
 
-    // Whether the run that begins at a place that was tried in vain is gone over once more: where the next one is within it,
-    // and it is not remembered what failed, by which each place is gone over once.
+    // Whether the run that begins at a place that was tried in vain is gone over once more: where the next place to try may be
+    // the next character of it. The next attempt is behind its end, so each character is gone over once.
     #[inline(always)]
     fn goes_over(&self, tried: Input::Position, next: Input::Position) -> bool {
-        next.to_offset() == tried.to_offset().wrapping_add(1) && !self.free.steps.is_spent()
+        self.leads != 0 && next.to_offset().wrapping_sub(tried.to_offset()) <= self.leads
     }
 
     /// From now on attempts remember what failed, as they do where much work was done. What is found is the same.
@@ -132,16 +133,24 @@ fn next_place<W: Planned>(planned: &W, from: At<W>) -> Option<At<W>>
     }
 }
 
-// The same where each match begins with a run: none of its places is tried if none can match.
+// The same where each match begins with a run, and none does at the position before: none of the run's places is tried.
 #[inline(never)]
-fn next_place_past<W: Planned>(planned: &W, from: At<W>) -> Option<At<W>>
+fn next_place_past<W: Planned>(planned: &W, tried: At<W>, from: At<W>) -> Option<At<W>>
+    requires tried { IsBoundary (W.searching planned.now).text (W.Input.Position.offset tried) }
     requires at { IsBoundary (W.searching planned.now).text (W.Input.Position.offset from) }
+    requires ahead { W.Input.Position.offset tried ≤ W.Input.Position.offset from }
     requires can { let w = W.searching planned.now in CanSearch (program_of w) w.tree w.text }
+    requires vain { let w = W.searching planned.now in
+        IsVain w.tree w.text (W.Input.Position.offset tried) }
     ensures { let w = W.searching planned.now in let at = W.Input.Position.offset in
         IsNextTry w.tree w.text (at from) (option_map at result) }
 {
     planned.is_of_program();
-    let past = past_vain_run(planned, offset_in(planned, from));
+    let past = past_vain_run(planned, offset_in(planned, tried));
+    let start = offset_in(planned, from);
+    if past <= start {
+        return Some(from);
+    }
     next_place(planned, position_in(planned, past))
 }
 
@@ -215,8 +224,8 @@ impl<'r, Input: InputIndexer> Attempts for BacktrackExecutor<'r, Input> {
     fn place_behind(&self, tried: Input::Position) -> Option<Input::Position> {
         let next = self.search.searched.next_try(tried)?;
         let to = next_place(&self.search, next)?;
-        if self.leads && self.goes_over(tried, to) {
-            return next_place_past(&self.search, to);
+        if self.goes_over(tried, to) {
+            return next_place_past(&self.search, tried, to);
         }
         Some(to)
     }

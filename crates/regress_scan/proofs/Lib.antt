@@ -11,6 +11,7 @@ pub mod Barred
 pub mod Behind
 pub mod FurtherPlaces
 pub mod LazyClass
+pub mod LeadingLoops
 pub mod LeadingRuns
 pub mod LeavingOut
 pub mod SingleUnits

@@ -1,9 +1,9 @@
-use Rattle.std.proofs.Common.{◌+◌, Some, None, sym, subst}
+use Rattle.std.proofs.Common.{◌+◌, Some, None, arith, sym, ◌∙◌, subst}
 use Rattle.std.specs.Prelude.{option_map}
 use Rattle.regex_pattern_front.specs.TreeOf.{tree_of}
 use Rattle.regress_exec.specs.Attempts.{IsNextTry}
 use Rattle.regress_backtrack.proofs.NextStarts.{next-further}
-use Rattle.regress_backtrack.proofs.InPlace.{can-be, search-planned, next-tree}
+use Rattle.regress_backtrack.proofs.InPlace.{can-be, search-planned, end-planned, next-tree, next-planned}
 use Rattle.regress_backtrack.proofs.classicalbacktrack.BacktrackExecutorAttempts.place_behind.Goals as goal
 
 pub next_place-requires-clause-can : goal.next_place-requires-clause-can
@@ -12,11 +12,23 @@ next_place-requires-clause-can g c =
     search-planned s.program.wide (tree_of s.program.regex) (g.Input.InputIndexer.text s.searched.input)
     (can-be s.same s.searched.well_formed s.searched.unicode s.searched.bytes) (g.met.Input.InputIndexer.is_text s.searched.input)
 
+pub next_place_past-requires-clause-at : goal.next_place_past-requires-clause-at
+next_place_past-requires-clause-at g c = c.in_ok-to.ensures.0
+
+pub next_place_past-requires-clause-ahead : goal.next_place_past-requires-clause-ahead
+next_place_past-requires-clause-ahead g c = omega (arith, c.in_ok-next.ensures.1, c.in_ok-to.ensures.1)
+
 pub next_place_past-requires-clause-can : goal.next_place_past-requires-clause-can
 next_place_past-requires-clause-can g c =
     let s = c.args.self.now.search in
     search-planned s.program.wide (tree_of s.program.regex) (g.Input.InputIndexer.text s.searched.input)
     (can-be s.same s.searched.well_formed s.searched.unicode s.searched.bytes) (g.met.Input.InputIndexer.is_text s.searched.input)
+
+pub next_place_past-requires-clause-vain : goal.next_place_past-requires-clause-vain
+next_place_past-requires-clause-vain g c =
+    let s = c.args.self.now.search in
+    let can = can-be s.same s.searched.well_formed s.searched.unicode s.searched.bytes in
+    end-planned s.program.wide (tree_of s.program.regex) _ can.well_formed (g.Input.Position.PositionType.offset c.args.tried) ∙ c.requires.vain
 
 pub returns-in_err-to-clause-next : goal.returns-in_err-to-clause-next
 returns-in_err-to-clause-next g c =
@@ -24,12 +36,8 @@ returns-in_err-to-clause-next g c =
     let can = can-be s.same s.searched.well_formed s.searched.unicode s.searched.bytes in
     let text = g.Input.InputIndexer.text s.searched.input in
     let offset = g.Input.Position.PositionType.offset in
-    let behind = offset c.args.tried + 1 in
-    let next = offset c.in_ok-next.next in
-    subst (λ o. IsNextTry (tree_of s.program.regex) text behind (option_map offset o)) (sym c.from_residual-in_err-to.ensures)
-    (next-further (tree_of s.program.regex) text behind next None
-    (subst (λ re. IsNextTry (tree_of re) text behind (Some next)) (sym s.same) c.in_ok-next.ensures)
-    (next-tree s.program.wide (tree_of s.program.regex) _ can.well_formed next None c.in_err-to.ensures))
+    subst (λ o. IsNextTry (tree_of s.program.regex) text (offset c.args.tried + 1) (option_map offset o)) (sym c.from_residual-in_err-to.ensures)
+    (next-planned s.program.wide text s.same can.well_formed (offset c.args.tried + 1) (offset c.in_ok-next.next) None c.in_ok-next.ensures c.in_err-to.ensures)
 
 pub returns-then-goes_over-clause-next : goal.returns-then-goes_over-clause-next
 returns-then-goes_over-clause-next g c =
@@ -38,13 +46,10 @@ returns-then-goes_over-clause-next g c =
     let text = g.Input.InputIndexer.text s.searched.input in
     let offset = g.Input.Position.PositionType.offset in
     let behind = offset c.args.tried + 1 in
-    let next = offset c.in_ok-next.next in
     let to = offset c.in_ok-to.to in
     let last = option_map offset c.next_place_past.result in
     next-further (tree_of s.program.regex) text behind to last
-    (next-further (tree_of s.program.regex) text behind next (Some to)
-    (subst (λ re. IsNextTry (tree_of re) text behind (Some next)) (sym s.same) c.in_ok-next.ensures)
-    (next-tree s.program.wide (tree_of s.program.regex) _ can.well_formed next (Some to) c.in_ok-to.ensures))
+    (next-planned s.program.wide text s.same can.well_formed behind (offset c.in_ok-next.next) (Some to) c.in_ok-next.ensures c.in_ok-to.ensures)
     (next-tree s.program.wide (tree_of s.program.regex) _ can.well_formed to last c.next_place_past.ensures)
 
 pub returns-clause-next : goal.returns-clause-next
@@ -53,9 +58,5 @@ returns-clause-next g c =
     let can = can-be s.same s.searched.well_formed s.searched.unicode s.searched.bytes in
     let text = g.Input.InputIndexer.text s.searched.input in
     let offset = g.Input.Position.PositionType.offset in
-    let behind = offset c.args.tried + 1 in
-    let next = offset c.in_ok-next.next in
-    let to = offset c.in_ok-to.to in
-    next-further (tree_of s.program.regex) text behind next (Some to)
-    (subst (λ re. IsNextTry (tree_of re) text behind (Some next)) (sym s.same) c.in_ok-next.ensures)
-    (next-tree s.program.wide (tree_of s.program.regex) _ can.well_formed next (Some to) c.in_ok-to.ensures)
+    next-planned s.program.wide text s.same can.well_formed (offset c.args.tried + 1) (offset c.in_ok-next.next) (Some (offset c.in_ok-to.to))
+    c.in_ok-next.ensures c.in_ok-to.ensures

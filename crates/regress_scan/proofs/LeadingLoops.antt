@@ -1,0 +1,350 @@
+-- Loops over one character with which each match begins.
+use Rattle.std.proofs.Common.{◌≡◌, ℕ, zero, suc, ◌+◌, ◌-◌, ◌<◌, ◌≤◌, min, List, [], ◌∷◌, ◌++◌, map, flat_map, drop, take, slice_range, Some, None, Bool, true, false, refl, ap, ◌∙◌, sym, subst, arith, append-nil, cond, reverse, slice_get, length}
+use Rattle.std.specs.Prelude.{if◌then◌else◌, nat_le, nat_eq, ◌&&◌, chars, MatchBool}
+use Rattle.std.specs.List.{prefix_len}
+use Rattle.std.proofs.lemmas.Bool.{cases_lt, le-leb}
+use Rattle.std.proofs.lemmas.List.Sums.{prefix_len-le-length}
+use mathlib.Core.Logic.{inl, inr}
+use Rattle.std.proofs.lemmas.List.{reverse-reverse}
+use lib.Pointwise.{pointwise}
+use Rattle.regex_meaning.specs.Lists.{numbers_from}
+use Rattle.regex_meaning.specs.Laws.{Each}
+use Rattle.regex_meaning.specs.Tree.{Quantifier, BracketContents, Lookaround, start_of_line, end_of_line, Node, empty, goal, char, char_set, byte_set, byte_sequence, cat, end_of_cat, alt, bracket, string_set, match_any, match_any_except_line_terminator, anchor, word_boundary, capture_group, back_ref, lookaround, loop, loop_1_char_body, Tree}
+use Rattle.regex_meaning.specs.Text.{Text, rightwards, last_place, next_character, characters_left, characters_beside, expand_code_point}
+use Rattle.regex_meaning.specs.Outcomes.{Groups, Outcome, accepts, is_some_and, in_intervals, most_of, repetition, one_character, spelled, spells, outcomes}
+use Rattle.regex_meaning.specs.StartPredicate.{bytes_where}
+use Rattle.regex_meaning.specs.WellFormed.{is_one_character}
+use Rattle.regex_meaning.specs.Find.{match_at, first_of, no_groups}
+use Rattle.regex_meaning.specs.Ticks.{nearest_first}
+use Rattle.regex_meaning.specs.Layout.{Program, Insn, Mark, next, start, Has, HasAll, IsCode, IsStringCode, AreStringsCode, spelling_insn, char_set_insn, lookaround_insn, is_ascii_set, Loop1CharBody, Goal, JustFail, Char, ByteSet, ByteSeq, AsciiBracket, Bracket, MatchAny, MatchAnyExceptLineTerminator, StartOfLine, EndOfLine, WordBoundary, WordBoundaryUnicodeICase, Alt, EnterLoop, BeginCaptureGroup, BackRef, Lookahead, Lookbehind}
+use Rattle.regex_meaning.proofs.Each.{Each-map, Each-reverse, Each-image, Each-flat_map}
+use Rattle.regress_machine.specs.Machine.{test_of}
+use Rattle.regress_machine.proofs.Beside.{Beside, nothing_left, one_more, beside, length-nearest, characters_beside-nearest}
+use Rattle.regress_machine.proofs.Run.{in_turns, numbers_between, outcome_at, run, repeat_run}
+use Rattle.regress_machine.proofs.OneCharacter.{each_nearest}
+use Rattle.regress_machine.proofs.OneTests.{one_of_length, reads_one}
+use Rattle.regress_machine.proofs.Ready.{Ready, root_ready}
+use Rattle.regress_machine.specs.Finds.{CanSearch}
+
+-- ---- Lists
+
+each-first : {A : Type 0} (P : A → Type 0) (xs ys : List A) → Each P (xs ++ ys) → Each P xs
+each-first P [] ys h = tt
+each-first P (x ∷ xs) ys h = (h.0, each-first P xs ys h.1)
+
+each-last : {A : Type 0} (P : A → Type 0) (xs ys : List A) → Each P (xs ++ ys) → Each P ys
+each-last P [] ys h = h
+each-last P (x ∷ xs) ys h = each-last P xs ys h.1
+
+-- what holds of each element of the lists holds in each list
+each-apart : {A : Type 0} (P : A → Type 0) (f : A → List A) (xs : List A) → Each P (flat_map f xs) → Each (λ x. Each P (f x)) xs
+each-apart P f [] h = tt
+each-apart P f (x ∷ xs) h = (each-first P (f x) (flat_map f xs) h, each-apart P f xs (each-last P (f x) (flat_map f xs) h))
+
+each-together : {A : Type 0} (P : A → Type 0) (f : A → List A) (xs : List A) → Each (λ x. Each P (f x)) xs → Each P (flat_map f xs)
+each-together P f xs h = Each-flat_map (λ x. Each P (f x)) P f (λ x k. k) xs h
+
+each-mapped : {A B : Type 0} (P : B → Type 0) (f : A → B) (xs : List A) → Each P (map f xs) → Each (λ x. P (f x)) xs
+each-mapped P f [] h = tt
+each-mapped P f (x ∷ xs) h = (h.0, each-mapped P f xs h.1)
+
+each-number : (P : ℕ → Type 0) (lo n i : ℕ) → Each P (numbers_from lo n) → lo ≤ i → i < lo + n → P i
+each-number P lo zero i h le less = absurd (omega (arith, le, less))
+each-number P lo (suc n) i h le less = elim (cases_lt lo i) [
+  | inl early ↦ each-number P (lo + 1) n i h.1 (omega (arith, early)) (omega (arith, less))
+  | inr late ↦ subst P (let same : lo ≡ i = omega (arith, le, late) in same) h.0
+]
+
+each-in_turns : (P : ℕ → Type 0) (greedy : Bool) (ns : List ℕ) → Each P (in_turns greedy ns) → Each P ns
+each-in_turns P true ns h = subst (Each P) (reverse-reverse ns) (Each-reverse P (reverse ns) h)
+each-in_turns P false ns h = h
+
+into-in_turns : (P : ℕ → Type 0) (greedy : Bool) (ns : List ℕ) → Each P ns → Each P (in_turns greedy ns)
+into-in_turns P true ns h = Each-reverse P ns h
+into-in_turns P false ns h = h
+
+prefix-same : (f g : ℕ → Bool) (xs : List ℕ) → Each (λ c. f c ≡ g c) xs → prefix_len f xs ≡ prefix_len g xs
+prefix-same f g [] h = refl
+prefix-same f g (x ∷ xs) h = ap (λ b. cond b (1 + prefix_len f xs) 0) h.0 ∙ ap (λ n. cond (g x) (1 + n) 0) (prefix-same f g xs h.1)
+
+-- of characters in a row that pass so many are left behind some of them
+prefix-left : (test : ℕ → Bool) (xs : List ℕ) (j : ℕ) → j ≤ prefix_len test xs → prefix_len test xs ≡ j + prefix_len test (drop j xs)
+prefix-left test xs zero le = omega arith
+prefix-left test [] (suc j) le = absurd (omega (arith, le))
+prefix-left test (x ∷ xs) (suc j) le = by (prefix-left test xs j) (test x) refl le
+  where
+    by : (j ≤ prefix_len test xs → prefix_len test xs ≡ j + prefix_len test (drop j xs)) → (b : Bool) → test x ≡ b
+        → suc j ≤ cond b (1 + prefix_len test xs) 0 → cond b (1 + prefix_len test xs) 0 ≡ suc j + prefix_len test (drop j xs)
+    by rest true e le = let same = rest (omega (arith, le)) in omega (arith, same)
+    by rest false e le = absurd (omega (arith, le))
+
+drop-none : (n : ℕ) → drop {A = ℕ} n [] ≡ []
+drop-none zero = refl
+drop-none (suc n) = refl
+
+drop-both : (i j : ℕ) (xs : List ℕ) → drop j (drop i xs) ≡ drop (i + j) xs
+drop-both zero j xs = ap (λ n. drop n xs) (let z : j ≡ 0 + j = omega arith in z)
+drop-both (suc i) j [] = drop-none j ∙ sym (drop-none (suc i + j))
+drop-both (suc i) j (x ∷ xs) = drop-both i j xs ∙ ap (λ n. drop n (x ∷ xs)) (let z : suc (i + j) ≡ suc i + j = omega arith in z)
+
+-- ---- One character
+
+module _ (text : Text) where
+  spelled_one : (c p : ℕ) (g : Groups) → p ≤ last_place text
+      → spelled text nat_eq (c ∷ []) rightwards p g ≡ one_character text (λ e. pointwise nat_eq (c ∷ []) (e ∷ [])) rightwards p g
+  spelled_one c p g inside = ap (λ b. if b then record { end = p + 1; groups = g } ∷ [] else []) (go (beside text rightwards p inside))
+    where
+      go : Beside text rightwards p → (nat_le 1 (characters_left text rightwards p) && pointwise nat_eq (c ∷ []) (characters_beside text rightwards 1 p))
+          ≡ is_some_and (next_character text rightwards p) (λ e. pointwise nat_eq (c ∷ []) (e ∷ []))
+      go (nothing_left none nothing left) =
+          ap (λ n. nat_le 1 n && pointwise nat_eq (c ∷ []) (characters_beside text rightwards 1 p)) left
+          ∙ sym (ap (λ o. is_some_and o (λ e. pointwise nat_eq (c ∷ []) (e ∷ []))) none)
+      go (one_more e is rest left within) =
+          ap (λ b. b && pointwise nat_eq (c ∷ []) (characters_beside text rightwards 1 p)) (le-leb 1 (characters_left text rightwards p) (omega (arith, left)))
+          ∙ ap (pointwise nat_eq (c ∷ []))
+          (characters_beside-nearest text rightwards 1 p inside (omega (arith, left)) ∙ ap (λ (l : List ℕ). take 1 l) rest)
+          ∙ sym (ap (λ o. is_some_and o (λ e. pointwise nat_eq (c ∷ []) (e ∷ []))) is)
+
+  body_is_one : (node : Node) → is_one_character node ≡ true → (p : ℕ) (g : Groups) → p ≤ last_place text
+      → outcomes text node rightwards p g ≡ one_character text (accepts node) rightwards p g
+  unfolding outcomes
+  body_is_one (char c) one p g inside = refl
+  body_is_one (char_set members) one p g inside = refl
+  body_is_one (byte_set members) one p g inside = refl
+  body_is_one (bracket contents) one p g inside = refl
+  body_is_one match_any one p g inside = refl
+  body_is_one match_any_except_line_terminator one p g inside = refl
+  body_is_one (byte_sequence bytes) one p g inside =
+      let c = one_of_length (chars bytes) one in
+      ap (λ (cs : List ℕ). spelled text nat_eq cs rightwards p g) c.1 ∙ spelled_one c.0 p g inside
+      ∙ ap (λ (cs : List ℕ). one_character text (λ e. pointwise nat_eq cs (e ∷ [])) rightwards p g) (sym c.1)
+  body_is_one _ one p g inside = cc
+
+-- ---- The first instruction
+
+abbrev is_run : Insn → Bool
+is_run (Loop1CharBody least most greedy) = true
+is_run _ = false
+
+module _ (program : Program) (text : Text) (test : ℕ → Bool) where
+  -- how many characters in a row pass from a place on
+  abbrev pub row : ℕ → ℕ
+  row p = prefix_len test (nearest_first text rightwards p)
+
+  row-left : (p j : ℕ) → j ≤ row p → row p ≡ j + row (p + j)
+  row-left p j le = prefix-left test (drop p text.characters) j le ∙ ap (λ xs. j + prefix_len test xs) (drop-both p j text.characters)
+
+  row-inside : (p : ℕ) → p ≤ last_place text → p + row p ≤ last_place text
+  row-inside p inside =
+      let few = prefix_len-le-length test (nearest_first text rightwards p) in
+      let left = length-nearest text rightwards p inside in
+      omega (arith, few, left, inside)
+
+  -- what holds of each outcome from a place holds of each one from a place within the row that begins there
+  abbrev pub Among : Node → Type 1
+  Among node =
+      (p j : ℕ) (g : Groups) (P : Outcome → Type 0) → p ≤ last_place text → j ≤ row p → Each P (outcomes text node rightwards p g)
+      → Each P (outcomes text node rightwards (p + j) g)
+
+  abbrev Stays : Node → Type 0
+  Stays node = (p : ℕ) (g : Groups) → outcomes text node rightwards p g ≡ record { end = p; groups = g } ∷ []
+
+  -- ---- The run itself
+
+  module _ (q : Quantifier) (loopee : Node) (one : is_one_character loopee ≡ true) (same : Each (λ c. test c ≡ accepts loopee c) text.characters)
+      (wide : last_place text ≤ most_of q) where
+    abbrev counts_at : ℕ → List ℕ
+    counts_at p = numbers_from q.min (min (most_of q) (row p) + 1 - q.min)
+
+    run-is : (p : ℕ) (g : Groups) → p ≤ last_place text → outcomes text (loop_1_char_body q loopee) rightwards p g ≡ run text rightwards p g (in_turns q.greedy (counts_at p))
+    unfolding outcomes
+    run-is p g inside =
+        repeat_run text rightwards (accepts loopee) (repetition q (outcomes text loopee rightwards)) (body_is_one text loopee one) p g inside
+        ∙ ap (λ n. run text rightwards p g (in_turns q.greedy (numbers_from q.min (min (most_of q) n + 1 - q.min))))
+        (sym (prefix-same test (accepts loopee) (nearest_first text rightwards p) (each_nearest (λ c. test c ≡ accepts loopee c) text rightwards p same)))
+
+    run-among : Among (loop_1_char_body q loopee)
+    run-among p j g P inside le h = subst (Each P) (sym (run-is (p + j) g further)) all
+      where
+        within : p + row p ≤ last_place text
+        within = row-inside p inside
+
+        further : p + j ≤ last_place text
+        further = omega (arith, within, le)
+
+        left : row p ≡ j + row (p + j)
+        left = row-left p j le
+
+        there : (i : ℕ) → q.min ≤ i → i < q.min + (min (most_of q) (row p) + 1 - q.min) → P (outcome_at text rightwards p g i)
+        there i least most =
+            each-number (λ n. P (outcome_at text rightwards p g n)) q.min (min (most_of q) (row p) + 1 - q.min) i
+            (each-in_turns (λ n. P (outcome_at text rightwards p g n)) q.greedy (counts_at p)
+            (each-mapped P (outcome_at text rightwards p g) (in_turns q.greedy (counts_at p)) (subst (Each P) (run-is p g inside) h))) least most
+
+        here : (i : ℕ) → (q.min ≤ i) × (i < q.min + (min (most_of q) (row (p + j)) + 1 - q.min)) → P (outcome_at text rightwards (p + j) g i)
+        here i between =
+            subst (λ (e : ℕ). P (record { end = e; groups = g })) (let z : p + (j + i) ≡ p + j + i = omega arith in z)
+            (there (j + i) (omega (arith, between.0)) (omega (arith, between.0, between.1, left, within, wide)))
+
+        all : Each P (run text rightwards (p + j) g (in_turns q.greedy (counts_at (p + j))))
+        all =
+            Each-image (λ n. P (outcome_at text rightwards (p + j) g n)) P (outcome_at text rightwards (p + j) g) (λ n k. k) (in_turns q.greedy (counts_at (p + j)))
+            (into-in_turns (λ n. P (outcome_at text rightwards (p + j) g n)) q.greedy (counts_at (p + j))
+            (Each-map (λ i. (q.min ≤ i) × (i < q.min + (min (most_of q) (row (p + j)) + 1 - q.min))) (λ n. P (outcome_at text rightwards (p + j) g n)) here
+            (counts_at (p + j)) (numbers_between q.min (min (most_of q) (row (p + j)) + 1 - q.min))))
+
+  -- ---- The node that begins with it
+
+  empty-stays : (icase : Bool) → Stays (string_set ([] ∷ []) icase)
+  unfolding outcomes
+  empty-stays icase p g =
+      let none : slice_range text.characters p (p + 0) ≡ [] = let e : p + 0 - p ≡ 0 = omega arith in ap (λ n. take n (drop p text.characters)) e in
+      let fits : nat_le 0 (last_place text - p) ≡ true = le-leb 0 (last_place text - p) (omega arith) in
+      append-nil (spelled text (spells text icase) [] rightwards p g)
+      ∙ ap (λ b. if b && pointwise (spells text icase) [] (slice_range text.characters p (p + 0)) then record { end = p + 0; groups = g } ∷ [] else []) fits
+      ∙ ap (λ (l : List ℕ). if pointwise (spells text icase) [] l then record { end = p + 0; groups = g } ∷ [] else []) none
+      ∙ ap (λ (e : ℕ). record { end = e; groups = g } ∷ []) (let z : p + 0 ≡ p = omega arith in z)
+
+  both-stay : (first rest : Node) → Stays first → Stays rest → Stays (cat first rest)
+  unfolding outcomes
+  both-stay first rest a b p g =
+      ap (λ (os : List Outcome). flat_map (λ o. outcomes text rest rightwards o.end o.groups) os) (a p g)
+      ∙ append-nil (outcomes text rest rightwards p g) ∙ b p g
+
+  first-among : (first rest : Node) → Among first → Among (cat first rest)
+  unfolding outcomes
+  first-among first rest a p j g P inside le h =
+      let further : Outcome → List Outcome = λ o. outcomes text rest rightwards o.end o.groups in
+      each-together P further (outcomes text first rightwards (p + j) g)
+      (a p j g (λ o. Each P (further o)) inside le (each-apart P further (outcomes text first rightwards p g) h))
+
+  rest-among : (first rest : Node) → Stays first → Among rest → Among (cat first rest)
+  unfolding outcomes
+  rest-among first rest s a p j g P inside le h =
+      let through : (p : ℕ) → flat_map (λ o. outcomes text rest rightwards o.end o.groups) (outcomes text first rightwards p g) ≡ outcomes text rest rightwards p g =
+      λ p. ap (λ (os : List Outcome). flat_map (λ o. outcomes text rest rightwards o.end o.groups) os) (s p g) ∙ append-nil (outcomes text rest rightwards p g) in
+      subst (Each P) (sym (through (p + j))) (a p j g P inside le (subst (Each P) (through p) h))
+
+  module _ (least most : ℕ) (greedy : Bool) (wide : last_place text ≤ most) where
+    abbrev pub Begins : Mark → Type 0
+    Begins m = Has program m (Loop1CharBody least most greedy) × (test_of program (slice_get program.insns (next m).insn) ≡ Some test)
+
+    -- another instruction stands there
+    other : (m : Mark) (x : Insn) → is_run x ≡ false → Has program m x → Begins m → ⊥
+    other m x none here b =
+        let same : Some x ≡ Some (Loop1CharBody least most greedy) = sym here ∙ b.0 in
+        let e : x ≡ Loop1CharBody least most greedy = cc in
+        let no : false ≡ true = sym none ∙ ap is_run e in cc
+
+    pub data Leads (node : Node) (m n : Mark) : Type 1 where
+      stays : m ≡ n → Stays node → Leads node m n
+      leads : Among node → Leads node m n
+
+    string-leads : (icase : Bool) (s : List ℕ) (m n : Mark) → IsStringCode program icase false s m n → Begins m → Leads (string_set (s ∷ []) icase) m n
+    string-leads icase [] m n code b = stays code (empty-stays icase)
+    string-leads icase (c ∷ s) m n code b = absurd (other m (spelling_insn spellings) (by spellings) code.0 b)
+      where
+        spellings : List ℕ
+        spellings = expand_code_point c icase program.flags.unicode
+
+        by : (l : List ℕ) → is_run (spelling_insn l) ≡ false
+        by [] = refl
+        by (c ∷ []) = refl
+        by (c ∷ d ∷ more) = refl
+
+    strings-lead : (icase : Bool) (strings : List (List ℕ)) (m n : Mark) → AreStringsCode program icase false strings m n → Begins m → Leads (string_set strings icase) m n
+    strings-lead icase [] m n code b = absurd (other m JustFail refl code.0 b)
+    strings-lead icase (s ∷ []) m n code b = string-leads icase s m n code b
+    strings-lead icase (s ∷ t ∷ more) m n code b = absurd (other m (Alt (code.0.insn + 1)) refl code.1 b)
+
+    bracket-not : (contents : BracketContents) (m n : Mark) (ascii : Bool)
+        → MatchBool ascii (HasAll program (AsciiBracket (bytes_where (in_intervals contents.intervals)) ∷ []) m n)
+        (HasAll program (Bracket m.bracket ∷ []) (record m { bracket = m.bracket + 1 }) n × (slice_get program.brackets m.bracket ≡ Some contents))
+        → Begins m → ⊥
+    bracket-not contents m n true code b = other m (AsciiBracket (bytes_where (in_intervals contents.intervals))) refl code.0 b
+    bracket-not contents m n false code b = other m (Bracket m.bracket) refl code.0.0 b
+
+    look-not : (l : Lookaround) (continuation : ℕ) → is_run (lookaround_insn l continuation) ≡ false
+    look-not l continuation = by l.backwards
+      where
+        by : (b : Bool) → is_run (if b then Lookbehind l.negate l.start_group l.end_group continuation else Lookahead l.negate l.start_group l.end_group continuation) ≡ false
+        by true = refl
+        by false = refl
+
+    -- where a node's code begins with the run, either the node has none and stays, or it leads with the run
+    node-leads : (node : Node) → Ready text program.groups node → (m n : Mark) → IsCode program false node m n → Begins m → Leads node m n
+    unfolding IsCode outcomes
+    node-leads empty r m n code b = stays code (λ p g. refl)
+    node-leads goal r m n code b = absurd (other m Goal refl code.0 b)
+    node-leads (char c) r m n code b = absurd (other m (Char c) refl code.0 b)
+    node-leads (char_set []) r m n code b = absurd (other m JustFail refl code.0 b)
+    node-leads (char_set (c ∷ cs)) r m n code b = absurd (other m (char_set_insn (c ∷ cs)) refl code.0 b)
+    node-leads (byte_set []) r m n code b = absurd (other m JustFail refl code.0 b)
+    node-leads (byte_set (c ∷ [])) r m n code b = absurd (other m (ByteSeq (c ∷ [])) refl code.0 b)
+    node-leads (byte_set (c ∷ d ∷ cs)) r m n code b = absurd (other m (ByteSet (c ∷ d ∷ cs)) refl code.0 b)
+    node-leads (byte_sequence []) r m n code b = cc
+    node-leads (byte_sequence (c ∷ bytes)) r m n code b = absurd (other m (ByteSeq (take 16 (c ∷ bytes))) refl code.0 b)
+    node-leads end_of_cat r m n code b = stays code (λ p g. refl)
+    node-leads (cat first rest) r m n code b =
+        by (node-leads first r.0 m code.0 code.1 b) (λ same. node-leads rest r.1 code.0 n code.2 (subst Begins same b))
+      where
+        further : m ≡ code.0 → Stays first → Leads rest code.0 n → Leads (cat first rest) m n
+        further same through (stays more stay) = stays (same ∙ more) (both-stay first rest through stay)
+        further same through (leads among) = leads (rest-among first rest through among)
+
+        by : Leads first m code.0 → (m ≡ code.0 → Leads rest code.0 n) → Leads (cat first rest) m n
+        by (stays same through) more = further same through (more same)
+        by (leads among) more = leads (first-among first rest among)
+    node-leads (alt left right) r m n code b = absurd (other m (Alt (code.0.insn + 1)) refl code.1 b)
+    node-leads (bracket contents) r m n code b = absurd (bracket-not contents m n (is_ascii_set contents) code b)
+    node-leads (string_set strings icase) r m n code b = strings-lead icase strings m n code b
+    node-leads match_any r m n code b = absurd (other m MatchAny refl code.0 b)
+    node-leads match_any_except_line_terminator r m n code b = absurd (other m MatchAnyExceptLineTerminator refl code.0 b)
+    node-leads (anchor start_of_line multiline) r m n code b = absurd (other m (StartOfLine multiline) refl code.0 b)
+    node-leads (anchor end_of_line multiline) r m n code b = absurd (other m (EndOfLine multiline) refl code.0 b)
+    node-leads (word_boundary invert true) r m n code b = absurd (other m (WordBoundaryUnicodeICase invert) refl code.0 b)
+    node-leads (word_boundary invert false) r m n code b = absurd (other m (WordBoundary invert) refl code.0 b)
+    node-leads (capture_group id name contents) r m n code b = absurd (other m (BeginCaptureGroup id) refl code.1 b)
+    node-leads (back_ref group icase) r m n code b = absurd (other m (BackRef (group - 1) icase) refl code.0 b)
+    node-leads (lookaround l contents) r m n code b = absurd (other m (lookaround_insn l n.insn) (look-not l n.insn) code.1 b)
+    node-leads (loop q first end loopee) r m n code b =
+        absurd (other m (EnterLoop (record { loop_id = m.loop; min_iters = q.min; max_iters = most_of q; greedy = q.greedy; exit = n.insn })) refl code.2.0 b)
+    node-leads (loop_1_char_body q loopee) r m n code b =
+        let reads = reads_one program text false loopee r.0 r.1 r.2 r.3 (next m) n code.1 in
+        let runs : Some (Loop1CharBody q.min (most_of q) q.greedy) ≡ Some (Loop1CharBody least most greedy) = sym code.0 ∙ b.0 in
+        let tests : Some reads.test ≡ Some test = sym reads.test_is ∙ b.1 in
+        let bound : most_of q ≡ most = cc in
+        let same : reads.test ≡ test = cc in
+        leads (run-among q loopee r.0 (subst (λ (t : ℕ → Bool). Each (λ c. t c ≡ accepts loopee c) text.characters) same reads.same) (omega (arith, wide, bound)))
+
+-- ---- Each match
+
+no-outcome : (p : ℕ) (os : List Outcome) → first_of p os ≡ None → Each (λ o. ⊥) os
+no-outcome p [] e = tt
+no-outcome p (o ∷ os) e = cc
+
+none-first : (p : ℕ) (os : List Outcome) → Each (λ o. ⊥) os → first_of p os ≡ None
+none-first p [] h = refl
+none-first p (o ∷ os) h = absurd h.0
+
+-- Where the code begins with a run that has as many characters as there are, and no match begins at a place, none begins at
+-- the places of the run from there on.
+pub none-along : (program : Program) (tree : Tree) (text : Text) → CanSearch program tree text → (test : ℕ → Bool) (least most : ℕ) (greedy : Bool) → last_place text ≤ most
+    → slice_get program.insns 0 ≡ Some (Loop1CharBody least most greedy) → test_of program (slice_get program.insns 1) ≡ Some test
+    → (p j : ℕ) → p ≤ last_place text → j ≤ prefix_len test (nearest_first text rightwards p) → match_at tree.root text p ≡ None → match_at tree.root text (p + j) ≡ None
+none-along program tree text can test least most greedy wide here tests p j inside le none =
+    by (node-leads program text test least most greedy wide tree.root ready start last can.code.code (here, tests))
+  where
+    ready : Ready text program.groups tree.root
+    ready = subst (λ n. Ready text n tree.root) (sym can.code.groups) (root_ready text tree.root can.well_formed can.bytes)
+
+    last : Mark
+    last = record { insn = length program.insns; loop = program.loops; bracket = length program.brackets }
+
+    by : Leads program text test least most greedy wide tree.root start last → match_at tree.root text (p + j) ≡ None
+    by (stays same through) =
+        let found : first_of p (record { end = p; groups = no_groups tree.root } ∷ []) ≡ None = sym (ap (first_of p) (through p (no_groups tree.root))) ∙ none in
+        absurd (no-outcome p (record { end = p; groups = no_groups tree.root } ∷ []) found).0
+    by (leads among) =
+        none-first (p + j) (outcomes text tree.root rightwards (p + j) (no_groups tree.root))
+        (among p j (no_groups tree.root) (λ o. ⊥) inside le (no-outcome p (outcomes text tree.root rightwards p (no_groups tree.root)) none))

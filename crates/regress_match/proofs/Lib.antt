@@ -10,3 +10,4 @@ pub mod Replacing
 pub mod SearchLemmas
 pub mod Starts
 pub mod ResumingLemmas
+pub mod WorkLemmas

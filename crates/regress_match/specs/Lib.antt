@@ -8,3 +8,4 @@ pub mod Refusals
 pub mod Replacements
 pub mod Searches
 pub mod Resuming
+pub mod Work

@@ -12,9 +12,9 @@ mod executors;
 pub mod program;
 
 pub use crate::api::{
-    AsciiMatches, Caret, Cause, Diagnosis, Error, Flags, Groups, LimitedMatches, Match, Matches,
-    NamedGroups, Range, Regex, ReplaceError, SearchError, Step, escape, is_unit_boundary,
-    next_from,
+    AsciiMatches, BoundedRegex, Caret, Cause, Diagnosis, Error, Flags, Groups, LimitedMatches,
+    Match, Matches, MatchesInWork, NamedGroups, Range, Regex, ReplaceError, SearchError, Step,
+    WorkError, escape, is_unit_boundary, next_from,
 };
 pub use regex_pattern_front::depth::nesting;
 pub use regress_backtrack::classicalbacktrack;

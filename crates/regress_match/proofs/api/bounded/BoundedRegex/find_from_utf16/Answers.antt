@@ -1,0 +1,26 @@
+use Rattle.std.proofs.Common.{◌∙◌, ap, nat_le, not, subst, sym}
+use Rattle.regex_meaning.specs.Text.{utf16_text}
+use Rattle.regex_pattern_front.specs.TreeOf.{tree_of}
+use Rattle.regress_bounded.specs.Bounds.{IsBoundOf}
+use Rattle.regress_match.specs.Programs.{unit_tree}
+use Rattle.regress_match.proofs.Starts.{utf16_start, utf16_units}
+use Rattle.regress_match.proofs.WorkLemmas.{bound-Yields, higher-right}
+use Rattle.regress_match.proofs.api.bounded.BoundedRegex.find_from_utf16.Goals as goal
+
+pub new_utf16-requires : goal.new_utf16-requires
+new_utf16-requires c = record { bound = subst (λ t. IsBoundOf (tree_of t) c.self.inside.units) (sym c.unit_program-program.ensures) c.self.invariant.in_units }
+
+pub new-requires : goal.new-requires
+new-requires c = utf16_start _ c.args.text.now _ c.in_ok-executor.ensures.start.of_text (λ k _. (c.type_inv.text k).fits) c.args.start c.requires
+
+pub returns-clause-yields : goal.returns-clause-yields
+returns-clause-yields c =
+    let is = c.new.ensures in
+    bound-Yields unit_tree c.self.inside.re.now (utf16_text c.args.text.now) (higher-right c.self.inside.bytes.per_unit c.self.inside.units.per_unit)
+    c.self.view_is (ap tree_of c.unit_program-program.ensures)
+    c.in_ok-executor.ensures.start (record { answers = is.answers; limited = is.limited; text_end = is.text_end; left_is = is.left; enough_is = is.enough })
+
+pub returns-clause-ended : goal.returns-clause-ended
+returns-clause-ended c =
+    c.new.ensures.ended
+    ∙ ap (λ n. not (nat_le c.args.start n)) (utf16_units _ c.args.text.now _ c.in_ok-executor.ensures.start.of_text (λ k _. (c.type_inv.text k).fits))

@@ -248,6 +248,40 @@ static void limits(void)
     regress_c_free(&heavy);
 }
 
+/* A search for the first match in so much work, and what it leaves. */
+static void print_in_work(const char *what, regress_c_pattern *pattern, const char *text, size_t start, uint64_t work)
+{
+    regress_c_span spans[ROOM];
+    print_reply(what, regress_c_find_utf8_in_work(pattern, bytes(text), strlen(text), start, &work, spans, ROOM));
+    printf(" %" PRIu64 " left\n", work);
+}
+
+static void work(void)
+{
+    static const char text[] = "aaaaaaaaaaaaaaaaaaaaaaaaac";
+    regress_c_pattern heavy = compiled("(?:a|a)*b", "");
+    regress_c_pattern light = compiled("a", "");
+    regress_c_pattern looking = compiled("(?=a)b", "");
+    regress_c_pattern nothing = REGRESS_C_PATTERN_INIT;
+    uint64_t each = 0;
+    print_code("work for each", regress_c_work_per_unit(&heavy, &each));
+    print_reply("in as much", regress_c_find_utf8_in_work(&heavy, bytes(text), strlen(text), 0,
+                                                          &(uint64_t){each * (strlen(text) + 1)}, NULL, 0));
+    print_in_work("in too little", &heavy, text, 0, 100);
+    print_in_work("in none", &light, "a", 0, 0);
+    print_in_work("in one", &light, "a", 0, 1);
+    print_in_work("in more", &light, "ba", 0, 10);
+    print_in_work("within a character", &light, "\xC3\xA9", 1, 10);
+    print_in_work("no text", &light, "\xFF", 0, 10);
+    print_in_work("a lookaround", &looking, "a", 0, 10);
+    print_code("its work", regress_c_work_per_unit(&looking, &each));
+    print_in_work("by nothing", &nothing, "a", 0, 10);
+    print_code("work of nothing", regress_c_work_per_unit(&nothing, &each));
+    regress_c_free(&looking);
+    regress_c_free(&light);
+    regress_c_free(&heavy);
+}
+
 static void texts(void)
 {
     regress_c_pattern pattern = compiled("(?<d>\\d+)", "");
@@ -274,6 +308,7 @@ int main(void)
     first_matches();
     searches();
     limits();
+    work();
     texts();
     return 0;
 }

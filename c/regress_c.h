@@ -16,8 +16,9 @@
  * and what it was made from share the names of groups, which are counted atomically, and nothing else. Searches, texts and
  * buffers are the caller's own.
  *
- * Time and stack: both ways to search go back, so some patterns take exponential time, which a limit of steps ends
- * (regress_c_next_within). Steps bound no single long comparison, and there is no limit for the other encodings. To compile and to
+ * Time and stack: searches go back, so some patterns take exponential time, which a limit of steps ends
+ * (regress_c_next_within) and a budget of work bounds (regress_c_find_utf8_in_work). Steps bound no single long comparison,
+ * and there is neither for the other encodings. To compile and to
  * free takes stack by the depth of the pattern, up to some 400 bytes a level as measured, and so does a search for lookarounds
  * inside one another; regress_c_compile_utf8_within refuses deep patterns. A search takes no stack otherwise. It takes memory
  * by what it may have to go back to: up to some 100 bytes a step, as measured (docs/LIMITS.md).
@@ -77,7 +78,11 @@ enum regress_c_code {
     /* The search is not open. */
     REGRESS_C_NOT_OPEN = 17,
     /* Steps are counted in UTF-8 alone. */
-    REGRESS_C_NOT_COUNTED = 18
+    REGRESS_C_NOT_COUNTED = 18,
+    /* No bound of the work of the pattern's searches is known. */
+    REGRESS_C_NO_BOUND = 19,
+    /* The work that was allowed is done. */
+    REGRESS_C_WORK_LIMIT = 20
 };
 
 /* A pattern that is compiled, or nothing. */
@@ -186,6 +191,25 @@ regress_c_reply regress_c_find_utf16(regress_c_pattern *pattern, const uint16_t 
 regress_c_reply regress_c_find_ucs2(regress_c_pattern *pattern, const uint16_t *text, size_t text_len, size_t start,
                                     regress_c_span *spans, size_t spans_len);
 
+/* ---- In so much work */
+
+/*
+ * How much work is enough for each byte of a text, and one, by this pattern: DONE, and `per_unit` becomes the number; or EMPTY,
+ * MEMORY or NO_BOUND, as for lookarounds and for the text of a group once more, and it stays as it was. A unit of work is a turn of
+ * a thread, a way back to one that waits, a character that a run looks at, or a record of what failed.
+ */
+uint32_t regress_c_work_per_unit(regress_c_pattern *pattern, uint64_t *per_unit);
+
+/*
+ * As regress_c_find_utf8, in at most `*work` work, which becomes how much is left: no pattern and no text makes it do more. What
+ * is refused for the handle, the text or the start takes none. WORK_LIMIT is answered where more would have to be done, and none
+ * is left then; never where `*work` is at least the number for each byte of the text and one (that both calls reckon one number
+ * is tested). NO_BOUND is answered where none is known. The work is for this call: each one reckons the bound anew, and has a
+ * memory of its own for what failed, of some bits for each byte.
+ */
+regress_c_reply regress_c_find_utf8_in_work(regress_c_pattern *pattern, const uint8_t *text, size_t text_len, size_t start,
+                                            uint64_t *work, regress_c_span *spans, size_t spans_len);
+
 /* ---- All matches */
 
 /*
@@ -286,6 +310,8 @@ static inline const char *regress_c_message(uint32_t code)
     case REGRESS_C_NO_GROUP: return "no such group";
     case REGRESS_C_NOT_OPEN: return "the search is not open";
     case REGRESS_C_NOT_COUNTED: return "steps are counted in UTF-8 alone";
+    case REGRESS_C_NO_BOUND: return "no bound of the work is known";
+    case REGRESS_C_WORK_LIMIT: return "the work is used up";
     default: return "unknown code";
     }
 }

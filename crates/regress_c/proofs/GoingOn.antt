@@ -8,7 +8,7 @@ use Rattle.regress_c.specs.Opening.{encoding_of}
 use Rattle.regress_c.specs.Searching.{can_start_utf16}
 use Rattle.regress_c.specs.declared.going.Filled.{Filled}
 use Rattle.regress_c.specs.declared.refusal.Refusal.{Refusal}
-use Rattle.regress_c.specs.declared.refusal.Refusal.TheVariants.{Empty, Full, NotUtf8, NotBoundary, ShortBuffer, Memory, StepLimit, Syntax, TooManyGroups, TooManyLoops, TooManyInstructions, UnknownFlag, TooLong, TooDeep, NoGroup, NotOpen, NotCounted}
+use Rattle.regress_c.specs.declared.refusal.Refusal.TheVariants.{Empty, NotBoundary, ShortBuffer, Memory, NotOpen}
 use Rattle.regress_c.specs.declared.reply.Reply.{Reply}
 use Rattle.regress_c.specs.declared.reply.Span.{Span}
 use Rattle.regress_c.specs.declared.search.Encoding.{Encoding}
@@ -20,21 +20,7 @@ in-utf16 : (re : Regex) (s : Search) (before after : List Span) (r : Result Fill
 in-utf16 re s before after (Ok filled) h = (h, refl)
 in-utf16 re s before after (Err NotBoundary) h = h
 in-utf16 re s before after (Err Memory) h = (tt, h)
-in-utf16 re s before after (Err Empty) h = absurd h
-in-utf16 re s before after (Err Full) h = absurd h
-in-utf16 re s before after (Err NotUtf8) h = absurd h
-in-utf16 re s before after (Err ShortBuffer) h = absurd h
-in-utf16 re s before after (Err StepLimit) h = absurd h
-in-utf16 re s before after (Err Syntax) h = absurd h
-in-utf16 re s before after (Err TooManyGroups) h = absurd h
-in-utf16 re s before after (Err TooManyLoops) h = absurd h
-in-utf16 re s before after (Err TooManyInstructions) h = absurd h
-in-utf16 re s before after (Err UnknownFlag) h = absurd h
-in-utf16 re s before after (Err TooLong) h = absurd h
-in-utf16 re s before after (Err TooDeep) h = absurd h
-in-utf16 re s before after (Err NoGroup) h = absurd h
-in-utf16 re s before after (Err NotOpen) h = absurd h
-in-utf16 re s before after (Err NotCounted) h = absurd h
+in-utf16 re s before after (Err _) h = absurd h
 
 pub fills-utf16 : (re : Regex) (s : Search) (e : Encoding) (steps : Option ℕ) (before after : List Span) (r : Result Filled Refusal) → e ≡ Utf16 → steps ≡ None
     → FillsFrom (unit_tree re) (as_utf16 re s.units.now) (can_start_utf16 s.units.now s.next) None s.next before after r → FillsIn re s e steps before after r

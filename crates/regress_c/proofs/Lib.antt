@@ -1,6 +1,7 @@
 mod CompilingLemmas
 mod Filling
 mod Finding
+mod FirstInWork
 mod FlagLetters
 mod GoingOn
 mod Held

@@ -4,10 +4,12 @@ use Rattle.regex_pattern_front.specs.declared.parse.ParseError.TheVariants as pa
 use Rattle.regress_program.specs.declared.emit.EmitError.TheVariants as emit
 use Rattle.regress_exec.specs.declared.exec.SearchError.{SearchError}
 use Rattle.regress_exec.specs.declared.exec.SearchError.TheVariants as search
+use Rattle.regress_exec.specs.declared.exec.worked.WorkError.{WorkError}
+use Rattle.regress_exec.specs.declared.exec.worked.WorkError.TheVariants as worked
 use Rattle.regress_match.specs.declared.api.error.Error.{Error}
 use Rattle.regress_match.specs.declared.api.error.Error.TheVariants as error
 use Rattle.regress_c.specs.declared.refusal.Refusal.{Refusal}
-use Rattle.regress_c.specs.declared.refusal.Refusal.TheVariants.{Empty, Full, NotUtf8, NotBoundary, ShortBuffer, Memory, StepLimit, Syntax, TooManyGroups, TooManyLoops, TooManyInstructions, UnknownFlag, TooLong, TooDeep, NoGroup, NotOpen, NotCounted}
+use Rattle.regress_c.specs.declared.refusal.Refusal.TheVariants.{Empty, Full, NotUtf8, NotBoundary, ShortBuffer, Memory, StepLimit, Syntax, TooManyGroups, TooManyLoops, TooManyInstructions, UnknownFlag, TooLong, TooDeep, NoGroup, NotOpen, NotCounted, NoBound, WorkLimit}
 
 -- a call did what it was called for
 abbrev pub done : ℕ
@@ -34,6 +36,8 @@ code_of TooDeep = 15
 code_of NoGroup = 16
 code_of NotOpen = 17
 code_of NotCounted = 18
+code_of NoBound = 19
+code_of WorkLimit = 20
 
 -- of the errors that a pattern can be refused with; what is left is want of memory
 abbrev pub refused_as : Error → Refusal
@@ -46,3 +50,7 @@ refused_as _ = Memory
 abbrev pub of_search : SearchError → Refusal
 of_search search.Memory = Memory
 of_search search.StepLimit = StepLimit
+
+abbrev pub of_work : WorkError → Refusal
+of_work worked.Memory = Memory
+of_work worked.WorkLimit = WorkLimit

@@ -7,3 +7,4 @@ pub mod Searching
 pub mod Opening
 pub mod Going
 pub mod Texts
+pub mod InWork

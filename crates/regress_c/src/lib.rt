@@ -10,6 +10,7 @@ ghost use Rattle.std.specs.Char.{len_utf8};
 ghost use Rattle.regex_meaning.specs.Text.{utf16_characters, utf16_width};
 ghost use Rattle.regress_c.specs.Compiling.{RepliesCloned, RepliesMade, given, unbounded};
 ghost use Rattle.regress_c.specs.Going.{RepliesNext};
+ghost use Rattle.regress_c.specs.InWork.{RepliesInWork, RepliesReckoned};
 ghost use Rattle.regress_c.specs.Opening.{OpensUcs2, OpensUtf8, OpensUtf16, RepliesOpened};
 ghost use Rattle.regress_c.specs.Searching.{Replies, can_start_utf8, can_start_utf16, ucs2_coming, utf8_coming, utf16_coming};
 ghost use Rattle.regress_c.specs.Texts.{Escapes, NamesBy, ReplacesBy, RepliesText, RepliesTold, count_reply};
@@ -29,6 +30,7 @@ mod search;
 mod searching;
 mod source;
 mod subject;
+mod worked;
 
 use crate::answer::Which;
 use crate::compiling::{Bounds, compile};
@@ -40,6 +42,7 @@ use crate::search::Search;
 use crate::searching::search;
 use crate::source::{Utf8Source, Utf16Source};
 use crate::subject::{Ucs2, Utf8, Utf16};
+use crate::worked::{reckon, search_in_work};
 use std::alloc::Global;
 
 /// The version, as the header has it: of `1.2.3` 10203.
@@ -244,6 +247,37 @@ pub extern "C" fn regress_c_find_ucs2(
     ensures kept { pattern.new.held ≡ pattern.old.held }
 {
     search(alloc, pattern, &Ucs2 { units: text }, start, spans)
+}
+
+// ---- In so much work
+
+/// How much work is enough for each byte of a text, and one, by this pattern; a code is answered.
+#[unsafe(no_mangle)]
+pub extern "C" fn regress_c_work_per_unit(
+    alloc: Global,
+    pattern: &mut Pattern,
+    per_unit: &mut u64,
+) -> u32
+    ensures replies { RepliesReckoned pattern.old.held per_unit.old per_unit.new result }
+    ensures kept { pattern.new.held ≡ pattern.old.held }
+{
+    reckon(alloc, pattern, per_unit)
+}
+
+/// The first match in a text in UTF-8 from an offset in bytes on, in at most so much work, which becomes what is left.
+#[unsafe(no_mangle)]
+pub extern "C" fn regress_c_find_utf8_in_work(
+    alloc: Global,
+    pattern: &mut Pattern,
+    text: &[u8],
+    start: usize,
+    work: &mut u64,
+    spans: &mut [Span],
+) -> Reply
+    ensures replies { RepliesInWork pattern.old.held text.now start work.old work.new spans.old spans.new result }
+    ensures kept { pattern.new.held ≡ pattern.old.held }
+{
+    search_in_work(alloc, pattern, text, start, work, spans)
 }
 
 // ---- All matches

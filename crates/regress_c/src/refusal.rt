@@ -5,7 +5,7 @@ ghost use Rattle.regress_c.specs.Codes.{code_of, refused_as};
 
 use crate::reply::Reply;
 use regex_pattern_front::parse::ParseError;
-use regress_match::{Error, SearchError};
+use regress_match::{Error, SearchError, WorkError};
 use regress_program::emit::EmitError;
 use std::alloc::{AllocError, AllocFailed};
 use std::str::Utf8Error;
@@ -53,6 +53,10 @@ pub(crate) enum Refusal {
     NotOpen,
     /// Steps are not counted in this encoding.
     NotCounted,
+    /// No bound of the pattern's work is known.
+    NoBound,
+    /// The work that was allowed is done.
+    WorkLimit,
 }
 
 impl Refusal {
@@ -78,6 +82,8 @@ impl Refusal {
             Refusal::NoGroup => 16,
             Refusal::NotOpen => 17,
             Refusal::NotCounted => 18,
+            Refusal::NoBound => 19,
+            Refusal::WorkLimit => 20,
         }
     }
 
@@ -114,6 +120,19 @@ impl From<SearchError> for Refusal {
         match error {
             SearchError::Memory => Refusal::Memory,
             SearchError::StepLimit => Refusal::StepLimit,
+        }
+    }
+}
+
+impl From<WorkError> for Refusal {
+    ghost use Rattle.regress_c.specs.Codes.{of_work};
+
+    ghost from_gives = { λ error refusal. refusal ≡ of_work error };
+
+    fn from(error: WorkError) -> Refusal {
+        match error {
+            WorkError::Memory => Refusal::Memory,
+            WorkError::WorkLimit => Refusal::WorkLimit,
         }
     }
 }

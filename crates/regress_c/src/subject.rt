@@ -29,8 +29,8 @@ fn first_of<P: MatchProducer + Drop>(mut matches: Matches<P>) -> Result<Option<M
     Ok(matches.next().transpose()?)
 }
 
-// The text of these bytes, in which a search may start there.
-fn text_from(bytes: &[u8], start: usize) -> Result<&str, Refusal>
+/// The text of these bytes, in which a search may start there.
+pub(crate) fn text_from(bytes: &[u8], start: usize) -> Result<&str, Refusal>
     ensures { Starts bytes.now start result }
 {
     let text = str::from_utf8(bytes)?;

@@ -1,0 +1,105 @@
+//! Searches in so much work, by a handle.
+
+ghost use Rattle.std.specs.Prelude.{◌≡◌};
+ghost use Rattle.regress_c.specs.InWork.{FindsInWork, FindsInWorkBy, IsFirstInWork, Reckons, RepliesInWork, RepliesReckoned};
+ghost use Rattle.regress_c.specs.Searching.{can_start_utf8};
+
+use crate::pattern::Pattern;
+use crate::refusal::{DONE, Refusal};
+use crate::reply::{Reply, Span, reply_with};
+use crate::subject::text_from;
+use regress_match::{BoundedRegex, Match, Regex};
+use std::alloc::Global;
+
+/// The reply to a search for the first match in at most so much work, which becomes what is left.
+pub(crate) fn search_in_work(
+    alloc: Global,
+    pattern: &mut Pattern,
+    bytes: &[u8],
+    start: usize,
+    work: &mut u64,
+    spans: &mut [Span],
+) -> Reply
+    ensures replies { RepliesInWork pattern.old.held bytes.now start work.old work.new spans.old spans.new result }
+    ensures kept { pattern.new.held ≡ pattern.old.held }
+{
+    reply_with(find(alloc, pattern, bytes, start, work), spans)
+}
+
+// The first match by the pattern of the handle, which holds it again afterwards.
+fn find(
+    alloc: Global,
+    pattern: &mut Pattern,
+    bytes: &[u8],
+    start: usize,
+    work: &mut u64,
+) -> Result<Option<Match>, Refusal>
+    ensures finds { FindsInWorkBy pattern.old.held bytes.now start work.old result work.new }
+    ensures kept { pattern.new.held ≡ pattern.old.held }
+{
+    let Some(re) = pattern.take(alloc) else {
+        return Err(Refusal::Empty);
+    };
+    let found = find_by(&re, bytes, start, work);
+    pattern.put(re);
+    found
+}
+
+// The same by a pattern.
+fn find_by(re: &Regex, bytes: &[u8], start: usize, work: &mut u64) -> Result<Option<Match>, Refusal>
+    ensures { FindsInWork re.now bytes.now start work.old result work.new }
+{
+    let text = text_from(bytes, start)?;
+    let Some(bounded) = re.bounded()? else {
+        return Err(Refusal::NoBound);
+    };
+    first_in_work(&bounded, text, start, work)
+}
+
+// The first match in a text.
+fn first_in_work(
+    bounded: &BoundedRegex<'_>,
+    text: &str,
+    start: usize,
+    work: &mut u64,
+) -> Result<Option<Match>, Refusal>
+    requires { can_start_utf8 text.now start }
+    ensures { IsFirstInWork bounded.now.re text.now start work.old result work.new }
+{
+    // by its clause the number of `find_from` is that of bounds
+    let _ = bounded.work_per_unit();
+    let mut matches = bounded.find_from(text, start, *work)?;
+    let first = matches.next();
+    *work = matches.work_left();
+    Ok(first.transpose()?)
+}
+
+/// How much work is enough for each unit of a text, and one, by the pattern of the handle. It answers a code.
+pub(crate) fn reckon(alloc: Global, pattern: &mut Pattern, per_unit: &mut u64) -> u32
+    ensures replies { RepliesReckoned pattern.old.held per_unit.old per_unit.new result }
+    ensures kept { pattern.new.held ≡ pattern.old.held }
+{
+    match reckoned(alloc, pattern) {
+        Ok(number) => {
+            *per_unit = number;
+            DONE
+        }
+        Err(refusal) => refusal.code(),
+    }
+}
+
+// The number.
+fn reckoned(alloc: Global, pattern: &mut Pattern) -> Result<u64, Refusal>
+    ensures reckons { Reckons pattern.old.held result }
+    ensures kept { pattern.new.held ≡ pattern.old.held }
+{
+    let Some(re) = pattern.take(alloc) else {
+        return Err(Refusal::Empty);
+    };
+    let found = re.work_per_unit();
+    pattern.put(re);
+    match found? {
+        Some(number) => Ok(number),
+        None => Err(Refusal::NoBound),
+    }
+}

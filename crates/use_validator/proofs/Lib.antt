@@ -1,3 +1,4 @@
+pub mod Decided
 pub mod Escapes
 pub mod Judged
 pub mod Kept

@@ -1,5 +1,5 @@
 -- What is said of a text by a pattern within a limit of steps.
-use Rattle.std.specs.Prelude.{◌≡◌, ℕ, Bool, true, false, List, [], ◌∷◌, nat_le}
+use Rattle.std.specs.Prelude.{◌≡◌, ◌⊎◌, ℕ, Bool, true, false, List, [], ◌∷◌, nat_le}
 use Rattle.regex_meaning.specs.Names.{Answer}
 use Rattle.regex_meaning.specs.Steps.{need_from}
 use Rattle.regress_match.specs.Programs.{as_utf8, byte_tree, utf8_answers}
@@ -24,3 +24,8 @@ within false ms = OutOfSteps
 -- A text matches where the list of matches of the pattern's tree is not empty, so wherever in it a match stands.
 abbrev pub verdict_of : Regex → (text : List ℕ) → (steps : ℕ) → Verdict
 verdict_of re text steps = within (nat_le (steps_needed re text) steps) (utf8_answers re text 0)
+
+-- Whether there are matches, or else that the steps are not enough to tell: that only where they are not.
+abbrev pub IsToldOf : Regex → (text : List ℕ) → (steps : ℕ) → Verdict → Type 0
+IsToldOf re text steps verdict =
+    (verdict ≡ by_matches (utf8_answers re text 0)) ⊎ ((nat_le (steps_needed re text) steps ≡ false) × (verdict ≡ OutOfSteps))

@@ -5,7 +5,7 @@ use Rattle.regex_meaning.specs.Flags.{flags_of_text}
 use Rattle.regex_meaning.specs.Laws.{Each}
 use Rattle.regress_match.specs.Programs.{IsCompiledWith}
 use Rattle.regress_match.specs.declared.api.regex.Regex.{Regex}
-use Rattle.use_validator.specs.Judge.{verdict_of}
+use Rattle.use_validator.specs.Judge.{IsToldOf}
 use Rattle.use_validator.specs.declared.judge.Verdict.{Verdict}
 
 -- the program is that of the pattern with this text, which is read with the flag `u`
@@ -22,6 +22,6 @@ IsPatternOf text re = ∥ IsProgramOf text re ∥₁
 abbrev pub AreOfTheirTexts : List (String Global × Regex) → Type 0
 AreOfTheirTexts entries = ∥ AreProgramsOf entries ∥₁
 
--- what this pattern says of a text in so many steps
+-- what this pattern says of a text, in so many steps or in as much work as is enough
 abbrev pub IsVerdictOf : (pattern text : List ℕ) → (steps : ℕ) → Verdict → Type 0
-IsVerdictOf pattern text steps verdict = (re : Regex) × IsPatternOf pattern re × (verdict ≡ verdict_of re text steps)
+IsVerdictOf pattern text steps verdict = (re : Regex) × IsPatternOf pattern re × IsToldOf re text steps verdict

@@ -8,7 +8,7 @@ use std::alloc::{AllocError, Global};
 pub struct Options<'a> {
     pub schema: &'a str,
     pub document: &'a str,
-    /// How many steps each search may take.
+    /// How many steps each search may take at first.
     pub steps: u64,
 }
 
@@ -49,7 +49,9 @@ pub fn command<'a>(alloc: Global) -> Result<Command<'a>, AllocError> {
     let steps = Arg::new(alloc, "steps")
         .long("steps")
         .value_name("N")
-        .help("How many steps each search may take; one that takes more refuses the string")
+        .help(
+            "How many steps each search may take; one that takes more, where no bound is known, refuses the string",
+        )
         .value_parser(value_parser!(u64))
         .default_value(STEPS);
     Command::new(alloc, "use_validator")

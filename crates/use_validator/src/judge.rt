@@ -1,9 +1,11 @@
 //! Texts in which a pattern has a match.
 
-ghost use Rattle.std.specs.Prelude.{◌≡◌, IfOk};
-ghost use Rattle.use_validator.specs.Judge.{verdict_of};
+ghost use Rattle.std.specs.Prelude.{◌≡◌, ◌≤◌, ◌<◌, ◌^◌, IfOk, SomeIff};
+ghost use Rattle.regress_match.specs.Programs.{as_utf8, utf8_answers};
+ghost use Rattle.regress_match.specs.Work.{all_work};
+ghost use Rattle.use_validator.specs.Judge.{IsToldOf, by_matches, verdict_of};
 
-use regress_match::{Regex, SearchError};
+use regress_match::{BoundedRegex, Regex, SearchError, WorkError};
 use std::alloc::AllocError;
 
 /// What a search in a limit of steps says of a text.
@@ -33,5 +35,54 @@ pub fn judge(re: &Regex, text: &str, steps: u64) -> Result<Verdict, AllocError>
         None => Ok(Verdict::NoMatch),
         Some(Err(SearchError::StepLimit)) => Ok(Verdict::OutOfSteps),
         Some(Err(SearchError::Memory)) => Err(AllocError),
+    }
+}
+
+/// The same; where the steps are not enough and the pattern has a bound, it is told all the same, in as much work as is enough.
+///
+/// # Errors
+///
+/// Where there is no memory for the searches.
+pub fn decide(re: &Regex, text: &str, steps: u64) -> Result<Verdict, AllocError>
+    ensures { IfOk result (IsToldOf re.now text.now steps) }
+{
+    let verdict = judge(re, text, steps)?;
+    if verdict != Verdict::OutOfSteps {
+        return Ok(verdict);
+    }
+    let Some(bounded) = re.bounded()? else {
+        return Ok(verdict);
+    };
+    match enough(&bounded, text) {
+        Some(work) => judge_in_work(&bounded, text, work),
+        None => Ok(verdict),
+    }
+}
+
+// How much work is enough for all matches of a text, where that is a number.
+fn enough(bounded: &BoundedRegex<'_>, text: &str) -> Option<u64>
+    ensures { let all = all_work bounded.now.per_unit (as_utf8 bounded.now.re text.now) in
+        SomeIff result (all < 2 ^ 64) all }
+{
+    bounded.work_per_unit().checked_mul(text.len() as u64 + 1)
+}
+
+// Whether the pattern has a match in the text, in so much work, which is enough to tell.
+fn judge_in_work(bounded: &BoundedRegex<'_>, text: &str, work: u64) -> Result<Verdict, AllocError>
+    requires { all_work bounded.now.per_unit (as_utf8 bounded.now.re text.now) ≤ work }
+    ensures { IfOk result (λ verdict. verdict ≡ by_matches (utf8_answers bounded.now.re text.now 0)) }
+{
+    let Ok(mut matches) = bounded.find_from(text, 0, work) else {
+        return Err(AllocError);
+    };
+    let Some(first) = matches.next() else {
+        return Ok(Verdict::NoMatch);
+    };
+    match first {
+        Ok(_) => Ok(Verdict::Matches),
+        Err(error) => match error {
+            WorkError::WorkLimit => unreachable!(),
+            WorkError::Memory => Err(AllocError),
+        },
     }
 }

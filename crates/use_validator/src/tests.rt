@@ -14,7 +14,10 @@ const DOCUMENTS: &str = r##"{"pattern":"b"} | "abc" | 100 |
 {"pattern":"^.$"} | "🌷" | 100 | 
 {"pattern":"a"} | 5 | 100 | 
 {"pattern":"[b]c"} | "aabbc" | 5 | 
-{"pattern":"[b]c"} | "aabbc" | 4 | : too few steps for [b]c
+{"pattern":"[b]c"} | "aabbc" | 4 | 
+{"pattern":"[b]c"} | "aabb" | 0 | : no match of [b]c
+{"pattern":"^(a|aa)+$"} | "aaaaaaaaaaaaaaaaaaaaaaaaaaaaaaaaaaaaaaaaaaaaaaaaaaaaaaaaaaaaaaab" | 100 | : no match of ^(a|aa)+$
+{"pattern":"[b](?=c)"} | "aabbc" | 1 | : too few steps for [b](?=c)
 {} | {"a":"b"} | 100 | 
 true | "a" | 100 | 
 {"items":{"pattern":"a"}} | ["a","b","ca","c"] | 100 | /1: no match of a; /3: no match of a
@@ -24,7 +27,8 @@ true | "a" | 100 |
 {"properties":{"a":{"properties":{"b":{"pattern":"x"}}}}} | {"a":{"b":"y"},"b":"y"} | 100 | /a/b: no match of x
 {"patternProperties":{"b":{"pattern":"x"}}} | {"abc":"y","ac":"y"} | 100 | /abc: no match of x
 {"properties":{"ab":{"pattern":"x"}},"patternProperties":{"^a":{"pattern":"z"}}} | {"ab":"y"} | 100 | /ab: no match of z; /ab: no match of x
-{"patternProperties":{"[b]c":{"pattern":"x"}}} | {"aabbc":"y"} | 4 | /aabbc: too few steps for [b]c
+{"patternProperties":{"[b]c":{"pattern":"x"}}} | {"aabbc":"y"} | 1 | /aabbc: no match of x
+{"patternProperties":{"[b](?=c)":{"pattern":"x"}}} | {"aabbc":"y"} | 1 | /aabbc: too few steps for [b](?=c)
 {"pattern":"("} | "" | 100 | refused
 {"pattern":1} | "" | 100 | refused
 {"properties":{"a":{"pattern":"["}}} | "" | 100 | refused

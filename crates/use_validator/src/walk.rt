@@ -3,7 +3,7 @@
 ghost use Rattle.std.specs.Prelude.{IfOk};
 ghost use Rattle.use_validator.specs.Patterns.{IsVerdictOf};
 
-use crate::judge::{Verdict, judge};
+use crate::judge::{Verdict, decide};
 use crate::pointer::child;
 use crate::schema::Patterns;
 use anyhow::{Result, bail};
@@ -111,14 +111,14 @@ fn clear(rt: &HostRuntime) -> io::Result<()> {
 }
 
 impl<'p> Search<'p> {
-    // What a pattern of the schema says of a text, in the steps that a search may take.
+    // What a pattern of the schema says of a text, in the steps that a search may take or the work that is enough.
     fn verdict(self, pattern: &str, text: &str) -> Result<Verdict>
         ensures { IfOk result (IsVerdictOf pattern.now text.now self.entry.steps) }
     {
         let Some(re) = self.patterns.get(pattern) else {
             bail!("the schema has no pattern {pattern}");
         };
-        Ok(judge(re, text, self.steps)?)
+        Ok(decide(re, text, self.steps)?)
     }
 
     // Judges a string by the pattern of its schema.

@@ -1,0 +1,45 @@
+-- What the first item of a search in so much work tells, and how much is enough.
+use Rattle.std.proofs.Common.{◌≡◌, ◌≤◌, ◌<◌, ◌+◌, ◌*◌, ◌^◌, ◌∙◌, ℕ, List, true, false, ap, sym, subst}
+use Rattle.std.specs.Prelude.{Option, Some, None, Result, Ok, Err, SomeIff}
+use Rattle.regress_exec.specs.Worked.{GivesInWork, InWork}
+use Rattle.regress_exec.specs.declared.exec.Match.{Match}
+use Rattle.regress_exec.specs.declared.exec.worked.WorkError.{WorkError}
+use Rattle.regress_exec.specs.declared.exec.worked.WorkError.TheVariants.{WorkLimit}
+use Rattle.regress_match.specs.Programs.{as_utf8, byte_tree, utf8_answers}
+use Rattle.regress_match.specs.Work.{YieldsInWork, all_work}
+use Rattle.regress_match.specs.declared.api.regex.Regex.{Regex}
+use Rattle.use_validator.specs.Judge.{by_matches}
+use Rattle.use_validator.specs.declared.judge.Verdict.{Verdict}
+use Rattle.use_validator.specs.declared.judge.Verdict.TheVariants.{Matches, NoMatch}
+
+-- ---- The first item
+
+module _ (re : Regex) (text : List ℕ) (per_unit work : ℕ) (it behind : InWork) (yields : YieldsInWork (byte_tree re) (as_utf8 re text) 0 per_unit work it) where
+  abbrev truth : Verdict
+  truth = by_matches (utf8_answers re text 0)
+
+  -- a match came
+  pub work-match : (item : Result Match WorkError) (m : Match) → item ≡ Ok m → GivesInWork it (Some item) behind → Matches ≡ truth
+  work-match item m is gives =
+      let came = subst (λ r. GivesInWork it (Some r) behind) is gives in
+      ap by_matches (sym came.0.0 ∙ yields.answers)
+
+  -- none came
+  pub work-none : GivesInWork it None behind → NoMatch ≡ truth
+  work-none gives = ap by_matches (sym gives.0.0 ∙ yields.answers)
+
+  -- want of work does not come where it is enough
+  pub never-out : all_work per_unit (as_utf8 re text) ≤ work → (item : Result Match WorkError) (e : WorkError) → item ≡ Err e → e ≡ WorkLimit
+      → GivesInWork it (Some item) behind → ⊥
+  never-out enough item e is limit gives =
+      let out = subst (λ e. GivesInWork it (Some (Err e)) behind) limit (subst (λ r. GivesInWork it (Some r) behind) is gives) in
+      let never : true ≡ false = sym (yields.enough enough) ∙ out.0.0.0 in
+      absurd (cc)
+
+-- ---- What is enough
+
+-- a product of numbers that are the same
+pub enough-same : (r : Option ℕ) (each per_unit places units : ℕ) → SomeIff r (each * places < 2 ^ 64) (each * places) → each ≡ per_unit → places ≡ units + 1
+    → SomeIff r (per_unit * (units + 1) < 2 ^ 64) (per_unit * (units + 1))
+enough-same r each per_unit places units h same all =
+    subst (λ p. SomeIff r (per_unit * p < 2 ^ 64) (per_unit * p)) all (subst (λ e. SomeIff r (e * places < 2 ^ 64) (e * places)) same h)

@@ -29,3 +29,5 @@ mod tests;
 mod units;
 #[cfg(test)]
 mod ways;
+#[cfg(test)]
+mod worked;

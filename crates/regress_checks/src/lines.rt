@@ -26,12 +26,16 @@ fn write_match(line: &mut String, found: &Match) -> Result<(), AllocError> {
     Ok(())
 }
 
-fn write_item(line: &mut String, item: Result<Match, SearchError>) -> Result<(), SearchError> {
-    let found = item?;
+// Writes a match behind others.
+pub fn write_found(line: &mut String, found: &Match) -> Result<(), AllocError> {
     if !line.is_empty() {
         line.push_str("; ")?;
     }
-    Ok(write_match(line, &found)?)
+    write_match(line, found)
+}
+
+fn write_item(line: &mut String, item: Result<Match, SearchError>) -> Result<(), SearchError> {
+    Ok(write_found(line, &item?)?)
 }
 
 // Writes the first match that is to come, or else all. Behind their end there is none for good.

@@ -8,6 +8,7 @@ use crate::remembered::{REMEMBERED, check_remembered};
 use crate::searches::check_search;
 use crate::table::SEARCHES;
 use crate::units::{BOUNDARIES, UNITS, check_boundaries, check_units};
+use crate::worked::{WORKED, check_worked};
 use regress_rows::rows::{Row, row_of};
 use std::alloc::Global;
 use std::process::Abort;
@@ -23,9 +24,10 @@ enum Table {
     Anchored,
     Limits,
     Remembered,
+    Worked,
 }
 
-const TABLES: [(Table, &str); 9] = [
+const TABLES: [(Table, &str); 10] = [
     (Table::Searches, SEARCHES),
     (Table::Searches, PROFILE),
     (Table::Placed, PLACED),
@@ -35,6 +37,7 @@ const TABLES: [(Table, &str); 9] = [
     (Table::Anchored, ANCHORED),
     (Table::Limits, LIMITS),
     (Table::Remembered, REMEMBERED),
+    (Table::Worked, WORKED),
 ];
 
 // Notes what a row is answered in place of what it wants.
@@ -52,6 +55,7 @@ fn check_row(
         Table::Anchored => check_anchored(alloc, differing, row)?,
         Table::Limits => check_limits(alloc, differing, row)?,
         Table::Remembered => check_remembered(alloc, differing, row)?,
+        Table::Worked => check_worked(alloc, differing, row)?,
     }
     Ok(())
 }

@@ -2,6 +2,7 @@
 
 ghost use Rattle.std.specs.Prelude.{IsAscii};
 
+use crate::bounded::is_bounded;
 use crate::fault::Fault;
 use crate::limits::{is_limited, program_of};
 use crate::lists::{all, are_same, are_same_places, is_start};
@@ -117,8 +118,8 @@ fn want(holds: bool, fault: Fault) -> Result<(), Fault> {
     if holds { Ok(()) } else { Err(fault) }
 }
 
-// That all holds of the matches of a pattern.
-fn check(alloc: Global, re: &Regex, case: Case<'_>, list: &[Match]) -> Result<(), Fault> {
+// That all holds of the matches of a pattern; and whether a bound of its work is known.
+fn check(alloc: Global, re: &Regex, case: Case<'_>, list: &[Match]) -> Result<bool, Fault> {
     let text = case.text;
     want(is_same_unoptimized(alloc, case, list)?, Fault::Unoptimized)?;
     want(is_copied(alloc, re, text, list)?, Fault::Copied)?;
@@ -133,13 +134,16 @@ fn check(alloc: Global, re: &Regex, case: Case<'_>, list: &[Match]) -> Result<()
     want(is_same_in_utf16(alloc, re, text, list)?, Fault::Utf16)?;
     want(is_resumed(alloc, re, text, list)?, Fault::Resumed)?;
     want(is_limited(alloc, re, case, list)?, Fault::Limited)?;
-    want(is_given_back(re, text)?, Fault::GivenBack)
+    want(is_given_back(re, text)?, Fault::GivenBack)?;
+    let bounded = is_bounded(alloc, re, text, list)?;
+    want(bounded != Some(false), Fault::Bounded)?;
+    Ok(bounded.is_some())
 }
 
-/// How many matches a case has, or what does not hold of them.
-pub fn try_case(alloc: Global, case: Case<'_>) -> Result<usize, Fault> {
+/// How many matches a case has, and whether a bound of its work is known; or what does not hold of them.
+pub fn try_case(alloc: Global, case: Case<'_>) -> Result<(usize, bool), Fault> {
     let re = Regex::with_flags(alloc, case.pattern, Flags::from(case.flags))?;
     let list = found(alloc, &re, case.text)?;
-    check(alloc, &re, case, &list)?;
-    Ok(list.len())
+    let bounded = check(alloc, &re, case, &list)?;
+    Ok((list.len(), bounded))
 }

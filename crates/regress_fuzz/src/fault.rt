@@ -1,6 +1,6 @@
 //! What may not hold of a case.
 
-use regress_match::{Error, SearchError};
+use regress_match::{Error, SearchError, WorkError};
 use std::alloc::AllocError;
 
 /// What does not hold of a case.
@@ -26,6 +26,10 @@ pub enum Fault {
     Resumed,
     /// That a limit on steps is exact.
     Limited,
+    /// That they are found in as much work as is said to be enough.
+    Bounded,
+    /// That a bound of the work is known.
+    Unbounded,
     /// That `$0` in place of matches gives the text back.
     GivenBack,
 }
@@ -45,5 +49,14 @@ impl From<SearchError> for Fault {
 impl From<Error> for Fault {
     fn from(_: Error) -> Fault {
         Fault::Pattern
+    }
+}
+
+impl From<WorkError> for Fault {
+    fn from(error: WorkError) -> Fault {
+        match error {
+            WorkError::Memory => Fault::Refused,
+            WorkError::WorkLimit => Fault::Bounded,
+        }
     }
 }

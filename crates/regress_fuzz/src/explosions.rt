@@ -1,0 +1,91 @@
+//! Patterns whose searches take more time than anyone has, where nothing is remembered: how much work they do in texts without a
+//! match, and how much their bound allows.
+
+use crate::bounded::enough;
+use crate::fault::Fault;
+use regress_match::{BoundedRegex, Regex};
+use std::alloc::{AllocError, Global};
+
+/// Each of them with what its texts are many times, and what stands behind that.
+pub const EXPLOSIONS: [[&str; 3]; 12] = [
+    ["(a*)*b", "a", ""],
+    ["(?:a|a)*b", "a", ""],
+    ["(.*)*x", "a", ""],
+    ["(x+x+)+y", "x", ""],
+    ["^(\\w+\\s?)*$", "ab c d ef ", "!"],
+    ["^(?:(?:ab|a|b)+,?)+$", "ab", "!"],
+    [
+        "^([a-zA-Z0-9])(([\\-.]|[_]+)?([a-zA-Z0-9]+))*(@)",
+        "a1b2",
+        "",
+    ],
+    ["^(([a-z])+.)+[A-Z]([a-z])+$", "ab", "!"],
+    ["((a|)+)+Z", "a", ""],
+    ["((?:a?)*)*c", "a", ""],
+    ["a+b|a*c", "a", ""],
+    ["(.*?)x", "a", ""],
+];
+
+/// How many characters their texts have, besides what stands at the end.
+pub const SIZES: [usize; 3] = [1_000, 10_000, 100_000];
+
+/// The greatest factor between the bound and the work, rounded up.
+const MOST: u64 = 21;
+
+/// One of them.
+#[derive(Clone, Copy)]
+pub struct Explosion {
+    pub pattern: &'static str,
+    piece: &'static str,
+    end: &'static str,
+}
+
+impl Explosion {
+    /// That of a row.
+    pub fn of(row: [&'static str; 3]) -> Self {
+        let [pattern, piece, end] = row;
+        Explosion {
+            pattern,
+            piece,
+            end,
+        }
+    }
+
+    // Its text of so many characters, which are a multiple of those that it is made of.
+    fn text(self, alloc: Global, size: usize) -> Result<String, AllocError> {
+        let pieces = size.checked_div(self.piece.len()).unwrap_or(0);
+        let mut text = String::new(alloc);
+        for _ in 0..pieces {
+            text.push_str(self.piece)?;
+        }
+        text.push_str(self.end)?;
+        Ok(text)
+    }
+
+    /// How often the work of a search through a text of so many characters goes into what its bound allows, rounded up.
+    pub fn factor(self, alloc: Global, size: usize) -> Result<u64, Fault> {
+        let re = Regex::new(alloc, self.pattern)?;
+        let Some(bounded) = re.bounded()? else {
+            return Err(Fault::Unbounded);
+        };
+        let text = self.text(alloc, size)?;
+        factor_of(&bounded, &text)
+    }
+}
+
+// The same of a text without a match.
+fn factor_of(bounded: &BoundedRegex<'_>, text: &str) -> Result<u64, Fault> {
+    let bound = enough(bounded, text.len());
+    let mut matches = bounded.find_from(text, 0, bound)?;
+    match matches.next() {
+        None => {}
+        Some(Ok(_)) => return Err(Fault::Bounded),
+        Some(Err(error)) => return Err(Fault::from(error)),
+    }
+    let work = bound.saturating_sub(matches.work_left());
+    let almost = work.saturating_sub(1);
+    match bound.saturating_add(almost).checked_div(work) {
+        Some(factor) if factor <= MOST => Ok(factor),
+        _ => Err(Fault::Bounded),
+    }
+}

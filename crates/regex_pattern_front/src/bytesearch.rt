@@ -1,8 +1,7 @@
 //! Sets of bytes, and where they stand in a text.
 
 ghost use Rattle.std.specs.Prelude.{◌≡◌, ◌<◌, ◌≤◌, ◌||◌, ◌==◌, ℕ, Bool, List, [], length, slice_index};
-ghost use Rattle.regex_meaning.specs.Lists.{contains};
-ghost use Rattle.regex_meaning.specs.StartPredicate.{bytes_where};
+ghost use Rattle.regex_meaning.specs.{Lists.{contains}, StartPredicate.{bytes_where}};
 ghost use Rattle.regex_pattern_front.specs.Searching.{FindsFirst, holds_at};
 
 /// A set of bytes. Contracts see its members.

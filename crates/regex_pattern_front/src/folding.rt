@@ -4,8 +4,7 @@ ghost use Rattle.std.specs.Prelude.{◌≡◌, ◌<◌, ◌≤◌, ◌||◌, ℕ
 ghost use Rattle.regex_meaning.specs.Lists.{contains};
 ghost use Rattle.regex_meaning.specs.Text.{fold_code_point, expand_code_point, all_with_fold, nonascii_with_fold, nonascii_folds_to_ascii_word_char, to_lowercase, to_uppercase};
 ghost use Rattle.regex_meaning.specs.StartPredicate.{bytes_where, begun_by, meet};
-ghost use Rattle.regex_pattern_front.specs.ByteSets.{byte_bitmap_bytes};
-ghost use Rattle.regex_pattern_front.specs.Intervals.{interval_of, as_list};
+ghost use Rattle.regex_pattern_front.specs.{ByteSets.{byte_bitmap_bytes}, Intervals.{interval_of, as_list}};
 
 use crate::bytesearch::ByteBitmap;
 use crate::codepointset::{CODE_POINT_MAX, Interval};

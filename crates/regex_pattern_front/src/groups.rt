@@ -1,10 +1,9 @@
 //! Groups: how one opens, and the names of all of them.
 
 ghost use Rattle.std.specs.Prelude.{◌≡◌, ◌≤◌, ◌∷◌, ◌==◌, ◌&&◌, not, [], false, length, string_bytes, IfOk, OnOk};
-ghost use Rattle.regex_grammar.specs.Ahead.{name_at, opened_name, names_ahead};
+ghost use Rattle.regex_grammar.specs.{Ahead.{name_at, opened_name, names_ahead}, Reading.{Text}};
 ghost use Rattle.regex_pattern_front.specs.GroupReads.{IsSignRead, IsOpeningRead, AreNumbers, Notes, Scans, numbered};
 ghost use Rattle.std.specs.BTreeMap.{get_by_text};
-ghost use Rattle.regex_grammar.specs.Reading.{Text};
 
 use crate::diagnosis::Cause;
 use crate::escapes::name;
@@ -28,8 +27,7 @@ pub(crate) enum Opening {
 }
 
 impl Opening {
-    ghost use Rattle.regex_pattern_front.specs.GroupReads.{behind_of, takes_quantifier};
-    ghost use Rattle.regex_pattern_front.specs.Levels.{captures};
+    ghost use Rattle.regex_pattern_front.specs.{GroupReads.{behind_of, takes_quantifier}, Levels.{captures}};
 
     /// How many capturing groups open with it: one or none.
     pub(crate) fn captures(self) -> CaptureGroupID

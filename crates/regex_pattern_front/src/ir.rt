@@ -1,9 +1,7 @@
 //! The pattern tree.
 
 ghost use Rattle.std.specs.Prelude.{◌≡◌, ◌+◌, Some, None};
-ghost use Rattle.regex_pattern_front.specs.Parting.{IsParted, weight, weight_of, work_in, work_of};
-ghost use Rattle.regex_pattern_front.specs.TreeOf.{cat_of};
-ghost use Rattle.regex_pattern_front.specs.declared.ir.Node.{Node};
+ghost use Rattle.regex_pattern_front.specs.{Parting.{IsParted, weight, weight_of, work_in, work_of}, TreeOf.{cat_of}, declared.ir.Node.{Node}};
 
 use crate::flags::Flags;
 use crate::types::{BracketContents, CaptureGroupID};
@@ -104,8 +102,7 @@ pub enum Node {
 }
 
 impl Node {
-    ghost use Rattle.regex_pattern_front.specs.Optimized.{narrowed};
-    ghost use Rattle.regex_pattern_front.specs.TreeOf.{node_of};
+    ghost use Rattle.regex_pattern_front.specs.{Optimized.{narrowed}, TreeOf.{node_of}};
 
     // Of a loop the loop over one character, which names no groups.
     pub(crate) fn narrowed(self) -> Node

@@ -3,11 +3,8 @@
 ghost use Rattle.std.specs.Prelude.{◌≡◌, ℕ, ◌<◌, ◌≤◌, max, length, IfOk, IfErr, IfSome, List, ◌∷◌, true, false};
 ghost use Rattle.std.specs.BTreeMap.{get_by_text};
 ghost use Rattle.regex_meaning.specs.Tree.{bracket as bracket_of, back_ref};
-ghost use Rattle.regex_grammar.specs.Reading.{Text};
-ghost use Rattle.regex_grammar.specs.Grammar.{character_node};
-ghost use Rattle.regex_pattern_front.specs.TreeOf.{node_of, flags_of, contents_of};
-ghost use Rattle.regex_pattern_front.specs.Parts.{IsLeaf};
-ghost use Rattle.regex_pattern_front.specs.Reads.{is_refused};
+ghost use Rattle.regex_grammar.specs.{Reading.{Text}, Grammar.{character_node}};
+ghost use Rattle.regex_pattern_front.specs.{TreeOf.{node_of, flags_of, contents_of}, Parts.{IsLeaf}, Reads.{is_refused}};
 ghost use Rattle.regex_pattern_front.specs.LeafReads.{whole, AreGroups, IsLeafOf, IsLeafRead, IsAtomRead, IsPassed, IsSignOf, IsWrongAlone, divides, repeats, closes, begins_reference, sign_of, boundary_letter, IsReferenceRead, IsNamedRead, IsCounted, IsDecimalRead};
 
 use crate::classes::{ClassEscape, class};

@@ -1,21 +1,13 @@
 //! From the text of a pattern to its tree.
 
 ghost use Rattle.std.specs.Prelude.{◌≡◌, ℕ, ◌+◌, ◌≤◌, ◌∷◌, [], false, length, IfOk, IfErr, IfSome, OnOk, IsTrue, None, Err};
-ghost use Rattle.regex_meaning.specs.Layout.{reads_bytes};
-ghost use Rattle.regex_meaning.specs.Tree.{Tree};
-ghost use Rattle.regex_meaning.specs.WellFormed.{is_well_formed};
-ghost use Rattle.regex_pattern_front.specs.TreeOf.{node_of, tree_of};
-ghost use Rattle.regex_pattern_front.specs.Optimized.{has_plain_loops};
-ghost use Rattle.regex_pattern_front.specs.Parts.{IsPart};
+ghost use Rattle.regex_meaning.specs.{Layout.{reads_bytes}, Tree.{Tree}, WellFormed.{is_well_formed}};
+ghost use Rattle.regex_pattern_front.specs.{TreeOf.{node_of, tree_of, flags_of, name_of}, Optimized.{has_plain_loops}, Parts.{IsPart}};
 ghost use Rattle.regex_pattern_front.specs.Levels.{IsReading, captures};
 ghost use Rattle.regex_pattern_front.specs.Parsed.{HasRead, IsNameRead, IsParsed, IsRepeated, ReadsOn, is_named, node_around, with_flags};
-ghost use Rattle.regex_pattern_front.specs.TreeOf.{flags_of, name_of};
-ghost use Rattle.regex_grammar.specs.Grammar.{Parses};
-ghost use Rattle.regex_grammar.specs.Reading.{Text};
-ghost use Rattle.regex_grammar.specs.Standing.{NoTree};
+ghost use Rattle.regex_pattern_front.specs.{declared.parse.ParseError.TheVariants.{Memory, Syntax}, LeafReads.{divides}};
+ghost use Rattle.regex_grammar.specs.{Grammar.{Parses}, Reading.{Text}, Standing.{NoTree}};
 ghost use Rattle.std.specs.BTreeMap.{get_by_text};
-ghost use Rattle.regex_pattern_front.specs.declared.parse.ParseError.TheVariants.{Memory, Syntax};
-ghost use Rattle.regex_pattern_front.specs.LeafReads.{divides};
 
 use crate::diagnosis::{Cause, Diagnosis};
 use crate::escapes::name;

@@ -2,15 +2,11 @@
 
 ghost use Rattle.std.specs.Prelude.{◌≡◌, IfOk, None, false, map, option_map};
 ghost use Rattle.regex_meaning.specs.Offsets.{IsBoundary};
-ghost use Rattle.regress_exec.specs.Attempts.{ticks_from};
-ghost use Rattle.regress_exec.specs.Spends.{Spends, cause_of, Tells};
+ghost use Rattle.regress_exec.specs.{Attempts.{ticks_from}, Spends.{Spends, cause_of, Tells}};
 ghost use Rattle.regress_plan.specs.Insns.{insn_of};
 ghost use Rattle.regress_scan.specs.Searching.{program_of};
-ghost use Rattle.regress_backtrack.specs.Attempted.{IsEndFrom, SpendsAt, TakesIfLaidOut};
-ghost use Rattle.regress_backtrack.specs.Course.{IsSound, StaysSound};
-ghost use Rattle.regress_backtrack.specs.Going.{IfDone};
-ghost use Rattle.regress_backtrack.specs.Memos.{KnowsRightly};
-ghost use Rattle.regress_backtrack.specs.Searched.{CanBeSearched};
+ghost use Rattle.regress_backtrack.specs.{Attempted.{IsEndFrom, SpendsAt, TakesIfLaidOut}, Course.{IsSound, StaysSound}, Going.{IfDone}};
+ghost use Rattle.regress_backtrack.specs.{Memos.{KnowsRightly}, Searched.{CanBeSearched}};
 
 use crate::here::Here;
 use crate::memory::Memory;

@@ -3,18 +3,14 @@
 ghost use Rattle.std.specs.Prelude.{◌≡◌, ◌≤◌, IsAscii, IfOk, None, option_map, ⊤, ℕ, List};
 ghost use Rattle.std.specs.Borrow.{Bor};
 ghost use Rattle.std.proofs.Props.{props};
-ghost use Rattle.regex_meaning.specs.Offsets.{IsBoundary};
-ghost use Rattle.regex_meaning.specs.Text.{ascii_text, utf8_text, utf16_text, ucs2_text};
+ghost use Rattle.regex_meaning.specs.{Offsets.{IsBoundary}, Text.{ascii_text, utf8_text, utf16_text, ucs2_text}};
 ghost use Rattle.regex_pattern_front.specs.TreeOf.{tree_of};
 ghost use Rattle.regress_exec.specs.Attempts.{IsNextTry, IsVain};
 ghost use Rattle.regress_machine.specs.Finds.{CanSearch};
 ghost use Rattle.regress_scan.specs.Searching.{program_of};
 ghost use Rattle.regress_memo.specs.Memo.{has_failure};
 ghost use Rattle.regress_program.specs.Code.{compiled};
-ghost use Rattle.regress_backtrack.specs.Memory.{state_of};
-ghost use Rattle.regress_backtrack.specs.Memos.{terms_of};
-ghost use Rattle.regress_backtrack.specs.Planning.{run_in};
-ghost use Rattle.regress_backtrack.specs.Remembered.{IsRightOf, terms_in, failed_in};
+ghost use Rattle.regress_backtrack.specs.{Memory.{state_of}, Memos.{terms_of}, Planning.{run_in}, Remembered.{IsRightOf, terms_in, failed_in}};
 
 use crate::attempts::{attempt, attempt_again};
 pub use crate::limited::LimitedExecutor;

@@ -1,13 +1,11 @@
 //! The executor whose steps are limited.
 
 ghost use Rattle.std.specs.Prelude.{◌≡◌, IfOk, Some};
-ghost use Rattle.regex_meaning.specs.StartPredicate.{start_predicate};
-ghost use Rattle.regex_meaning.specs.Text.{utf8_text};
+ghost use Rattle.regex_meaning.specs.{StartPredicate.{start_predicate}, Text.{utf8_text}};
 ghost use Rattle.regex_meaning.proofs.TextLemmas.{utf8_text-IsText};
 ghost use Rattle.regex_pattern_front.specs.TreeOf.{tree_of};
 ghost use Rattle.regress_program.specs.Insns.{start_of};
-ghost use Rattle.regress_backtrack.specs.Memory.{state_of};
-ghost use Rattle.regress_backtrack.specs.Attempted.{IsLaidOut};
+ghost use Rattle.regress_backtrack.specs.{Memory.{state_of}, Attempted.{IsLaidOut}};
 
 use crate::attempts::attempt;
 use crate::classicalbacktrack::BacktrackExecutor;

@@ -1,14 +1,11 @@
 //! Failures that a memory of keys remembers, by the ledger of a program.
 
 ghost use Rattle.std.specs.Prelude.{◌≡◌, ℕ, true, false, None, IfOk, IfSome, map};
-ghost use Rattle.regress_linear.specs.Codes.{IsStateOf};
-ghost use Rattle.regress_linear.specs.RunKeys.{run_at, insn_before};
+ghost use Rattle.regress_linear.specs.{Codes.{IsStateOf}, RunKeys.{run_at, insn_before}};
 ghost use Rattle.regress_memo.specs.Memo.{has_failure, as_key as key_known};
 ghost use Rattle.regress_plan.specs.Insns.{insn_of};
 ghost use Rattle.regress_scan.specs.Searching.{program_of};
-ghost use Rattle.regress_backtrack.specs.Memory.{state_of};
-ghost use Rattle.regress_backtrack.specs.Memos.{terms_of, is_run, KnowsRightly};
-ghost use Rattle.regress_backtrack.specs.Remembered.{as_key, terms_in, failed_in};
+ghost use Rattle.regress_backtrack.specs.{Memory.{state_of}, Memos.{terms_of, is_run, KnowsRightly}, Remembered.{as_key, terms_in, failed_in}};
 
 use crate::here::Here;
 use crate::memory::Memory;

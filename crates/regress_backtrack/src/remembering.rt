@@ -4,9 +4,7 @@ ghost use Rattle.std.specs.Prelude.{◌≡◌, ◌≤◌, ◌⊎◌, ◌∷◌, 
 ghost use Rattle.regex_meaning.specs.Offsets.{units};
 ghost use Rattle.regress_linear.specs.Turns.{Key as KeyOf};
 ghost use Rattle.regress_machine.specs.Machine.{running};
-ghost use Rattle.regress_backtrack.specs.Memory.{state_of};
-ghost use Rattle.regress_backtrack.specs.RunRecords.{TellsOfRest};
-ghost use Rattle.regress_backtrack.specs.Remembered.{Terms, IsRight, IsKeyOf, as_key, no_terms};
+ghost use Rattle.regress_backtrack.specs.{Memory.{state_of}, RunRecords.{TellsOfRest}, Remembered.{Terms, IsRight, IsKeyOf, as_key, no_terms}};
 
 use crate::here::Here;
 use crate::memory::Memory;

@@ -3,8 +3,7 @@
 ghost use Rattle.regex_meaning.specs.Offsets.{IsBoundary};
 ghost use Rattle.regress_exec.specs.Attempts.{IsNextTry};
 ghost use Rattle.regress_machine.specs.Finds.{CanSearch};
-ghost use Rattle.regress_scan.specs.Searching.{program_of};
-ghost use Rattle.regress_scan.specs.Starts.{IsFirstTry};
+ghost use Rattle.regress_scan.specs.{Searching.{program_of}, Starts.{IsFirstTry}};
 
 use regress_scan::planned::Planned;
 use regress_scan::starts::first_try;

@@ -3,8 +3,7 @@
 
 ghost use Rattle.std.specs.Prelude.{◌≡◌, IsTrue, nat_eq, option_map};
 ghost use Rattle.std.specs.List.{starts_with};
-ghost use Rattle.regex_meaning.specs.Offsets.{IsBoundary};
-ghost use Rattle.regex_meaning.specs.StartPredicate.{begins_with_one_of, bytes_from};
+ghost use Rattle.regex_meaning.specs.{Offsets.{IsBoundary}, StartPredicate.{begins_with_one_of, bytes_from}};
 ghost use Rattle.regress_exec.specs.Attempts.{anchors};
 ghost use Rattle.regress_input.specs.Reading.{place};
 ghost use Rattle.regress_program.specs.Insns.{start_of};

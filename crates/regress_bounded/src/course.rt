@@ -4,8 +4,7 @@ ghost use Rattle.std.specs.Prelude.{◌≡◌, ◌<◌, ◌≤◌, OnOk, IfErr, 
 ghost use Rattle.regress_ledger.specs.Whole.{HasBit};
 ghost use Rattle.regress_memo.specs.Memo.{as_key, key_at as key_of_state};
 ghost use Rattle.regress_pikevm.specs.States.{state_of};
-ghost use Rattle.regress_bounded.specs.declared.course.Refusal.TheVariants.{Memory, Work};
-ghost use Rattle.regress_bounded.specs.Spending.{HasSpent, IsSpent};
+ghost use Rattle.regress_bounded.specs.{declared.course.Refusal.TheVariants.{Memory, Work}, Spending.{HasSpent, IsSpent}};
 
 use crate::row::Loops;
 use regress_input::position::PositionType;

@@ -2,18 +2,13 @@
 
 ghost use Rattle.std.specs.Prelude.{◌≡◌, ◌≤◌, ◌<◌, ◌^◌, ◌*◌, ◌+◌, nat_le, IfErr, IfOk, IsAscii, None, Some, [], false, true};
 ghost use Rattle.std.proofs.Props.{props};
-ghost use Rattle.regex_meaning.specs.Offsets.{IsBoundary};
-ghost use Rattle.regex_meaning.specs.Text.{ascii_text, ucs2_text, utf16_text, utf8_text};
+ghost use Rattle.regex_meaning.specs.{Offsets.{IsBoundary}, Text.{ascii_text, ucs2_text, utf16_text, utf8_text}};
 ghost use Rattle.regex_pattern_front.specs.TreeOf.{tree_of};
-ghost use Rattle.regress_exec.specs.Attempts.{end_from};
-ghost use Rattle.regress_exec.specs.Worked.{further_on};
-ghost use Rattle.regress_exec.specs.declared.exec.SearchError.TheVariants.{Memory};
+ghost use Rattle.regress_exec.specs.{Attempts.{end_from}, Worked.{further_on}, declared.exec.SearchError.TheVariants.{Memory}};
 ghost use Rattle.regress_program.specs.Code.{compiled};
-ghost use Rattle.regress_pikevm.specs.Acting.{end_with};
+ghost use Rattle.regress_pikevm.specs.{Acting.{end_with}, States.{groups_of}};
 ghost use Rattle.regress_bounded.specs.Bounds.{IsAtStart, IsBoundOf, is_enough_for};
-ghost use Rattle.regress_bounded.specs.Courses.{Begin, Begins, KnowsRightly, Stands, IsStanding, Runs, front_of};
-ghost use Rattle.regress_pikevm.specs.States.{groups_of};
-ghost use Rattle.regress_bounded.specs.Walks.{HasWalked};
+ghost use Rattle.regress_bounded.specs.{Courses.{Begin, Begins, KnowsRightly, Stands, IsStanding, Runs, front_of}, Walks.{HasWalked}};
 
 use crate::bounds::WorkBound;
 use crate::course::{Course, Refusal};

@@ -3,16 +3,14 @@
 ghost use Rattle.std.specs.Prelude.{◌≡◌, ◌<◌, ◌≤◌, ◌^◌, ◌+◌, ℕ, Bool, true, false, Some, IfOk, IsSome, [], ◌∷◌, ◌++◌, map};
 ghost use Rattle.regex_meaning.specs.Offsets.{IsBoundary, place_at};
 ghost use Rattle.regex_pattern_front.specs.TreeOf.{tree_of};
-ghost use Rattle.regress_linear.specs.Runs.{passing};
-ghost use Rattle.regress_linear.specs.Turns.{tried};
+ghost use Rattle.regress_linear.specs.{Runs.{passing}, Turns.{tried}};
 ghost use Rattle.regress_machine.specs.Machine.{running};
 ghost use Rattle.regress_memo.specs.Memo.{has_failure};
-ghost use Rattle.regress_program.specs.Code.{compiled};
-ghost use Rattle.regress_program.specs.Insns.{insn_of};
+ghost use Rattle.regress_program.specs.{Code.{compiled}, Insns.{insn_of}};
 ghost use Rattle.regress_scan.specs.Passing.{IsSpelledFor, test_in};
 ghost use Rattle.regress_bounded.specs.Courses.{Begin, KnowsRightly, IsRunHere, Stands, IsStanding, GoesOn, HasMetPlaces, HasPassedOver, IsPast, IsNearest};
-ghost use Rattle.regress_pikevm.specs.States.{state_of};
 ghost use Rattle.regress_bounded.specs.declared.row.Waiting.TheVariants.{Run as AsRun};
+ghost use Rattle.regress_pikevm.specs.States.{state_of};
 
 use crate::course::{Course, Refusal};
 use crate::row::{Waiting, wait};

@@ -1,16 +1,13 @@
 //! Turns of threads and ways back, each with the work that it is.
 
 ghost use Rattle.std.specs.Prelude.{◌≡◌, ◌≤◌, ◌==◌, ℕ, Bool, List, false, IfOk, IfSome, Some, [], ◌∷◌, ◌++◌, map, option_map, slice_get};
-ghost use Rattle.regex_meaning.specs.Layout.{Program as Code, Loop1CharBody};
-ghost use Rattle.regex_meaning.specs.Text.{Text};
+ghost use Rattle.regex_meaning.specs.{Layout.{Program as Code, Loop1CharBody}, Text.{Text}};
 ghost use Rattle.regex_pattern_front.specs.TreeOf.{tree_of};
 ghost use Rattle.regress_linear.specs.Turns.{tried, tries};
 ghost use Rattle.regress_machine.specs.Machine.{State as MachineState, Thread, running};
 ghost use Rattle.regress_memo.specs.Memo.{as_key, has_failure};
-ghost use Rattle.regress_program.specs.Code.{compiled};
-ghost use Rattle.regress_program.specs.Insns.{insn_of};
-ghost use Rattle.regress_ledger.specs.Checks.{unlimited};
-ghost use Rattle.regress_ledger.specs.Whole.{HasBit};
+ghost use Rattle.regress_program.specs.{Code.{compiled}, Insns.{insn_of}};
+ghost use Rattle.regress_ledger.specs.{Checks.{unlimited}, Whole.{HasBit}};
 ghost use Rattle.regress_bounded.specs.Courses.{Begin, KnowsRightly, HasKeyHere, known_of, endless_of, IsTurn, Stands, IsStanding, GoesOn, Turns, Leaves, HasTaken};
 ghost use Rattle.regress_pikevm.specs.States.{state_of};
 

@@ -3,8 +3,7 @@
 ghost use Rattle.std.specs.Prelude.{◌≡◌, ℕ, List, None};
 ghost use Rattle.regex_meaning.specs.Tree.{Flags as Asked};
 ghost use Rattle.std.specs.Result.{result_map_both};
-ghost use Rattle.regress_c.specs.Compiling.{Compiles, RefusesPattern, RepliesMade, given};
-ghost use Rattle.regress_c.specs.declared.refusal.Refusal.TheVariants.{Memory};
+ghost use Rattle.regress_c.specs.{Compiling.{Compiles, RefusesPattern, RepliesMade, given}, declared.refusal.Refusal.TheVariants.{Memory}};
 
 use crate::flags::flags_from;
 use crate::pattern::Pattern;

@@ -3,10 +3,9 @@
 ghost use Rattle.std.specs.Prelude.{◌≡◌, ◌<◌, ◌≤◌, ◌+◌, ◌++◌, None, Some, drop, length, take};
 ghost use Rattle.regress_c.specs.Codes.{code_of as number_of};
 ghost use Rattle.regress_c.specs.Going.{Fills, FillsFrom, FillsIn, RepliesNext, code_of_stop, ranges_of as ranges_by, tree_by};
-ghost use Rattle.regress_c.specs.Searching.{can_start_utf8, can_start_utf16};
+ghost use Rattle.regress_c.specs.{Searching.{can_start_utf8, can_start_utf16}, Replies.{spans_of}};
 ghost use Rattle.regex_meaning.specs.Offsets.{units};
 ghost use Rattle.regress_exec.specs.Answers.{answer_of};
-ghost use Rattle.regress_c.specs.Replies.{spans_of};
 ghost use Rattle.regress_match.specs.Programs.{IsStart, as_ucs2, as_utf16, as_utf8, byte_tree, unit_tree};
 
 use crate::opening::{cuts_utf8, cuts_utf16};

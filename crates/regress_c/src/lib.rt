@@ -8,10 +8,8 @@
 ghost use Rattle.std.specs.Prelude.{◌≡◌, IsUtf8, None, Some, chars};
 ghost use Rattle.std.specs.Char.{len_utf8};
 ghost use Rattle.regex_meaning.specs.Text.{utf16_characters, utf16_width};
-ghost use Rattle.regress_c.specs.Compiling.{RepliesCloned, RepliesMade, given, unbounded};
-ghost use Rattle.regress_c.specs.Going.{RepliesNext};
-ghost use Rattle.regress_c.specs.InWork.{RepliesInWork, RepliesReckoned};
-ghost use Rattle.regress_c.specs.Opening.{OpensUcs2, OpensUtf8, OpensUtf16, RepliesOpened};
+ghost use Rattle.regress_c.specs.{Compiling.{RepliesCloned, RepliesMade, given, unbounded}, Going.{RepliesNext}};
+ghost use Rattle.regress_c.specs.{InWork.{RepliesInWork, RepliesReckoned}, Opening.{OpensUcs2, OpensUtf8, OpensUtf16, RepliesOpened}};
 ghost use Rattle.regress_c.specs.Searching.{Replies, can_start_utf8, can_start_utf16, ucs2_coming, utf8_coming, utf16_coming};
 ghost use Rattle.regress_c.specs.Texts.{Escapes, NamesBy, ReplacesBy, RepliesText, RepliesTold, count_reply};
 ghost use Rattle.regress_c.specs.declared.answer.Which.TheVariants.{First, All};

@@ -1,8 +1,7 @@
 //! Where searches may start, and how they are put in their place.
 
 ghost use Rattle.std.specs.Prelude.{◌≡◌, true, false};
-ghost use Rattle.regress_c.specs.Opening.{code_of_opened, search_after};
-ghost use Rattle.regress_c.specs.Searching.{can_start_utf8, can_start_utf16};
+ghost use Rattle.regress_c.specs.{Opening.{code_of_opened, search_after}, Searching.{can_start_utf8, can_start_utf16}};
 
 use crate::refusal::{DONE, Refusal};
 use crate::search::Search;

@@ -4,8 +4,7 @@ ghost use Rattle.std.specs.Prelude.{◌≡◌, None, Option, Some, option_map};
 ghost use Rattle.std.specs.Coded.{coded_option};
 ghost use Rattle.std.specs.Option.{MatchOption};
 ghost use Rattle.regress_c.specs.Held.{held_owns};
-ghost use Rattle.regress_match.specs.contracts.api.regex.Regex.{the_row};
-ghost use Rattle.regress_match.specs.declared.api.regex.Regex.{Regex as Compiled};
+ghost use Rattle.regress_match.specs.{contracts.api.regex.Regex.{the_row}, declared.api.regex.Regex.{Regex as Compiled}};
 
 use crate::loose::Loose;
 use regress_match::Regex;

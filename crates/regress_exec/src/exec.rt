@@ -3,14 +3,10 @@
 ghost use Rattle.std.specs.Prelude.{◌≡◌, ◌<◌, ◌≤◌, ◌⊎◌, ℕ, Bool, true, false, Option, map, option_map, IfOk, IfErr, OnErr, OnSome, IfNone, if◌then◌else◌, nat_le, not, Some, None, string_bytes};
 ghost use Rattle.std.specs.Iterator.{at_most};
 ghost use Rattle.std.specs.Option.{ForSome};
-ghost use Rattle.regex_meaning.specs.Tree.{Tree};
-ghost use Rattle.regex_meaning.specs.Text.{Text};
-ghost use Rattle.regex_meaning.specs.Offsets.{IsText, IsBoundary, units};
-ghost use Rattle.regex_meaning.specs.Answers.{first_answer};
+ghost use Rattle.regex_meaning.specs.{Tree.{Tree}, Text.{Text}, Offsets.{IsText, IsBoundary, units}, Answers.{first_answer}};
 ghost use Rattle.regex_meaning.specs.Steps.{answers_within, end_within, need_from};
 ghost use Rattle.regex_pattern_front.specs.TreeOf.{tree_of};
-ghost use Rattle.regress_exec.specs.Spends.{GoesOn, Spends, cause_of};
-ghost use Rattle.regress_exec.specs.ToCome.{ToCome, coming, Gives, LastMatchEnds, items_left};
+ghost use Rattle.regress_exec.specs.{Spends.{GoesOn, Spends, cause_of}, ToCome.{ToCome, coming, Gives, LastMatchEnds, items_left}};
 ghost use Rattle.regress_exec.specs.Worked.{CallGoesOn, SearchGoesOn, is_enough};
 
 use regress_input::position::PositionType;

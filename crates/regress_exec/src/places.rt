@@ -1,18 +1,12 @@
 //! The walk over the places of a text, once for all executors.
 
 ghost use Rattle.std.specs.Prelude.{◌≡◌, ◌+◌, ◌<◌, ◌≤◌, ◌⊎◌, ℕ, ⊤, Bool, true, false, IfErr, IfOk, IsSome, None, Option, map, option_map, length};
-ghost use Rattle.regex_meaning.specs.Tree.{Tree};
-ghost use Rattle.regex_meaning.specs.Text.{Text};
-ghost use Rattle.regex_meaning.specs.Offsets.{IsText, IsBoundary, units};
-ghost use Rattle.regex_meaning.specs.Answers.{answer_at};
-ghost use Rattle.regex_meaning.specs.Outcomes.{Groups, group_range};
-ghost use Rattle.regex_meaning.specs.Names.{names_by_id};
+ghost use Rattle.regex_meaning.specs.{Tree.{Tree}, Text.{Text}, Offsets.{IsText, IsBoundary, units}, Answers.{answer_at}};
+ghost use Rattle.regex_meaning.specs.{Outcomes.{Groups, group_range}, Names.{names_by_id}};
 ghost use Rattle.regex_pattern_front.specs.TreeOf.{tree_of};
 ghost use Rattle.regress_exec.specs.Answers.{answer_by, answer_of, range_of};
 ghost use Rattle.regress_exec.specs.Attempts.{IsNextTry, IsVain, ends_with, end_from, first_tried, next_tried, offset_behind, ticks_from};
-ghost use Rattle.regress_exec.specs.Positions.{span_of};
-ghost use Rattle.regress_exec.specs.Spends.{Spends, TakesIfBegun, Tells, cause_of};
-ghost use Rattle.regress_exec.specs.Worked.{AttemptGoesOn};
+ghost use Rattle.regress_exec.specs.{Positions.{span_of}, Spends.{Spends, TakesIfBegun, Tells, cause_of}, Worked.{AttemptGoesOn}};
 
 use crate::exec::{Match, MatchProducer, SearchError};
 use regress_input::indexing::InputIndexer;

@@ -2,15 +2,11 @@
 
 ghost use Rattle.std.specs.Prelude.{◌≡◌, ◌+◌, IsAscii, IsTrue, IsSome, false, option_map};
 ghost use Rattle.std.specs.Option.{option_map_or};
-ghost use Rattle.regex_meaning.specs.Text.{ascii_text, ucs2_text, utf16_text, utf8_text};
-ghost use Rattle.regex_meaning.specs.WellFormed.{is_well_formed};
+ghost use Rattle.regex_meaning.specs.{Text.{ascii_text, ucs2_text, utf16_text, utf8_text}, WellFormed.{is_well_formed}, Offsets.{IsBoundary}};
 ghost use Rattle.regex_pattern_front.specs.TreeOf.{tree_of};
-ghost use Rattle.regress_program.specs.Code.{compiled};
-ghost use Rattle.regress_program.specs.Insns.{start_of};
+ghost use Rattle.regress_program.specs.{Code.{compiled}, Insns.{start_of}, Texts.{IsInBytes}};
 ghost use Rattle.regress_machine.specs.Bytes.{ReadsBytes, reads_bytes};
-ghost use Rattle.regex_meaning.specs.Offsets.{IsBoundary};
 ghost use Rattle.regress_exec.specs.Attempts.{anchors, IsNextTry, tried_next};
-ghost use Rattle.regress_program.specs.Texts.{IsInBytes};
 
 use regress_input::indexing::{AsciiInput, InputIndexer, Ucs2Input, Utf8Input, Utf16Input};
 use regress_program::insn::{CompiledRegex, CompiledUnits, Program, StartPredicate};

@@ -1,9 +1,7 @@
 //! The characters of inputs, and what an encoding says of them.
 
 ghost use Rattle.std.specs.Prelude.{◌≡◌, ◌==◌, ℕ, Bool, true, false, option_map, if◌then◌else◌, Some, None};
-ghost use Rattle.regex_meaning.specs.Text.{is_word_char, is_line_terminator};
-ghost use Rattle.regex_meaning.specs.Tree.{bracket};
-ghost use Rattle.regex_meaning.specs.Outcomes.{accepts};
+ghost use Rattle.regex_meaning.specs.{Text.{is_word_char, is_line_terminator}, Tree.{bracket}, Outcomes.{accepts}};
 ghost use Rattle.regex_pattern_front.specs.TreeOf.{contents_of};
 
 use crate::front::{BracketContents, nonascii_folds_to_ascii_word_char};

@@ -2,11 +2,9 @@
 
 ghost use Rattle.std.specs.Prelude.{◌≡◌, ◌<◌, ◌≤◌, ◌^◌, option_map, IfSome, IfNone, IsTrue, Some, slice_get};
 ghost use Rattle.std.specs.List.{list_all};
-ghost use Rattle.regex_meaning.specs.Text.{Text, rightwards, leftwards};
-ghost use Rattle.regex_meaning.specs.Offsets.{IsText, IsBoundary, units, read};
+ghost use Rattle.regex_meaning.specs.{Text.{Text, rightwards, leftwards}, Offsets.{IsText, IsBoundary, units, read}};
 ghost use Rattle.regex_meaning.specs.Units.{units_in, IsSpelledIn, is_character};
-ghost use Rattle.regress_input.specs.Reading.{heading, led_to, same_fold, character, past as past_character, past_range, part, IsReadBack, units_on};
-ghost use Rattle.regress_input.specs.Reading.{bytes_of, bytes_if, IsInUtf8, byte_beside, past_bytes, where_bytes, IsFoundFrom};
+ghost use Rattle.regress_input.specs.Reading.{heading, led_to, same_fold, character, past as past_character, past_range, part, IsReadBack, units_on, bytes_of, bytes_if, IsInUtf8, byte_beside, past_bytes, where_bytes, IsFoundFrom};
 
 mod ascii_input;
 mod ucs2_input;

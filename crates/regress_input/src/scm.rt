@@ -2,10 +2,7 @@
 
 ghost use Rattle.std.specs.Prelude.{◌≡◌, ◌<◌, ◌≤◌, ◌==◌, ℕ, Bool, true, not, List, All, encode_utf8, ⊤};
 ghost use Rattle.std.specs.Char.{IsScalar};
-ghost use Rattle.regex_meaning.specs.Lists.{contains};
-ghost use Rattle.regex_meaning.specs.Tree.{bracket, byte_sequence};
-ghost use Rattle.regex_meaning.specs.Text.{is_line_terminator};
-ghost use Rattle.regex_meaning.specs.Outcomes.{accepts};
+ghost use Rattle.regex_meaning.specs.{Lists.{contains}, Tree.{bracket, byte_sequence}, Text.{is_line_terminator}, Outcomes.{accepts}};
 ghost use Rattle.regex_meaning.specs.Offsets.{IsBoundary};
 ghost use Rattle.regex_pattern_front.specs.TreeOf.{contents_of};
 ghost use Rattle.regress_input.specs.Reading.{heading, led_to, past_if};

@@ -2,8 +2,7 @@
 
 ghost use Rattle.std.specs.Prelude.{◌≡◌, ◌<◌, ℕ, true, length, slice_get};
 ghost use Rattle.regex_meaning.specs.Layout.{Program};
-ghost use Rattle.regress_ledger.specs.Bodies.{is_run, IsNoBody, EntersPast, LeadsPast};
-ghost use Rattle.regress_ledger.specs.Steps.{HasInsns, step_in};
+ghost use Rattle.regress_ledger.specs.{Bodies.{is_run, IsNoBody, EntersPast, LeadsPast}, Steps.{HasInsns, step_in}};
 
 use crate::steps::{Step, step_at};
 use regress_plan::insn::Insn;

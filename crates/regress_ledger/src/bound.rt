@@ -3,8 +3,7 @@
 ghost use Rattle.std.specs.Prelude.{◌≡◌, ◌≤◌, ◌<◌, ◌+◌, ◌^◌, ℕ, IfSome, IsSome, true, false, length, map, slice_get};
 ghost use Rattle.regress_plan.specs.Insns.{insn_of};
 ghost use Rattle.regex_meaning.specs.Layout.{Program};
-ghost use Rattle.regress_ledger.specs.Bound.{price_of_line, price_of_all, work_for_each, StepIsBounded, IsBounded};
-ghost use Rattle.regress_ledger.specs.Ledger.{line_of};
+ghost use Rattle.regress_ledger.specs.{Bound.{price_of_line, price_of_all, work_for_each, StepIsBounded, IsBounded}, Ledger.{line_of}};
 ghost use Rattle.regress_ledger.specs.Steps.{HasInsns, step_in};
 
 use crate::bodies::all_lead_past;

@@ -3,8 +3,7 @@
 ghost use Rattle.std.specs.Prelude.{◌≡◌, ◌≤◌, ◌<◌, ◌+◌, ◌*◌, ◌^◌, true, List, option_map, map, length, slice_get, IfSome};
 ghost use Rattle.regress_machine.specs.Machine.{State, LoopData};
 ghost use Rattle.regress_linear.specs.Codes.{code_of, codes_of, plan_codes};
-ghost use Rattle.regress_ledger.specs.Ledger.{line_of, count_of, questions_of, base_of, width_of, bit_of};
-ghost use Rattle.regress_ledger.specs.Checks.{HasCodes, most_codes};
+ghost use Rattle.regress_ledger.specs.{Ledger.{line_of, count_of, questions_of, base_of, width_of, bit_of}, Checks.{HasCodes, most_codes}};
 ghost use Rattle.regress_ledger.specs.Whole.{data_of, digit_of, answers_of, AreCoded, HasBit};
 
 use crate::ledger::{Ledger, Row};

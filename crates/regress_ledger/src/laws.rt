@@ -1,8 +1,6 @@
 //! Laws of ledgers.
 
-ghost use Rattle.regress_ledger.specs.Bodies.{BodiesStayApart};
-ghost use Rattle.regress_ledger.specs.Bound.{LedgersBound};
-ghost use Rattle.regress_ledger.specs.Whole.{LedgersServe, WaysStay, KeysHaveBits};
+ghost use Rattle.regress_ledger.specs.{Bodies.{BodiesStayApart}, Bound.{LedgersBound}, Whole.{LedgersServe, WaysStay, KeysHaveBits}};
 
 /// What is written of a program is a plan in each text: its keys decide, its turns are turns with records, and all attempts
 /// of a text together are linear in the text.

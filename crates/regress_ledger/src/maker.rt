@@ -2,8 +2,7 @@
 
 ghost use Rattle.std.specs.Prelude.{◌<◌, ◌^◌, length, IfOk, IfSome};
 ghost use Rattle.regex_meaning.specs.Layout.{Program};
-ghost use Rattle.regress_ledger.specs.Steps.{HasInsns};
-ghost use Rattle.regress_ledger.specs.Whole.{IsLedgerOf, AreCoded};
+ghost use Rattle.regress_ledger.specs.{Steps.{HasInsns}, Whole.{IsLedgerOf, AreCoded}};
 
 use crate::edges::{Edge, edges, enters, loop_ended};
 use crate::ledger::{Count, Ledger, Line, Row, Said, none, uncounted};

@@ -3,8 +3,7 @@
 ghost use Rattle.std.specs.Prelude.{◌≡◌, ◌≤◌, ◌<◌, ◌+◌, ◌-◌, ◌*◌, ◌^◌, true, length, slice_get};
 ghost use Rattle.regex_meaning.specs.Layout.{Program};
 ghost use Rattle.regress_linear.specs.Weights.{HasOne, HasTwo, HasRepeated};
-ghost use Rattle.regress_ledger.specs.Ledger.{line_of, weights_of, questions_of, way_of};
-ghost use Rattle.regress_ledger.specs.Steps.{HasInsns, step_in};
+ghost use Rattle.regress_ledger.specs.{Ledger.{line_of, weights_of, questions_of, way_of}, Steps.{HasInsns, step_in}};
 ghost use Rattle.regress_ledger.specs.Checks.{StepHasEnough, IsPaidFor, RunIsWritten, RunIsEnough, LimitedIsEnough, unlimited};
 
 use crate::ledger::Ledger;

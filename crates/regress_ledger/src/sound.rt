@@ -1,12 +1,9 @@
 //! Whether what loops hold is sound: such as threads have that a search comes to.
 
 ghost use Rattle.std.specs.Prelude.{◌≡◌, ◌<◌, ◌+◌, ◌^◌, ◌↔◌, true, option_map, IsTrue};
-ghost use Rattle.regress_linear.specs.Account.{IsPassed};
-ghost use Rattle.regress_linear.specs.Keys.{IsSoundState};
+ghost use Rattle.regress_linear.specs.{Account.{IsPassed}, Keys.{IsSoundState}};
 ghost use Rattle.regress_machine.specs.Machine.{State};
-ghost use Rattle.regress_ledger.specs.Ledger.{account_of, way_of};
-ghost use Rattle.regress_ledger.specs.Sound.{way, AreFew, IsSoundBy, IsSoundRow};
-ghost use Rattle.regress_ledger.specs.Whole.{data_of};
+ghost use Rattle.regress_ledger.specs.{Ledger.{account_of, way_of}, Sound.{way, AreFew, IsSoundBy, IsSoundRow}, Whole.{data_of}};
 
 use crate::codes::{HoldsRounds, Round};
 use crate::ledger::{Count, Ledger, Row};

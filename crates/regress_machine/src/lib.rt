@@ -5,8 +5,7 @@
 //! as many steps as the tree's list has ticks up to it.
 #![tactic(auto)]
 
-ghost use Rattle.regress_machine.specs.Bytes.{ByteTextsAreRead};
-ghost use Rattle.regress_machine.specs.Finds.{SearchesFindFirst, SearchesFindMatches, TicksAreSteps};
+ghost use Rattle.regress_machine.specs.{Bytes.{ByteTextsAreRead}, Finds.{SearchesFindFirst, SearchesFindMatches, TicksAreSteps}};
 
 /// A search of a tree's program from a place takes a step for each tick of the tree's list up to the first
 /// outcome, and ends with that outcome, or with none where the list has none.

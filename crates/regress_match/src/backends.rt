@@ -2,9 +2,7 @@
 
 ghost use Rattle.std.specs.Prelude.{◌≡◌, IfErr, IfOk, false, nat_le, not};
 ghost use Rattle.regex_meaning.specs.Offsets.{units};
-ghost use Rattle.regress_match.specs.Programs.{IsStart, byte_tree};
-ghost use Rattle.regress_match.specs.Refusals.{IsMemory};
-ghost use Rattle.regress_match.specs.Searches.{YieldsMatches};
+ghost use Rattle.regress_match.specs.{Programs.{IsStart, byte_tree}, Refusals.{IsMemory}, Searches.{YieldsMatches}};
 
 use crate::api::{Regex, SearchError};
 use crate::executors::search_from;

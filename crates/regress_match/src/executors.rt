@@ -3,9 +3,7 @@
 ghost use Rattle.std.specs.Prelude.{◌≡◌, IfErr, IfOk, nat_le, not};
 ghost use Rattle.regex_meaning.specs.Offsets.{units};
 ghost use Rattle.regex_pattern_front.specs.TreeOf.{tree_of};
-ghost use Rattle.regress_match.specs.Programs.{IsStart};
-ghost use Rattle.regress_match.specs.Refusals.{IsMemory};
-ghost use Rattle.regress_match.specs.Searches.{YieldsMatches};
+ghost use Rattle.regress_match.specs.{Programs.{IsStart}, Refusals.{IsMemory}, Searches.{YieldsMatches}};
 
 pub use regress_backtrack::classicalbacktrack::{BacktrackExecutor, LimitedExecutor};
 use regress_exec::exec::{Matches, SearchError, Searcher};

@@ -1,7 +1,6 @@
 //! Laws of memories.
 
-ghost use Rattle.regress_memo.specs.Laws.{MemosHold, MemosAreTrue, KeysAreThere};
-ghost use Rattle.regress_memo.specs.Search.{SearchesArePaid};
+ghost use Rattle.regress_memo.specs.{Laws.{MemosHold, MemosAreTrue, KeysAreThere}, Search.{SearchesArePaid}};
 
 /// What a memory knows is a list of keys, to which a key is added where one is noted.
 pub fn memos_hold()

@@ -3,8 +3,7 @@
 ghost use Rattle.std.specs.Prelude.{◌≡◌, ◌≤◌, ◌<◌, ◌*◌, ◌^◌, ◌↔◌, true, option_map, IfOk, IfSome, IsTrue, MatchOption};
 ghost use Rattle.std.specs.Arc.{arc_value};
 ghost use Rattle.regress_machine.specs.Machine.{State};
-ghost use Rattle.regress_ledger.specs.Ledger.{bit_of as bit_of_key};
-ghost use Rattle.regress_ledger.specs.Whole.{AreCoded, HasBit};
+ghost use Rattle.regress_ledger.specs.{Ledger.{bit_of as bit_of_key}, Whole.{AreCoded, HasBit}};
 ghost use Rattle.regress_memo.specs.Memo.{as_key, key_at as key_of_state, has_failure, has_end, IsBegun, NotesFailure, NotesEnd};
 ghost use Rattle.regress_memo.specs.Room.{Known, HasRoom};
 

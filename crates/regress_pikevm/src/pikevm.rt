@@ -2,14 +2,11 @@
 
 ghost use Rattle.std.specs.Prelude.{◌≡◌, ◌<◌, ◌≤◌, ◌++◌, map, IsTrue, IsAscii, IsSome, IfOk, None, option_map, ⊤, ℕ, List};
 ghost use Rattle.std.specs.Borrow.{Bor};
-ghost use Rattle.regex_meaning.specs.Text.{ascii_text, ucs2_text, utf16_text, utf8_text};
-ghost use Rattle.regex_meaning.specs.Offsets.{IsBoundary, units};
+ghost use Rattle.regex_meaning.specs.{Text.{ascii_text, ucs2_text, utf16_text, utf8_text}, Offsets.{IsBoundary, units}};
 ghost use Rattle.regex_pattern_front.specs.TreeOf.{tree_of};
-ghost use Rattle.regress_program.specs.Code.{compiled};
-ghost use Rattle.regress_program.specs.Insns.{insn_of};
-ghost use Rattle.regress_machine.specs.Machine.{in_turn};
+ghost use Rattle.regress_program.specs.{Code.{compiled}, Insns.{insn_of}};
+ghost use Rattle.regress_machine.specs.{Machine.{in_turn}, Turns.{CanTake}};
 ghost use Rattle.regress_exec.specs.Attempts.{end_from};
-ghost use Rattle.regress_machine.specs.Turns.{CanTake};
 ghost use Rattle.regress_pikevm.specs.Acting.{end_with, search_at, turn_at, HasRun};
 ghost use Rattle.regress_pikevm.specs.States.{groups_of, next_of, waiting_of, to_try, preferred_last, TakesUp};
 

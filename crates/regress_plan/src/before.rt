@@ -2,9 +2,7 @@
 
 ghost use Rattle.std.specs.Prelude.{◌≡◌, true, Some, slice_get, IfSome};
 ghost use Rattle.regex_meaning.specs.Layout.{Program};
-ghost use Rattle.regress_plan.specs.Before.{IsBefore};
-ghost use Rattle.regress_plan.specs.BeforeKeys.{HasKeysOf, HasContents, reads_character as reads_one_character};
-ghost use Rattle.regress_plan.specs.Keys.{wide_of};
+ghost use Rattle.regress_plan.specs.{Before.{IsBefore}, BeforeKeys.{HasKeysOf, HasContents, reads_character as reads_one_character}, Keys.{wide_of}};
 ghost use Rattle.regress_plan.specs.Leading.{AreOps};
 
 use crate::closing::{Sets, lets_through};

@@ -1,8 +1,7 @@
 //! What is looked for before each of the first units of a match is asked.
 
 ghost use Rattle.std.specs.Prelude.{◌≡◌, ◌<◌, ◌≤◌, ℕ, true, IfSome};
-ghost use Rattle.regress_plan.specs.Prefixes.{allowed_of, passes as has_bits, IsRare, IsLiteral, IsProbe, AreProbes, IsPrefilter};
-ghost use Rattle.regress_plan.specs.Keys.{wide_of};
+ghost use Rattle.regress_plan.specs.{Prefixes.{allowed_of, passes as has_bits, IsRare, IsLiteral, IsProbe, AreProbes, IsPrefilter}, Keys.{wide_of}};
 
 use crate::keys::{KEYS, Units};
 use crate::prefix::{Literal, MOST, Prefix, Rare, is_clear};

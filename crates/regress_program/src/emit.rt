@@ -2,14 +2,9 @@
 
 ghost use Rattle.std.specs.Prelude.{◌≡◌, ◌<◌, ◌^◌, true, false, length, IfOk, OnOk, IfErr};
 ghost use Rattle.std.specs.Arc.{arc_value};
-ghost use Rattle.regex_meaning.specs.Tree.{group_ids};
-ghost use Rattle.regex_meaning.specs.Layout.{IsByteCodeOf, IsUnitCodeOf};
-ghost use Rattle.regex_pattern_front.specs.TreeOf.{tree_of};
-ghost use Rattle.regex_pattern_front.specs.declared.ir.Regex.{Regex};
-ghost use Rattle.regress_program.specs.Code.{compiled, size};
-ghost use Rattle.regress_program.specs.Emitting.{shaped_tree};
-ghost use Rattle.regress_program.specs.Programs.{IsCodeIn, IsRunOf};
-ghost use Rattle.regress_program.specs.Running.{tree_to_run};
+ghost use Rattle.regex_meaning.specs.{Tree.{group_ids}, Layout.{IsByteCodeOf, IsUnitCodeOf}};
+ghost use Rattle.regex_pattern_front.specs.{TreeOf.{tree_of}, declared.ir.Regex.{Regex}};
+ghost use Rattle.regress_program.specs.{Code.{compiled, size}, Emitting.{shaped_tree}, Programs.{IsCodeIn, IsRunOf}, Running.{tree_to_run}};
 ghost use Rattle.regress_program.specs.Refusals.{IsRefused, IsRefusedInUnits, IsRefusedWith, FitsLimits};
 
 mod brackets;

@@ -4,11 +4,8 @@
 ghost use Rattle.std.specs.Prelude.{◌≡◌, ◌&&◌, not, false, IfOk, IsOk};
 ghost use Rattle.regex_meaning.specs.StartPredicate.{IsSound, is_anchored, start_predicate, start_of as predicate_of, sequence, one_of};
 ghost use Rattle.regex_meaning.specs.WellFormed.{IsWellFormed};
-ghost use Rattle.regex_pattern_front.specs.ByteSets.{byte_bitmap_bytes};
-ghost use Rattle.regex_pattern_front.specs.TreeOf.{node_of, tree_of};
-ghost use Rattle.regress_program.specs.Beginnings.{beginning_of};
-ghost use Rattle.regress_program.specs.Insns.{start_of};
-ghost use Rattle.regress_program.specs.Predicates.{IsShort, is_sequence, may_take_memory};
+ghost use Rattle.regex_pattern_front.specs.{ByteSets.{byte_bitmap_bytes}, TreeOf.{node_of, tree_of}};
+ghost use Rattle.regress_program.specs.{Beginnings.{beginning_of}, Insns.{start_of}, Predicates.{IsShort, is_sequence, may_take_memory}};
 
 mod beginnings;
 mod bytesets;

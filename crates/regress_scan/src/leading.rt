@@ -3,9 +3,7 @@
 ghost use Rattle.std.specs.Prelude.{◌≡◌, true, Some, option_and_then, slice_get};
 ghost use Rattle.regex_meaning.specs.Offsets.{IsBoundary, units};
 ghost use Rattle.regress_machine.specs.Finds.{CanSearch};
-ghost use Rattle.regress_scan.specs.LeftOut.{AreVainFrom, run_in};
-ghost use Rattle.regress_scan.specs.Reached.{HasAdvancedTo, IsReadable};
-ghost use Rattle.regress_scan.specs.Searching.{program_of};
+ghost use Rattle.regress_scan.specs.{LeftOut.{AreVainFrom, run_in}, Reached.{HasAdvancedTo, IsReadable}, Searching.{program_of}};
 
 use crate::planned::{Planned, text_end};
 use crate::scans::{behind_rest, behind_single_units};

@@ -4,8 +4,7 @@ ghost use Rattle.std.specs.Prelude.{◌≡◌, ◌≤◌, ◌<◌, ◌+◌, ◌-
 ghost use Rattle.regex_meaning.specs.Offsets.{IsBoundary, units};
 ghost use Rattle.regress_plan.specs.Prefixes.{AreProbes, IsInAscii};
 ghost use Rattle.regress_plan.specs.declared.prefix.Prefix as prefix;
-ghost use Rattle.regress_scan.specs.Probing.{NoneFits, IsFirstFit, HasRoom};
-ghost use Rattle.regress_scan.specs.Starts.{fits_in, IsFirstFitting};
+ghost use Rattle.regress_scan.specs.{Probing.{NoneFits, IsFirstFit, HasRoom}, Starts.{fits_in, IsFirstFitting}};
 
 use crate::characters::{key_here, unit_here};
 use crate::planned::{Planned, text_end};

@@ -2,18 +2,14 @@
 
 ghost use Rattle.std.specs.Prelude.{◌≡◌, IsTrue, IsSome, Some, option_map, nat_eq, encode_utf8_all, [], ◌∷◌};
 ghost use lib.Pointwise.{pointwise};
-ghost use Rattle.regex_meaning.specs.Text.{is_scalar, is_word_char};
-ghost use Rattle.regex_meaning.specs.Tree.{start_of_line, end_of_line};
-ghost use Rattle.regex_meaning.specs.Outcomes.{anchor_holds, is_at_word_boundary, is_edge, is_some_and, differ};
-ghost use Rattle.regex_meaning.specs.Offsets.{IsBoundary};
+ghost use Rattle.regex_meaning.specs.{Text.{is_scalar, is_word_char}, Tree.{start_of_line, end_of_line}};
+ghost use Rattle.regex_meaning.specs.{Outcomes.{anchor_holds, is_at_word_boundary, is_edge, is_some_and, differ}, Offsets.{IsBoundary}};
 ghost use Rattle.regex_meaning.specs.Layout.{ByteSeq, Bracket};
 ghost use Rattle.regex_pattern_front.specs.TreeOf.{tree_of};
 ghost use Rattle.regress_input.specs.Reading.{led_to, place};
-ghost use Rattle.regress_program.specs.Code.{compiled};
-ghost use Rattle.regress_program.specs.Insns.{insn_of};
-ghost use Rattle.regress_machine.specs.Machine.{test_of};
+ghost use Rattle.regress_program.specs.{Code.{compiled}, Insns.{insn_of}};
+ghost use Rattle.regress_machine.specs.{Machine.{test_of}, Turns.{is_literal}};
 ghost use Rattle.regress_scan.specs.Passing.{past_again, test_in};
-ghost use Rattle.regress_machine.specs.Turns.{is_literal};
 
 use regress_input::cursor::Direction;
 use regress_input::front::ByteSet;

@@ -1,9 +1,7 @@
 //! What stands on either side of a place: ends of lines and of words.
 
 ghost use Rattle.std.specs.Prelude.{◌≡◌};
-ghost use Rattle.regex_meaning.specs.Tree.{start_of_line, end_of_line};
-ghost use Rattle.regex_meaning.specs.Offsets.{IsBoundary};
-ghost use Rattle.regex_meaning.specs.Outcomes.{anchor_holds, is_at_word_boundary, differ};
+ghost use Rattle.regex_meaning.specs.{Tree.{start_of_line, end_of_line}, Offsets.{IsBoundary}, Outcomes.{anchor_holds, is_at_word_boundary, differ}};
 ghost use Rattle.regress_input.specs.Reading.{place};
 
 use crate::planned::position;

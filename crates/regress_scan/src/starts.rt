@@ -3,9 +3,7 @@
 ghost use Rattle.std.specs.Prelude.{◌≡◌, ◌<◌, false, IfSome};
 ghost use Rattle.regex_meaning.specs.Offsets.{IsBoundary, units};
 ghost use Rattle.regress_input.specs.Reading.{is_of_bytes};
-ghost use Rattle.regress_plan.specs.Before.{HasLeadKeys};
-ghost use Rattle.regress_plan.specs.Prefixes.{IsInAscii, IsLiteral, IsRare, AreKnown, IsPrefilter};
-ghost use Rattle.regress_plan.specs.Keys.{is_wide};
+ghost use Rattle.regress_plan.specs.{Before.{HasLeadKeys}, Prefixes.{IsInAscii, IsLiteral, IsRare, AreKnown, IsPrefilter}, Keys.{is_wide}};
 ghost use Rattle.regress_plan.specs.Plans.{numbered};
 ghost use Rattle.regress_simulation.specs.Tables.{Table};
 ghost use Rattle.regress_scan.specs.Starts.{IsFirstAllowed, IsFirstWhere, IsFirstFitting, IsFirstTry, IsFoundIn, AllowsLeads, IsPast, IsPastFirst, few_allowed, tries_at};

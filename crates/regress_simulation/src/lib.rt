@@ -4,11 +4,8 @@
 //! threads at hand than the machine. What it finds is the same as long as its threads simulate those of the machine.
 #![tactic(auto)]
 
-ghost use Rattle.regress_simulation.specs.Excluded.{ClosedSetsExclude};
-ghost use Rattle.regress_simulation.specs.Idle.{LastIterationWillDo};
-ghost use Rattle.regress_simulation.specs.Prefixes.{PrefixesExclude};
-ghost use Rattle.regress_simulation.specs.Simulates.{DroppingKeepsTheEnd, SimulatingEndsAlike};
-ghost use Rattle.regress_simulation.specs.Starts.{CoveredStartsExclude};
+ghost use Rattle.regress_simulation.specs.{Excluded.{ClosedSetsExclude}, Idle.{LastIterationWillDo}, Prefixes.{PrefixesExclude}};
+ghost use Rattle.regress_simulation.specs.{Simulates.{DroppingKeepsTheEnd, SimulatingEndsAlike}, Starts.{CoveredStartsExclude}};
 ghost use Rattle.regress_simulation.specs.Tables.{CoveredTablesExclude};
 
 /// Threads that simulate those of a search find the same end, in no more steps; where steps are counted, in

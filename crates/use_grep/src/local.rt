@@ -9,8 +9,7 @@ ghost use Rattle.std.specs.Prelude.{◌≡◌, IfOk, IsTrue, chars};
 ghost use Rattle.regex_pattern_front.specs.TreeOf.{node_of};
 ghost use Rattle.regress_match.specs.Flags.{flags_of};
 ghost use Rattle.regress_program.specs.Nodes.{cat_of};
-ghost use Rattle.use_grep.specs.Local.{is_local as is_local_tree};
-ghost use Rattle.use_grep.specs.Selecting.{IsLocal};
+ghost use Rattle.use_grep.specs.{Local.{is_local as is_local_tree}, Selecting.{IsLocal}};
 
 use regex_pattern_front::ir::Node;
 use regress_match::Flags;

@@ -4,9 +4,7 @@ ghost use Rattle.std.specs.Prelude.{◌≡◌, ◌++◌, ◌∷◌, ◌+◌, ◌
 ghost use Rattle.std.specs.Prelude.{◌-◌, IsCharBoundary, drop, filter, length, map, nat_lt, slice_range, string_bytes, take};
 ghost use Rattle.std.specs.List.{position_or_len};
 ghost use Rattle.regress_exec.specs.Answers.{answer_of};
-ghost use Rattle.regress_match.specs.Programs.{utf8_answers};
-ghost use Rattle.regress_match.specs.Refusals.{IsMemory};
-ghost use Rattle.regress_match.specs.Replacements.{FitsText, IsSlice};
+ghost use Rattle.regress_match.specs.{Programs.{utf8_answers}, Refusals.{IsMemory}, Replacements.{FitsText, IsSlice}};
 ghost use Rattle.use_grep.specs.Selecting.{colored, is_selected, lines_of, matched_parts, numbered, red, red_part, shown};
 
 use crate::pattern::Query;

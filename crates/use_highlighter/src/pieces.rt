@@ -1,10 +1,8 @@
 //! A text in pieces: its tokens, and what stands between them.
 
 ghost use Rattle.std.specs.Prelude.{◌≡◌, ◌++◌, ◌∷◌, [], IfErr, IfOk};
-ghost use Rattle.regress_match.specs.Programs.{utf8_answers};
-ghost use Rattle.regress_match.specs.Refusals.{IsMemory};
-ghost use Rattle.use_highlighter.specs.Pieces.{IsCutAt};
-ghost use Rattle.use_highlighter.specs.Tokens.{names_of};
+ghost use Rattle.regress_match.specs.{Programs.{utf8_answers}, Refusals.{IsMemory}};
+ghost use Rattle.use_highlighter.specs.{Pieces.{IsCutAt}, Tokens.{names_of}};
 
 use crate::tokens::{Token, token_of};
 use regress_match::{Regex, SearchError};

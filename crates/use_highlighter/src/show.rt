@@ -2,10 +2,8 @@
 
 ghost use Rattle.std.specs.Prelude.{◌≡◌, ◌++◌, IfOk, chars, flat_map, string_bytes};
 ghost use Rattle.regex_meaning.specs.Laws.{Each};
-ghost use Rattle.use_highlighter.specs.Pieces.{IsSliceOf};
-ghost use Rattle.use_highlighter.specs.Tokens.{names_of};
-ghost use Rattle.use_highlighter.specs.Shown.{begin_of, colour_of, escaped, escaped_char, name_at, shown};
-ghost use Rattle.use_highlighter.specs.Shown.{shown_part, span_of, text_shown};
+ghost use Rattle.use_highlighter.specs.{Pieces.{IsSliceOf}, Tokens.{names_of}};
+ghost use Rattle.use_highlighter.specs.Shown.{begin_of, colour_of, escaped, escaped_char, name_at, shown, shown_part, span_of, text_shown};
 
 use crate::pieces::Piece;
 use crate::tokens::Token;

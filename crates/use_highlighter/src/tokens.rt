@@ -1,11 +1,9 @@
 //! The tokens that are looked for.
 
 ghost use Rattle.std.specs.Prelude.{◌≡◌, ◌++◌, [], All, IfOk, chars, is_some, string_bytes};
-ghost use Rattle.regex_meaning.specs.Flags.{flags_of_text};
-ghost use Rattle.regex_meaning.specs.Names.{named_group};
+ghost use Rattle.regex_meaning.specs.{Flags.{flags_of_text}, Names.{named_group}};
 ghost use Rattle.regress_exec.specs.Answers.{answer_of};
-ghost use Rattle.regress_match.specs.Flags.{flags_of};
-ghost use Rattle.regress_match.specs.Programs.{IsCompiledWith};
+ghost use Rattle.regress_match.specs.{Flags.{flags_of}, Programs.{IsCompiledWith}};
 ghost use Rattle.use_highlighter.specs.Tokens.{IsPattern, any_of, arm_of, names_of, token_of};
 
 use anyhow::{Result, bail};

@@ -3,10 +3,7 @@
 ghost use Rattle.std.specs.Prelude.{◌≡◌, IfErr, IfOk, OnErr, is_some, map, option_map};
 ghost use Rattle.regress_exec.specs.Answers.{answer_of};
 ghost use Rattle.regress_match.specs.Refusals.{IsMemory};
-ghost use Rattle.use_regexp.specs.Compiled.{IsPatternOf};
-ghost use Rattle.use_regexp.specs.Exec.{found, last_behind};
-ghost use Rattle.use_regexp.specs.Loops.{AreTaken, last_taken};
-ghost use Rattle.use_regexp.specs.Refusals.{CanRefuse};
+ghost use Rattle.use_regexp.specs.{Compiled.{IsPatternOf}, Exec.{found, last_behind}, Loops.{AreTaken, last_taken}, Refusals.{CanRefuse}};
 ghost use Rattle.use_regexp.specs.Source.{escaped_source, literal_of};
 
 use crate::error::RegExpError;

@@ -4,10 +4,7 @@ ghost use Rattle.std.specs.Prelude.{◌≡◌, ◌++◌, ◌≤◌, IfErr, IfOk,
 ghost use Rattle.std.specs.Result.{IsOkAnd};
 ghost use Rattle.regex_meaning.specs.Replace.{replaced};
 ghost use Rattle.regress_exec.specs.Answers.{answer_of};
-ghost use Rattle.regress_match.specs.Answered.{CanRefuseAnswer};
-ghost use Rattle.regress_match.specs.Closures.{CanBeCalled};
-ghost use Rattle.regress_match.specs.Refusals.{IsMemory};
-ghost use Rattle.regress_match.specs.Replacements.{FitsUnits};
+ghost use Rattle.regress_match.specs.{Answered.{CanRefuseAnswer}, Closures.{CanBeCalled}, Refusals.{IsMemory}, Replacements.{FitsUnits}};
 ghost use Rattle.use_regexp.specs.Loops.{last_taken};
 ghost use Rattle.use_regexp.specs.Replace.{CanBeTaken, CanRefuseAt, CanRefuseWith, IsReplaced, IsReplacedBy, IsReplacedWith, StandInUnits, substituted};
 

@@ -2,8 +2,7 @@
 
 ghost use Rattle.std.specs.Prelude.{◌≡◌, ◌++◌, IfErr, IfOk, IfSome, option_map, string_bytes};
 ghost use Rattle.regress_exec.specs.Answers.{answer_of, range_of};
-ghost use Rattle.regress_match.specs.Refusals.{IsMemory};
-ghost use Rattle.regress_match.specs.Replacements.{FitsText, IsSlice};
+ghost use Rattle.regress_match.specs.{Refusals.{IsMemory}, Replacements.{FitsText, IsSlice}};
 ghost use Rattle.use_renamer.specs.Names.{described, groups_shown, parts_of};
 
 use regress_match::{Match, Range, Regex, SearchError};

@@ -1,8 +1,7 @@
 //! Texts in which a pattern has a match.
 
 ghost use Rattle.std.specs.Prelude.{◌≡◌, ◌≤◌, ◌<◌, ◌^◌, IfOk, SomeIff};
-ghost use Rattle.regress_match.specs.Programs.{as_utf8, utf8_answers};
-ghost use Rattle.regress_match.specs.Work.{all_work};
+ghost use Rattle.regress_match.specs.{Programs.{as_utf8, utf8_answers}, Work.{all_work}};
 ghost use Rattle.use_validator.specs.Judge.{IsToldOf, by_matches, verdict_of};
 
 use regress_match::{BoundedRegex, Regex, SearchError, WorkError};

@@ -5,8 +5,7 @@ ghost use Rattle.std.specs.List.{list_any};
 ghost use Rattle.std.specs.Iterator.{UpTo, YieldsFirstBy, at_most, item_count};
 ghost use Rattle.std.specs.Iterator.SizeHint.{IsWithinCount};
 ghost use Rattle.regex_meaning.specs.Names.{named_groups as groups_of_names};
-ghost use Rattle.regress_exec.specs.Answers.{answer_of, range_of};
-ghost use Rattle.regress_exec.specs.InTurn.{all_groups, is_new as is_new_name, new_names};
+ghost use Rattle.regress_exec.specs.{Answers.{answer_of, range_of}, InTurn.{all_groups, is_new as is_new_name, new_names}};
 
 use crate::exec::Match;
 use std::iter::FusedIterator;
@@ -86,8 +85,7 @@ pub struct Groups<'m> {
 
 impl<'m> Model for Groups<'m> {
     ghost use Rattle.std.specs.Prelude.{ℕ, List, Option, drop};
-    ghost use Rattle.regress_exec.specs.Answers.{answer_of};
-    ghost use Rattle.regress_exec.specs.InTurn.{all_groups};
+    ghost use Rattle.regress_exec.specs.{Answers.{answer_of}, InTurn.{all_groups}};
 
     ghost Value = { List (Option (ℕ × ℕ)) };
 
@@ -153,8 +151,7 @@ pub struct NamedGroups<'m> {
 
 impl<'m> Model for NamedGroups<'m> {
     ghost use Rattle.std.specs.Prelude.{ℕ, List, Option};
-    ghost use Rattle.regress_exec.specs.Answers.{answer_of};
-    ghost use Rattle.regress_exec.specs.InTurn.{named_from};
+    ghost use Rattle.regress_exec.specs.{Answers.{answer_of}, InTurn.{named_from}};
 
     ghost Value = { List (List ℕ × Option (ℕ × ℕ)) };
 

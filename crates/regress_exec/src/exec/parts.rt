@@ -1,8 +1,7 @@
 //! What a match answers: its range, and the groups by number, by name and in turn.
 
 ghost use Rattle.std.specs.Prelude.{◌≡◌, ◌≤◌, IfOk, IsCharBoundary, map, option_map, slice_range};
-ghost use Rattle.regex_meaning.specs.Outcomes.{group_range};
-ghost use Rattle.regex_meaning.specs.Names.{first_range, group as group_of, ids_named, named_group as group_of_name};
+ghost use Rattle.regex_meaning.specs.{Outcomes.{group_range}, Names.{first_range, group as group_of, ids_named, named_group as group_of_name}};
 ghost use Rattle.regress_exec.specs.Answers.{answer_of, range_of};
 
 use crate::exec::Match;

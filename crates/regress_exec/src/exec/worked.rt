@@ -3,10 +3,8 @@
 ghost use Rattle.std.specs.Prelude.{◌≡◌, ◌<◌, ◌⊎◌, ℕ, true, Option, Some, None, if◌then◌else◌, option_map, nat_le, not};
 ghost use Rattle.std.specs.Iterator.{at_most};
 ghost use Rattle.std.specs.Option.{ForSome};
-ghost use Rattle.regex_meaning.specs.Offsets.{IsBoundary, units};
-ghost use Rattle.regex_meaning.specs.Steps.{answers_within, end_within};
-ghost use Rattle.regress_exec.specs.ToCome.{coming, items_left};
-ghost use Rattle.regress_exec.specs.Worked.{InWork, IsCause, GivesInWork, is_enough};
+ghost use Rattle.regex_meaning.specs.{Offsets.{IsBoundary, units}, Steps.{answers_within, end_within}};
+ghost use Rattle.regress_exec.specs.{ToCome.{coming, items_left}, Worked.{InWork, IsCause, GivesInWork, is_enough}};
 
 use super::{Match, MatchProducer, next_of};
 use std::marker::Model;

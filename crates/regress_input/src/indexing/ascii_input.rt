@@ -3,10 +3,8 @@
 ghost use Rattle.std.specs.Prelude.{◌≡◌, ◌<◌, ◌^◌, nat_le, ℕ, length, IsAscii};
 ghost use Rattle.std.proofs.Common.{rules};
 ghost use Rattle.regex_meaning.specs.Text.{ascii_text, fold_ascii};
-ghost use Rattle.regex_meaning.proofs.CharactersIn.{ascii-characters};
-ghost use Rattle.regex_meaning.proofs.TextLemmas.{ascii_text-IsText};
-ghost use Rattle.regress_input.specs.InUtf8.{ascii_text-IsInUtf8};
-ghost use Rattle.regress_input.specs.Spellings.{ascii_text-IsSpelled, ascii_text-fits};
+ghost use Rattle.regex_meaning.proofs.{CharactersIn.{ascii-characters}, TextLemmas.{ascii_text-IsText}};
+ghost use Rattle.regress_input.specs.{InUtf8.{ascii_text-IsInUtf8}, Spellings.{ascii_text-IsSpelled, ascii_text-fits}};
 
 use super::{ByteUnits, CharProperties, ElementType, HasUnits, InputIndexer};
 use crate::position::{DefPosition, Direction, IndexPosition};

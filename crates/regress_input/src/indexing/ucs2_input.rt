@@ -3,11 +3,8 @@
 ghost use Rattle.std.specs.Prelude.{◌≡◌, ◌<◌, ◌*◌, ◌^◌, ℕ, true, length};
 ghost use Rattle.std.proofs.Common.{rules};
 ghost use Rattle.regex_meaning.specs.Text.{ucs2_text, fold_code_point};
-ghost use Rattle.regex_meaning.proofs.CharactersIn.{ucs2-characters};
-ghost use Rattle.regex_meaning.proofs.TextLemmas.{ucs2_text-IsText};
-ghost use Rattle.regress_input.specs.Utf16.{AreUnits};
-ghost use Rattle.regress_input.specs.Reading.{no_bytes};
-ghost use Rattle.regress_input.specs.Spellings.{ucs2_text-IsSpelled, ucs2_text-fits};
+ghost use Rattle.regex_meaning.proofs.{CharactersIn.{ucs2-characters}, TextLemmas.{ucs2_text-IsText}};
+ghost use Rattle.regress_input.specs.{Utf16.{AreUnits}, Reading.{no_bytes}, Spellings.{ucs2_text-IsSpelled, ucs2_text-fits}};
 
 use super::{CharProperties, ElementType, HasUnits, InputIndexer, Ucs2Units};
 use crate::front::fold_code_point;

@@ -2,11 +2,8 @@
 
 ghost use Rattle.std.specs.Prelude.{◌≡◌, ◌<◌, ◌*◌, ◌^◌, length};
 ghost use Rattle.regex_meaning.specs.Text.{utf16_text};
-ghost use Rattle.regex_meaning.proofs.CharactersIn.{utf16-characters};
-ghost use Rattle.regex_meaning.proofs.TextLemmas.{utf16_text-IsText};
-ghost use Rattle.regress_input.specs.Utf16.{AreUnits};
-ghost use Rattle.regress_input.specs.Reading.{no_bytes};
-ghost use Rattle.regress_input.specs.Spellings.{utf16_text-IsSpelled, utf16_text-fits};
+ghost use Rattle.regex_meaning.proofs.{CharactersIn.{utf16-characters}, TextLemmas.{utf16_text-IsText}};
+ghost use Rattle.regress_input.specs.{Utf16.{AreUnits}, Reading.{no_bytes}, Spellings.{utf16_text-IsSpelled, utf16_text-fits}};
 
 use super::{CharProperties, HasUnits, InputIndexer, Utf16CharProperties, Utf16Units};
 use crate::position::{DefPosition, Direction, IndexPosition};

@@ -2,11 +2,9 @@
 
 ghost use Rattle.std.specs.Prelude.{◌≡◌, ◌<◌, ◌^◌, ◌==◌, ℕ, length, IsUtf8};
 ghost use Rattle.regex_meaning.specs.Text.{utf8_text, is_scalar, fold_char};
-ghost use Rattle.regex_meaning.proofs.CharactersIn.{utf8-characters};
-ghost use Rattle.regex_meaning.proofs.TextLemmas.{utf8_text-IsText};
+ghost use Rattle.regex_meaning.proofs.{CharactersIn.{utf8-characters}, TextLemmas.{utf8_text-IsText}};
 ghost use Rattle.std.proofs.Common.{rules};
-ghost use Rattle.regress_input.specs.InUtf8.{utf8_text-IsInUtf8};
-ghost use Rattle.regress_input.specs.Spellings.{utf8_text-IsSpelled, utf8_text-fits};
+ghost use Rattle.regress_input.specs.{InUtf8.{utf8_text-IsInUtf8}, Spellings.{utf8_text-IsSpelled, utf8_text-fits}};
 
 use super::{ByteUnits, CharProperties, ElementType, HasUnits, InputIndexer};
 use crate::front::fold_code_point;

@@ -3,8 +3,7 @@
 ghost use Rattle.std.specs.Prelude.{◌≡◌, ◌<◌, ◌⊎◌, IfErr, IfOk, IfSome, IsAscii, IsCharBoundary, IsTrue, length, option_map};
 ghost use Rattle.regex_meaning.specs.Text.{is_unit_boundary as is_boundary_of};
 ghost use Rattle.regress_exec.specs.Answers.{answer_of};
-ghost use Rattle.regress_match.specs.Programs.{ascii_answer_at, ucs2_answer_at, utf16_answer_at, utf8_answer_at};
-ghost use Rattle.regress_match.specs.Refusals.{IsMemory};
+ghost use Rattle.regress_match.specs.{Programs.{ascii_answer_at, ucs2_answer_at, utf16_answer_at, utf8_answer_at}, Refusals.{IsMemory}};
 ghost use Rattle.regress_match.specs.Replacements.{FitsText, FitsUnits};
 
 use crate::api::{Match, Regex, SearchError};

@@ -2,10 +2,8 @@
 
 ghost use Rattle.std.specs.Prelude.{◌≡◌, ◌<◌, ◌⊎◌, IfErr, IfOk, IfSome, IsAscii, IsCharBoundary, IsTrue, length, nat_le, not};
 ghost use Rattle.regex_meaning.specs.Text.{is_unit_boundary as is_boundary_of};
-ghost use Rattle.regress_match.specs.Programs.{as_ascii, as_ucs2, as_utf8, as_utf16, byte_tree, unit_tree};
-ghost use Rattle.regress_match.specs.Refusals.{IsMemory};
-ghost use Rattle.regress_match.specs.Replacements.{StandFrom};
-ghost use Rattle.regress_match.specs.Work.{IsEnoughEach, YieldsInWork, higher};
+ghost use Rattle.regress_match.specs.{Programs.{as_ascii, as_ucs2, as_utf8, as_utf16, byte_tree, unit_tree}, Refusals.{IsMemory}};
+ghost use Rattle.regress_match.specs.{Replacements.{StandFrom}, Work.{IsEnoughEach, YieldsInWork, higher}};
 
 use crate::api::{Regex, SearchError};
 use regress_bounded::bounds::WorkBound;

@@ -2,8 +2,7 @@
 
 ghost use Rattle.std.specs.Prelude.{◌≡◌, ◌≤◌, IfOk, IfSome, None, chars, length};
 ghost use Rattle.regex_meaning.specs.Tree.{Tree};
-ghost use Rattle.regex_grammar.specs.Grammar.{Parses};
-ghost use Rattle.regex_grammar.specs.Standing.{NoTree};
+ghost use Rattle.regex_grammar.specs.{Grammar.{Parses}, Standing.{NoTree}};
 ghost use Rattle.regress_match.specs.Flags.{flags_of};
 
 use crate::api::{Flags, Regex};

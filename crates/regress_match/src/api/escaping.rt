@@ -1,8 +1,7 @@
 //! Texts that stand in a pattern for themselves.
 
 ghost use Rattle.std.specs.Prelude.{◌≡◌, IfOk, string_bytes};
-ghost use Rattle.regex_meaning.specs.Flags.{escape as escaped_text, special};
-ghost use Rattle.regex_meaning.specs.Lists.{contains};
+ghost use Rattle.regex_meaning.specs.{Flags.{escape as escaped_text, special}, Lists.{contains}};
 
 use std::alloc::{AllocError, Global};
 

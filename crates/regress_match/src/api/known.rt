@@ -1,8 +1,7 @@
 //! What a pattern says of itself before it has matched.
 
 ghost use Rattle.std.specs.Prelude.{◌≡◌, ◌<◌, ◌^◌, length, map, string_bytes};
-ghost use Rattle.regex_meaning.specs.Names.{names_by_id};
-ghost use Rattle.regex_meaning.specs.Tree.{group_ids};
+ghost use Rattle.regex_meaning.specs.{Names.{names_by_id}, Tree.{group_ids}};
 ghost use Rattle.regress_match.specs.Programs.{byte_tree, unit_tree};
 
 use crate::api::Regex;

@@ -1,8 +1,6 @@
 //! Laws of searches, which callers may cite: functions that do nothing.
 
-ghost use Rattle.regress_match.specs.Laws.{MatchesStandInText, SearchesFollowThePattern};
-ghost use Rattle.regress_match.specs.Searches.{SearchesAnswerInTurn};
-ghost use Rattle.regress_match.specs.Work.{SearchesAnswerInWork};
+ghost use Rattle.regress_match.specs.{Laws.{MatchesStandInText, SearchesFollowThePattern}, Searches.{SearchesAnswerInTurn}, Work.{SearchesAnswerInWork}};
 
 /// A search answers the list's matches one after another, then `None` for good; it ends before only where memory is refused.
 pub fn searches_answer_in_turn()

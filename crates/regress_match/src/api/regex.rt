@@ -4,9 +4,7 @@ ghost use Rattle.std.specs.Prelude.{◌≡◌, ◌<◌, ◌⊎◌, IfErr, IfOk, 
 ghost use Rattle.regex_meaning.specs.Flags.{flags_of_text};
 ghost use Rattle.regex_pattern_front.specs.TreeOf.{tree_of};
 ghost use Rattle.regress_exec.specs.Answers.{answer_of};
-ghost use Rattle.regress_match.specs.Refusals.{IsMemory, Refuses};
-ghost use Rattle.regress_match.specs.Replacements.{FitsText, StandFrom};
-ghost use Rattle.regress_match.specs.Searches.{YieldsMatches};
+ghost use Rattle.regress_match.specs.{Refusals.{IsMemory, Refuses}, Replacements.{FitsText, StandFrom}, Searches.{YieldsMatches}};
 
 use crate::api::diagnosis::code_points;
 use crate::api::{Error, Flags};

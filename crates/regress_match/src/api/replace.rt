@@ -3,9 +3,7 @@
 ghost use Rattle.std.specs.Prelude.{◌≡◌, ◌≤◌, ◌++◌, IfErr, IfOk, IsCharBoundary, drop, false, slice_range, string_bytes, take};
 ghost use Rattle.regex_meaning.specs.Replace.{replaced};
 ghost use Rattle.regress_exec.specs.Answers.{answer_of};
-ghost use Rattle.regress_match.specs.Laws.{WholeMatchesGiveBack};
-ghost use Rattle.regress_match.specs.Programs.{utf8_answers};
-ghost use Rattle.regress_match.specs.Refusals.{IsMemory};
+ghost use Rattle.regress_match.specs.{Laws.{WholeMatchesGiveBack}, Programs.{utf8_answers}, Refusals.{IsMemory}};
 ghost use Rattle.regress_match.specs.Replacements.{FitsText, StandFrom, expanded};
 
 mod closures;

@@ -2,9 +2,7 @@
 
 ghost use Rattle.std.specs.Prelude.{◌≡◌, ◌<◌, IfErr, IfOk, None, Some, option_map, unwrap_or};
 ghost use Rattle.regex_meaning.specs.Offsets.{units};
-ghost use Rattle.regress_match.specs.Programs.{IsStart, as_ucs2, as_utf16, as_utf8, byte_tree, unit_tree};
-ghost use Rattle.regress_match.specs.Refusals.{IsMemory};
-ghost use Rattle.regress_match.specs.Resuming.{GoesFrom};
+ghost use Rattle.regress_match.specs.{Programs.{IsStart, as_ucs2, as_utf16, as_utf8, byte_tree, unit_tree}, Refusals.{IsMemory}, Resuming.{GoesFrom}};
 
 use crate::api::{Match, Regex, SearchError};
 use crate::executors::{

@@ -2,9 +2,7 @@
 
 ghost use Rattle.std.specs.Prelude.{◌≡◌, ◌<◌, ◌⊎◌, IfErr, IfOk, IsTrue, false, length, nat_le, not};
 ghost use Rattle.regex_meaning.specs.Text.{is_unit_boundary as is_boundary_of};
-ghost use Rattle.regress_match.specs.Programs.{as_ucs2, as_utf16, unit_tree};
-ghost use Rattle.regress_match.specs.Refusals.{IsMemory};
-ghost use Rattle.regress_match.specs.Searches.{YieldsMatches};
+ghost use Rattle.regress_match.specs.{Programs.{as_ucs2, as_utf16, unit_tree}, Refusals.{IsMemory}, Searches.{YieldsMatches}};
 
 use crate::api::{Regex, SearchError};
 use crate::executors::{DefaultUcs2Executor, DefaultUtf16Executor};

@@ -4,12 +4,10 @@ ghost use Rattle.std.specs.Prelude.{◌≡◌, ◌<◌, ◌≤◌, ◌^◌, ◌+
 ghost use Rattle.regex_meaning.specs.Offsets.{units};
 ghost use Rattle.regex_pattern_front.specs.TreeOf.{tree_of};
 ghost use Rattle.regress_input.specs.Reading.{heading};
-ghost use Rattle.regress_program.specs.Code.{compiled};
-ghost use Rattle.regress_program.specs.Insns.{insn_of, loop_fields_of};
+ghost use Rattle.regress_program.specs.{Code.{compiled}, Insns.{insn_of, loop_fields_of}};
 ghost use Rattle.regress_machine.specs.Machine.{running, waiting, goes, asks, at_ip, next_ip, span, loop_turn, again_with, again_at};
-ghost use Rattle.regress_pikevm.specs.Acting.{turn_at, turn_by, turn_again, turn_back};
-ghost use Rattle.regress_pikevm.specs.States.{state_of, loop_of, next_of};
 ghost use Rattle.regress_machine.specs.Turns.{opened, closed, reset, entered_at, CanTake, is_reader};
+ghost use Rattle.regress_pikevm.specs.{Acting.{turn_at, turn_by, turn_again, turn_back}, States.{state_of, loop_of, next_of}};
 ghost use Rattle.regress_scan.specs.Passing.{IsSpelledFor};
 
 use super::passing;

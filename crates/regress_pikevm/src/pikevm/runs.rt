@@ -5,8 +5,7 @@ ghost use Rattle.regex_meaning.specs.Offsets.{IsBoundary};
 ghost use Rattle.regress_program.specs.Insns.{insn_of};
 ghost use Rattle.regress_machine.specs.Turns.{behind_at, CanTake};
 ghost use Rattle.regress_scan.specs.Passing.{IsSpelledFor, test_in};
-ghost use Rattle.regress_pikevm.specs.Acting.{turn_over, HasReached, HasKept};
-ghost use Rattle.regress_pikevm.specs.States.{state_of, next_of};
+ghost use Rattle.regress_pikevm.specs.{Acting.{turn_over, HasReached, HasKept}, States.{state_of, next_of}};
 
 use super::passing;
 use super::states::{State, Turn, copy_of};

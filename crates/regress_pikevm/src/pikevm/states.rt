@@ -4,8 +4,7 @@ ghost use Rattle.std.specs.Prelude.{◌≡◌, IfOk, map, replicate, option_map}
 ghost use Rattle.std.specs.Option.{option_to_list};
 ghost use Rattle.regex_pattern_front.specs.TreeOf.{tree_of};
 ghost use Rattle.regress_program.specs.Code.{compiled};
-ghost use Rattle.regress_machine.specs.Machine.{resumed};
-ghost use Rattle.regress_machine.specs.Finds.{initial};
+ghost use Rattle.regress_machine.specs.{Machine.{resumed}, Finds.{initial}};
 ghost use Rattle.regress_pikevm.specs.States.{state_of, running_of};
 
 use regress_input::position::PositionType;

@@ -3,14 +3,8 @@
 ghost use Rattle.std.specs.Prelude.{◌≡◌, ◌||◌, ◌&&◌, nat_lt, is_some, map, OnOk, IfSome};
 ghost use Rattle.std.specs.Int.{is_in_range};
 ghost use Rattle.std.specs.List.{list_all};
-ghost use Rattle.regex_meaning.specs.Lists.{contains};
-ghost use Rattle.regex_meaning.specs.Tree.{bracket};
-ghost use Rattle.regex_meaning.specs.Layout.{is_ascii_set};
-ghost use Rattle.regex_meaning.specs.Outcomes.{in_intervals};
-ghost use Rattle.regex_meaning.specs.StartPredicate.{bytes_where};
-ghost use Rattle.regex_pattern_front.specs.TreeOf.{contents_of};
-ghost use Rattle.regex_pattern_front.specs.ByteSets.{ascii_bitmap_bytes};
-ghost use Rattle.regex_pattern_front.specs.Intervals.{interval_of};
+ghost use Rattle.regex_meaning.specs.{Lists.{contains}, Tree.{bracket}, Layout.{is_ascii_set}, Outcomes.{in_intervals}, StartPredicate.{bytes_where}};
+ghost use Rattle.regex_pattern_front.specs.{TreeOf.{contents_of}, ByteSets.{ascii_bitmap_bytes}, Intervals.{interval_of}};
 ghost use Rattle.regress_program.specs.Emitting.{IsEmitted, state_of, with_bracket};
 
 use crate::emit::emitter::{Emitter, Mode};

@@ -4,10 +4,8 @@
 ghost use Rattle.std.specs.Prelude.{◌≡◌, not, true};
 ghost use Rattle.std.proofs.Common.{refl};
 ghost use Rattle.regex_meaning.specs.Layout.{is_of_bytes, reads_bytes as node_reads_bytes};
-ghost use Rattle.regex_pattern_front.specs.Optimized.{optimized};
-ghost use Rattle.regex_pattern_front.specs.TreeOf.{node_of};
-ghost use Rattle.regress_program.specs.Nodes.{is_narrowed};
-ghost use Rattle.regress_program.specs.Walked.{passes};
+ghost use Rattle.regex_pattern_front.specs.{Optimized.{optimized}, TreeOf.{node_of}};
+ghost use Rattle.regress_program.specs.{Nodes.{is_narrowed}, Walked.{passes}};
 
 use crate::emit::walk::{Visitor, walk};
 use regex_pattern_front::ir::Node;

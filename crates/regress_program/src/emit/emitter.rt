@@ -2,15 +2,10 @@
 #![tactic(auto, using(std::proofs::lemmas::Grind::common_steps), unfolding(regex_pattern_front::specs::TreeOf::node_of, crate::specs::Code::code_of, crate::specs::Emitting::shaped, crate::specs::Code::loop_count, crate::specs::Code::brackets_of, crate::specs::Code::size))]
 
 ghost use Rattle.std.specs.Prelude.{◌≡◌, ◌&&◌, ◌+◌, ◌-◌, ◌<◌, ◌^◌, true, length, map, IfOk, OnOk, IsTrue, if◌then◌else◌};
-ghost use Rattle.regex_meaning.specs.Tree.{every};
-ghost use Rattle.regex_meaning.specs.WellFormed.{fits_instructions};
-ghost use Rattle.regex_meaning.specs.Layout.{EnterLoop, lookaround_insn};
-ghost use Rattle.regex_pattern_front.specs.Optimized.{reads_one_character as is_one_character};
-ghost use Rattle.regex_pattern_front.specs.TreeOf.{contents_of, node_of};
+ghost use Rattle.regex_meaning.specs.{Tree.{every}, WellFormed.{fits_instructions}, Layout.{EnterLoop, lookaround_insn}};
+ghost use Rattle.regex_pattern_front.specs.{Optimized.{reads_one_character as is_one_character}, TreeOf.{contents_of, node_of}};
 ghost use Rattle.regress_plan.specs.Insns.{loop_fields_of};
-ghost use Rattle.regress_program.specs.Insns.{insn_of};
-ghost use Rattle.regress_program.specs.Code.{resets};
-ghost use Rattle.regress_program.specs.Nodes.{is_leaf};
+ghost use Rattle.regress_program.specs.{Insns.{insn_of}, Code.{resets}, Nodes.{is_leaf}};
 ghost use Rattle.regress_program.specs.Emitting.{HasRoom, state_of, with_insn, with_insns, with_insn_at, with_loop, nothing, IsEmitted, lookaround_of};
 
 use crate::emit::leaves::{anchor_insn, byte_set_insn, char_set_insn, word_boundary_insn};

@@ -2,8 +2,7 @@
 #![tactic(auto, unfolding(regex_pattern_front::specs::TreeOf::node_of, crate::specs::Ids::are_fresh, crate::specs::Ids::least, crate::specs::Ids::past, crate::specs::Weights::weight))]
 
 ghost use Rattle.std.specs.Prelude.{◌≡◌, is_some, IfSome, ◌≤◌, ◌<◌, ◌^◌, ◌&&◌, ◌||◌, ◌+◌, ◌-◌, ◌∷◌, [], not, ◌==◌, ℕ, false, length, IsTrue, nat_le};
-ghost use Rattle.regex_meaning.specs.Tree.{alt, group_ids, every};
-ghost use Rattle.regex_meaning.specs.WellFormed.{names_the_groups_inside};
+ghost use Rattle.regex_meaning.specs.{Tree.{alt, group_ids, every}, WellFormed.{names_the_groups_inside}};
 ghost use Rattle.regex_pattern_front.specs.TreeOf.{node_of};
 ghost use Rattle.regress_program.specs.Nodes.{cat_of};
 ghost use Rattle.regress_program.specs.Ids.{is_seen, are_fresh, ids_stand, ids_stand_within, span_of, AddsSeen, joined as joined_spans, Span as SpanOfIds};

@@ -5,8 +5,7 @@ ghost use Rattle.std.specs.Prelude.{◌≡◌, ◌+◌, ◌-◌, ◌^◌, Some, 
 ghost use Rattle.std.proofs.Common.{refl};
 ghost use Rattle.regex_meaning.specs.Tree.{group_ids};
 ghost use Rattle.regex_pattern_front.specs.TreeOf.{node_of};
-ghost use Rattle.regress_program.specs.Code.{size, own_size as own_size_of, loop_count};
-ghost use Rattle.regress_program.specs.Tallies.{counted};
+ghost use Rattle.regress_program.specs.{Code.{size, own_size as own_size_of, loop_count}, Tallies.{counted}};
 
 use crate::emit::texts::{chunk_count, strings_size};
 use crate::emit::walk::{Visitor, walk};

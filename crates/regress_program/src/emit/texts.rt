@@ -1,9 +1,7 @@
 //! The code of byte sequences and strings.
 
 ghost use Rattle.std.specs.Prelude.{◌≡◌, ◌+◌, ◌-◌, ◌*◌, ◌<◌, ◌^◌, length, min, take, drop, OnOk};
-ghost use Rattle.regex_meaning.specs.Tree.{byte_sequence, string_set};
-ghost use Rattle.regex_meaning.specs.Text.{expand_code_point as expansion};
-ghost use Rattle.regex_meaning.specs.Layout.{chunks};
+ghost use Rattle.regex_meaning.specs.{Tree.{byte_sequence, string_set}, Text.{expand_code_point as expansion}, Layout.{chunks}};
 ghost use Rattle.regex_meaning.specs.Layout as layout;
 ghost use Rattle.regress_program.specs.Code.{string_code, strings_size as size_of_strings};
 ghost use Rattle.regress_program.specs.Emitting.{IsEmitted, state_of, with_insn, with_insns, code_points_of};

@@ -4,8 +4,7 @@
 ghost use Rattle.std.specs.Prelude.{◌≡◌, Option, Some, is_some, IsTrue};
 ghost use Rattle.regex_meaning.specs.Tree.{Node as TreeNode, cat, end_of_cat};
 ghost use Rattle.regex_pattern_front.specs.TreeOf.{node_of};
-ghost use Rattle.regress_program.specs.Nodes.{cat_of};
-ghost use Rattle.regress_program.specs.Walked.{walked};
+ghost use Rattle.regress_program.specs.{Nodes.{cat_of}, Walked.{walked}};
 
 use regex_pattern_front::ir::Node;
 

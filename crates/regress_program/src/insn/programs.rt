@@ -3,12 +3,8 @@
 ghost use Rattle.std.specs.Prelude.{◌≡◌, ◌<◌, ◌^◌, IsTrue, IfOk, [], get_or, map, string_bytes};
 ghost use Rattle.regex_pattern_front.specs.TreeOf.{tree_of, flags_of, contents_of};
 ghost use Rattle.regex_meaning.specs.WellFormed.{is_well_formed};
-ghost use Rattle.regress_program.specs.Insns.{insn_of};
-ghost use Rattle.regress_program.specs.Code.{size, compiled};
-ghost use Rattle.regress_plan.specs.Keys.{wide_of};
-ghost use Rattle.regress_plan.specs.Plans.{IsPlanOf};
-ghost use Rattle.regress_program.specs.Programs.{IsCodeIn};
-ghost use Rattle.regress_program.specs.Running.{tree_to_run};
+ghost use Rattle.regress_program.specs.{Insns.{insn_of}, Code.{size, compiled}, Programs.{IsCodeIn}, Running.{tree_to_run}};
+ghost use Rattle.regress_plan.specs.{Keys.{wide_of}, Plans.{IsPlanOf}};
 ghost use Rattle.std.specs.Arc.{arc_value};
 
 use crate::carried::Carried;

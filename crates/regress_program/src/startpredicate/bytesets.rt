@@ -1,11 +1,8 @@
 //! Sets of the bytes that texts begin with.
 
 ghost use Rattle.std.specs.Prelude.{◌≡◌, ◌+◌, ◌≤◌, [], ◌∷◌, false, map, IfOk, IsOk, MatchOption};
-ghost use Rattle.regex_meaning.specs.Lists.{contains};
-ghost use Rattle.regex_meaning.specs.StartPredicate.{bytes_where, union, first_byte, first_bytes, code_points};
-ghost use Rattle.regex_pattern_front.specs.ByteSets.{byte_bitmap_bytes};
-ghost use Rattle.regex_pattern_front.specs.Intervals.{interval_of};
-ghost use Rattle.regex_pattern_front.specs.TreeOf.{contents_of};
+ghost use Rattle.regex_meaning.specs.{Lists.{contains}, StartPredicate.{bytes_where, union, first_byte, first_bytes, code_points}};
+ghost use Rattle.regex_pattern_front.specs.{ByteSets.{byte_bitmap_bytes}, Intervals.{interval_of}, TreeOf.{contents_of}};
 ghost use Rattle.regress_program.specs.Beginnings.{bytes_from};
 
 use regex_pattern_front::bytesearch::{ByteBitmap, ByteSet};

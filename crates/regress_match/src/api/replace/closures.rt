@@ -2,9 +2,7 @@
 
 ghost use Rattle.std.specs.Prelude.{◌≡◌, ◌++◌, IfErr, IfOk, false, string_bytes, take};
 ghost use Rattle.std.specs.Result.{IsOkAnd};
-ghost use Rattle.regress_match.specs.Answered.{CanRefuseAnswer};
-ghost use Rattle.regress_match.specs.Closures.{CanBeCalled, CanRefuseWith, IsReplacedBy};
-ghost use Rattle.regress_match.specs.Programs.{utf8_answers};
+ghost use Rattle.regress_match.specs.{Answered.{CanRefuseAnswer}, Closures.{CanBeCalled, CanRefuseWith, IsReplacedBy}, Programs.{utf8_answers}};
 ghost use Rattle.regress_match.specs.Replacements.{StandFrom};
 
 use crate::api::replace::{finish, reach};

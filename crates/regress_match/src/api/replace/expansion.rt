@@ -1,11 +1,9 @@
 //! What a replacement says for a match.
 
 ghost use Rattle.std.specs.Prelude.{◌≡◌, ◌++◌, ◌<◌, IfNone, IfOk, IfSome, Some, length, option_map, slice_get, string_bytes};
-ghost use Rattle.regex_meaning.specs.Names.{Answer};
-ghost use Rattle.regex_meaning.specs.Replace.{behind_dollar, expansion, group_part, numbered, part_then, text_of, text_of_parts};
+ghost use Rattle.regex_meaning.specs.{Names.{Answer}, Replace.{behind_dollar, expansion, group_part, numbered, part_then, text_of, text_of_parts}};
 ghost use Rattle.regress_exec.specs.Answers.{answer_of, range_of};
-ghost use Rattle.regress_match.specs.Parts.{begun_of, parts_in};
-ghost use Rattle.regress_match.specs.Replacements.{FitsText, IsSlice};
+ghost use Rattle.regress_match.specs.{Parts.{begun_of, parts_in}, Replacements.{FitsText, IsSlice}};
 
 use crate::api::Match;
 use regex_pattern_front::types::MAX_CAPTURE_GROUPS;

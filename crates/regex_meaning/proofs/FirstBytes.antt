@@ -149,41 +149,36 @@ lead-by c b low high is begins only h k = record {
   meets = λ ivs t. rw only (meet-one low high c ivs h k t);
 }
 
+-- such bytes count up, and each of them begins so many characters
+lead-up : (c b first many : ℕ) → 0xC0 ≤ first → first ≤ b → b < 256 → begun_by b ≡ ((b - first) * many, (b - first) * many + (many - 1)) ∷ []
+    → (b - first) * many ≤ c → c ≤ (b - first) * many + (many - 1) → Lead c b
+lead-up c b first many high from is only h k =
+    lead-by c b ((b - first) * many) ((b - first) * many + (many - 1)) is (in_range-above 0x80 0xBF b (omega arith) (omega arith)) only h k
+
+-- the byte is this one
+lead-one : (c b this low high : ℕ) → b ≡ this → this < 256 → is_in_range 0x80 0xBF this ≡ false → begun_by this ≡ (low, high) ∷ [] → low ≤ c → c ≤ high → Lead c b
+lead-one c b this low high same is begins only h k = rw same (lead-by c this low high is begins only h k)
+
 lead-1 : (c : ℕ) → c < 128 → Lead c c
 lead-1 c h = lead-by c c c c (omega arith) (in_range-below 0x80 0xBF c h) (begun_by-1 c h) (omega arith) (omega arith)
 
 lead-2 : (c : ℕ) → 128 ≤ c → c < 2048 → Lead c (192 + c / 64)
-lead-2 c h k =
-    let b : ℕ = 192 + c / 64 in
-    lead-by c b ((b - 0xC0) * 0x40) ((b - 0xC0) * 0x40 + 0x3F) (omega arith) (in_range-above 0x80 0xBF b (omega arith) (omega arith))
-    (begun_by-2 b (omega arith) (omega arith)) (omega arith) (omega arith)
+lead-2 c h k = lead-up c (192 + c / 64) 0xC0 0x40 (omega arith) (omega arith) (omega arith) (begun_by-2 (192 + c / 64) (omega arith) (omega arith)) (omega arith) (omega arith)
 
 lead-3 : (c : ℕ) → 4096 ≤ c → c < 65536 → Lead c (224 + c / 4096)
-lead-3 c h k =
-    let b : ℕ = 224 + c / 4096 in
-    lead-by c b ((b - 0xE0) * 0x1000) ((b - 0xE0) * 0x1000 + 0xFFF) (omega arith) (in_range-above 0x80 0xBF b (omega arith) (omega arith))
-    (begun_by-3 b (omega arith) (omega arith)) (omega arith) (omega arith)
+lead-3 c h k = lead-up c (224 + c / 4096) 0xE0 0x1000 (omega arith) (omega arith) (omega arith) (begun_by-3 (224 + c / 4096) (omega arith) (omega arith)) (omega arith) (omega arith)
 
 lead-3-low : (c : ℕ) → 2048 ≤ c → c < 4096 → Lead c (224 + c / 4096)
-lead-3-low c h k =
-    let e : 224 + c / 4096 ≡ 0xE0 = omega arith in
-    rw e (lead-by c 0xE0 0x800 0xFFF (omega arith) refl refl h (omega arith))
+lead-3-low c h k = lead-one c (224 + c / 4096) 0xE0 0x800 0xFFF (omega arith) (omega arith) refl refl h (omega arith)
 
 lead-4 : (c : ℕ) → 0x4_0000 ≤ c → c < 0x10_0000 → Lead c (240 + c / 262144)
-lead-4 c h k =
-    let b : ℕ = 240 + c / 262144 in
-    lead-by c b ((b - 0xF0) * 0x4_0000) ((b - 0xF0) * 0x4_0000 + 0x3_FFFF) (omega arith) (in_range-above 0x80 0xBF b (omega arith) (omega arith))
-    (begun_by-4 b (omega arith) (omega arith)) (omega arith) (omega arith)
+lead-4 c h k = lead-up c (240 + c / 262144) 0xF0 0x4_0000 (omega arith) (omega arith) (omega arith) (begun_by-4 (240 + c / 262144) (omega arith) (omega arith)) (omega arith) (omega arith)
 
 lead-4-low : (c : ℕ) → 0x1_0000 ≤ c → c < 0x4_0000 → Lead c (240 + c / 262144)
-lead-4-low c h k =
-    let e : 240 + c / 262144 ≡ 0xF0 = omega arith in
-    rw e (lead-by c 0xF0 0x1_0000 0x3_FFFF (omega arith) refl refl h (omega arith))
+lead-4-low c h k = lead-one c (240 + c / 262144) 0xF0 0x1_0000 0x3_FFFF (omega arith) (omega arith) refl refl h (omega arith)
 
 lead-4-high : (c : ℕ) → 0x10_0000 ≤ c → c < 0x11_0000 → Lead c (240 + c / 262144)
-lead-4-high c h k =
-    let e : 240 + c / 262144 ≡ 0xF4 = omega arith in
-    rw e (lead-by c 0xF4 0x10_0000 0x10_FFFF (omega arith) refl refl h (omega arith))
+lead-4-high c h k = lead-one c (240 + c / 262144) 0xF4 0x10_0000 0x10_FFFF (omega arith) (omega arith) refl refl h (omega arith)
 
 pub scalar-below : (c : ℕ) → is_scalar c ≡ true → c < 0x11_0000
 scalar-below c h = go (is_in_range 0 0xD7FF c) refl

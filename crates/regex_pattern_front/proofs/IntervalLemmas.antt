@@ -218,25 +218,30 @@ same_at [] k d e h = absurd (omega arith)
 same_at (i ∷ is) zero d e h = refl
 same_at (i ∷ is) (suc k) d e h = same_at is k d e (omega arith)
 
+-- of two the later one begins and ends behind the other one
+rising : (xs : List Interval) (j k : ℕ) (d : Interval) → AreInOrder (map interval_of xs) → j < k → k < length xs
+    → ((get_or xs j d).first < (get_or xs k d).first) × ((get_or xs j d).last < (get_or xs k d).last)
+rising xs j k d o less within =
+    let a = Above-zero xs o in
+    let between = apart 0 xs j k d a less within in
+    let one = (Above-at 0 xs j d a (omega (arith, less, within))).1 in
+    let other = (Above-at 0 xs k d a within).1 in (omega (arith, between, one), omega (arith, between, other))
+
 pub end_before : (xs : List Interval) (c middle : ℕ) (e : Interval) → AreInOrder (map interval_of xs) → middle < length xs
     → (get_or xs middle e).last < c → EndBefore xs c (middle + 1)
 end_before xs c middle e o h l k d below =
-    let a = Above-zero xs o in
     let is : (get_or xs middle d).last ≡ (get_or xs middle e).last = ap (λ i. i.last) (same_at xs middle d e h) in
     elim (cases_lt k middle) [
-      | inl before ↦ let past : (get_or xs k d).last < (get_or xs middle d).first = apart 0 xs k middle d a before h in
-          let some : (get_or xs middle d).first ≤ (get_or xs middle d).last = (Above-at 0 xs middle d a h).1 in omega arith
+      | inl before ↦ omega (arith, l, is, (rising xs k middle d o before h).1)
       | inr after ↦ let at : k ≡ middle = omega arith in rw at (omega arith)
     ]
 
 pub begin_after : (xs : List Interval) (c middle : ℕ) (e : Interval) → AreInOrder (map interval_of xs) → middle < length xs
     → c < (get_or xs middle e).first → BeginAfter xs c middle
 begin_after xs c middle e o h l k d from within =
-    let a = Above-zero xs o in
     let is : (get_or xs middle d).first ≡ (get_or xs middle e).first = ap (λ i. i.first) (same_at xs middle d e h) in
     elim (cases_lt middle k) [
-      | inl after ↦ let past : (get_or xs middle d).last < (get_or xs k d).first = apart 0 xs middle k d a after within in
-          let some : (get_or xs middle d).first ≤ (get_or xs middle d).last = (Above-at 0 xs middle d a h).1 in omega arith
+      | inl after ↦ omega (arith, l, is, (rising xs middle k d o after within).0)
       | inr before ↦ let at : k ≡ middle = omega arith in rw at (omega arith)
     ]
 

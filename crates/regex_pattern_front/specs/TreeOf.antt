@@ -58,14 +58,7 @@ cat_of [] = tree.end_of_cat
 cat_of (node ∷ nodes) = tree.cat (node_of node) (cat_of nodes)
 
 abbrev pub flags_of : Flags → tree.Flags
-flags_of f = record {
-  icase = f.icase;
-  multiline = f.multiline;
-  dot_all = f.dot_all;
-  no_opt = f.no_opt;
-  unicode = f.unicode;
-  unicode_sets = f.unicode_sets;
-}
+flags_of f = record { icase = f.icase; multiline = f.multiline; dot_all = f.dot_all; no_opt = f.no_opt; unicode = f.unicode; unicode_sets = f.unicode_sets }
 
 -- the tree of a pattern
 abbrev pub tree_of : Regex → tree.Tree

@@ -30,7 +30,7 @@ use Rattle.regress_ledger.specs.Bound.{LookIsBounded, InsnIsBounded, StepIsBound
 use Rattle.regress_ledger.proofs.WholeLemmas.{ledgers-serve}
 
 -- the prices of lines, by what each instruction costs
-of-lines : (f : ℕ → ℕ) (first : ℕ) (lines : List Line)
+pub of-lines : (f : ℕ → ℕ) (first : ℕ) (lines : List Line)
     → ((i : ℕ) (x : Line) → slice_get lines i ≡ Some x → x.records ≡ true → f (first + i) ≡ x.price * x.codes)
     → sum_by f (recorded_from first lines) ≡ sum_by price_of_line lines
 of-lines f first [] same = omega arith
@@ -57,7 +57,7 @@ of-lines f first (x ∷ lines) same = by x.records refl (of-lines f (first + 1) 
 nothing : (i : ℕ) (x : Line) → slice_get [] i ≡ Some x → ⊥
 nothing i x e = cc
 
-inside : (lines : List Line) (i : ℕ) (x : Line) → slice_get lines i ≡ Some x → i < length lines
+pub inside : (lines : List Line) (i : ℕ) (x : Line) → slice_get lines i ≡ Some x → i < length lines
 inside [] i x e = absurd (nothing i x e)
 inside (y ∷ lines) zero x e = omega arith
 inside (y ∷ lines) (suc i) x e = let l = inside lines i x e in omega (arith, l)

@@ -52,25 +52,25 @@ module _ (R : Relation) where
 
 -- ---- Places
 
+pub moved-twice : (text : Text) (d : Direction) (m n p : ℕ) → moved text d n (moved text d m p) ≡ moved text d (m + n) p
+moved-twice text rightwards m n p = omega arith
+moved-twice text leftwards m n p = omega arith
+
+pub place-inside : (text : Text) (d : Direction) (n p : ℕ) → p ≤ last_place text → n ≤ characters_left text d p → moved text d n p ≤ last_place text
+place-inside text rightwards n p inside few = omega (arith, few, inside)
+place-inside text leftwards n p inside few = omega (arith, inside)
+
 module _ (text : Text) (is : IsText text) (test : ℕ → Bool) where
-  moved-twice : (d : Direction) (m n p : ℕ) → moved text d n (moved text d m p) ≡ moved text d (m + n) p
-  moved-twice rightwards m n p = omega arith
-  moved-twice leftwards m n p = omega arith
-
-  place-inside : (d : Direction) (n p : ℕ) → p ≤ last_place text → n ≤ characters_left text d p → moved text d n p ≤ last_place text
-  place-inside rightwards n p inside few = omega (arith, few, inside)
-  place-inside leftwards n p inside few = omega (arith, inside)
-
   -- the way from a place of a run to another one that is further on
   way-on : (d : Direction) (m n p : ℕ) → p ≤ last_place text → m + n ≤ passing text test d p
       → Moves d (nat_lt 0 n) (offset text (moved text d m p)) (offset text (moved text d (m + n) p))
   way-on d m n p inside few =
       let q = moved text d m p in
       let left = passing-left text test d p inside in
-      let within = place-inside d m p inside (omega (arith, left, few)) in
+      let within = place-inside text d m p inside (omega (arith, left, few)) in
       let sum = passing-on text test d m p inside (omega (arith, few)) in
       let left' = passing-left text test d q within in
-      subst (λ r. Moves d (nat_lt 0 n) (offset text q) (offset text r)) (moved-twice d m n p)
+      subst (λ r. Moves d (nat_lt 0 n) (offset text q) (offset text r)) (moved-twice text d m n p)
       (moves-on text is d (offset text q) q n (place_at-offset text q is within) (omega (arith, sum, left', few)))
 
   pub run-onward : (d : Direction) (m M p : ℕ) → p ≤ last_place text → m ≤ M → M ≤ passing text test d p
@@ -84,6 +84,35 @@ module _ (text : Text) (is : IsText text) (test : ℕ → Bool) where
   run-apart d m M p inside less few same =
       let e : m + (M - m) ≡ M = omega (arith, less) in
       (way-on d m (M - m) p inside (omega (arith, less, few))).further (lt-ltb 0 (M - m) (omega (arith, less))) (same ∙ ap (λ n. offset text (moved text d n p)) (sym e))
+
+-- ---- Rows of a run
+
+module _ (text : Text) (is : IsText text) (test : ℕ → Bool) (d : Direction) (p : ℕ) (s : State) (inside : p ≤ last_place text) where
+  -- the row from so many characters on
+  abbrev row-from : ℕ → List Thread
+  row-from n = run_from text test d 0 (moved text d n p) s
+
+  -- It is the row from the next one on, and then the thread that waits here,
+  pub row-next : (n : ℕ) → n + 1 ≤ passing text test d p → row-from (n + 1) ++ waiting (behind text d p s n) ∷ [] ≡ row-from n
+  row-next n few =
+      let q = moved text d n p in
+      let left = passing-left text test d p inside in
+      let within = place-inside text d n p inside (omega (arith, left, few)) in
+      let sum = passing-on text test d n p inside (omega (arith, few)) in
+      let zero_on : n + 0 ≡ n = omega arith in
+      let here : behind text d q s 0 ≡ behind text d p s n = sym (behind-from text d p s n 0) ∙ ap (behind text d p s) zero_on in
+      sym (runs-begin text test d q 0 1 s within (omega arith) (omega (arith, sum, few))
+      ∙ ap₂ (λ r u. run_from text test d 0 r s ++ waiting u ∷ []) (moved-twice text d n 1 p) here)
+
+  -- and where none passes any more, the thread here alone.
+  pub row-last : (n : ℕ) → n ≡ passing text test d p → running (behind text d p s n) ∷ [] ≡ row-from n
+  row-last n same =
+      let q = moved text d n p in
+      let sum = passing-on text test d n p inside (omega (arith, same)) in
+      let one : 1 ≡ passing text test d q + 1 - 0 = omega (arith, sum, same) in
+      let zero_on : n ≡ n + 0 = omega arith in
+      let here : behind text d p s n ≡ behind text d q s 0 = ap (behind text d p s) zero_on ∙ behind-from text d p s n 0 in
+      ap (λ u. running u ∷ []) here ∙ ap (λ m. in_turn (most_first text d q s 0 m)) one
 
 module _ (program : Program) (text : Text) (a : Account) (questions : ℕ → List Question) (way : ℕ → Direction) (ips : List ℕ) (taken : Key → ℕ) (test : ℕ → Bool) (s : State) (is : IsText text) (p : ℕ) (inside : p ≤ last_place text) where
   abbrev keys : Keys
@@ -111,26 +140,6 @@ module _ (program : Program) (text : Text) (a : Account) (questions : ℕ → Li
 
     -- ---- Rows
 
-    row-next : (n : ℕ) → n + 1 ≤ passing text test d p → row (n + 1) ++ waits-at n ∷ [] ≡ row n
-    row-next n few =
-        let q = moved text d n p in
-        let left = passing-left text test d p inside in
-        let within = place-inside text is test d n p inside (omega (arith, left, few)) in
-        let sum = passing-on text test d n p inside (omega (arith, few)) in
-        let zero_on : n + 0 ≡ n = omega arith in
-        let here : behind text d q s 0 ≡ behind text d p s n = sym (behind-from text d p s n 0) ∙ ap (behind text d p s) zero_on in
-        sym (runs-begin text test d q 0 1 s within (omega arith) (omega (arith, sum, few))
-        ∙ ap₂ (λ r u. run_from text test d 0 r s ++ waiting u ∷ []) (moved-twice text is test d n 1 p) here)
-
-    row-last : (n : ℕ) → n ≡ passing text test d p → running (behind text d p s n) ∷ [] ≡ row n
-    row-last n same =
-        let q = moved text d n p in
-        let sum = passing-on text test d n p inside (omega (arith, same)) in
-        let one : 1 ≡ passing text test d q + 1 - 0 = omega (arith, sum, same) in
-        let zero_on : n ≡ n + 0 = omega arith in
-        let here : behind text d p s n ≡ behind text d q s 0 = ap (behind text d p s) zero_on ∙ behind-from text d p s n 0 in
-        ap (λ u. running u ∷ []) here ∙ ap (λ m. in_turn (most_first text d q s 0 m)) one
-
     threads-placed : (ns : List ℕ) → map (λ (x : Thread × Key). x.0) (map pair ns) ≡ map waiting (map (behind text d p s) ns)
     threads-placed [] = refl
     threads-placed (n ∷ ns) = ap (λ ts. waits-at n ∷ ts) (threads-placed ns)
@@ -156,7 +165,7 @@ module _ (program : Program) (text : Text) (a : Account) (questions : ℕ → Li
       row-of-key : (n : ℕ) → n ≤ passing text test d p → AreSound program text a keys d (row n) → IsOf program text a keys d (key n) (row n)
       row-of-key n few sound =
           let left = passing-left text test d p inside in
-          (runs-have-keys program text a questions way ips taken d test (moved text d n p) s is (place-inside text is test d n p inside (omega (arith, left, few))) of).greedy records sound
+          (runs-have-keys program text a questions way ips taken d test (moved text d n p) s is (place-inside text d n p inside (omega (arith, left, few))) of).greedy records sound
 
       each-of-key : (least count : ℕ) → least + count ≤ passing text test d p → ((n : ℕ) → least ≤ n → n < least + count → AreSound program text a keys d (row n))
           → AreUnknown program text a questions way ips taken d test s memory p least (least + count)
@@ -165,7 +174,7 @@ module _ (program : Program) (text : Text) (a : Account) (questions : ℕ → Li
       each-of-key least (suc count) few sound new =
           let n = least + count in
           let next : n + 1 ≡ least + suc count = omega arith in
-          let here : row (least + suc count) ++ waits-at n ∷ [] ≡ row n = ap (λ m. row m ++ waits-at n ∷ []) (sym next) ∙ row-next n (omega (arith, few)) in
+          let here : row (least + suc count) ++ waits-at n ∷ [] ≡ row n = ap (λ m. row m ++ waits-at n ∷ []) (sym next) ∙ row-next text is test d p s inside n (omega (arith, few)) in
           subst (λ ns. AreOfEach program text a keys d memory (row (least + suc count)) (map pair ns)) (sym (numbers-back least count)) (
             (
               subst (λ ts. IsOf program text a keys d (key n) ts) (sym here) (row-of-key n (omega (arith, few)) (sound n (omega arith) (omega arith))),
@@ -293,7 +302,7 @@ module _ (program : Program) (text : Text) (a : Account) (questions : ℕ → Li
       greedy-all : (n : ℕ) → n ≡ passing text test d p → least ≤ n → AreUnknown program text a questions way ips taken d test s memory p least (n + 1)
           → GivesHere (running s ∷ []) (each_noted [] ((running (behind text d p s n), key d n) ∷ all-placed d least (n - least)))
       greedy-all n same le new =
-          let last = row-last d n same in
+          let last = row-last text is test d p s inside n same in
           let few : n ≤ passing text test d p = omega (arith, same) in
           let full : least + (n - least) ≡ n = omega (arith, le) in
           let xs = (running (behind text d p s n), key d n) ∷ all-placed d least (n - least) in

@@ -37,7 +37,7 @@ each_nearest P text leftwards p h = Each-reverse P (take p text.characters) (Eac
 
 -- ---- A sequence of one character
 
-spelled_one : (text : Text) (c : ℕ) (d : Direction) (p : ℕ) (g : Groups) → p ≤ last_place text
+pub spelled_one : (text : Text) (c : ℕ) (d : Direction) (p : ℕ) (g : Groups) → p ≤ last_place text
     → spelled text nat_eq (c ∷ []) d p g ≡ one_character text (λ e. pointwise nat_eq (c ∷ []) (e ∷ [])) d p g
 spelled_one text c d p g inside = ap (λ b. if b then record { end = moved text d 1 p; groups = g } ∷ [] else []) (go (beside text d p inside))
   where
@@ -55,6 +55,22 @@ spelled_one text c d p g inside = ap (λ b. if b then record { end = moved text 
         ∙ ap (pointwise nat_eq (c ∷ []))
         (characters_beside-nearest text d 1 p inside (omega arith) ∙ ap (λ (l : List ℕ). in_text_order text d (take 1 l)) rest ∙ in_order d e)
         ∙ sym (ap (λ o. is_some_and o (λ e. pointwise nat_eq (c ∷ []) (e ∷ []))) is)
+
+-- A body of one character finds what that character's test says.
+pub body_is_one : (text : Text) (d : Direction) (node : Node) → is_one_character node ≡ true → (p : ℕ) (g : Groups) → p ≤ last_place text
+    → outcomes text node d p g ≡ one_character text (accepts node) d p g
+unfolding outcomes
+body_is_one text d (char c) one p g inside = refl
+body_is_one text d (char_set members) one p g inside = refl
+body_is_one text d (byte_set members) one p g inside = refl
+body_is_one text d (bracket contents) one p g inside = refl
+body_is_one text d match_any one p g inside = refl
+body_is_one text d match_any_except_line_terminator one p g inside = refl
+body_is_one text d (byte_sequence bytes) one p g inside =
+    let c = one_of_length (chars bytes) one in
+    ap (λ (cs : List ℕ). spelled text nat_eq cs d p g) c.1 ∙ spelled_one text c.0 d p g inside
+    ∙ ap (λ (cs : List ℕ). one_character text (λ e. pointwise nat_eq cs (e ∷ [])) d p g) (sym c.1)
+body_is_one text d _ one p g inside = cc
 
 module _ (program : Program) (text : Text) (is_text : IsText text) where
   -- one thread after another, of which all but the first wait
@@ -76,21 +92,6 @@ module _ (program : Program) (text : Text) (is_text : IsText text) where
   pub reached_behind : (d : Direction) (n p : ℕ) (g : Groups) → p ≤ last_place text → n ≤ characters_left text d p → IsOnward text d p (moved text d n p)
   reached_behind rightwards n p g inside few = (omega arith, omega arith)
   reached_behind leftwards n p g inside few = (omega arith, tt)
-
-  body_is_one : (d : Direction) (node : Node) → is_one_character node ≡ true → (p : ℕ) (g : Groups) → p ≤ last_place text
-      → outcomes text node d p g ≡ one_character text (accepts node) d p g
-  unfolding outcomes
-  body_is_one d (char c) one p g inside = refl
-  body_is_one d (char_set members) one p g inside = refl
-  body_is_one d (byte_set members) one p g inside = refl
-  body_is_one d (bracket contents) one p g inside = refl
-  body_is_one d match_any one p g inside = refl
-  body_is_one d match_any_except_line_terminator one p g inside = refl
-  body_is_one d (byte_sequence bytes) one p g inside =
-      let c = one_of_length (chars bytes) one in
-      ap (λ (cs : List ℕ). spelled text nat_eq cs d p g) c.1 ∙ spelled_one text c.0 d p g inside
-      ∙ ap (λ (cs : List ℕ). one_character text (λ e. pointwise nat_eq cs (e ∷ [])) d p g) (sym c.1)
-  body_is_one d _ one p g inside = cc
 
   -- The loop finds the places behind so many accepted characters, the preferred one first.
   runs_find : (d : Direction) (q : Quantifier) (node : Node) (E : Ending) (m n : Mark) (p : ℕ) (ids : List ℕ) (g : Groups) (s : List ℕ) (ls : List LoopData) (k : Outcome → List Item)
@@ -128,7 +129,7 @@ module _ (program : Program) (text : Text) (is_text : IsText text) where
       (numbers_from q.min (min most len + 1 - q.min)) (numbers_between q.min (min most len + 1 - q.min))) in
       yields_same program text d E _ _ _
       (ap (λ os. tick ∷ (ticks (min most (len + 1)) ++ and_then (with_ticks_between os) k))
-      (sym (repeat_run text d (accepts node) (repetition q (outcomes text node d)) (body_is_one d node one) p g enters.inside)))
+      (sym (repeat_run text d (accepts node) (repetition q (outcomes text node d)) (body_is_one text d node one) p g enters.inside)))
       (yields_scan program text d E t (min most (len + 1)) (in_turn (map st ns)) (and_then (with_ticks_between (run text d p g ns)) k) turn
       (turns_yield d E st (outcome_at text d p g) k ns yields))
 

@@ -27,80 +27,50 @@ data Effect : Type 0 where
   begun : Effect
   empty : Effect
 
+-- by cases
+abbrev each-effect : (P : Effect → Type 0) → P keeps → P unset → P spans → P begun → P empty → (e : Effect) → P e
+each-effect P a b c d f keeps = a
+each-effect P a b c d f unset = b
+each-effect P a b c d f spans = c
+each-effect P a b c d f begun = d
+each-effect P a b c d f empty = f
+
 abbrev then_reset : Effect → Effect
-then_reset keeps = unset
-then_reset unset = unset
-then_reset spans = unset
-then_reset begun = begun
-then_reset empty = begun
+then_reset e = each-effect (λ e. Effect) unset unset unset begun begun e
 
 abbrev then_close : Effect → Effect
-then_close keeps = spans
-then_close unset = spans
-then_close spans = spans
-then_close begun = empty
-then_close empty = empty
+then_close e = each-effect (λ e. Effect) spans spans spans empty empty e
 
 abbrev Range : Type 0
 Range = Option (ℕ × ℕ)
 
 module _ (d : Direction) (at : ℕ) where
   abbrev group_by : Effect → Option Range → Option ℕ → Option Range
-  group_by keeps g start = g
-  group_by unset g start = Some None
-  group_by spans g start = option_map (λ n. Some (span d n at)) start
-  group_by begun g start = Some None
-  group_by empty g start = Some (Some (span d at at))
+  group_by e g start = each-effect (λ e. Option Range) g (Some None) (option_map (λ n. Some (span d n at)) start) (Some None) (Some (Some (span d at at))) e
 
   abbrev start_by : Effect → Option ℕ → Option ℕ
-  start_by keeps start = start
-  start_by unset start = start
-  start_by spans start = start
-  start_by begun start = Some at
-  start_by empty start = Some at
+  start_by e start = each-effect (λ e. Option ℕ) start start start (Some at) (Some at) e
 
   group-reset : (e : Effect) (g : Option Range) (start : Option ℕ) → Some None ≡ group_by (then_reset e) g start
-  group-reset keeps g start = refl
-  group-reset unset g start = refl
-  group-reset spans g start = refl
-  group-reset begun g start = refl
-  group-reset empty g start = refl
+  group-reset e g start = each-effect (λ e. Some None ≡ group_by (then_reset e) g start) refl refl refl refl refl e
 
   start-reset : (e : Effect) (start : Option ℕ) → start_by e start ≡ start_by (then_reset e) start
-  start-reset keeps start = refl
-  start-reset unset start = refl
-  start-reset spans start = refl
-  start-reset begun start = refl
-  start-reset empty start = refl
+  start-reset e start = each-effect (λ e. start_by e start ≡ start_by (then_reset e) start) refl refl refl refl refl e
 
   group-close : (e : Effect) (g : Option Range) (start : Option ℕ) (n : ℕ) → Some n ≡ start_by e start → Some (Some (span d n at)) ≡ group_by (then_close e) g start
-  group-close keeps g start n is = ap (option_map (λ n. Some (span d n at))) is
-  group-close unset g start n is = ap (option_map (λ n. Some (span d n at))) is
-  group-close spans g start n is = ap (option_map (λ n. Some (span d n at))) is
-  group-close begun g start n is = ap (option_map (λ n. Some (span d n at))) is
-  group-close empty g start n is = ap (option_map (λ n. Some (span d n at))) is
+  group-close e g start n is =
+      let closed : (o : Option ℕ) → Some n ≡ o → Some (Some (span d n at)) ≡ option_map (λ n. Some (span d n at)) o = λ o same. ap (option_map (λ n. Some (span d n at))) same in
+      each-effect (λ e. Some n ≡ start_by e start → Some (Some (span d n at)) ≡ group_by (then_close e) g start) (closed start) (closed start) (closed start) (closed (Some at)) (closed (Some at)) e is
 
   start-close : (e : Effect) (start : Option ℕ) → start_by e start ≡ start_by (then_close e) start
-  start-close keeps start = refl
-  start-close unset start = refl
-  start-close spans start = refl
-  start-close begun start = refl
-  start-close empty start = refl
+  start-close e start = each-effect (λ e. start_by e start ≡ start_by (then_close e) start) refl refl refl refl refl e
 
   -- the second time it does nothing
   group-twice : (e : Effect) (g : Option Range) (start : Option ℕ) → group_by e g start ≡ group_by e (group_by e g start) (start_by e start)
-  group-twice keeps g start = refl
-  group-twice unset g start = refl
-  group-twice spans g start = refl
-  group-twice begun g start = refl
-  group-twice empty g start = refl
+  group-twice e g start = each-effect (λ e. group_by e g start ≡ group_by e (group_by e g start) (start_by e start)) refl refl refl refl refl e
 
   start-twice : (e : Effect) (start : Option ℕ) → start_by e start ≡ start_by e (start_by e start)
-  start-twice keeps start = refl
-  start-twice unset start = refl
-  start-twice spans start = refl
-  start-twice begun start = refl
-  start-twice empty start = refl
+  start-twice e start = each-effect (λ e. start_by e start ≡ start_by e (start_by e start)) refl refl refl refl refl e
 
   -- a state came of another one so
   record Came (x : State) (e : ℕ → Effect) (y : State) : Type 0 where
@@ -387,6 +357,13 @@ module _ (program : Program) (text : Text) (d : Direction) (begin stop : ℕ) (f
       (simulates-then program text false d 1 0 (running z ∷ []) (running (again f begin (k + 1) z) ∷ []) us
       (loop-again program text d z f begin (k + 1) turn false (omega (arith, few, least, fits)) (omega (arith, few, least))) on))
 
+  -- none is left before the last of them
+  last-will-do : (k : ℕ) (s : State) → k + 0 ≡ last → Simulates program text false d 0 (running (again f begin last s) ∷ []) (running (again f begin k s) ∷ [])
+  last-will-do k s at =
+      let same : last ≡ k = omega (arith, at) in
+      subst (λ k. Simulates program text false d 0 (running (again f begin last s) ∷ []) (running (again f begin k s) ∷ [])) same
+      (simulates-same program text false d (running (again f begin last s) ∷ []))
+
   -- ---- One way through the body
 
   module _ (path : Path program stop (begin + 1)) where
@@ -412,10 +389,7 @@ module _ (program : Program) (text : Text) (d : Direction) (begin stop : ℕ) (f
         })
 
     straight-will-do : (n k : ℕ) (s : State) → k + n ≡ last → Simulates program text false d 0 (running (again f begin last s) ∷ []) (running (again f begin k s) ∷ [])
-    straight-will-do zero k s at =
-        let same : last ≡ k = omega (arith, at) in
-        subst (λ k. Simulates program text false d 0 (running (again f begin last s) ∷ []) (running (again f begin k s) ∷ [])) same
-        (simulates-same program text false d (running (again f begin last s) ∷ []))
+    straight-will-do zero k s at = last-will-do k s at
     straight-will-do (suc n) k s at =
         forward program text d stop s.pos path (again f begin k s) (again f begin k s) (λ i. keeps) refl (came-itself d (again f begin k s)) (running (again f begin last s) ∷ [])
         (λ z here came.
@@ -427,10 +401,7 @@ module _ (program : Program) (text : Text) (d : Direction) (begin stop : ℕ) (f
 
   module _ (ways : Ways program stop (begin + 1)) where
     silent-will-do : (n k : ℕ) (s : State) → k + n ≡ last → Simulates program text false d 0 (running (again f begin last s) ∷ []) (running (again f begin k s) ∷ [])
-    silent-will-do zero k s at =
-        let same : last ≡ k = omega (arith, at) in
-        subst (λ k. Simulates program text false d 0 (running (again f begin last s) ∷ []) (running (again f begin k s) ∷ [])) same
-        (simulates-same program text false d (running (again f begin last s) ∷ []))
+    silent-will-do zero k s at = last-will-do k s at
     silent-will-do (suc n) k s at =
         let us = running (again f begin last s) ∷ [] in
         let z = at_ip stop (again f begin k s) in

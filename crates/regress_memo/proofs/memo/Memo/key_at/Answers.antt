@@ -14,30 +14,27 @@ returns-then-line-eq1-clause-key g c s here there loops =
     let t = arc_value c.self.inside.ledger in
     let x = c.line-line.result in
     let is = c.line-line.ensures ∙ ap (λ t. line_of t c.args.ip) c.deref.ensures in
-    let records = not-false x.records c.if-not-line.false in
-    let code = one-code t c.args.ip x is records c.self.invariant.coded c.if-line-eq1.true s here in
+    let code = one-code t c.args.ip x is (not-false x.records c.if-not-line.false) c.self.invariant.coded c.if-line-eq1.true s here in
     subst (λ (m : Known). Some (record { ip = c.args.ip; at = c.args.at; code = 0 }) ≡ key_of_state m.ledger s) c.self.view_is
-    (key-is t c.args.ip x is records s c.args.at 0 here there code)
+    (key-is t c.args.ip x is (not-false x.records c.if-not-line.false) s c.args.at 0 here there code)
 
 pub returns-then-line-eq1-clause-bit : goal.returns-then-line-eq1-clause-bit
 returns-then-line-eq1-clause-bit g c =
     let t = arc_value c.self.inside.ledger in
     let x = c.line-line.result in
     let is = c.line-line.ensures ∙ ap (λ t. line_of t c.args.ip) c.deref.ensures in
-    let records = not-false x.records c.if-not-line.false in
     let one : x.codes ≡ 1 = c.if-line-eq1.true in
     let few : 0 < x.codes = omega (arith, one) in
     subst (λ (m : Known). c.args.at < m.places → HasBit m.ledger m.places (record { ip = c.args.ip; at = c.args.at; code = 0 })) c.self.view_is
-    (code-bit t c.args.ip x is records c.self.inside.places c.args.at 0 few)
+    (code-bit t c.args.ip x is (not-false x.records c.if-not-line.false) c.self.inside.places c.args.at 0 few)
 
 pub returns-else-line-eq1-clause-bit : goal.returns-else-line-eq1-clause-bit
 returns-else-line-eq1-clause-bit g c =
     let t = arc_value c.self.inside.ledger in
     let x = c.line-line.result in
     let is = c.line-line.ensures ∙ ap (λ t. line_of t c.args.ip) c.deref.ensures in
-    let records = not-false x.records c.if-not-line.false in
     let code = c.code_at-code.result in
     subst (λ (m : Known). c.args.at < m.places → HasBit m.ledger m.places (record { ip = c.args.ip; at = c.args.at; code = code })) c.self.view_is
-    (told-bit t c.args.ip x is records c.self.invariant.coded c.self.inside.places c.args.at code
+    (told-bit t c.args.ip x is (not-false x.records c.if-not-line.false) c.self.invariant.coded c.self.inside.places c.args.at code
     (g.R.HoldsRounds.rounds c.args.rounds.now)
     (λ s at loops. c.code_at-code.ensures s at loops ∙ ap (λ t. code_of (questions_of t c.args.ip) s) c.deref-else-line-eq1.ensures))

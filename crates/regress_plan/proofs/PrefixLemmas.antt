@@ -32,12 +32,12 @@ use Rattle.regress_plan.specs.declared.ops.Op.TheVariants as op
 use Rattle.regress_plan.specs.declared.ops.Run as run
 use Rattle.regress_plan.specs.declared.plan.Plan.{Plan}
 use Rattle.regress_plan.specs.Keys.{key, is_wide, is_told, step_at, table_of}
-use Rattle.regress_plan.specs.Plans.{IsClass, reads_one, IsOpOf, Runs}
+use Rattle.regress_plan.specs.Plans.{IsClass, reads_one, run_of, IsOpOf}
 use Rattle.regress_plan.specs.Prefixes.{allowed_of, PrefixAt, IsPrefixAt, StandsNone}
 use Rattle.regress_plan.specs.Leading.{joined_of, then_allowed, unit_of, units_of, leads_on, IsThen, IsOfEither, IsPath, AreOps, PrefixBehind, UnitsLead, Leads, LeadsFrom, LeadsFromRun}
 use Rattle.regress_plan.proofs.KeyLemmas.{first-key-at, first-key-below, key_of_first}
 use Rattle.regress_plan.proofs.ClosingLemmas.{told-some}
-use Rattle.regress_plan.proofs.RowLemmas.{get-below}
+use Rattle.regress_plan.proofs.RowLemmas.{get-below, runs-of}
 use Rattle.regress_plan.proofs.ShareLemmas.{ascii-key}
 use Rattle.regress_plan.proofs.StepLemmas.{one-unit}
 
@@ -369,10 +369,11 @@ pub said-as : (plan : Plan) (ip : ℕ) (said : Ahead) (o shown : Op) → o ≡ s
 said-as plan ip said o shown is leads = let P : Op → Type 0 = λ x. LeadsFrom plan x ip said in subst P (sym is) leads
 
 -- what is said of a run, by what its rows say
-pub said-of-run : (plan : Plan) (ip : ℕ) (said : Ahead) (o : Op) (r : run.Run) (shown : Op) (greedy : Bool) → o ≡ shown
-    → ((program : Program) (insn : Insn) → IsOpOf program plan shown ip insn → Runs program plan greedy r ip insn) → LeadsFromRun plan r ip said → LeadsFrom plan o ip said
-said-of-run plan ip said o r shown greedy is runs leads =
-    said-as plan ip said o shown is (λ wide program ops there. let i = insn-of plan program ops shown ip there in leads wide program ops greedy i.0 i.1 (runs program i.0 i.2))
+pub said-of-run : (plan : Plan) (ip : ℕ) (said : Ahead) (o : Op) (r : run.Run) → run_of o ≡ Some r → LeadsFromRun plan r ip said → LeadsFrom plan o ip said
+said-of-run plan ip said o r is leads wide program ops there =
+    let i = insn-of plan program ops o ip there in
+    let h = runs-of program plan o r ip i.0 is i.2 in
+    leads wide program ops h.0 i.0 i.1 h.1
 
 -- an instruction that leads on to one other
 led-on : (wide : Bool) (program : Program) (ip to : ℕ) (insn form : Insn) → slice_get program.insns ip ≡ Some insn → insn ≡ form

@@ -218,12 +218,12 @@ fn said_of_op(plan: &Plan, op: Op, ip: usize) -> Ahead
     if leads_on(op) {
         return Ahead::At(ip + 1);
     }
+    if let Some(run) = op.run() {
+        return said_of_run(plan, run, ip);
+    }
     match op {
         Op::Unit(c) => said_of_unit(c, ip),
         Op::One(number) => said_of_class(plan, number, ip),
-        Op::PossessiveRun(ran) => said_of_run(plan, ran, ip),
-        Op::Run(ran) => said_of_run(plan, ran, ip),
-        Op::LazyRun(ran) => said_of_run(plan, ran, ip),
         Op::Go(to) => Ahead::At(to as usize),
         Op::Look(look) => Ahead::At(look.past as usize),
         Op::Either(other) => Ahead::Either(ip + 1, other as usize),

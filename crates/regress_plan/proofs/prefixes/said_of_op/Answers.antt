@@ -1,4 +1,4 @@
-use Rattle.std.proofs.Common.{◌+◌, true, false, sym, ◌∙◌}
+use Rattle.std.proofs.Common.{◌+◌, sym, ◌∙◌}
 use Rattle.regress_plan.specs.declared.prefixes.Ahead.TheVariants as ahead
 use Rattle.regress_plan.proofs.PrefixLemmas.{said-as, said-of-run, said-on, said-go, said-look, said-either}
 use Rattle.regress_plan.proofs.prefixes.said_of_op.Goals as goal
@@ -25,11 +25,5 @@ returns-in-Either c =
 pub returns-in-Enter : goal.returns-in-Enter
 returns-in-Enter c = said-as c.args.plan.now c.args.ip c.said_of_entry.result _ _ c.in-Enter.is c.said_of_entry.ensures
 
-pub returns-in-PossessiveRun : goal.returns-in-PossessiveRun
-returns-in-PossessiveRun c = said-of-run c.args.plan.now c.args.ip c.said_of_run.result _ c.in-PossessiveRun.ran _ true c.in-PossessiveRun.is (λ program insn runs. runs) c.said_of_run.ensures
-
-pub returns-in-Run : goal.returns-in-Run
-returns-in-Run c = said-of-run c.args.plan.now c.args.ip c.said_of_run-in-Run.result _ c.in-Run.ran _ true c.in-Run.is (λ program insn runs. runs) c.said_of_run-in-Run.ensures
-
-pub returns-in-LazyRun : goal.returns-in-LazyRun
-returns-in-LazyRun c = said-of-run c.args.plan.now c.args.ip c.said_of_run-in-LazyRun.result _ c.in-LazyRun.ran _ false c.in-LazyRun.is (λ program insn runs. runs) c.said_of_run-in-LazyRun.ensures
+pub returns-in-Some : goal.returns-in-Some
+returns-in-Some c = said-of-run c.args.plan.now c.args.ip c.said_of_run.result c.args.op c.in-Some.run' (sym c.in-Some.ensures) c.said_of_run.ensures

@@ -4,10 +4,11 @@ use Rattle.std.specs.Prelude.{if◌then◌else◌, nat_lt, ◌==◌}
 use Rattle.std.proofs.lemmas.List.{drop_all}
 use Rattle.std.proofs.lemmas.Result.{IfOk-weaker}
 use Rattle.std.proofs.lemmas.Bool.{ne_eqb, or_parts, eqb-true}
-use Rattle.regex_meaning.specs.Tree.{Node, byte_sequence, cat, end_of_cat, alt, capture_group, lookaround, loop, loop_1_char_body, Tree}
+use Rattle.regex_meaning.specs.Tree.{Node, byte_sequence, cat, alt, capture_group, loop, loop_1_char_body, Tree}
 use Rattle.regex_meaning.specs.WellFormed.{IsWellFormed}
 use Rattle.regex_meaning.specs.StartPredicate.{Beginning, open_ended, arbitrary, sequence, one_of, then_of, join, beginning, sequence_or, shared_front, union, first_byte, is_anchored, StartPredicate, start_of, start_predicate, start_arbitrary, start_byte_set, start_anchored, IsSound}
 use Rattle.regex_meaning.proofs.Clean.{predicate-sound}
+use Rattle.regress_program.proofs.LeafLemmas.{leaf-bare}
 use Rattle.regress_program.specs.declared.insn.predicates.StartPredicate as declared
 use Rattle.regress_program.specs.Insns.{start_of as predicate_of}
 use Rattle.regress_program.specs.Beginnings.{bytes_from, joined_to, after, after_arm}
@@ -237,21 +238,8 @@ after-nothing (one_of xs) = refl
 
 -- ---- Leaves
 
-pub leaf-reads : (n : Node) → is_leaf n ≡ true → is_open (beginning n) ≡ false
-unfolding beginning
-leaf-reads (byte_sequence []) h = refl
-leaf-reads (byte_sequence (b ∷ bytes)) h = refl
-leaf-reads (cat first rest) h = cc
-leaf-reads end_of_cat h = cc
-leaf-reads (alt left right) h = cc
-leaf-reads (capture_group id name contents) h = cc
-leaf-reads (lookaround l contents) h = cc
-leaf-reads (loop q start_group end_group loopee) h = cc
-leaf-reads (loop_1_char_body q loopee) h = cc
-leaf-reads _ h = refl
-
 pub leaf-after : (n : Node) (shared after_it b : Beginning) → is_leaf n ≡ true → b ≡ beginning n → after_it ≡ joined_to shared b → after_it ≡ after shared (beginning n)
-leaf-after n shared after_it b leaf e f = f ∙ ap (joined_to shared) e ∙ sym (after-reads shared (beginning n) (leaf-reads n leaf))
+leaf-after n shared after_it b leaf e f = f ∙ ap (joined_to shared) e ∙ sym (after-reads shared (beginning n) (leaf-bare n leaf).reads)
 
 -- ---- Memory
 

@@ -5,7 +5,7 @@ use Rattle.std.specs.List.{AllZip}
 use Rattle.std.proofs.lemmas.Bool.{eqb-true, eq-eqb}
 use Rattle.std.proofs.lemmas.List.{length-map, length-set, length-replicate, get_or-replicate, ext_get_or, take-append-le, take_all, map-set, set_past}
 use Rattle.regex_meaning.specs.Lists.{numbers_from}
-use Rattle.regex_meaning.specs.Tree.{Node, group_ids, cat, alt, capture_group, lookaround, loop, loop_1_char_body}
+use Rattle.regex_meaning.specs.Tree.{Node, group_ids}
 use Rattle.regex_meaning.specs.Names.{named_ids, name_of, names_by_id}
 use Rattle.regex_meaning.specs.WellFormed.{each_id_stands_once}
 use Rattle.regex_meaning.proofs.Sound.{all-contains}
@@ -17,6 +17,7 @@ use Rattle.regress_program.specs.Nodes.{cat_of, is_leaf}
 use Rattle.regress_program.specs.Weights.{weight}
 use Rattle.regress_program.specs.Filing.{HasFiled, filed, filed_all, is_unnamed, load, load_in, load_of_all, load_of_row, named_in}
 use Rattle.regress_program.specs.declared.emit.names.Unfiled.{Unfiled}
+use Rattle.regress_program.proofs.LeafLemmas.{leaf-bare}
 use Rattle.regress_program.proofs.IdLemmas.{false_is_true, count_by-first}
 use Rattle.regex_meaning.proofs.Booleans.{same-truth}
 use Rattle.regex_meaning.proofs.Lists.{length-numbers_from}
@@ -98,15 +99,6 @@ files-group whole inner a id name old new before after is_a all more h = record 
   less = omega (arith, h.less, more, ap weight is_a);
 }
 
-pub leaf-names : (n : Node) → is_leaf n ≡ true → named_ids n ≡ []
-leaf-names (cat a b) h = cc
-leaf-names (alt a b) h = cc
-leaf-names (capture_group id name n) h = cc
-leaf-names (lookaround l n) h = cc
-leaf-names (loop q s e n) h = cc
-leaf-names (loop_1_char_body q n) h = cc
-leaf-names n h = refl
-
 -- ---- Rows
 
 pub files-cheap : (named : List (ℕ × List ℕ)) (low high : ℕ) (old new : List (List ℕ)) (before after : List Unfiled) → HasFiled named low old new before after → low ≤ high
@@ -122,7 +114,7 @@ row-names first others nodes e = ap (λ x. named_ids (cat_of x)) e
 
 -- one that holds no others has no name
 pub row-skips : (first : ir.Node) (others nodes : List ir.Node) → nodes ≡ first ∷ others → is_leaf (node_of first) ≡ true → named_ids (cat_of others) ≡ named_ids (cat_of nodes)
-row-skips first others nodes e leaf = sym (row-names first others nodes e ∙ ap (λ x. x ++ named_ids (cat_of others)) (leaf-names (node_of first) leaf))
+row-skips first others nodes e leaf = sym (row-names first others nodes e ∙ ap (λ x. x ++ named_ids (cat_of others)) (leaf-bare (node_of first) leaf).named)
 
 pub row-load : (first : ir.Node) (others nodes : List ir.Node) → nodes ≡ first ∷ others → load_of_row others + (3 * weight (node_of first) + 2) < load_of_row nodes
 unfolding weight

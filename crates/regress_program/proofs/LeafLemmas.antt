@@ -2,6 +2,8 @@
 use Rattle.std.proofs.Common.{◌≡◌, ℕ, Bool, true, false, List, [], ◌∷◌, Option, Some, refl, sym, ap, ◌∙◌, Vec, Global, Box, String}
 use Rattle.regex_meaning.specs.Layout.{is_of_bytes}
 use Rattle.regex_meaning.specs.Tree as tree
+use Rattle.regex_meaning.specs.Names.{named_ids}
+use Rattle.regex_meaning.specs.StartPredicate.{beginning}
 use Rattle.regex_pattern_front.specs.TreeOf.{node_of}
 use Rattle.regex_pattern_front.specs.declared.ir.Node.{Node}
 use Rattle.regex_pattern_front.specs.declared.ir.Node.TheVariants.{Goal, CharSet, ByteSet, ByteSequence, Cat, Alt, StringSet, CaptureGroup, LookaroundAssertion, BackRef, Loop, Loop1CharBody, rolls-Cat, rolls-Alt, rolls-CaptureGroup, rolls-LookaroundAssertion, rolls-Loop, rolls-Loop1CharBody}
@@ -12,6 +14,7 @@ use denote.Hole.Carrier.{roll}
 use Rattle.regex_pattern_front.proofs.NodeLemmas.{HasNone}
 use Rattle.regress_program.specs.Ids.{is_sound_by_itself}
 use Rattle.regress_program.specs.Nodes.{cat_of, is_leaf, is_narrowed}
+use Rattle.regress_program.specs.Predicates.{is_open}
 use Rattle.regex_meaning.specs.WellFormed.{ends_in_goal}
 use Rattle.regex_pattern_front.specs.declared.ir.Quantifier.{Quantifier}
 use Rattle.std.specs.declared.ops.Range.{Range}
@@ -123,3 +126,23 @@ sound-other groups = ind-Node (λ n. ((v : Vec ℕ Global) → n ≡ CharSet v �
     → ((strings : Vec (Vec ℕ Global) Global) (icase : Bool) → n ≡ StringSet strings icase → ⊥) → ((group : ℕ) (icase : Bool) → n ≡ BackRef group icase → ⊥)
     → ((loopee : Box Node Global) (q : Quantifier) (groups : Range ℕ) → n ≡ Loop loopee q groups → ⊥) → ((loopee : Box Node Global) (q : Quantifier) → n ≡ Loop1CharBody loopee q → ⊥)
     → is_sound_by_itself groups (node_of n) ≡ true) (λ x y is. sound-rolled groups x)
+
+-- ---- What no leaf has
+
+-- it has no name, and reads something or may stand before anything
+pub record IsBare (n : tree.Node) : Type 0 where
+  pub named : named_ids n ≡ []
+  pub reads : is_open (beginning n) ≡ false
+
+pub leaf-bare : (n : tree.Node) → is_leaf n ≡ true → IsBare n
+unfolding beginning
+leaf-bare (tree.byte_sequence []) h = record { named = refl; reads = refl }
+leaf-bare (tree.byte_sequence (b ∷ bytes)) h = record { named = refl; reads = refl }
+leaf-bare (tree.cat first rest) h = absurd (let no : ⊥ = cc in no)
+leaf-bare tree.end_of_cat h = absurd (let no : ⊥ = cc in no)
+leaf-bare (tree.alt left right) h = absurd (let no : ⊥ = cc in no)
+leaf-bare (tree.capture_group id name contents) h = absurd (let no : ⊥ = cc in no)
+leaf-bare (tree.lookaround l contents) h = absurd (let no : ⊥ = cc in no)
+leaf-bare (tree.loop q start_group end_group loopee) h = absurd (let no : ⊥ = cc in no)
+leaf-bare (tree.loop_1_char_body q loopee) h = absurd (let no : ⊥ = cc in no)
+leaf-bare _ h = record { named = refl; reads = refl }

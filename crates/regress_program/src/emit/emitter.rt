@@ -229,18 +229,11 @@ impl Emitter {
 pub(crate) fn head_insn(fields: LoopFields) -> Insn
     ensures { insn_of result ≡ EnterLoop (loop_fields_of fields) }
 {
-    let LoopFields {
-        greedy,
-        loop_id,
-        exit,
-        min_iters,
-        max_iters,
-    } = fields;
     Insn::EnterLoop {
-        greedy,
-        loop_id,
-        exit,
-        min_iters,
-        max_iters,
+        greedy: fields.greedy,
+        loop_id: fields.loop_id,
+        exit: fields.exit,
+        min_iters: fields.min_iters,
+        max_iters: fields.max_iters,
     }
 }

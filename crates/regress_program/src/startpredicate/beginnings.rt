@@ -153,11 +153,11 @@ fn leaf_begins(node: &Node) -> Result<Beginning<'_>, AllocError>
         | Node::WordBoundary { .. }
         | Node::BackRef { .. } => Ok(Beginning::Anything),
         Node::Cat(_) => unreachable!(),
-        Node::Alt(..) => unreachable!(),
-        Node::CaptureGroup { .. } => unreachable!(),
-        Node::LookaroundAssertion { .. } => unreachable!(),
-        Node::Loop { .. } => unreachable!(),
-        Node::Loop1CharBody { .. } => unreachable!(),
+        Node::Alt(..)
+        | Node::CaptureGroup { .. }
+        | Node::LookaroundAssertion { .. }
+        | Node::Loop { .. }
+        | Node::Loop1CharBody { .. } => unreachable!(),
     }
 }
 

@@ -5,8 +5,8 @@ use Rattle.regex_pattern_front.specs.TreeOf.{node_of, name_of}
 use Rattle.regress_program.specs.Nodes.{cat_of}
 use Rattle.regress_program.specs.Weights.{weight}
 use Rattle.regress_program.specs.Filing.{load, load_in, load_of_row, named_in}
-use Rattle.regress_program.proofs.FilingLemmas.{files-alternatives, files-cheap, files-group, files-inside, files-none, leaf-names}
-use Rattle.regress_program.proofs.LeafLemmas.{leaf-left}
+use Rattle.regress_program.proofs.FilingLemmas.{files-alternatives, files-cheap, files-group, files-inside, files-none}
+use Rattle.regress_program.proofs.LeafLemmas.{leaf-bare, leaf-left}
 use Rattle.regress_program.proofs.NodeLemmas.{node_of-Cat}
 use Rattle.regress_program.proofs.emit.names.file_node.Goals as goal
 
@@ -92,4 +92,4 @@ returns-in_default-clause-filed c =
     let d = c.in_default in
     let n = node_of c.args.node.now in
     let leaf = leaf-left c.args.node.now d.not-Cat d.not-Alt d.not-CaptureGroup d.not-LookaroundAssertion d.not-Loop d.not-Loop1CharBody in
-    files-none (named_ids n) (load n) (map string_bytes c.args.names.now) c.args.rest.now.items (leaf-names n leaf) (omega arith)
+    files-none (named_ids n) (load n) (map string_bytes c.args.names.now) c.args.rest.now.items (leaf-bare n leaf).named (omega arith)

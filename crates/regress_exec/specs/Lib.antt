@@ -5,3 +5,4 @@ pub mod InTurn
 pub mod Positions
 pub mod Spends
 pub mod Worked
+pub mod Executors

@@ -10,6 +10,7 @@ ghost use Rattle.regress_exec.specs.{Positions.{span_of}, Spends.{Spends, TakesI
 
 use crate::exec::{Match, MatchProducer, SearchError};
 use regress_input::indexing::InputIndexer;
+use regress_input::position::PositionType;
 use regress_program::insn::Program;
 use std::alloc::AllocError;
 use std::ops::Range;
@@ -118,6 +119,18 @@ pub trait Attempts {
             → option_map at result ≡ next_tried (tree self.now) (text self.now) (at tried) };
 
     ghost is_text: { (it : Self) → IsText (text it) };
+}
+
+/// A group of these, by id; none where there is no such group, or it did not match.
+#[inline(always)]
+pub fn group_at<P: PositionType>(groups: &[Option<(P, P)>], id: usize) -> Option<(P, P)>
+    ensures { option_map (span_of P.offset) result
+        ≡ group_range (map (option_map (span_of P.offset)) groups.now) id }
+{
+    match groups.get(id) {
+        Some(range) => *range,
+        None => None,
+    }
 }
 
 // A group's range in offsets.

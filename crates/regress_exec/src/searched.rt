@@ -84,7 +84,32 @@ impl<'r, Input: InputIndexer> Searched<'r, Input> {
             input,
         }
     }
+}
 
+impl<'r, 't> Searched<'r, Utf8Input<'t>> {
+    /// A program over a text in UTF-8.
+    pub fn in_utf8(re: &'r CompiledRegex, text: &'t str) -> Self
+        ensures same { result.program.now ≡ re.now }
+        ensures text { ⟦<Utf8Input<'t> as InputIndexer>⟧.text result.input
+            ≡ utf8_text text.now (tree_of re.now).flags.unicode }
+    {
+        Searched::in_bytes(re, Utf8Input::new(text, re.program().flags().unicode))
+    }
+}
+
+impl<'r, 't> Searched<'r, AsciiInput<'t>> {
+    /// A program over a text of ASCII (`is_ascii` is the test).
+    pub fn in_ascii(re: &'r CompiledRegex, text: &'t str) -> Self
+        requires { IsAscii text.now }
+        ensures same { result.program.now ≡ re.now }
+        ensures text { ⟦<AsciiInput<'t> as InputIndexer>⟧.text result.input
+            ≡ ascii_text text.now (tree_of re.now).flags.unicode }
+    {
+        Searched::in_bytes(re, AsciiInput::new(text, re.program().flags().unicode))
+    }
+}
+
+impl<'r, Input: InputIndexer> Searched<'r, Input> {
     // A program for 16-bit units, over an input of any kind.
     fn in_units(re: &'r CompiledUnits, input: Input) -> Self
         requires { (Input.text input).unicode ≡ (tree_of re.now).flags.unicode }
@@ -101,31 +126,6 @@ impl<'r, Input: InputIndexer> Searched<'r, Input> {
     }
 }
 
-impl<'r, 't> Searched<'r, Utf8Input<'t>> {
-    /// A program over a text in UTF-8.
-    pub fn in_utf8(re: &'r CompiledRegex, text: &'t str) -> Self
-        ensures same { result.program.now ≡ re.now }
-        ensures text { ⟦<Utf8Input<'t> as InputIndexer>⟧.text result.input
-            ≡ utf8_text text.now (tree_of re.now).flags.unicode }
-    {
-        let flags = re.program().flags();
-        Searched::in_bytes(re, Utf8Input::new(text, flags.unicode))
-    }
-}
-
-impl<'r, 't> Searched<'r, AsciiInput<'t>> {
-    /// A program over a text of ASCII (`is_ascii` is the test).
-    pub fn in_ascii(re: &'r CompiledRegex, text: &'t str) -> Self
-        requires { IsAscii text.now }
-        ensures same { result.program.now ≡ re.now }
-        ensures text { ⟦<AsciiInput<'t> as InputIndexer>⟧.text result.input
-            ≡ ascii_text text.now (tree_of re.now).flags.unicode }
-    {
-        let flags = re.program().flags();
-        Searched::in_bytes(re, AsciiInput::new(text, flags.unicode))
-    }
-}
-
 impl<'r, 't> Searched<'r, Utf16Input<'t>> {
     /// A program for 16-bit units over a text in UTF-16.
     pub fn in_utf16(re: &'r CompiledUnits, text: &'t [u16]) -> Self
@@ -133,8 +133,7 @@ impl<'r, 't> Searched<'r, Utf16Input<'t>> {
         ensures text { ⟦<Utf16Input<'t> as InputIndexer>⟧.text result.input
             ≡ utf16_text text.now (tree_of re.now).flags.unicode }
     {
-        let flags = re.program().flags();
-        Searched::in_units(re, Utf16Input::new(text, flags.unicode))
+        Searched::in_units(re, Utf16Input::new(text, re.program().flags().unicode))
     }
 }
 
@@ -145,7 +144,6 @@ impl<'r, 't> Searched<'r, Ucs2Input<'t>> {
         ensures text { ⟦<Ucs2Input<'t> as InputIndexer>⟧.text result.input
             ≡ ucs2_text text.now (tree_of re.now).flags.unicode }
     {
-        let flags = re.program().flags();
-        Searched::in_units(re, Ucs2Input::new(text, flags.unicode))
+        Searched::in_units(re, Ucs2Input::new(text, re.program().flags().unicode))
     }
 }

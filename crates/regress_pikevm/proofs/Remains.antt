@@ -1,11 +1,14 @@
 -- What is left of a search after each turn.
-use Rattle.std.proofs.Common.{◌≡◌, inl, inr, ℕ, zero, suc, ◌<◌, ◌≤◌, List, [], ◌∷◌, ◌++◌, Option, Some, None, Bool, refl, ap, sym, ◌∙◌, subst, arith, map, reverse, append-nil, replicate, take, ◌-◌}
-use Rattle.std.proofs.lemmas.List.{reverse-append}
+use Rattle.std.proofs.Common.{◌≡◌, inl, inr, ℕ, ◌<◌, ◌≤◌, List, [], ◌∷◌, ◌++◌, Option, Some, None, Bool, refl, ap, sym, ◌∙◌, subst, arith, map, reverse, append-nil, replicate, take, ◌-◌}
+use Rattle.std.proofs.lemmas.List.{map-append, reverse-append}
+use Rattle.std.proofs.lemmas.Simd.{map-map}
+use Rattle.regex_meaning.proofs.Lists.{map-replicate}
 use Rattle.std.specs.Prelude.{option_map, IsTrue, IsSome, slice_get}
 use Rattle.regex_meaning.specs.Text.{Text, Direction}
 use Rattle.regex_meaning.specs.Offsets.{IsText, units}
 use Rattle.regex_meaning.specs.Layout.{Program, Insn}
 use Rattle.regex_meaning.specs.Tree.{Tree}
+use Rattle.regress_input.specs.Reading.{heading}
 use Rattle.regress_program.specs.Texts.{IsInBytes}
 use Rattle.regress_scan.proofs.Literals.{literal-reads}
 use Rattle.regress_program.specs.Code.{compiled}
@@ -15,21 +18,15 @@ use Rattle.regress_machine.specs.Machine.{Thread, running, waiting, in_turn, Nex
 use Rattle.regress_machine.specs.Finds.{initial, end_of}
 use Rattle.regress_machine.proofs.Remains.{steps_of, steps_left, Remains, Left, left-waits, remains-can, remains-inside, remains-ends, remains-none, left-goes, left-scans, left-asks}
 use Rattle.regress_pikevm.specs.declared.pikevm.states.State.{State}
-use Rattle.regress_pikevm.specs.States.{loop_of, state_of, preferred_last, waiting_of, TakesUp}
+use Rattle.regress_pikevm.specs.declared.pikevm.states.Turn.{Turn}
+use Rattle.regress_pikevm.specs.declared.pikevm.states.Turn.TheVariants.{Dead, Go, Fork, Ask}
+use Rattle.regress_pikevm.specs.States.{loop_of, next_of, state_of, preferred_last, waiting_of, TakesUp}
 use Rattle.regress_machine.specs.Turns.{CanTake, is_literal, end_of_search}
 
 -- ---- The stack
 
-pub waiting-push : {P : Type 0} (offset : P → ℕ) (xs : List (State P)) (s : State P) → waiting_of offset (xs ++ s ∷ []) ≡ waiting (state_of offset s) ∷ waiting_of offset xs
+waiting-push : {P : Type 0} (offset : P → ℕ) (xs : List (State P)) (s : State P) → waiting_of offset (xs ++ s ∷ []) ≡ waiting (state_of offset s) ∷ waiting_of offset xs
 waiting-push offset xs s = ap (λ l. map (λ s. waiting (state_of offset s)) l) (reverse-append xs (s ∷ []))
-
-map-append : {X Y : Type 0} (f : X → Y) (xs ys : List X) → map f (xs ++ ys) ≡ map f xs ++ map f ys
-map-append f [] ys = refl
-map-append f (x ∷ xs) ys = ap (λ l. f x ∷ l) (map-append f xs ys)
-
-map-map : {X Y Z : Type 0} (f : X → Y) (g : Y → Z) (xs : List X) → map g (map f xs) ≡ map (λ x. g (f x)) xs
-map-map f g [] = refl
-map-map f g (x ∷ xs) = ap (λ l. g (f x) ∷ l) (map-map f g xs)
 
 pub waiting-append : {P : Type 0} (offset : P → ℕ) (xs ys : List (State P)) → waiting_of offset (xs ++ ys) ≡ waiting_of offset ys ++ waiting_of offset xs
 waiting-append offset xs ys =
@@ -45,14 +42,10 @@ pub scan-threads : {P : Type 0} (offset : P → ℕ) (states rest stack : List (
 scan-threads offset states rest stack s e =
     let order : preferred_last offset states ≡ state_of offset s ∷ preferred_last offset rest =
     ap (preferred_last offset) e ∙ ap (map (λ s. state_of offset s)) (reverse-append rest (s ∷ [])) in
-    ap (λ l. running (state_of offset s) ∷ l) (waiting-append offset stack rest ∙ ap (λ l. l ++ waiting_of offset stack) (sym (map-map (λ s. state_of offset s) waiting (reverse rest))))
+    ap (λ l. running (state_of offset s) ∷ l) (waiting-append offset stack rest ∙ ap (λ l. l ++ waiting_of offset stack) (sym (map-map waiting (λ s. state_of offset s) (reverse rest))))
     ∙ ap (λ l. in_turn l ++ waiting_of offset stack) (sym order)
 
 -- ---- The first state
-
-map-replicate : {X Y : Type 0} (f : X → Y) (n : ℕ) (x : X) → map f (replicate n x) ≡ replicate n (f x)
-map-replicate f zero x = refl
-map-replicate f (suc n) x = ap (λ l. f x ∷ l) (map-replicate f n x)
 
 copies-are : {X Y : Type 0} (f : X → Y) (xs : List X) (n m : ℕ) (x : X) → xs ≡ replicate n x → n ≡ m → map f xs ≡ replicate m (f x)
 copies-are f xs n m x e same = ap (map f) e ∙ map-replicate f n x ∙ ap (λ n. replicate n (f x)) same
@@ -114,11 +107,25 @@ module _ {program : Program} {text : Text} {turns : ℕ} {d : Direction} {top : 
     pub turn-inside : offset s.pos ≤ units text
     turn-inside = remains-inside program text turns d top end (state_of offset s) (waiting_of offset rest) up.remains
 
-    pub turn-goes : {n : Next} (ss : List Thread) {after : List Thread} → n ≡ act program text d (state_of offset s) → goes ss ≡ n → after ≡ ss ++ waiting_of offset rest
+    turn-goes : {n : Next} (ss : List Thread) {after : List Thread} → n ≡ act program text d (state_of offset s) → goes ss ≡ n → after ≡ ss ++ waiting_of offset rest
         → Left program text turns d top end ts after
     turn-goes ss {after = after} e g a =
         then-left after (subst (Left program text turns d top end taken) (sym a)
         (left-goes program text turns d top end up.is up.reads (state_of offset s) ss (waiting_of offset rest) up.remains (sym (g ∙ e))))
+
+    -- what a turn of the executor is: it failed, goes on, or goes on twice
+    module _ (turn : Turn P) (is : next_of offset turn ≡ act program text d (state_of offset s)) where
+      pub turn-dead : turn ≡ Dead → Left program text turns d top end ts (waiting_of offset rest)
+      turn-dead was = turn-goes [] is (ap (next_of offset) (sym was)) refl
+
+      pub turn-go : (next : State P) → turn ≡ Go next → Left program text turns d top end ts (running (state_of offset next) ∷ waiting_of offset rest)
+      turn-go next was = turn-goes (running (state_of offset next) ∷ []) is (ap (next_of offset) (sym was)) refl
+
+      pub turn-fork : (preferred other : State P) (stack : List (State P)) → turn ≡ Fork preferred other → stack ≡ rest ++ other ∷ []
+          → Left program text turns d top end ts (running (state_of offset preferred) ∷ waiting_of offset stack)
+      turn-fork preferred other stack was pushed =
+          turn-goes (running (state_of offset preferred) ∷ waiting (state_of offset other) ∷ []) is (ap (next_of offset) (sym was))
+          (ap (λ l. running (state_of offset preferred) ∷ l) (ap (waiting_of offset) pushed ∙ waiting-push offset rest other))
 
     pub turn-scans : {n : Next} (tries : ℕ) (ss : List Thread) {after : List Thread} → n ≡ act program text d (state_of offset s) → scans tries ss ≡ n → after ≡ ss ++ waiting_of offset rest
         → Left program text turns d top end ts after
@@ -136,7 +143,7 @@ module _ {program : Program} {text : Text} {turns : ℕ} {d : Direction} {top : 
       pub fewer : steps_of (search program text turns inner (running u ∷ [])) < top
       pub behind : Left program text turns d top end ts (resumed negate w (end_of_search (search program text turns inner (running u ∷ []))) ++ waiting_of offset rest)
 
-    pub turn-asks : {n : Next} (u w : machine.State) (inner : Direction) (negate : Bool) → n ≡ act program text d (state_of offset s) → asks inner negate u w ≡ n
+    turn-asks : {n : Next} (u w : machine.State) (inner : Direction) (negate : Bool) → n ≡ act program text d (state_of offset s) → asks inner negate u w ≡ n
         → AskedOf inner negate u w
     turn-asks u w inner negate e g =
         let a = left-asks program text turns d top end up.is up.reads (state_of offset s) u w inner negate (waiting_of offset rest) up.remains (sym (g ∙ e)) in
@@ -147,9 +154,19 @@ module _ {program : Program} {text : Text} {turns : ℕ} {d : Direction} {top : 
           behind = then-left _ a.behind;
         }
 
-    pub asked-left : {inner : Direction} {negate : Bool} {u w : machine.State} {l : List Thread} → AskedOf inner negate u w
+    pub turn-ask : (turn : Turn P) → next_of offset turn ≡ act program text d (state_of offset s) → (forward negate : Bool) (inner after : State P) → turn ≡ Ask forward negate inner after
+        → AskedOf (heading forward) negate (state_of offset inner) (state_of offset after)
+    turn-ask turn is forward negate inner after was = turn-asks (state_of offset inner) (state_of offset after) (heading forward) negate is (ap (next_of offset) (sym was))
+
+    asked-left : {inner : Direction} {negate : Bool} {u w : machine.State} {l : List Thread} → AskedOf inner negate u w
         → l ≡ resumed negate w (end_of_search (search program text turns inner (running u ∷ []))) → Left program text turns d top end ts (l ++ waiting_of offset rest)
     asked-left a e = subst (λ l. Left program text turns d top end ts (l ++ waiting_of offset rest)) (sym e) a.behind
+
+    -- and what goes on behind it
+    pub turn-resumed : (turn : Turn P) → next_of offset turn ≡ act program text d (state_of offset s) → (forward negate : Bool) (inner after : State P) → turn ≡ Ask forward negate inner after
+        → {l : List Thread} → l ≡ resumed negate (state_of offset after) (end_of_search (search program text turns (heading forward) (running (state_of offset inner) ∷ [])))
+        → Left program text turns d top end ts (l ++ waiting_of offset rest)
+    turn-resumed turn is forward negate inner after was e = asked-left (turn-ask turn is forward negate inner after was) e
 
 pub map-end : {P : Type 0} (offset : P → ℕ) (o : Option (State P)) → option_map (λ s. end_of (state_of offset s)) o ≡ option_map end_of (option_map (λ s. state_of offset s) o)
 map-end offset None = refl

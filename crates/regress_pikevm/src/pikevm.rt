@@ -1,12 +1,11 @@
 //! The executor that copies its states: as plain as can be, each thread still to try a state of its own.
 
-ghost use Rattle.std.specs.Prelude.{◌≡◌, ◌<◌, ◌≤◌, ◌++◌, map, IsTrue, IsAscii, IsSome, IfOk, None, option_map, ⊤, ℕ, List};
-ghost use Rattle.std.specs.Borrow.{Bor};
+ghost use Rattle.std.specs.Prelude.{◌≡◌, ◌<◌, ◌≤◌, ◌++◌, map, IsTrue, IsAscii, IsSome, IfOk, option_map, ⊤};
 ghost use Rattle.regex_meaning.specs.{Text.{ascii_text, ucs2_text, utf16_text, utf8_text}, Offsets.{IsBoundary, units}};
 ghost use Rattle.regex_pattern_front.specs.TreeOf.{tree_of};
 ghost use Rattle.regress_program.specs.{Code.{compiled}, Insns.{insn_of}};
 ghost use Rattle.regress_machine.specs.{Machine.{in_turn}, Turns.{CanTake}};
-ghost use Rattle.regress_exec.specs.Attempts.{end_from};
+ghost use Rattle.regress_exec.specs.{Attempts.{end_from}, Executors.{IsUnlimited, ReadsAscii, TakesAscii}};
 ghost use Rattle.regress_pikevm.specs.Acting.{end_with, search_at, turn_at, HasRun};
 ghost use Rattle.regress_pikevm.specs.States.{groups_of, next_of, waiting_of, to_try, preferred_last, TakesUp};
 
@@ -18,7 +17,7 @@ pub mod states;
 use self::actions::take_turn;
 use self::states::{State, Turn, initial_state, resume};
 use regress_exec::exec::{Executor, MatchProducer, SearchError, Searcher};
-use regress_exec::places::Attempts;
+use regress_exec::places::{Attempts, group_at};
 use regress_exec::searched::Searched;
 use regress_input::cursor::{Backward, Forward};
 use regress_input::indexing::{AsciiInput, InputIndexer, Ucs2Input, Utf8Input, Utf16Input};
@@ -192,10 +191,7 @@ impl<'r, Input: InputIndexer> Attempts for PikeVMExecutor<'r, Input> {
     }
 
     fn group(&self, id: usize) -> Option<(Input::Position, Input::Position)> {
-        match self.groups.get(id) {
-            Some(range) => *range,
-            None => None,
-        }
+        group_at(&self.groups, id)
     }
 
     fn place_from(&self, pos: Input::Position) -> Option<Input::Position> {
@@ -247,12 +243,8 @@ impl<'r, 't> PikeVMExecutor<'r, Utf16Input<'t>> {
     ///
     /// None so far: it takes no memory.
     pub fn new_utf16(re: &'r CompiledUnits, text: &'t [u16]) -> Result<Self, AllocError>
-        ensures tree { IfOk result (λ e. ⟦<PikeVMExecutor<'r, Utf16Input<'t>> as MatchProducer>⟧.tree e
-            ≡ tree_of re.now) }
-        ensures text { IfOk result (λ e. ⟦<PikeVMExecutor<'r, Utf16Input<'t>> as MatchProducer>⟧.text e
-            ≡ utf16_text text.now (tree_of re.now).flags.unicode) }
-        ensures unlimited { IfOk result (λ e.
-            ⟦<PikeVMExecutor<'r, Utf16Input<'t>> as MatchProducer>⟧.budget e ≡ None) }
+        ensures { IfOk result
+            (IsUnlimited ⟦<PikeVMExecutor<'r, Utf16Input<'t>> as MatchProducer>⟧ (tree_of re.now) (utf16_text text.now)) }
     {
         Ok(PikeVMExecutor::over(Searched::in_utf16(re, text)))
     }
@@ -265,12 +257,8 @@ impl<'r, 't> PikeVMExecutor<'r, Ucs2Input<'t>> {
     ///
     /// None so far: it takes no memory.
     pub fn new_ucs2(re: &'r CompiledUnits, text: &'t [u16]) -> Result<Self, AllocError>
-        ensures tree { IfOk result (λ e. ⟦<PikeVMExecutor<'r, Ucs2Input<'t>> as MatchProducer>⟧.tree e
-            ≡ tree_of re.now) }
-        ensures text { IfOk result (λ e. ⟦<PikeVMExecutor<'r, Ucs2Input<'t>> as MatchProducer>⟧.text e
-            ≡ ucs2_text text.now (tree_of re.now).flags.unicode) }
-        ensures unlimited { IfOk result (λ e.
-            ⟦<PikeVMExecutor<'r, Ucs2Input<'t>> as MatchProducer>⟧.budget e ≡ None) }
+        ensures { IfOk result
+            (IsUnlimited ⟦<PikeVMExecutor<'r, Ucs2Input<'t>> as MatchProducer>⟧ (tree_of re.now) (ucs2_text text.now)) }
     {
         Ok(PikeVMExecutor::over(Searched::in_ucs2(re, text)))
     }
@@ -287,16 +275,12 @@ type OfAscii = <OverAscii as Executor<'static, 'static>>::AsAscii;
 
 /// What `AsAscii` of the executor over UTF-8 names takes each text of ASCII, and reads each of its bytes as a character.
 pub fn ascii_is_read_in_bytes()
-    ensures takes { let ascii = ⟦<OfUtf8 as Searcher<'static>>⟧ in
-        (text : Bor (List ℕ)) → IsAscii text.now → ascii.can_search text }
-    ensures reads { let ascii = ⟦<OfUtf8 as Searcher<'static>>⟧ in
-        ascii.text_of ≡ (λ text. ascii_text text.now) }
+    ensures takes { TakesAscii ⟦<OfUtf8 as Searcher<'static>>⟧.can_search }
+    ensures reads { ReadsAscii ⟦<OfUtf8 as Searcher<'static>>⟧.text_of }
 {}
 
 /// What `AsAscii` of the executor over ASCII names does so too.
 pub fn ascii_stays_in_bytes()
-    ensures takes { let ascii = ⟦<OfAscii as Searcher<'static>>⟧ in
-        (text : Bor (List ℕ)) → IsAscii text.now → ascii.can_search text }
-    ensures reads { let ascii = ⟦<OfAscii as Searcher<'static>>⟧ in
-        ascii.text_of ≡ (λ text. ascii_text text.now) }
+    ensures takes { TakesAscii ⟦<OfAscii as Searcher<'static>>⟧.can_search }
+    ensures reads { ReadsAscii ⟦<OfAscii as Searcher<'static>>⟧.text_of }
 {}

@@ -2,7 +2,7 @@
 use Rattle.std.proofs.Common.{◌≡◌, ℕ, zero, suc, ◌+◌, ◌-◌, ◌*◌, ◌%◌, ◌^◌, ◌<◌, ◌≤◌, bit_or, subst, Bool, true, false, ◌&&◌, List, length, drop, take, Option, Some, None, refl, ap, sym, ◌∙◌, arith, slice_get}
 use Rattle.std.specs.Prelude.{◌==◌, option_map, slice_index}
 use Rattle.std.specs.Int.{bit_at}
-use Rattle.std.proofs.lemmas.Bool.{cases_lt, eq-eqb, eqb-true}
+use Rattle.std.proofs.lemmas.Bool.{and_from, cases_lt, eq-eqb, eqb-true}
 use Rattle.std.proofs.lemmas.Option.{slice_get-get_or, slice_get_past}
 use Rattle.std.proofs.lemmas.List.{length-drop, length-take, get_or-drop, get_or-take}
 use mathlib.Core.Logic.{◌⊎◌, inl, inr}
@@ -25,10 +25,6 @@ and-last false b h = refl
 and-first : (a b : Bool) → a ≡ false → (a && b) ≡ false
 and-first true b h = cc
 and-first false b h = refl
-
-and-both : (a b : Bool) → a ≡ true → b ≡ true → (a && b) ≡ true
-and-both true b h k = k
-and-both false b h k = cc
 
 not-true : (b : Bool) → (b ≡ true → ⊥) → b ≡ false
 not-true true h = absurd (h refl)
@@ -67,7 +63,7 @@ module _ (allowed : Allowed) (us : List ℕ) (at : ℕ) where
   pub fits-all : (len : ℕ) → ((ahead : ℕ) → ahead < len → stands ahead ≡ true) → fits allowed us at len ≡ true
   fits-all zero each = refl
   fits-all (suc len) each =
-      and-both (fits allowed us at len) (stands len) (fits-all len (λ ahead less. each ahead (omega (arith, less)))) (each len (omega arith))
+      and_from (fits allowed us at len) (stands len) (fits-all len (λ ahead less. each ahead (omega (arith, less)))) (each len (omega arith))
 
   -- where they do not fit, this one may not stand
   pub fits-not : (len : ℕ) → fits allowed us at len ≡ false → (ahead : ℕ) × (ahead < len) × (stands ahead ≡ false)
@@ -104,7 +100,7 @@ module _ (allowed : Allowed) (us : List ℕ) (at : ℕ) where
 
   -- one more
   pub fits-more : (len : ℕ) → fits allowed us at len ≡ true → stands len ≡ true → fits allowed us at (suc len) ≡ true
-  fits-more len all here = and-both (fits allowed us at len) (stands len) all here
+  fits-more len all here = and_from (fits allowed us at len) (stands len) all here
 
   -- at the end there is no unit
   pub fits-past : (len ahead : ℕ) → ahead < len → length us ≤ at + ahead → fits allowed us at len ≡ false
@@ -128,7 +124,7 @@ module _ (allowed : Allowed) (us : List ℕ) (at : ℕ) where
   -- one more
   pub fits-next : (len : ℕ) → at + len < length us → fits allowed us at len ≡ true → allowed len (slice_index us (at + len)) ≡ true → fits allowed us at (len + 1) ≡ true
   fits-next len inside all here =
-      ap (fits allowed us at) (let z : len + 1 ≡ suc len = omega arith in z) ∙ and-both (fits allowed us at len) (stands len) all (unit-there len inside ∙ here)
+      ap (fits allowed us at) (let z : len + 1 ≡ suc len = omega arith in z) ∙ and_from (fits allowed us at len) (stands len) all (unit-there len inside ∙ here)
 
   pub fits-unless : (len ahead : ℕ) → ahead < len → at + ahead < length us → allowed ahead (slice_index us (at + ahead)) ≡ false → fits allowed us at len ≡ false
   fits-unless len ahead less inside here = fits-fails len ahead less (unit-there ahead inside ∙ here)

@@ -1,28 +1,29 @@
 -- Loops over one character with which each match begins.
 use Rattle.std.proofs.Common.{◌≡◌, ℕ, zero, suc, ◌+◌, ◌-◌, ◌<◌, ◌≤◌, min, List, [], ◌∷◌, ◌++◌, map, flat_map, drop, take, slice_range, Some, None, Bool, true, false, refl, ap, ◌∙◌, sym, subst, arith, append-nil, cond, reverse, slice_get, length}
-use Rattle.std.specs.Prelude.{if◌then◌else◌, nat_le, nat_eq, ◌&&◌, chars, MatchBool}
+use Rattle.std.specs.Prelude.{if◌then◌else◌, nat_le, ◌&&◌, MatchBool}
 use Rattle.std.specs.List.{prefix_len}
 use Rattle.std.proofs.lemmas.Bool.{cases_lt, le-leb}
 use Rattle.std.proofs.lemmas.List.Sums.{prefix_len-le-length}
 use mathlib.Core.Logic.{inl, inr}
-use Rattle.std.proofs.lemmas.List.{reverse-reverse}
+use Rattle.std.proofs.lemmas.List.{drop-drop, reverse-reverse}
 use lib.Pointwise.{pointwise}
 use Rattle.regex_meaning.specs.Lists.{numbers_from}
 use Rattle.regex_meaning.specs.Laws.{Each}
 use Rattle.regex_meaning.specs.Tree.{Quantifier, BracketContents, Lookaround, start_of_line, end_of_line, Node, empty, goal, char, char_set, byte_set, byte_sequence, cat, end_of_cat, alt, bracket, string_set, match_any, match_any_except_line_terminator, anchor, word_boundary, capture_group, back_ref, lookaround, loop, loop_1_char_body, Tree}
-use Rattle.regex_meaning.specs.Text.{Text, rightwards, last_place, next_character, characters_left, characters_beside, expand_code_point}
-use Rattle.regex_meaning.specs.Outcomes.{Groups, Outcome, accepts, is_some_and, in_intervals, most_of, repetition, one_character, spelled, spells, outcomes}
+use Rattle.regex_meaning.specs.Text.{Text, rightwards, last_place, expand_code_point}
+use Rattle.regex_meaning.specs.Outcomes.{Groups, Outcome, accepts, in_intervals, most_of, repetition, spelled, spells, outcomes}
 use Rattle.regex_meaning.specs.StartPredicate.{bytes_where}
 use Rattle.regex_meaning.specs.WellFormed.{is_one_character}
 use Rattle.regex_meaning.specs.Find.{match_at, first_of, no_groups}
 use Rattle.regex_meaning.specs.Ticks.{nearest_first}
-use Rattle.regex_meaning.specs.Layout.{Program, Insn, Mark, next, start, Has, HasAll, IsCode, IsStringCode, AreStringsCode, spelling_insn, char_set_insn, lookaround_insn, is_ascii_set, Loop1CharBody, Goal, JustFail, Char, ByteSet, ByteSeq, AsciiBracket, Bracket, MatchAny, MatchAnyExceptLineTerminator, StartOfLine, EndOfLine, WordBoundary, WordBoundaryUnicodeICase, Alt, EnterLoop, BeginCaptureGroup, BackRef, Lookahead, Lookbehind}
+use Rattle.regex_meaning.specs.Layout.{Program, Insn, Mark, next, start, Has, HasAll, IsCode, IsStringCode, AreStringsCode, spelling_insn, char_set_insn, lookaround_insn, is_ascii_set}
+use Rattle.regex_meaning.specs.Layout.{Loop1CharBody, Goal, JustFail, Char, ByteSet, ByteSeq, AsciiBracket, Bracket, MatchAny, MatchAnyExceptLineTerminator, StartOfLine, EndOfLine, WordBoundary, WordBoundaryUnicodeICase, Alt, EnterLoop, BeginCaptureGroup, BackRef, Lookahead, Lookbehind}
 use Rattle.regex_meaning.proofs.Each.{Each-map, Each-reverse, Each-image, Each-flat_map}
 use Rattle.regress_machine.specs.Machine.{test_of}
-use Rattle.regress_machine.proofs.Beside.{Beside, nothing_left, one_more, beside, length-nearest, characters_beside-nearest}
+use Rattle.regress_machine.proofs.Beside.{length-nearest}
 use Rattle.regress_machine.proofs.Run.{in_turns, numbers_between, outcome_at, run, repeat_run}
-use Rattle.regress_machine.proofs.OneCharacter.{each_nearest}
-use Rattle.regress_machine.proofs.OneTests.{one_of_length, reads_one}
+use Rattle.regress_machine.proofs.OneCharacter.{body_is_one, each_nearest}
+use Rattle.regress_machine.proofs.OneTests.{reads_one}
 use Rattle.regress_machine.proofs.Ready.{Ready, root_ready}
 use Rattle.regress_machine.specs.Finds.{CanSearch}
 
@@ -78,48 +79,6 @@ prefix-left test (x ∷ xs) (suc j) le = by (prefix-left test xs j) (test x) ref
     by rest true e le = let same = rest (omega (arith, le)) in omega (arith, same)
     by rest false e le = absurd (omega (arith, le))
 
-drop-none : (n : ℕ) → drop {A = ℕ} n [] ≡ []
-drop-none zero = refl
-drop-none (suc n) = refl
-
-drop-both : (i j : ℕ) (xs : List ℕ) → drop j (drop i xs) ≡ drop (i + j) xs
-drop-both zero j xs = ap (λ n. drop n xs) (let z : j ≡ 0 + j = omega arith in z)
-drop-both (suc i) j [] = drop-none j ∙ sym (drop-none (suc i + j))
-drop-both (suc i) j (x ∷ xs) = drop-both i j xs ∙ ap (λ n. drop n (x ∷ xs)) (let z : suc (i + j) ≡ suc i + j = omega arith in z)
-
--- ---- One character
-
-module _ (text : Text) where
-  spelled_one : (c p : ℕ) (g : Groups) → p ≤ last_place text
-      → spelled text nat_eq (c ∷ []) rightwards p g ≡ one_character text (λ e. pointwise nat_eq (c ∷ []) (e ∷ [])) rightwards p g
-  spelled_one c p g inside = ap (λ b. if b then record { end = p + 1; groups = g } ∷ [] else []) (go (beside text rightwards p inside))
-    where
-      go : Beside text rightwards p → (nat_le 1 (characters_left text rightwards p) && pointwise nat_eq (c ∷ []) (characters_beside text rightwards 1 p))
-          ≡ is_some_and (next_character text rightwards p) (λ e. pointwise nat_eq (c ∷ []) (e ∷ []))
-      go (nothing_left none nothing left) =
-          ap (λ n. nat_le 1 n && pointwise nat_eq (c ∷ []) (characters_beside text rightwards 1 p)) left
-          ∙ sym (ap (λ o. is_some_and o (λ e. pointwise nat_eq (c ∷ []) (e ∷ []))) none)
-      go (one_more e is rest left within) =
-          ap (λ b. b && pointwise nat_eq (c ∷ []) (characters_beside text rightwards 1 p)) (le-leb 1 (characters_left text rightwards p) (omega (arith, left)))
-          ∙ ap (pointwise nat_eq (c ∷ []))
-          (characters_beside-nearest text rightwards 1 p inside (omega (arith, left)) ∙ ap (λ (l : List ℕ). take 1 l) rest)
-          ∙ sym (ap (λ o. is_some_and o (λ e. pointwise nat_eq (c ∷ []) (e ∷ []))) is)
-
-  body_is_one : (node : Node) → is_one_character node ≡ true → (p : ℕ) (g : Groups) → p ≤ last_place text
-      → outcomes text node rightwards p g ≡ one_character text (accepts node) rightwards p g
-  unfolding outcomes
-  body_is_one (char c) one p g inside = refl
-  body_is_one (char_set members) one p g inside = refl
-  body_is_one (byte_set members) one p g inside = refl
-  body_is_one (bracket contents) one p g inside = refl
-  body_is_one match_any one p g inside = refl
-  body_is_one match_any_except_line_terminator one p g inside = refl
-  body_is_one (byte_sequence bytes) one p g inside =
-      let c = one_of_length (chars bytes) one in
-      ap (λ (cs : List ℕ). spelled text nat_eq cs rightwards p g) c.1 ∙ spelled_one c.0 p g inside
-      ∙ ap (λ (cs : List ℕ). one_character text (λ e. pointwise nat_eq cs (e ∷ [])) rightwards p g) (sym c.1)
-  body_is_one _ one p g inside = cc
-
 -- ---- The first instruction
 
 abbrev is_run : Insn → Bool
@@ -132,7 +91,7 @@ module _ (program : Program) (text : Text) (test : ℕ → Bool) where
   row p = prefix_len test (nearest_first text rightwards p)
 
   row-left : (p j : ℕ) → j ≤ row p → row p ≡ j + row (p + j)
-  row-left p j le = prefix-left test (drop p text.characters) j le ∙ ap (λ xs. j + prefix_len test xs) (drop-both p j text.characters)
+  row-left p j le = prefix-left test (drop p text.characters) j le ∙ ap (λ xs. j + prefix_len test xs) (drop-drop j p text.characters)
 
   row-inside : (p : ℕ) → p ≤ last_place text → p + row p ≤ last_place text
   row-inside p inside =
@@ -159,7 +118,7 @@ module _ (program : Program) (text : Text) (test : ℕ → Bool) where
     run-is : (p : ℕ) (g : Groups) → p ≤ last_place text → outcomes text (loop_1_char_body q loopee) rightwards p g ≡ run text rightwards p g (in_turns q.greedy (counts_at p))
     unfolding outcomes
     run-is p g inside =
-        repeat_run text rightwards (accepts loopee) (repetition q (outcomes text loopee rightwards)) (body_is_one text loopee one) p g inside
+        repeat_run text rightwards (accepts loopee) (repetition q (outcomes text loopee rightwards)) (body_is_one text rightwards loopee one) p g inside
         ∙ ap (λ n. run text rightwards p g (in_turns q.greedy (numbers_from q.min (min (most_of q) n + 1 - q.min))))
         (sym (prefix-same test (accepts loopee) (nearest_first text rightwards p) (each_nearest (λ c. test c ≡ accepts loopee c) text rightwards p same)))
 

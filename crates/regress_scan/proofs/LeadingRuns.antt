@@ -1,5 +1,5 @@
 -- Runs with which matches begin.
-use Rattle.std.proofs.Common.{◌≡◌, ℕ, ◌+◌, ◌-◌, ◌<◌, ◌≤◌, [], Bool, true, false, Option, Some, None, length, refl, ap, sym, ◌∙◌, subst, arith, slice_get, unwrap_or, le_refl}
+use Rattle.std.proofs.Common.{◌≡◌, ℕ, ◌+◌, ◌-◌, ◌<◌, ◌≤◌, [], Bool, true, Option, Some, None, length, refl, ap, sym, ◌∙◌, subst, arith, slice_get, unwrap_or, le_refl}
 use Rattle.std.specs.Prelude.{IsSome, IsTrue, is_some, option_and_then}
 use Rattle.std.specs.List.{prefix_len}
 use Rattle.std.proofs.lemmas.Option.{slice_get_within}
@@ -19,13 +19,13 @@ use Rattle.regress_simulation.specs.Tables.{HasUnits}
 use Rattle.regress_program.specs.Texts.{IsInBytes}
 use Rattle.regress_plan.specs.Insns.{insn_of}
 use Rattle.regress_plan.specs.Keys.{is_wide}
-use Rattle.regress_plan.specs.Plans.{IsPlanOf, IsClass, IsOpOf, Runs}
+use Rattle.regress_plan.specs.Plans.{IsPlanOf, IsClass, run_of, Runs}
 use Rattle.regress_plan.specs.declared.class.Class.{Class}
 use Rattle.regress_plan.specs.declared.ops.Bounds.{Bounds}
 use Rattle.regress_plan.specs.declared.ops.Op.{Op}
-use Rattle.regress_plan.specs.declared.ops.Op.TheVariants as variant
 use Rattle.regress_plan.specs.declared.ops.Run.{Run}
-use Rattle.regress_scan.specs.LeftOut.{AreVainFrom, run_in}
+use Rattle.regress_plan.proofs.RowLemmas.{runs-of}
+use Rattle.regress_scan.specs.LeftOut.{AreVainFrom}
 use Rattle.regress_scan.specs.Reached.{IsReadable, IsTestOf, HasAdvancedTo, in_a_row}
 use Rattle.regress_scan.specs.Searching.{Searching, program_of, insn_at}
 use Rattle.regress_scan.proofs.LeadingLoops.{none-along}
@@ -34,7 +34,7 @@ use Rattle.regress_scan.proofs.Scanning.{advanced-boundary}
 use Rattle.regress_scan.proofs.StopSets.{places-few}
 
 module _ (w : Searching) (has : HasUnits w.encoding w.text) (plan : IsPlanOf (is_wide w.encoding) (program_of w) w.plan) (r : Run)
-    (there : option_and_then run_in (slice_get w.plan.ops.items 0) ≡ Some r) where
+    (there : option_and_then run_of (slice_get w.plan.ops.items 0) ≡ Some r) where
   -- the run, and what it is over
   pub record Leads : Type 0 where
     pub greedy : Bool
@@ -49,17 +49,11 @@ module _ (w : Searching) (has : HasUnits w.encoding w.text) (plan : IsPlanOf (is
   runs : (insn : Insn) → insn_at w 0 ≡ Some insn → (greedy : Bool) × Runs (program_of w) w.plan greedy r 0 insn
   runs insn here = by (slice_get w.plan.ops.items 0) refl there
     where
-      by-op : (op : Op) → IsOpOf (program_of w) w.plan op 0 insn → run_in op ≡ Some r → (greedy : Bool) × Runs (program_of w) w.plan greedy r 0 insn
-      by-op (variant.PossessiveRun s) of is = (true, subst (λ r. Runs (program_of w) w.plan true r 0 insn) (let same : s ≡ r = cc in same) of)
-      by-op (variant.Run s) of is = (true, subst (λ r. Runs (program_of w) w.plan true r 0 insn) (let same : s ≡ r = cc in same) of)
-      by-op (variant.LazyRun s) of is = (false, subst (λ r. Runs (program_of w) w.plan false r 0 insn) (let same : s ≡ r = cc in same) of)
-      by-op _ of is = cc
-
-      by : (o : Option Op) → slice_get w.plan.ops.items 0 ≡ o → option_and_then run_in o ≡ Some r → (greedy : Bool) × Runs (program_of w) w.plan greedy r 0 insn
+      by : (o : Option Op) → slice_get w.plan.ops.items 0 ≡ o → option_and_then run_of o ≡ Some r → (greedy : Bool) × Runs (program_of w) w.plan greedy r 0 insn
       by None at is = cc
-      by (Some op) at is = by-op op (plan.each 0 op insn at here) is
+      by (Some op) at is = runs-of (program_of w) w.plan op r 0 insn is (plan.each 0 op insn at here)
 
-  pub leads : CanSearch (program_of w) w.tree w.text → (from : ℕ) → IsBoundary w.text from → Leads
+  leads : CanSearch (program_of w) w.tree w.text → (from : ℕ) → IsBoundary w.text from → Leads
   leads can from on = by-first (insn_at w 0) refl
     where
       p : (p : ℕ) × (place_at w.text from ≡ Some p) × (offset w.text p ≡ from) × (p ≤ last_place w.text)
@@ -97,7 +91,11 @@ module _ (w : Searching) (has : HasUnits w.encoding w.text) (plan : IsPlanOf (is
       by-first None none = absurd (never (ap (λ i. act_on (program_of w) w.text rightwards i s) none))
       by-first (Some insn) here = let of = runs insn here in by-test insn of.0 of.1 here (insn_at w 1) refl (test_of (program_of w) (insn_at w 1)) refl
 
-  module _ (l : Leads) where
+  -- where a search can be made, from a boundary on
+  module _ (can : CanSearch (program_of w) w.tree w.text) (from : ℕ) (on : IsBoundary w.text from) where
+    l : Leads
+    l = leads can from on
+
     pub leads-bounded : r.bounds < length w.plan.bounds.items
     leads-bounded = slice_get_within w.plan.bounds.items r.bounds l.bounds l.are_there
 
@@ -123,8 +121,8 @@ module _ (w : Searching) (has : HasUnits w.encoding w.text) (plan : IsPlanOf (is
       }
 
       -- It was gone over from a boundary to its end.
-      module _ (can : CanSearch (program_of w) w.tree w.text) (bounds : Bounds) (bounds_are : slice_get w.plan.bounds.items r.bounds ≡ Some bounds)
-          (wide : units w.text ≤ bounds.max) (from far : ℕ) (on : IsBoundary w.text from) (advanced : HasAdvancedTo w true class from (units w.text) far) where
+      module _ (bounds : Bounds) (bounds_are : slice_get w.plan.bounds.items r.bounds ≡ Some bounds) (wide : units w.text ≤ bounds.max)
+          (far : ℕ) (advanced : HasAdvancedTo w true class from (units w.text) far) where
         tested : (test : ℕ → Bool) × IsTestOf w class test
         tested = some-of (test_of (program_of w) (Some (insn_of class.insn))) tests-one
 

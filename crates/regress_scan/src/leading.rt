@@ -3,13 +3,14 @@
 ghost use Rattle.std.specs.Prelude.{◌≡◌, true, Some, option_and_then, slice_get};
 ghost use Rattle.regex_meaning.specs.Offsets.{IsBoundary, units};
 ghost use Rattle.regress_machine.specs.Finds.{CanSearch};
-ghost use Rattle.regress_scan.specs.{LeftOut.{AreVainFrom, run_in}, Reached.{HasAdvancedTo, IsReadable}, Searching.{program_of}};
+ghost use Rattle.regress_plan.specs.Plans.{run_of};
+ghost use Rattle.regress_scan.specs.{LeftOut.{AreVainFrom}, Reached.{HasAdvancedTo, IsReadable}, Searching.{program_of}};
 
 use crate::planned::{Planned, text_end};
 use crate::scans::{behind_rest, behind_single_units};
 use regress_input::cursor::Forward;
 use regress_plan::class::Class;
-use regress_plan::ops::{Op, Run};
+use regress_plan::ops::Run;
 use regress_plan::plan::Plan;
 
 // A character has at most so many units.
@@ -21,7 +22,7 @@ pub fn units_of_leading_run(plan: &Plan) -> usize {
     if plan.ops.len() == 0 {
         return 0;
     }
-    match run_of(&plan.ops[0]) {
+    match plan.ops[0].run() {
         Some(run) if is_unlimited(plan, run) => units_of(plan, run),
         _ => 0,
     }
@@ -49,19 +50,6 @@ fn units_of(plan: &Plan, run: Run) -> usize {
     }
 }
 
-// The run that an operation is, if it is one.
-#[inline(always)]
-fn run_of(op: &Op) -> Option<Run>
-    ensures { result ≡ run_in op.now }
-{
-    match op {
-        Op::PossessiveRun(run) => Some(*run),
-        Op::Run(run) => Some(*run),
-        Op::LazyRun(run) => Some(*run),
-        _ => None,
-    }
-}
-
 /// The end of the run with which each match begins, from a place on: if no match begins at the place, none does before that
 /// end, since it would go on where one from the place goes on. Where no run begins them, or it has a maximum, the place itself.
 #[inline(always)]
@@ -74,7 +62,7 @@ pub fn past_vain_run<W: Planned>(planned: &W, from: usize) -> usize
     let Some(op) = planned.op_at(0) else {
         return from;
     };
-    match run_of(op) {
+    match op.run() {
         Some(run) => past_run(planned, run, from),
         None => from,
     }
@@ -84,7 +72,7 @@ pub fn past_vain_run<W: Planned>(planned: &W, from: usize) -> usize
 #[inline(always)]
 fn past_run<W: Planned>(planned: &W, run: Run, from: usize) -> usize
     requires run { let ops = (W.searching planned.now).plan.ops.items in
-        option_and_then run_in (slice_get ops 0) ≡ Some run }
+        option_and_then run_of (slice_get ops 0) ≡ Some run }
     requires at { IsBoundary (W.searching planned.now).text from }
     requires can { let w = W.searching planned.now in CanSearch (program_of w) w.tree w.text }
     ensures at { IsBoundary (W.searching planned.now).text result }

@@ -1,6 +1,7 @@
 //! Places where the first units of a match may stand, by bits of some of them.
 
 ghost use Rattle.std.specs.Prelude.{◌≡◌, ◌≤◌, ◌<◌, ◌+◌, ◌-◌, ◌^◌, true, false};
+ghost use Rattle.std.proofs.Props.{props};
 ghost use Rattle.regex_meaning.specs.Offsets.{IsBoundary, units};
 ghost use Rattle.regress_plan.specs.Prefixes.{AreProbes, IsInAscii};
 ghost use Rattle.regress_plan.specs.declared.prefix.Prefix as prefix;
@@ -19,6 +20,15 @@ const PART: usize = 8;
 
 /// So many of the bits, of which the most seldom ones stand first, are looked for alone in a block.
 const SELDOM: usize = 2;
+
+/// The first units of a match, and bits of some of them.
+#[derive(Clone, Copy)]
+pub(crate) struct Probed<'p> {
+    pub(crate) prefix: &'p Prefix,
+    pub(crate) probes: &'p [Probe; 4],
+    ghost some: { 0 < prefix.now.len },
+    ghost are_probes: { AreProbes prefix.now probes.now } by { Prim.hlevel props },
+}
 
 // Whether each of the first units may stand at a place.
 #[inline(always)]
@@ -97,19 +107,13 @@ fn first_fitting<W: Planned>(
 
 // The same of a part, which is asked for bits first.
 #[inline(always)]
-fn first_in_part<W: Planned>(
-    planned: &W,
-    prefix: &Prefix,
-    probes: &[Probe; 4],
-    from: usize,
-) -> Option<usize>
-    requires some { 0 < prefix.now.len }
-    requires probes { AreProbes prefix.now probes.now }
-    requires room { from + PART + prefix.now.len ≤ units (W.searching planned.now).text }
-    ensures { IsFirstFit (W.searching planned.now) prefix.now from (from + PART) result }
+fn first_in_part<W: Planned>(planned: &W, probed: Probed<'_>, from: usize) -> Option<usize>
+    requires room { from + PART + probed.prefix.now.len ≤ units (W.searching planned.now).text }
+    ensures { IsFirstFit (W.searching planned.now) probed.entry.prefix.now from (from + PART) result }
 {
+    let probes = probed.probes;
     if some_pass(planned, probes, from, PART) {
-        first_fitting(planned, prefix, from, PART)
+        first_fitting(planned, probed.prefix, from, PART)
     } else {
         None
     }
@@ -117,21 +121,14 @@ fn first_in_part<W: Planned>(
 
 // The same of a block, part by part. It stands apart from the loop over blocks, of which most have no place that passes.
 #[inline(never)]
-fn first_in_parts<W: Planned>(
-    planned: &W,
-    prefix: &Prefix,
-    probes: &[Probe; 4],
-    from: usize,
-) -> Option<usize>
-    requires some { 0 < prefix.now.len }
-    requires probes { AreProbes prefix.now probes.now }
-    requires room { from + BLOCK + prefix.now.len ≤ units (W.searching planned.now).text }
-    ensures { IsFirstFit (W.searching planned.now) prefix.now from (from + BLOCK) result }
+fn first_in_parts<W: Planned>(planned: &W, probed: Probed<'_>, from: usize) -> Option<usize>
+    requires room { from + BLOCK + probed.prefix.now.len ≤ units (W.searching planned.now).text }
+    ensures { IsFirstFit (W.searching planned.now) probed.entry.prefix.now from (from + BLOCK) result }
 {
     let mut behind = 0;
     'parts: while behind < BLOCK {
         let at = from + behind;
-        if let Some(found) = first_in_part(planned, prefix, probes, at) {
+        if let Some(found) = first_in_part(planned, probed, at) {
             return Some(found);
         }
         behind += PART;
@@ -153,19 +150,12 @@ fn block_passes<W: Planned>(planned: &W, probes: &[Probe; 4], from: usize) -> bo
 
 // The same, where the whole block is asked for bits first.
 #[inline(always)]
-fn first_in_block<W: Planned>(
-    planned: &W,
-    prefix: &Prefix,
-    probes: &[Probe; 4],
-    from: usize,
-) -> Option<usize>
-    requires some { 0 < prefix.now.len }
-    requires probes { AreProbes prefix.now probes.now }
-    requires room { from + BLOCK + prefix.now.len ≤ units (W.searching planned.now).text }
-    ensures { IsFirstFit (W.searching planned.now) prefix.now from (from + BLOCK) result }
+fn first_in_block<W: Planned>(planned: &W, probed: Probed<'_>, from: usize) -> Option<usize>
+    requires room { from + BLOCK + probed.prefix.now.len ≤ units (W.searching planned.now).text }
+    ensures { IsFirstFit (W.searching planned.now) probed.entry.prefix.now from (from + BLOCK) result }
 {
-    if block_passes(planned, probes, from) {
-        first_in_parts(planned, prefix, probes, from)
+    if block_passes(planned, probed.probes, from) {
+        first_in_parts(planned, probed, from)
     } else {
         None
     }
@@ -182,26 +172,19 @@ fn places_left(units: usize, at: usize, len: usize) -> usize
 
 /// The first place from one on at which the first units may stand, by bits of some of them.
 #[inline(never)]
-pub(crate) fn next_probed<W: Planned>(
-    planned: &W,
-    prefix: &Prefix,
-    probes: &[Probe; 4],
-    from: usize,
-) -> Option<usize>
+pub(crate) fn next_probed<W: Planned>(planned: &W, probed: Probed<'_>, from: usize) -> Option<usize>
     requires at { IsBoundary (W.searching planned.now).text from }
-    requires probes { AreProbes prefix.now probes.now }
-    requires some { 0 < prefix.now.len }
-    requires ascii { IsInAscii prefix.now }
-    ensures { IsFirstFitting (W.searching planned.now) prefix.now from result }
+    requires ascii { IsInAscii probed.prefix.now }
+    ensures { IsFirstFitting (W.searching planned.now) probed.entry.prefix.now from result }
 {
-    let mut left = places_left(text_end(planned), from, prefix.len);
+    let mut left = places_left(text_end(planned), from, probed.prefix.len);
     let mut at = from;
     'blocks: while left > BLOCK {
-        if let Some(found) = first_in_block(planned, prefix, probes, at) {
+        if let Some(found) = first_in_block(planned, probed, at) {
             return Some(found);
         }
         at += BLOCK;
         left -= BLOCK;
     }
-    first_fitting(planned, prefix, at, left)
+    first_fitting(planned, probed.prefix, at, left)
 }

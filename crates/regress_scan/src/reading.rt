@@ -3,13 +3,12 @@
 ghost use Rattle.std.specs.Prelude.{◌≡◌, IsTrue, IsSome, Some, option_map, nat_eq, encode_utf8_all, [], ◌∷◌};
 ghost use lib.Pointwise.{pointwise};
 ghost use Rattle.regex_meaning.specs.{Text.{is_scalar, is_word_char}, Tree.{start_of_line, end_of_line}};
-ghost use Rattle.regex_meaning.specs.{Outcomes.{anchor_holds, is_at_word_boundary, is_edge, is_some_and, differ}, Offsets.{IsBoundary}};
-ghost use Rattle.regex_meaning.specs.Layout.{ByteSeq, Bracket};
+ghost use Rattle.regex_meaning.specs.{Outcomes.{is_at_word_boundary, is_edge, is_some_and, differ}, Offsets.{IsBoundary}, Layout.{ByteSeq, Bracket}};
 ghost use Rattle.regex_pattern_front.specs.TreeOf.{tree_of};
 ghost use Rattle.regress_input.specs.Reading.{led_to, place};
 ghost use Rattle.regress_program.specs.{Code.{compiled}, Insns.{insn_of}};
 ghost use Rattle.regress_machine.specs.{Machine.{test_of}, Turns.{is_literal}};
-ghost use Rattle.regress_scan.specs.Passing.{past_again, test_in};
+ghost use Rattle.regress_scan.specs.Passing.{anchor_at, past_again, test_in};
 
 use regress_input::cursor::Direction;
 use regress_input::front::ByteSet;
@@ -118,8 +117,7 @@ pub fn at_line_start<Input: InputIndexer>(
     pos: Input::Position,
 ) -> bool
     requires { IsBoundary (Input.text input.now) (Input.Position.offset pos) }
-    ensures { result ≡ anchor_holds (Input.text input.now) start_of_line
-        multiline (place (Input.text input.now) (Input.Position.offset pos)) }
+    ensures { result ≡ anchor_at (Input.text input.now) start_of_line multiline (Input.Position.offset pos) }
 {
     is_line_edge::<Input>(input.peek_left(pos), multiline)
 }
@@ -132,8 +130,7 @@ pub fn at_line_end<Input: InputIndexer>(
     pos: Input::Position,
 ) -> bool
     requires { IsBoundary (Input.text input.now) (Input.Position.offset pos) }
-    ensures { result ≡ anchor_holds (Input.text input.now) end_of_line
-        multiline (place (Input.text input.now) (Input.Position.offset pos)) }
+    ensures { result ≡ anchor_at (Input.text input.now) end_of_line multiline (Input.Position.offset pos) }
 {
     is_line_edge::<Input>(input.peek_right(pos), multiline)
 }

@@ -1,8 +1,9 @@
 //! What stands on either side of a place: ends of lines and of words.
 
 ghost use Rattle.std.specs.Prelude.{◌≡◌};
-ghost use Rattle.regex_meaning.specs.{Tree.{start_of_line, end_of_line}, Offsets.{IsBoundary}, Outcomes.{anchor_holds, is_at_word_boundary, differ}};
+ghost use Rattle.regex_meaning.specs.{Tree.{start_of_line, end_of_line}, Offsets.{IsBoundary}, Outcomes.{is_at_word_boundary, differ}};
 ghost use Rattle.regress_input.specs.Reading.{place};
+ghost use Rattle.regress_scan.specs.Passing.{anchor_at};
 
 use crate::planned::position;
 use crate::reading::{at_line_end, at_line_start, at_word_boundary};
@@ -13,8 +14,7 @@ use regress_plan::ops::Edge;
 #[inline(always)]
 pub fn is_line_start<Input: InputIndexer>(input: &Input, multiline: bool, at: usize) -> bool
     requires { IsBoundary (Input.text input.now) at }
-    ensures { let text = Input.text input.now in
-        result ≡ anchor_holds text start_of_line multiline (place text at) }
+    ensures { result ≡ anchor_at (Input.text input.now) start_of_line multiline at }
 {
     at_line_start(input, multiline, position(input, at))
 }
@@ -23,8 +23,7 @@ pub fn is_line_start<Input: InputIndexer>(input: &Input, multiline: bool, at: us
 #[inline(always)]
 pub fn is_line_end<Input: InputIndexer>(input: &Input, multiline: bool, at: usize) -> bool
     requires { IsBoundary (Input.text input.now) at }
-    ensures { let text = Input.text input.now in
-        result ≡ anchor_holds text end_of_line multiline (place text at) }
+    ensures { result ≡ anchor_at (Input.text input.now) end_of_line multiline at }
 {
     at_line_end(input, multiline, position(input, at))
 }

@@ -13,7 +13,7 @@ use crate::few::Few;
 use crate::fitting::{Fitting, InRow};
 use crate::kept::LONG;
 use crate::planned::{Planned, offset_in, position_in, text_end};
-use crate::probing::next_probed;
+use crate::probing::{Probed, next_probed};
 use regress_input::front::ByteSearcher;
 use regress_input::indexing::{CodeUnits, HasUnits, InputIndexer};
 use regress_plan::before::Before;
@@ -221,7 +221,7 @@ fn next_in_short<W: Planned>(
 {
     if known.rare.is_none() {
         if let Some(probes) = &known.probes {
-            return next_probed(planned, prefix, probes, from);
+            return next_probed(planned, Probed { prefix, probes }, from);
         }
     }
     next_fitting(planned, prefix, known.rare, from)
@@ -242,7 +242,7 @@ fn first_filtered<W: Planned>(
     ensures { IsFirstFitting (W.searching planned.now) prefix.now from result }
 {
     match prefilter {
-        Prefilter::Probes(probes) => next_probed(planned, prefix, probes, from),
+        Prefilter::Probes(probes) => next_probed(planned, Probed { prefix, probes }, from),
         Prefilter::Known(known) => next_known(planned, prefix, known, from),
         Prefilter::Absent => next_fitting(planned, prefix, None, from),
     }

@@ -1,13 +1,13 @@
-use Rattle.std.proofs.Common.{ℕ, ap, sym, subst, refl, ◌∙◌, ◌++◌, ◌∷◌, []}
+use Rattle.std.proofs.Common.{ℕ, ap, sym, subst, ◌∙◌, ◌++◌, ◌∷◌}
 use Rattle.regex_pattern_front.specs.TreeOf.{tree_of}
 use Rattle.regress_input.specs.Reading.{heading}
 use Rattle.regress_program.specs.Code.{compiled}
-use Rattle.regress_machine.specs.Machine.{running, waiting, in_turn, resumed}
+use Rattle.regress_machine.specs.Machine.{running, in_turn, resumed}
 use Rattle.regress_pikevm.specs.States.{state_of, next_of, running_of, waiting_of, preferred_last}
 use Rattle.regress_exec.specs.Attempts.{turns_from, search_from}
 use Rattle.regress_machine.specs.Turns.{end_of_search}
 use Rattle.regress_machine.proofs.Remains.{Remains, steps_of, remains-begin}
-use Rattle.regress_pikevm.proofs.Remains.{TakenUp, less-by, waiting-push, turn-can, turn-inside, turn-goes, turn-scans, taken-up, reads-literals, turn-ends, turn-asks, turn-none, asked-left}
+use Rattle.regress_pikevm.proofs.Remains.{TakenUp, less-by, turn-can, turn-inside, turn-dead, turn-go, turn-fork, turn-scans, taken-up, reads-literals, turn-ends, turn-ask, turn-resumed, turn-none}
 use Rattle.regress_pikevm.proofs.pikevm.+run.Given.{Over}
 use Rattle.regress_pikevm.proofs.pikevm.+run.Goals.{In-Some}
 use Rattle.regress_pikevm.proofs.pikevm.+run.Goals as goal
@@ -52,36 +52,22 @@ pub turn_in-requires-clause-inside : goal.turn_in-requires-clause-inside
 turn_in-requires-clause-inside g n c = turn-inside (taken g n (goal.at.turn_in-requires-clause-inside g n c).In-Some)
 
 pub search-preserved-in-Dead : goal.search-preserved-in-Dead
-search-preserved-in-Dead g n c =
-    (turn-goes (taken g n (goal.at.search-preserved-in-Dead g n c).In-Some) [] c.in_ok-turn_in.ensures (ap (next_of g.Input.Position.PositionType.offset) (sym c.in-Dead.is)) refl).remains
+search-preserved-in-Dead g n c = (turn-dead (taken g n (goal.at.search-preserved-in-Dead g n c).In-Some) _ c.in_ok-turn_in.ensures c.in-Dead.is).remains
 
 pub search-smaller-in-Dead : goal.search-smaller-in-Dead
-search-smaller-in-Dead g n c =
-    (turn-goes (taken g n (goal.at.search-smaller-in-Dead g n c).In-Some) [] c.in_ok-turn_in.ensures (ap (next_of g.Input.Position.PositionType.offset) (sym c.in-Dead.is)) refl).fewer
+search-smaller-in-Dead g n c = (turn-dead (taken g n (goal.at.search-smaller-in-Dead g n c).In-Some) _ c.in_ok-turn_in.ensures c.in-Dead.is).fewer
 
 pub search-preserved-in-Go : goal.search-preserved-in-Go
-search-preserved-in-Go g n c =
-    let offset = g.Input.Position.PositionType.offset in
-    (turn-goes (taken g n (goal.at.search-preserved-in-Go g n c).In-Some) (running (state_of offset c.in-Go.state) ∷ []) c.in_ok-turn_in.ensures (ap (next_of offset) (sym c.in-Go.is)) refl).remains
+search-preserved-in-Go g n c = (turn-go (taken g n (goal.at.search-preserved-in-Go g n c).In-Some) _ c.in_ok-turn_in.ensures c.in-Go.state c.in-Go.is).remains
 
 pub search-smaller-in-Go : goal.search-smaller-in-Go
-search-smaller-in-Go g n c =
-    let offset = g.Input.Position.PositionType.offset in
-    (turn-goes (taken g n (goal.at.search-smaller-in-Go g n c).In-Some) (running (state_of offset c.in-Go.state) ∷ []) c.in_ok-turn_in.ensures (ap (next_of offset) (sym c.in-Go.is)) refl).fewer
+search-smaller-in-Go g n c = (turn-go (taken g n (goal.at.search-smaller-in-Go g n c).In-Some) _ c.in_ok-turn_in.ensures c.in-Go.state c.in-Go.is).fewer
 
 pub search-preserved-in-Fork : goal.search-preserved-in-Fork
-search-preserved-in-Fork g n c =
-    let offset = g.Input.Position.PositionType.offset in
-    let preferred = running (state_of offset c.in-Fork.preferred) in
-    (turn-goes (taken g n (goal.at.search-preserved-in-Fork g n c).In-Some) (preferred ∷ waiting (state_of offset c.in-Fork.other) ∷ []) c.in_ok-turn_in.ensures (ap (next_of offset) (sym c.in-Fork.is))
-    (ap (λ l. preferred ∷ l) (ap (waiting_of offset) c.in_ok-push-in-Fork.ensures.items ∙ waiting-push offset c.take_up.new.stack.items c.in-Fork.other))).remains
+search-preserved-in-Fork g n c = (turn-fork (taken g n (goal.at.search-preserved-in-Fork g n c).In-Some) _ c.in_ok-turn_in.ensures c.in-Fork.preferred c.in-Fork.other _ c.in-Fork.is c.in_ok-push-in-Fork.ensures.items).remains
 
 pub search-smaller-in-Fork : goal.search-smaller-in-Fork
-search-smaller-in-Fork g n c =
-    let offset = g.Input.Position.PositionType.offset in
-    let preferred = running (state_of offset c.in-Fork.preferred) in
-    (turn-goes (taken g n (goal.at.search-smaller-in-Fork g n c).In-Some) (preferred ∷ waiting (state_of offset c.in-Fork.other) ∷ []) c.in_ok-turn_in.ensures (ap (next_of offset) (sym c.in-Fork.is))
-    (ap (λ l. preferred ∷ l) (ap (waiting_of offset) c.in_ok-push-in-Fork.ensures.items ∙ waiting-push offset c.take_up.new.stack.items c.in-Fork.other))).fewer
+search-smaller-in-Fork g n c = (turn-fork (taken g n (goal.at.search-smaller-in-Fork g n c).In-Some) _ c.in_ok-turn_in.ensures c.in-Fork.preferred c.in-Fork.other _ c.in-Fork.is c.in_ok-push-in-Fork.ensures.items).fewer
 
 pub search-preserved-in-Scan : goal.search-preserved-in-Scan
 search-preserved-in-Scan g n c =
@@ -97,24 +83,19 @@ search-smaller-in-Scan g n c =
 
 pub run-requires : goal.run-requires
 run-requires g n c =
-    let offset = g.Input.Position.PositionType.offset in
     let up = taken g n (goal.at.run-requires g n c).In-Some in
-    let asked = turn-asks up (state_of offset c.in-Ask.inner) (state_of offset c.in-Ask.after) (heading c.in-Ask.forward) c.in-Ask.negate c.in_ok-turn_in.ensures (ap (next_of offset) (sym c.in-Ask.is)) in
+    let asked = turn-ask up _ c.in_ok-turn_in.ensures c.in-Ask.forward c.in-Ask.negate c.in-Ask.inner c.in-Ask.after c.in-Ask.is in
     λ κs h. (less-by _ _ n asked.fewer c.decreases, (h.0, (h.1.0, (h.1.1.0, (h.1.1.1.0, (h.1.1.1.1, (asked.inside, asked.answers)))))))
 
 pub search-preserved : goal.search-preserved
 search-preserved g n c =
-    let offset = g.Input.Position.PositionType.offset in
-    let up = taken g n (goal.at.search-preserved g n c).In-Some in
-    let asked = turn-asks up (state_of offset c.in-Ask.inner) (state_of offset c.in-Ask.after) (heading c.in-Ask.forward) c.in-Ask.negate c.in_ok-turn_in.ensures (ap (next_of offset) (sym c.in-Ask.is)) in
-    (asked-left up asked (c.resume-next.ensures ∙ ap (resumed c.in-Ask.negate (state_of offset c.in-Ask.after)) c.in_ok-found-in-Ask.ensures)).remains
+    (turn-resumed (taken g n (goal.at.search-preserved g n c).In-Some) _ c.in_ok-turn_in.ensures c.in-Ask.forward c.in-Ask.negate c.in-Ask.inner c.in-Ask.after c.in-Ask.is
+    (c.resume-next.ensures ∙ ap (resumed c.in-Ask.negate (state_of g.Input.Position.PositionType.offset c.in-Ask.after)) c.in_ok-found-in-Ask.ensures)).remains
 
 pub search-smaller : goal.search-smaller
 search-smaller g n c =
-    let offset = g.Input.Position.PositionType.offset in
-    let up = taken g n (goal.at.search-smaller g n c).In-Some in
-    let asked = turn-asks up (state_of offset c.in-Ask.inner) (state_of offset c.in-Ask.after) (heading c.in-Ask.forward) c.in-Ask.negate c.in_ok-turn_in.ensures (ap (next_of offset) (sym c.in-Ask.is)) in
-    (asked-left up asked (c.resume-next.ensures ∙ ap (resumed c.in-Ask.negate (state_of offset c.in-Ask.after)) c.in_ok-found-in-Ask.ensures)).fewer
+    (turn-resumed (taken g n (goal.at.search-smaller g n c).In-Some) _ c.in_ok-turn_in.ensures c.in-Ask.forward c.in-Ask.negate c.in-Ask.inner c.in-Ask.after c.in-Ask.is
+    (c.resume-next.ensures ∙ ap (resumed c.in-Ask.negate (state_of g.Input.Position.PositionType.offset c.in-Ask.after)) c.in_ok-found-in-Ask.ensures)).fewer
 
 pub returns-in-Done : goal.returns-in-Done
 returns-in-Done g n c =

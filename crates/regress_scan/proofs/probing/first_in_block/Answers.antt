@@ -3,5 +3,5 @@ use Rattle.regress_scan.proofs.probing.first_in_block.Goals as goal
 
 pub block_passes-requires-clause-room : goal.block_passes-requires-clause-room
 block_passes-requires-clause-room g c = λ i probe got.
-    let inside = (c.requires.probes i probe got).inside in
+    let inside = (c.args.probed.are_probes i probe got).inside in
     omega (arith, c.requires.room, inside)

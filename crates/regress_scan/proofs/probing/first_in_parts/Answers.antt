@@ -10,6 +10,6 @@ parts-preserved g c =
     let whole = c.parts.invariant.1 in (
       omega (arith, c.parts-test.true, whole),
       omega (arith, whole),
-      λ x le less. none-then w c.args.prefix.now from (from + c.parts.behind) (from + c.parts.behind + 8) c.parts.invariant.2
+      λ x le less. none-then w c.args.probed.prefix.now from (from + c.parts.behind) (from + c.parts.behind + 8) c.parts.invariant.2
           c.in_default.ensures x le (omega (arith, less)),
     )

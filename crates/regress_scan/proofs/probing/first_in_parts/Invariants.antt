@@ -5,7 +5,7 @@ use Rattle.regress_scan.proofs.probing.first_in_parts.Given as goal
 abbrev pub invariant-parts : goal.invariant-parts
 invariant-parts g l =
     let from = l.from in
-    (l.behind ≤ 32) × (l.behind % 8 ≡ 0) × NoneFits (g.W.Planned.searching l.planned) l.prefix from (from + l.behind)
+    (l.behind ≤ 32) × (l.behind % 8 ≡ 0) × NoneFits (g.W.Planned.searching l.planned) l.probed.prefix.now from (from + l.behind)
 
 abbrev pub decreases-parts : goal.decreases-parts
 decreases-parts g l = 32 - l.behind

@@ -9,28 +9,28 @@ blocks-2-init g c =
       omega arith,
       boundary_inside w.text (g.met.W.Planned.is_text c.args.planned.now) c.args.from c.requires.at,
       omega (arith, c.places_left-left.ensures, c.text_end.ensures),
-      none-here w c.args.prefix.now c.args.from,
+      none-here w c.args.probed.prefix.now c.args.from,
     )
 
 pub returns-in-Some : goal.returns-in-Some
 returns-in-Some g c =
     let w = g.W.Planned.searching c.args.planned.now in
-    let prefix = c.args.prefix.now in
+    let prefix = c.args.probed.prefix.now in
     let from = c.args.from in
     let at = c.blocks-2.at in
-    found-where w prefix (g.met.W.Planned.has_units c.args.planned.now) c.requires.some c.requires.ascii from (at + 32) c.in-Some.found
+    found-where w prefix (g.met.W.Planned.has_units c.args.planned.now) c.args.probed.some c.requires.ascii from (at + 32) c.in-Some.found
     (first-behind w prefix from at (at + 32) (Some c.in-Some.found) c.blocks-2.invariant.0 c.blocks-2.invariant.3 c.in-Some.ensures)
 
 pub blocks-2-preserved : goal.blocks-2-preserved
 blocks-2-preserved g c =
     let w = g.W.Planned.searching c.args.planned.now in
-    let prefix = c.args.prefix.now in
+    let prefix = c.args.probed.prefix.now in
     let from = c.args.from in
     let at = c.blocks-2.at in
     let passed = c.blocks-2.invariant.0 in
     let left = c.blocks-2.invariant.2 in (
       omega (arith, passed),
-      omega (arith, left, c.blocks-2-test.true, c.requires.some),
+      omega (arith, left, c.blocks-2-test.true, c.args.probed.some),
       omega (arith, left, c.blocks-2-test.true),
       none-then w prefix from at (at + 32) c.blocks-2.invariant.3 c.in_default.ensures,
     )
@@ -38,10 +38,10 @@ blocks-2-preserved g c =
 pub returns : goal.returns
 returns g c =
     let w = g.W.Planned.searching c.args.planned.now in
-    let prefix = c.args.prefix.now in
+    let prefix = c.args.probed.prefix.now in
     let from = c.args.from in
     let at = c.blocks-2.at in
     let left = c.blocks-2.left in
-    first-where w prefix (g.met.W.Planned.has_units c.args.planned.now) c.requires.some c.requires.ascii from (at + left) c.first_fitting.result
+    first-where w prefix (g.met.W.Planned.has_units c.args.planned.now) c.args.probed.some c.requires.ascii from (at + left) c.first_fitting.result
     (omega (arith, c.blocks-2.invariant.2))
     (first-behind w prefix from at (at + left) c.first_fitting.result c.blocks-2.invariant.0 c.blocks-2.invariant.3 c.first_fitting.ensures)

@@ -8,8 +8,8 @@ invariant-blocks-2 g l =
     let w = g.W.Planned.searching l.planned in
     (l.fn.from ≤ l.at)
     × (l.at ≤ units w.text)
-    × (l.left ≡ units w.text + 1 - (l.at + l.prefix.len))
-    × NoneFits w l.prefix l.fn.from l.at
+    × (l.left ≡ units w.text + 1 - (l.at + l.probed.prefix.now.len))
+    × NoneFits w l.probed.prefix.now l.fn.from l.at
 
 abbrev pub decreases-blocks-2 : goal.decreases-blocks-2
 decreases-blocks-2 g l = l.left

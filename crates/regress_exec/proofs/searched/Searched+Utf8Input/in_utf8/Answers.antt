@@ -6,10 +6,10 @@ use Rattle.regress_exec.proofs.FirstMatch.{read-as}
 use Rattle.regress_exec.proofs.searched.Searched+Utf8Input.in_utf8.Goals as goal
 
 pub in_bytes-requires-clause-unicode : goal.in_bytes-requires-clause-unicode
-in_bytes-requires-clause-unicode c = read-as c.new.ensures refl c.flags-flags.ensures c.program.ensures
+in_bytes-requires-clause-unicode c = read-as c.new.ensures refl c.flags.ensures c.program.ensures
 
 pub in_bytes-requires-clause-bytes : goal.in_bytes-requires-clause-bytes
 in_bytes-requires-clause-bytes c = record {
-  reads = subst ReadsBytes (sym c.new.ensures) (utf8_text-ReadsBytes c.args.text.now c.flags-flags.result.unicode (is_utf8-from_IsUtf8 c.args.text.now c.utf8.text));
+  reads = subst ReadsBytes (sym c.new.ensures) (utf8_text-ReadsBytes c.args.text.now c.flags.result.unicode (is_utf8-from_IsUtf8 c.args.text.now c.utf8.text));
   units = refl;
 }

@@ -24,10 +24,8 @@ characters-init g c =
 
 pub returns-then-count-run : goal.returns-then-count-run
 returns-then-count-run g c = λ test p e f.
-    let text = g.Input.InputIndexer.text c.args.searched.now.input in
-    let is = g.met.Input.InputIndexer.is_text c.args.searched.now.input in
     let offset = g.Input.Position.PositionType.offset in
-    reach-most text is test (heading g.Dir.Direction.FORWARD) c.args.run.min_iters c.args.run.max_iters p (state_of offset c.args.state.now)
+    reach-most _ (g.met.Input.InputIndexer.is_text c.args.searched.now.input) test (heading g.Dir.Direction.FORWARD) c.args.run.min_iters c.args.run.max_iters p (state_of offset c.args.state.now)
     c.characters.count (offset c.characters.at) _ _ (c.characters.invariant.reaching test p e f) c.in_ok-keep.ensures c.if-count-run.true
 
 pub accepts_next-requires-clause-at : goal.accepts_next-requires-clause-at
@@ -35,10 +33,8 @@ accepts_next-requires-clause-at g c = c.characters.invariant.boundary
 
 pub returns-then-not-accepts_next : goal.returns-then-not-accepts_next
 returns-then-not-accepts_next g c = λ test p e f.
-    let text = g.Input.InputIndexer.text c.args.searched.now.input in
-    let is = g.met.Input.InputIndexer.is_text c.args.searched.now.input in
     let offset = g.Input.Position.PositionType.offset in
-    reach-end text is test (heading g.Dir.Direction.FORWARD) c.args.run.min_iters c.args.run.max_iters p (state_of offset c.args.state.now)
+    reach-end _ (g.met.Input.InputIndexer.is_text c.args.searched.now.input) test (heading g.Dir.Direction.FORWARD) c.args.run.min_iters c.args.run.max_iters p (state_of offset c.args.state.now)
     c.characters.count (offset c.characters.at) (offset c.accepts_next.new.pos) _ _ c.accepts_next.result (c.characters.invariant.reaching test p e f) c.in_ok-keep.ensures
     (omega (arith, c.characters.invariant.fits, c.if-count-run.false)) c.if-not-accepts_next.true (c.accepts_next.ensures test e)
 

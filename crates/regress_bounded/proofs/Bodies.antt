@@ -7,9 +7,14 @@ use Rattle.regex_pattern_front.specs.declared.ir.Regex.{Regex}
 use Rattle.regress_plan.specs.Insns.{insn_of}
 use Rattle.regress_plan.specs.declared.insn.Insn.{Insn}
 use Rattle.regress_program.specs.Code.{compiled}
+use Rattle.regress_program.specs.Texts.{IsInBytes}
+use Rattle.regress_machine.specs.Bytes.{reads_bytes}
+use Rattle.regex_meaning.specs.Text.{Text}
 use Rattle.regress_machine.specs.Machine.{Next, goes, with_some, test_of}
 use Rattle.regress_machine.specs.Turns.{CanTake}
 use Rattle.regress_machine.proofs.Fetched.{test-some, fetched-some, fetched-below}
+use Rattle.regress_scan.specs.Passing.{IsSpelledFor}
+use Rattle.regress_scan.proofs.Literals.{literal-reads}
 use Rattle.regress_scan.proofs.Reach.{some-of}
 
 pub body-tested : (program : Program) (ip : ℕ) (test : ℕ → Bool) → test_of program (slice_get program.insns (ip + 1)) ≡ Some test → IsSome (test_of program (slice_get program.insns (ip + 1)))
@@ -31,3 +36,8 @@ module _ (re : Regex) (insns : List Insn) (code : map insn_of insns ≡ (compile
 
   pub body-fits : length insns < 2 ^ 64 → ip + 2 < 2 ^ 64
   body-fits short = let below = body-below in omega (arith, below, short)
+
+-- it is spelled as the text is, where the program reads bytes in a text of them
+pub body-spelled : (re : Regex) {text : Text} {are_bytes : Bool} → (IsTrue (reads_bytes (tree_of re).root) → IsInBytes text are_bytes) → (ip : ℕ) (body : Insn)
+    → slice_get (compiled (tree_of re)).insns (ip + 1) ≡ Some (insn_of body) → IsSpelledFor body text are_bytes
+body-spelled re bytes ip body is = λ literal. bytes (literal-reads (tree_of re) (ip + 1) (insn_of body) is literal)

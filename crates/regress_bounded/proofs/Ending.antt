@@ -1,16 +1,20 @@
 -- Attempts in so much work: how one begins, what it finds, and that the next ones may be made.
 use Rattle.std.proofs.Common.{◌≡◌, ◌≤◌, ◌<◌, ◌^◌, ℕ, ◌+◌, ◌*◌, Bool, false, List, [], ◌∷◌, Option, Some, None, refl, sym, ap, ◌∙◌, subst, arith}
-use Rattle.std.specs.Prelude.{option_map, Ok, IsSome}
+use Rattle.std.specs.Prelude.{option_map, Result, Ok, Err, IsSome}
+use Rattle.std.proofs.Math.Logic.{∥∥₁_map, ∥∥₁_elim, ∥∥₁_prop}
+use Rattle.std.proofs.Props.{props}
 use Rattle.regex_meaning.specs.Text.{Text, rightwards}
 use Rattle.regex_meaning.specs.Offsets.{IsText, IsBoundary, units}
 use Rattle.regex_meaning.specs.Tree.{Tree}
 use Rattle.regress_program.specs.Code.{compiled}
-use Rattle.regress_exec.specs.Attempts.{turns_from, search_from}
+use Rattle.regress_input.proofs.Places.{boundary_inside}
+use Rattle.regress_exec.specs.Attempts.{end_from, turns_from, search_from}
 use Rattle.regress_exec.proofs.Attempts.{begins}
 use Rattle.regex_meaning.specs.Layout.{Program}
-use Rattle.regress_machine.specs.Finds.{initial, CanSearch}
+use Rattle.regress_machine.specs.Finds.{initial, end_of, CanSearch}
+use Rattle.regress_machine.specs.Turns.{end_of_search}
 use Rattle.regress_machine.specs.Machine as machine
-use Rattle.regress_machine.specs.Machine.{Thread, running, ends, act, Found, search}
+use Rattle.regress_machine.specs.Machine.{running, ends, Found, search}
 use Rattle.regress_linear.specs.Account.{ReadsAsBytes}
 use Rattle.regress_linear.specs.Turns.{Key, Entry, tried, tries, Answers}
 use Rattle.regress_ledger.specs.declared.ledger.Ledger.{Ledger}
@@ -24,27 +28,31 @@ use Rattle.regress_scan.proofs.Reach.{some-of}
 use Rattle.regress_memo.specs.Search.{HasCome}
 use Rattle.regress_exec.specs.Worked.{further_on}
 use Rattle.regress_bounded.specs.declared.course.Course.{Course}
+use Rattle.regress_bounded.specs.declared.course.Refusal.{Refusal}
+use Rattle.regress_bounded.specs.declared.course.Refusal.TheVariants.{Work}
+use Rattle.regress_pikevm.specs.Acting.{end_with}
+use Rattle.regress_pikevm.proofs.Remains.{map-end}
 use Rattle.regress_pikevm.specs.declared.pikevm.states.State.{State}
 use Rattle.regress_bounded.specs.Bounds.{HasBound, work_per_unit}
-use Rattle.regress_bounded.specs.Courses.{IsPaid, IsRight, Begin, Begins, Stands, IsOver, EndsAt, Runs, front_of}
+use Rattle.regress_bounded.specs.Courses.{IsPaid, IsRight, KnowsRightly, Begin, Begins, Stands, IsStanding, IsOver, MayStop, EndsAt, Runs, front_of}
 use Rattle.regress_bounded.specs.Paying.{HasWalked, IsWalked, IsTrying}
 use Rattle.regress_pikevm.specs.States.{state_of}
-use Rattle.regress_bounded.specs.Walks.{Walked}
+use Rattle.regress_bounded.specs.Walks.{Walked, HasWalked as AreWalked}
 use Rattle.regress_bounded.proofs.Ends.{ends-itself}
 use Rattle.regress_bounded.proofs.PaidSearches.{memory-of, then-starts, in-hand, in-order, still-onward, so-far, behind-end, then-ends, then-none}
 use Rattle.regress_bounded.proofs.Standing.{row-none}
 use Rattle.regress_bounded.proofs.Standing as standing
 
-module _ {P : Type 0} (offset : P → ℕ) (program : Program) (text : Text) where
-  -- ---- It begins
+-- ---- It begins
 
-  pub begins-stands : (at : ℕ) (c : Course) (b : Begin) (start : State P) → Begins program text at c b → at ≤ units text
-      → state_of offset start ≡ initial program at → Stands offset program text b (front_of offset (Some start)) [] c
-  begins-stands at c b start h inside is =
+module _ {P : Type 0} {offset : P → ℕ} {program : Program} {text : Text} where
+  pub begins-stands : {at : ℕ} {c : Course} {b : Begin} (start : State P) → IsText text → IsBoundary text at → state_of offset start ≡ initial program at → Begins program text at c b
+      → Stands offset program text b (front_of offset (Some start)) [] c
+  begins-stands {at} {c} {b} start is_text on is h =
       let right = h.right in
       let paid = right.paid in
       let t = c.memo.ledger in
-      let inside' : b.at ≤ units text = subst (λ n. n ≤ units text) (sym h.at) inside in
+      let inside' : b.at ≤ units text = subst (λ n. n ≤ units text) (sym h.at) (boundary_inside text is_text at on) in
       let same : initial program b.at ≡ state_of offset start = ap (initial program) h.at ∙ sym is in
       let first = in-hand program t paid.ledger text paid.is_text paid.bytes paid.short b.at inside' b.memory in
       record {
@@ -61,13 +69,14 @@ module _ {P : Type 0} (offset : P → ℕ) (program : Program) (text : Text) whe
         spent = (let t = h.total in omega (arith, t));
       }
 
+module _ {P : Type 0} (offset : P → ℕ) (program : Program) (text : Text) where
   -- one that has what is known as its memory
-  pub record Attempt (at : ℕ) (c : Course) (searched : Option Found) : Type 0 where
-    pub begin : Begin
-    pub begins : Begins program text at c begin
-    pub found : searched ≡ Some begin.found
+  record Attempt (at : ℕ) (c : Course) (searched : Option Found) : Type 0 where
+    begin : Begin
+    begins : Begins program text at c begin
+    found : searched ≡ Some begin.found
 
-  pub attempt-begins : (at turns : ℕ) (c : Course) → IsRight program text c.memo → IsSome (search program text turns rightwards (first_row program at))
+  attempt-begins : (at turns : ℕ) (c : Course) → IsRight program text c.memo → IsSome (search program text turns rightwards (first_row program at))
       → Attempt at c (search program text turns rightwards (first_row program at))
   attempt-begins at turns c right answers =
       let f = some-of (search program text turns rightwards (first_row program at)) answers in
@@ -81,25 +90,25 @@ module _ {P : Type 0} (offset : P → ℕ) (program : Program) (text : Text) whe
   -- ---- What it finds
 
   module _ (b : Begin) (c : Course) where
-    pub nothing-found : Stands offset program text b [] [] c → b.found.end ≡ None
+    nothing-found : Stands offset program text b [] [] c → b.found.end ≡ None
     nothing-found h =
         let none : h.row ≡ [] = row-none offset program text h.row h.is in
         standing.then-none program text c.memo.ledger h.right.paid b h.is_memory h.answers h.work h.now
         (subst (HasCome program text c.memo.ledger rightwards b.memory (tries (first_row program b.at)) h.work h.now) none h.comes)
 
-    pub end-found : (end : State P) → EndsAt offset program text b end c → b.found.end ≡ Some (state_of offset end)
+    end-found : (end : State P) → EndsAt offset program text b end c → b.found.end ≡ Some (state_of offset end)
     end-found end h =
         let s = h.stands in
         standing.then-ends program text c.memo.ledger s.right.paid b s.is_memory s.answers s.work s.now h.from (state_of offset end) s.row s.comes h.ends
 
   -- its end is inside the text
-  pub end-inside : (b : Begin) (c : Course) (end : State P) → EndsAt offset program text b end c → offset end.pos ≤ units text
+  end-inside : (b : Begin) (c : Course) (end : State P) → EndsAt offset program text b end c → offset end.pos ≤ units text
   end-inside b c end h =
       let own : offset end.pos ≡ h.from.pos = ap (λ (u : machine.State). u.pos) (ends-itself program text rightwards h.from (state_of offset end) h.ends) in
       let within = h.stands.comes.keyed.0.sound.within in
       omega (arith, own, within)
 
-  pub runs-found : (b : Begin) (c : Course) (end : Option (State P)) → Runs offset program text b (Ok end) c → b.found.end ≡ option_map (λ e. state_of offset e) end
+  runs-found : (b : Begin) (c : Course) (end : Option (State P)) → Runs offset program text b (Ok end) c → b.found.end ≡ option_map (λ e. state_of offset e) end
   runs-found b c None h = nothing-found b c h
   runs-found b c (Some e) h = end-found b c e h
 
@@ -111,10 +120,10 @@ module _ {P : Type 0} (offset : P → ℕ) (program : Program) (text : Text) whe
     t = new.memo.ledger
 
     -- the attempt from what was known
-    abbrev pub its : Begin
+    abbrev its : Begin
     its = record { at = at; memory = walked.walked.memory; total = old.left; turns = answered.turns; found = answered.found }
 
-    pub its-begins : IsRight program text old.memo → Begins program text at old its
+    its-begins : IsRight program text old.memo → Begins program text at old its
     its-begins right = record { right = right; at = refl; is_memory = walked.walked.has.is; holds = walked.walked.holds; total = refl; answers = answered.searches }
 
     has : HasWalked program text t ahead walked.done walked.walked.memory
@@ -138,7 +147,7 @@ module _ {P : Type 0} (offset : P → ℕ) (program : Program) (text : Text) whe
           omega (arith, e, u, spent)
 
       -- none begins there
-      pub walked-none : Stands offset program text its [] [] new → Walked program text new (at + 1)
+      walked-none : Stands offset program text its [] [] new → Walked program text new (at + 1)
       walked-none h =
           let none : h.row ≡ [] = row-none offset program text h.row h.is in
           let come = subst (HasCome program text t rightwards its.memory (tries (first_row program at)) h.work h.now) none h.comes in
@@ -149,7 +158,7 @@ module _ {P : Type 0} (offset : P → ℕ) (program : Program) (text : Text) whe
           }
 
       -- a match ends it
-      pub walked-found : (end : State P) → EndsAt offset program text its end new → Walked program text new (further_on at (offset end.pos))
+      walked-found : (end : State P) → EndsAt offset program text its end new → Walked program text new (further_on at (offset end.pos))
       walked-found end h =
           let s = h.stands in
           let own : offset end.pos ≡ h.from.pos = ap (λ (u : machine.State). u.pos) (ends-itself program text rightwards h.from (state_of offset end) h.ends) in
@@ -164,7 +173,7 @@ module _ {P : Type 0} (offset : P → ℕ) (program : Program) (text : Text) whe
           }
 
       -- work is never wanting
-      pub never-over : IsOver offset program text its new → ⊥
+      never-over : IsOver offset program text its new → ⊥
       never-over h =
           let all =
           so-far program t paid.ledger text paid.is_text paid.bytes paid.short at walked.done its.memory
@@ -195,7 +204,78 @@ module _ (program : Program) (text : Text) (is_text : IsText text) (bytes : Read
   }
 
 -- the search of an attempt answers
-pub answered-at : (tree : Tree) (text : Text) → CanSearch (compiled tree) tree text → (at : ℕ) → IsBoundary text at → Answers (compiled tree) text rightwards (first_row (compiled tree) at)
+answered-at : (tree : Tree) (text : Text) → CanSearch (compiled tree) tree text → (at : ℕ) → IsBoundary text at → Answers (compiled tree) text rightwards (first_row (compiled tree) at)
 answered-at tree text can at on =
     let s = some-of (search_from tree text at rightwards (initial (compiled tree) at)) (begins tree text at can on).answers in
     record { turns = turns_from tree text at; found = s.0; searches = s.1 }
+
+-- ---- What an attempt comes to, by all that begin so
+
+module _ {P : Type 0} (offset : P → ℕ) {tree : Tree} {text : Text} (can : CanSearch (compiled tree) tree text) (at : ℕ) (on : IsBoundary text at) (old : Course) where
+  first : IsRight (compiled tree) text old.memo → Attempt offset (compiled tree) text at old (search (compiled tree) text (turns_from tree text at) rightwards (first_row (compiled tree) at))
+  first right = attempt-begins offset (compiled tree) text at (turns_from tree text at) old right (begins tree text at can on).answers
+
+  -- it stands so at its start
+  pub attempt-stands : IsText text → KnowsRightly (compiled tree) text old.memo → (start : State P) → state_of offset start ≡ initial (compiled tree) at
+      → IsStanding offset (compiled tree) text (front_of offset (Some start)) [] old
+  attempt-stands is knows start begun = ∥∥₁_map knows (λ right. let x = first right in record { begin = x.begin; stands = begins-stands start is on begun x.begins })
+
+  module _ (new : Course) where
+    abbrev ByRuns : Result (Option (State P)) Refusal → Type 0
+    ByRuns r = (b : Begin) → Begins (compiled tree) text at old b → Runs offset (compiled tree) text b r new
+
+    -- an end that is found is inside the text
+    pub found-inside : {found : Option (State P)} {end : State P} → found ≡ Some end → KnowsRightly (compiled tree) text old.memo → ByRuns (Ok found) → offset end.pos ≤ units text
+    found-inside {end = end} is knows runs =
+        let by = subst (λ o. ByRuns (Ok o)) is runs in
+        ∥∥₁_elim knows (Prim.hlevel props) (λ right. let x = first right in end-inside offset (compiled tree) text x.begin new end (by x.begin x.begins))
+
+    -- what is found is what the tree finds
+    pub found-all : (end : Option (State P)) → KnowsRightly (compiled tree) text old.memo → ByRuns (Ok end) → end_with offset end ≡ end_from tree text at
+    found-all end knows runs =
+        ∥∥₁_elim knows (Prim.hlevel props) (λ right.
+        let x = first right in
+        let e = runs-found offset (compiled tree) text x.begin new end (runs x.begin x.begins) in
+        map-end offset end ∙ ap (option_map end_of) (sym e ∙ sym (ap end_of_search x.found)) ∙ (begins tree text at can on).end)
+
+    -- where work was wanted, none is left
+    pub none-left : (e : Refusal) → KnowsRightly (compiled tree) text old.memo → ByRuns (Err e) → e ≡ Work → new.left ≡ 0
+    none-left e knows runs is =
+        ∥∥₁_elim knows (Prim.hlevel props) (λ right.
+        let x = first right in (subst (λ e. MayStop offset (compiled tree) text x.begin e new) is (runs x.begin x.begins)).none)
+
+    -- ---- In turn
+
+    module _ {ahead : ℕ} (is : IsText text) (knows : KnowsRightly (compiled tree) text old.memo) (same : new.memo.ledger ≡ old.memo.ledger)
+        (walked : AreWalked (compiled tree) text old ahead) (le : ahead ≤ at) where
+      inside : at ≤ units text
+      inside = boundary_inside text is at on
+
+      abbrev from : Walked (compiled tree) text old ahead → Begin
+      from w = its offset (compiled tree) text at ahead old new same w le inside (answered-at tree text can at on)
+
+      from-begins : (w : Walked (compiled tree) text old ahead) → IsRight (compiled tree) text old.memo → Begins (compiled tree) text at old (from w)
+      from-begins w right = its-begins offset (compiled tree) text at ahead old new same w le inside (answered-at tree text can at on) right
+
+      -- none is found
+      pub on-by-none : {found : Option (State P)} → found ≡ None → ByRuns (Ok found) → AreWalked (compiled tree) text new (at + 1)
+      on-by-none found_is runs =
+          let by = subst (λ o. ByRuns (Ok o)) found_is runs in
+          ∥∥₁_elim knows ∥∥₁_prop (λ right. ∥∥₁_map walked (λ w.
+          let ends = by (from w) (from-begins w right) in
+          walked-none offset (compiled tree) text at ahead old new same w le inside (answered-at tree text can at on) ends.right.paid ends))
+
+      -- one is
+      pub on-by-found : {found : Option (State P)} {end : State P} → found ≡ Some end → ByRuns (Ok found) → AreWalked (compiled tree) text new (further_on at (offset end.pos))
+      on-by-found {end = end} found_is runs =
+          let by = subst (λ o. ByRuns (Ok o)) found_is runs in
+          ∥∥₁_elim knows ∥∥₁_prop (λ right. ∥∥₁_map walked (λ w.
+          let ends = by (from w) (from-begins w right) in
+          walked-found offset (compiled tree) text at ahead old new same w le inside (answered-at tree text can at on) ends.stands.right.paid end ends))
+
+      -- work is not wanted
+      pub never-wanted : (e : Refusal) → ByRuns (Err e) → e ≡ Work → ⊥
+      never-wanted e runs is =
+          ∥∥₁_elim knows (Prim.hlevel props) (λ right. ∥∥₁_elim walked (Prim.hlevel props) (λ w.
+          let over = subst (λ e. MayStop offset (compiled tree) text (from w) e new) is (runs (from w) (from-begins w right)) in
+          never-over offset (compiled tree) text at ahead old new same w le inside (answered-at tree text can at on) (subst (IsPaid (compiled tree) text) (sym same) right.paid) over))

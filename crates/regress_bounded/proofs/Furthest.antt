@@ -1,6 +1,6 @@
 -- Places of a greedy run without a maximum, one after another, each with the record of its key.
 use Rattle.std.proofs.Common.{◌≡◌, ◌≤◌, ◌<◌, ℕ, suc, ◌+◌, ◌-◌, Bool, true, false, List, [], ◌∷◌, ◌++◌, Option, Some, None, refl, sym, ap, ◌∙◌, subst, arith, inl, inr}
-use Rattle.std.specs.Prelude.{option_map}
+use Rattle.std.specs.Prelude.{option_map, IsSome}
 use Rattle.std.proofs.lemmas.Bool.{cases_lt}
 use Rattle.std.proofs.Math.Logic.{∥∥₁_elim}
 use Rattle.std.proofs.Props.{props}
@@ -22,15 +22,18 @@ use Rattle.regress_ledger.specs.Ledger.{questions_of, way_of}
 use Rattle.regress_memo.specs.declared.memo.Key.{Key as Stored}
 use Rattle.regress_memo.specs.Memo.{as_key, key_at, has_failure}
 use Rattle.regress_memo.specs.Room.{Known}
+use Rattle.regress_scan.proofs.Reach.{some-of}
+use Rattle.regress_scan.proofs.StopSets.{places-few}
 use Rattle.regress_bounded.specs.declared.places.Endless.{Endless}
 use Rattle.regress_bounded.specs.declared.row.Waiting.{Waiting}
 use Rattle.regress_bounded.specs.declared.row.Waiting.TheVariants.{Thread as AsThread, Record as AsRecord}
 use Rattle.regress_pikevm.specs.declared.pikevm.states.State.{State}
 use Rattle.regress_pikevm.specs.States.{state_of}
 use Rattle.regress_bounded.specs.Courses.{IsRight, KnowsRightly, IsRow, IsRunHere, PlacesWait, HasMetPlaces, IsPast}
-use Rattle.regress_bounded.specs.Paying.{IsEndless, key_on, row_on, row_of_places}
+use Rattle.regress_bounded.specs.Paying.{key_on, row_on, row_of_places}
+use Rattle.regress_bounded.proofs.Lazily.{endless-by}
 use Rattle.regress_bounded.proofs.Passed.{past-none, past-more, past-all}
-use Rattle.regress_bounded.proofs.PaidRuns.{key-is, places-few}
+use Rattle.regress_bounded.proofs.PaidRuns.{key-is}
 use Rattle.regress_bounded.proofs.Standing.{row-push}
 
 -- ---- Characters
@@ -42,7 +45,7 @@ pub record OneFurther {P : Type 0} (offset : P → ℕ) (text : Text) (at next :
   pub inside : offset next ≤ units text
 
 module _ {P : Type 0} (offset : P → ℕ) (text : Text) (is : IsText text) where
-  pub one-further : (test : ℕ → Bool) (at next : P) (found : Bool) → IsBoundary text (offset at) → found ≡ true → led_to found (offset next) ≡ past_if text test rightwards (offset at)
+  one-further : (test : ℕ → Bool) (at next : P) (found : Bool) → IsBoundary text (offset at) → found ≡ true → led_to found (offset next) ≡ past_if text test rightwards (offset at)
       → OneFurther offset text at next
   one-further test at next found h passes led =
       let p = IsBoundary-place text (offset at) is h in
@@ -60,6 +63,11 @@ module _ {P : Type 0} (offset : P → ℕ) (text : Text) (is : IsText text) wher
       boundary-of : (q : ℕ) → q ≤ last_place text → IsBoundary text (text_offset text q)
       boundary-of q le = offset-IsBoundary text q is le
 
+  -- the same by whatever the test is
+  pub further-by : {tests : Option (ℕ → Bool)} → IsSome tests → (at next : P) (found : Bool) → IsBoundary text (offset at) → found ≡ true
+      → ((test : ℕ → Bool) → tests ≡ Some test → led_to found (offset next) ≡ past_if text test rightwards (offset at)) → OneFurther offset text at next
+  further-by {tests} some at next found h passes led = let t = some-of tests some in one-further t.0 at next found h passes (led t.0 t.1)
+
   -- so many characters are no more than units before the place behind them
   pub past-few : (test : ℕ → Bool) (place count : ℕ) (at : P) → IsPast offset text test place count at → count ≤ offset at
   past-few test place count at h =
@@ -73,6 +81,13 @@ pub record Furthest {P : Type 0} (offset : P → ℕ) (program : Program) (text 
   pub past : IsPast offset text test place n at
   pub wait : PlacesWait offset program text m.ledger (has_failure m) test place s least old new n
 
+-- The same by whatever the test is, and from whatever place the characters begin that a run needs.
+pub record HasGoneOver {P : Type 0} (offset : P → ℕ) (program : Program) (text : Text) (m : Known) (s : machine.State) (tests : Option (ℕ → Bool)) (least : ℕ) (from : P)
+    (old new : List (Waiting P)) (at : P) (n : ℕ) : Type 0 where
+  pub boundary : IsBoundary text (offset at)
+  pub few : n ≤ offset at
+  pub going : (test : ℕ → Bool) (place : ℕ) → tests ≡ Some test → IsPast offset text test place least from → Furthest offset program text m s least test place old new at n
+
 -- ---- Keys
 
 -- keys are the same where their numbers are
@@ -83,14 +98,11 @@ same-keys j k ip at code =
     let c : record { ip = k.ip; at = k.at; code = j.code } ≡ k = ap (λ n. record { ip = k.ip; at = k.at; code = n }) code in
     a ∙ b ∙ c
 
-module _ {P : Type 0} (offset : P → ℕ) (program : Program) (text : Text) (run : Endless) (state : State P) (here : IsRunHere offset program text run true (state_of offset state)) where
+module _ {P : Type 0} {offset : P → ℕ} {program : Program} {text : Text} {run : Endless} (state : State P) (here : IsRunHere offset program text run true (state_of offset state)) where
   abbrev s : machine.State
   s = state_of offset state
 
-  pub its-run : (test : ℕ → Bool) → test_of program (Some (insn_of run.body)) ≡ Some test → IsEndless program s test run.least true
-  its-run test e = record { run = here.insn; body = ap (test_of program) here.body ∙ e }
-
-  module _ (m : Known) (knows : KnowsRightly program text m) where
+  module _ {m : Known} (knows : KnowsRightly program text m) where
     abbrev key-of : (test : ℕ → Bool) (place n : ℕ) → Key
     key-of test place n = key_on program text m.ledger rightwards test place s n
 
@@ -107,7 +119,7 @@ module _ {P : Type 0} (offset : P → ℕ) (program : Program) (text : Text) (ru
           code = plan_code (questions_of m.ledger) (record s { ip = s.ip + 2; pos = text_offset text y });
         } in
         let is : key_at m.ledger (record s { ip = s.ip + 1; pos = text_offset text (moved text d 0 q) }) ≡ Some (its (moved text d 0 q) (moved text d 0 (moved text d 0 q))) =
-        key-is program m.ledger r.paid.ledger r.paid.bounded text r.paid.is_text r.paid.bytes r.paid.short d s test run.least true (its-run test e) refl q 0 in
+        key-is program m.ledger r.paid.ledger r.paid.bounded text r.paid.is_text r.paid.bytes r.paid.short d s test run.least true (endless-by here test e) refl q 0 in
         let there : key_at m.ledger (record s { ip = s.ip + 1; pos = text_offset text q }) ≡ Some (its q (moved text d 0 q)) =
         subst (λ x. key_at m.ledger (record s { ip = s.ip + 1; pos = text_offset text x }) ≡ Some (its x (moved text d 0 x))) zero_on is in
         there ∙ ap (λ y. Some (its q y)) (zero_on ∙ sym (moved-zero text rightwards q))

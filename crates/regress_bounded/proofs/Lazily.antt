@@ -1,13 +1,11 @@
--- Lazy runs without a maximum: the turn of one, and the way back to it.
-use Rattle.std.proofs.Common.{◌≡◌, ◌≤◌, ◌<◌, ◌^◌, ℕ, ◌+◌, Bool, true, false, List, [], ◌∷◌, ◌++◌, Option, Some, refl, sym, ap, ◌∙◌, subst, arith}
-use Rattle.std.specs.Prelude.{IsSome, is_some}
-use Rattle.std.proofs.lemmas.Bool.{cases_lt}
+-- Runs without a maximum: what they read, the turn of a lazy one, and the way back to it.
+use Rattle.std.proofs.Common.{◌≡◌, ◌≤◌, ◌<◌, ◌^◌, ℕ, ◌+◌, Bool, true, false, List, [], ◌∷◌, ◌++◌, Option, Some, None, refl, sym, ap, ◌∙◌, subst, arith}
+use Rattle.std.specs.Prelude.{IsSome, is_some, option_map, slice_get}
 use Rattle.std.proofs.Math.Logic.{∥∥₁_elim}
 use Rattle.std.proofs.Props.{props}
-use mathlib.Core.Logic.{inl, inr}
 use Rattle.regex_meaning.specs.Text.{Text, rightwards, last_place, moved}
 use Rattle.regex_meaning.specs.Offsets.{IsText, IsBoundary, units, place_at, offset as text_offset}
-use Rattle.regex_meaning.specs.Layout.{Program}
+use Rattle.regex_meaning.specs.Layout.{Program, Loop1CharBody}
 use Rattle.regex_meaning.proofs.TextLemmas.{place_at-offset, offset-place_at, IsBoundary-place}
 use Rattle.regress_plan.specs.Insns.{insn_of}
 use Rattle.regress_machine.specs.Machine as machine
@@ -31,10 +29,12 @@ use Rattle.regress_bounded.specs.Courses.{Begin, IsRow, IsRest, Stands, Standing
 use Rattle.regress_bounded.specs.Paying.{IsEndless, key_on}
 use Rattle.regress_bounded.specs.Spending.{HasSpent, IsSpent}
 use Rattle.regress_pikevm.specs.States.{state_of}
-use Rattle.regress_bounded.proofs.Meeting.{ScansAt, scans-at, nearest-behind, with-behind}
+use Rattle.regress_bounded.proofs.Meeting.{ScansAt, scans-at, greedy-met-none, nearest-behind, with-behind}
 use Rattle.regress_linear.proofs.Runs.{passing-left}
 use Rattle.regress_scan.proofs.Reach.{some-of}
-use Rattle.regress_bounded.proofs.PaidRuns.{places-few, lazy-first, lazy-none, lazy-known, lazy-again, lazy-key}
+use Rattle.regress_scan.proofs.StopSets.{places-few}
+use Rattle.regress_bounded.proofs.PaidRuns.{lazy-first, lazy-none, lazy-known, lazy-again, lazy-key}
+use Rattle.regress_bounded.proofs.Stopping.{some-key}
 use Rattle.regress_bounded.proofs.Standing.{Popped, popped, back-comes, row-push, on, can-turn, goes-on, is-over}
 use Rattle.regress_memo.specs.Laws.{KeyFails}
 use Rattle.regress_memo.proofs.LawLemmas.{memos-hold}
@@ -43,7 +43,23 @@ use Rattle.regress_input.proofs.Places.{boundary_inside}
 
 -- ---- What a run reads
 
-module _ {P : Type 0} (offset : P → ℕ) (program : Program) (text : Text) (run : Endless) (greedy : Bool) (s : machine.State) (here : IsRunHere offset program text run greedy s) where
+-- no more characters pass than there are units
+pub few-passed : (text : Text) → IsText text → (test : ℕ → Bool) (place : ℕ) → place ≤ last_place text → passing text test rightwards place ≤ units text
+few-passed text is test place inside =
+    let a = passing-left text test rightwards place inside in
+    let b = places-few text is (last_place text) (omega arith) in
+    omega (arith, a, b, inside)
+
+-- its test and its place, and so many characters that are passed over
+pub record PassesOver {P : Type 0} (offset : P → ℕ) (program : Program) (text : Text) (run : Endless) (s : machine.State) (passed : ℕ) (pos : P) : Type 0 where
+  pub test : ℕ → Bool
+  pub tests : test_of program (Some (insn_of run.body)) ≡ Some test
+  pub place : ℕ
+  pub at : place_at text s.pos ≡ Some place
+  pub inside : place ≤ last_place text
+  pub over : HasPassedOver offset text test run.least place passed pos
+
+module _ {P : Type 0} {offset : P → ℕ} {program : Program} {text : Text} {run : Endless} {greedy : Bool} {s : machine.State} (here : IsRunHere offset program text run greedy s) where
   -- a test, at a place
   pub record Reads : Type 0 where
     pub test : IsSome (test_of program (Some (insn_of run.body)))
@@ -52,100 +68,105 @@ module _ {P : Type 0} (offset : P → ℕ) (program : Program) (text : Text) (ru
   reads-at : ScansAt program text s → Reads
   reads-at x = record { test = ap is_some (ap (test_of program) (sym here.body) ∙ x.body); at = ap is_some x.at }
 
-  pub reads-here : (stack : List (Waiting P)) (c : Course) → IsStanding offset program text (tried (running s) ∷ []) stack c → Reads
-  reads-here stack c there =
-      let by = λ (x : Standing offset program text (tried (running s) ∷ []) stack c).
-      reads-at (scans-at program text s run.least unlimited greedy here.insn (can-turn offset program text x.begin s x.stands)) in
-      record {
-        test = ∥∥₁_elim there (Prim.hlevel props) (λ x. (by x).test);
-        at = ∥∥₁_elim there (Prim.hlevel props) (λ x. (by x).at);
-      }
+  module _ {stack : List (Waiting P)} {c : Course} (there : IsStanding offset program text (tried (running s) ∷ []) stack c) where
+    pub reads-here : Reads
+    reads-here =
+        let by = λ (x : Standing offset program text (tried (running s) ∷ []) stack c).
+        reads-at (scans-at program text s run.least unlimited greedy here.insn (can-turn offset program text x.begin s x.stands)) in
+        record {
+          test = ∥∥₁_elim there (Prim.hlevel props) (λ x. (by x).test);
+          at = ∥∥₁_elim there (Prim.hlevel props) (λ x. (by x).at);
+        }
 
--- no more characters pass than there are units
-pub few-passed : (text : Text) → IsText text → (test : ℕ → Bool) (place : ℕ) → place ≤ last_place text → passing text test rightwards place ≤ units text
-few-passed text is test place inside =
-    let a = passing-left text test rightwards place inside in
-    let b = places-few text is (last_place text) (omega arith) in
-    omega (arith, a, b, inside)
+    pub passes-over : IsText text → (passed : ℕ) (pos : P)
+        → ((test : ℕ → Bool) (place : ℕ) → test_of program (Some (insn_of run.body)) ≡ Some test → place_at text s.pos ≡ Some place → HasPassedOver offset text test run.least place passed pos)
+        → PassesOver offset program text run s passed pos
+    passes-over is passed pos h =
+        let t = some-of (test_of program (Some (insn_of run.body))) reads-here.test in
+        let p = IsBoundary-place text s.pos is reads-here.at in
+        record { test = t.0; tests = t.1; place = p.0; at = p.1; inside = p.3; over = h t.0 p.0 t.1 p.1 }
 
--- so their number fits
-pub passed-fits : {P : Type 0} (offset : P → ℕ) (text : Text) → IsText text → units text < 2 ^ 63 → (test : Option (ℕ → Bool)) → IsSome test → (at : ℕ) → IsBoundary text at → (least passed : ℕ) (pos : P)
-    → ((t : ℕ → Bool) (place : ℕ) → test ≡ Some t → place_at text at ≡ Some place → HasPassedOver offset text t least place passed pos) → passed + 2 < 2 ^ 64
-passed-fits offset text is short test some at on least passed pos passes =
-    let t = some-of test some in
-    let p = IsBoundary-place text at is on in
-    let x = passes t.0 p.0 t.1 p.1 in
-    let few = few-passed text is t.0 p.0 (offset-place_at text at p.0 is p.1).1 in
-    let sum = x.past.sum in
-    omega (arith, few, sum, short)
+  -- the run by its test
+  pub endless-by : (test : ℕ → Bool) → test_of program (Some (insn_of run.body)) ≡ Some test → IsEndless program s test run.least greedy
+  endless-by test e = record { run = here.insn; body = ap (test_of program) here.body ∙ e }
 
--- ---- The turn of a lazy run
+-- the number of what was passed fits
+pub passed-fits : {P : Type 0} {offset : P → ℕ} {program : Program} {text : Text} {run : Endless} {s : machine.State} {passed : ℕ} {pos : P} → PassesOver offset program text run s passed pos
+    → IsText text → units text < 2 ^ 63 → passed + 2 < 2 ^ 64
+passed-fits p is short = let few = few-passed _ is p.test p.place p.inside in let sum = p.over.past.sum in omega (arith, few, sum, short)
 
-module _ {P : Type 0} (offset : P → ℕ) (program : Program) (text : Text) (b : Begin) (state : State P) {stack : List (Waiting P)} {c : Course}
-    (h : Stands offset program text b (tried (running (state_of offset state)) ∷ []) stack c) (run : Endless) (here : IsRunHere offset program text run false (state_of offset state)) where
+-- what is known of whether it is greedy
+pub run-which : {P : Type 0} {offset : P → ℕ} {program : Program} {text : Text} {run : Endless} {greedy which : Bool} {s : machine.State} → IsRunHere offset program text run greedy s → greedy ≡ which
+    → IsRunHere offset program text run which s
+run-which {run = run} here same = record { insn = here.insn ∙ ap (λ b. Some (Loop1CharBody run.least unlimited b)) same; body = here.body }
+
+-- ---- Its turn, where there are too few characters
+
+module _ {P : Type 0} {offset : P → ℕ} {program : Program} {text : Text} {b : Begin} {s : machine.State} {stack : List (Waiting P)} {c : Course}
+    (h : Stands offset program text b (tried (running s) ∷ []) stack c) {run : Endless} {passed : ℕ} {pos : P} (p : PassesOver offset program text run s passed pos) where
+  short-by : {greedy : Bool} → IsRunHere offset program text run greedy s → passed < run.least → on offset program text b s h (passed + 2) h.row
+  short-by {greedy} here few =
+      let all = p.over.all few in
+      let sum = p.over.past.sum in
+      let same : passing text p.test rightwards p.place ≡ passed = omega (arith, sum, all) in
+      subst (λ n. on offset program text b s h (n + 2) h.row) same (by greedy (endless-by here p.test p.tests) (omega (arith, same, few)))
+    where
+      by : (greedy : Bool) → IsEndless program s p.test run.least greedy → passing text p.test rightwards p.place < run.least
+          → on offset program text b s h (passing text p.test rightwards p.place + 2) h.row
+      by true endless less = greedy-met-none offset program text b s h p.test run.least p.place endless p.at less
+      by false endless less =
+          let paid = h.right.paid in
+          lazy-none program c.memo.ledger paid.ledger paid.bounded text paid.is_text paid.bytes paid.short rightwards b.memory (tries (first_row program b.at)) h.work h.now h.row
+          s p.test run.least p.place endless p.at less h.comes
+
+  module _ {greedy : Bool} (here : IsRunHere offset program text run greedy s) (few : passed < run.least) (c' : Course) (same : c'.memo ≡ c.memo) where
+    pub short-over : IsSpent (passed + 2) c.left c'.left → IsOver offset program text b c'
+    short-over spent = is-over offset program text b h h.row (passed + 2) c' (short-by here few) same spent
+
+    pub short-goes : HasSpent (passed + 2) c.left c'.left → Stands offset program text b [] stack c'
+    short-goes spent = goes-on offset program text b h [] h.row stack (passed + 2) c' (short-by here few) h.is same spent
+
+-- ---- The turn of a lazy one
+
+module _ {P : Type 0} {offset : P → ℕ} {program : Program} {text : Text} {b : Begin} (state : State P) {stack : List (Waiting P)} {c : Course}
+    (h : Stands offset program text b (tried (running (state_of offset state)) ∷ []) stack c) {run : Endless} (here : IsRunHere offset program text run false (state_of offset state))
+    {passed : ℕ} {pos : P} (p : PassesOver offset program text run (state_of offset state) passed pos) (le : run.least ≤ passed) where
   abbrev s : machine.State
   s = state_of offset state
 
-  pub scans : ScansAt program text s
-  scans = scans-at program text s run.least unlimited false here.insn (can-turn offset program text b s h)
+  endless : IsEndless program s p.test run.least false
+  endless = endless-by here p.test p.tests
 
-  endless : IsEndless program s scans.test run.least false
-  endless = record { run = here.insn; body = scans.body }
+  first : on offset program text b s h (passed + 2)
+      (tried (running (behind text rightwards p.place s passed)) ∷ kept (waits_from text p.test rightwards (passed + 1) p.place s) ∷ h.row)
+  first =
+      let paid = h.right.paid in
+      let same : run.least ≡ passed = (let few = p.over.few in omega (arith, le, few)) in
+      let sum = p.over.past.sum in
+      subst (λ n. on offset program text b s h (n + 2) (tried (running (behind text rightwards p.place s n)) ∷ kept (waits_from text p.test rightwards (n + 1) p.place s) ∷ h.row)) same
+      (lazy-first program c.memo.ledger paid.ledger paid.bounded text paid.is_text paid.bytes paid.short rightwards b.memory (tries (first_row program b.at)) h.work h.now h.row
+      s p.test run.least p.place endless p.at (omega (arith, same, sum)) h.comes)
 
-  pub tested : test_of program (Some (insn_of run.body)) ≡ Some scans.test
-  tested = ap (test_of program) (sym here.body) ∙ scans.body
+  pub lazy-over : (c' : Course) → c'.memo ≡ c.memo → IsSpent (passed + 2) c.left c'.left → IsOver offset program text b c'
+  lazy-over c' same spent = is-over offset program text b h _ (passed + 2) c' first same spent
 
-  inside : scans.place ≤ last_place text
-  inside = (offset-place_at text s.pos scans.place h.right.paid.is_text scans.at).1
-
-  module _ (passed : ℕ) (pos : P) (p : HasPassedOver offset text scans.test run.least scans.place passed pos) where
-    short : passed < run.least → on offset program text b s h (passed + 2) h.row
-    short few =
-        let paid = h.right.paid in
-        let all = p.all few in
-        let same : passing text scans.test rightwards scans.place ≡ passed = (let sum = p.past.sum in omega (arith, sum, all)) in
-        subst (λ n. on offset program text b s h (n + 2) h.row) same
-        (lazy-none program c.memo.ledger paid.ledger paid.bounded text paid.is_text paid.bytes paid.short rightwards b.memory (tries (first_row program b.at)) h.work h.now h.row
-        s scans.test run.least scans.place endless scans.at (omega (arith, same, few)) h.comes)
-
-    first : run.least ≤ passed → on offset program text b s h (passed + 2)
-        (tried (running (behind text rightwards scans.place s passed)) ∷ kept (waits_from text scans.test rightwards (passed + 1) scans.place s) ∷ h.row)
-    first le =
-        let paid = h.right.paid in
-        let same : run.least ≡ passed = (let few = p.few in omega (arith, le, few)) in
-        let sum = p.past.sum in
-        subst (λ n. on offset program text b s h (n + 2) (tried (running (behind text rightwards scans.place s n)) ∷ kept (waits_from text scans.test rightwards (n + 1) scans.place s) ∷ h.row)) same
-        (lazy-first program c.memo.ledger paid.ledger paid.bounded text paid.is_text paid.bytes paid.short rightwards b.memory (tries (first_row program b.at)) h.work h.now h.row
-        s scans.test run.least scans.place endless scans.at (omega (arith, same, sum)) h.comes)
-
-    pub lazy-over : (c' : Course) → c'.memo ≡ c.memo → IsSpent (passed + 2) c.left c'.left → IsOver offset program text b c'
-    lazy-over c' same spent = elim (cases_lt passed run.least) [
-      | inl few ↦ is-over offset program text b h h.row (passed + 2) c' (short few) same spent
-      | inr le ↦ is-over offset program text b h _ (passed + 2) c' (first le) same spent
-    ]
-
-    -- there are too few characters
-    pub lazy-ends : passed < run.least → (c' : Course) → c'.memo ≡ c.memo → HasSpent (passed + 2) c.left c'.left → Stands offset program text b [] stack c'
-    lazy-ends few c' same spent = goes-on offset program text b h [] h.row stack (passed + 2) c' (short few) h.is same spent
-
-    pub there : place_at text (offset pos) ≡ Some (moved text rightwards passed scans.place)
-    there = ap (place_at text) p.past.at ∙ place_at-offset text (moved text rightwards passed scans.place) h.right.paid.is_text p.past.within
-
-    pub lazy-goes : run.least ≤ passed → (next : State P) (new : List (Waiting P)) → IsNearest offset text scans.test (moved text rightwards passed scans.place) pos state next stack new
-        → (c' : Course) → c'.memo ≡ c.memo → HasSpent (passed + 2) c.left c'.left → Stands offset program text b (front_of offset (Some next)) new c'
-    lazy-goes le next new near c' same spent =
-        let sum = p.past.sum in
-        let is : behind text rightwards scans.place s passed ≡ state_of offset next = sym (near.is_here ∙ ap (λ at. behind_at at s) p.past.at) in
-        let after = nearest-behind offset program text c.memo.ledger h.right.paid scans.test run.least scans.place state endless inside passed (omega (arith, sum))
-        (moved text rightwards passed scans.place) refl pos next stack new near in
-        let come = subst (λ r. on offset program text b s h (passed + 2) (tried (running r) ∷ kept (waits_from text scans.test rightwards (passed + 1) scans.place s) ∷ h.row)) is (first le) in
-        let x = with-behind offset program text c.memo.ledger b.memory (tries (first_row program b.at)) (h.work + (passed + 2)) h.now (state_of offset next)
-        (waits_from text scans.test rightwards (passed + 1) scans.place s) h.row stack new come h.is after in
-        goes-on offset program text b h (tried (running (state_of offset next)) ∷ []) x.row new (passed + 2) c' x.comes x.is same spent
+  pub lazy-goes : (next : State P) (new : List (Waiting P))
+      → ((test : ℕ → Bool) (place : ℕ) → test_of program (Some (insn_of run.body)) ≡ Some test → place_at text (offset pos) ≡ Some place → IsNearest offset text test place pos state next stack new)
+      → (c' : Course) → c'.memo ≡ c.memo → HasSpent (passed + 2) c.left c'.left → Stands offset program text b (front_of offset (Some next)) new c'
+  lazy-goes next new nearest c' same spent =
+      let sum = p.over.past.sum in
+      let there = moved text rightwards passed p.place in
+      let near = nearest p.test there p.tests (ap (place_at text) p.over.past.at ∙ place_at-offset text there h.right.paid.is_text p.over.past.within) in
+      let is : behind text rightwards p.place s passed ≡ state_of offset next = sym (near.is_here ∙ ap (λ at. behind_at at s) p.over.past.at) in
+      let after = nearest-behind offset program text c.memo.ledger h.right.paid p.test run.least p.place state endless p.inside passed (omega (arith, sum)) there refl pos next stack new near in
+      let come = subst (λ r. on offset program text b s h (passed + 2) (tried (running r) ∷ kept (waits_from text p.test rightwards (passed + 1) p.place s) ∷ h.row)) is first in
+      let x = with-behind offset program text c.memo.ledger b.memory (tries (first_row program b.at)) (h.work + (passed + 2)) h.now (state_of offset next)
+      (waits_from text p.test rightwards (passed + 1) p.place s) h.row stack new come h.is after in
+      goes-on offset program text b h (tried (running (state_of offset next)) ∷ []) x.row new (passed + 2) c' x.comes x.is same spent
 
 -- ---- The way back to one
 
-module _ {P : Type 0} (offset : P → ℕ) (program : Program) (text : Text) (b : Begin) (stack : List (Waiting P)) (state : State P) {c : Course}
+module _ {P : Type 0} {offset : P → ℕ} {program : Program} {text : Text} {b : Begin} (stack : List (Waiting P)) (state : State P) {c : Course}
     (h : Stands offset program text b [] (stack ++ AsRun state ∷ []) c) where
   abbrev its : machine.State
   its = state_of offset state
@@ -169,7 +190,7 @@ module _ {P : Type 0} (offset : P → ℕ) (program : Program) (text : Text) (b 
   key-back = key_on program text c.memo.ledger rightwards rest-of.test rest-of.place its 0
 
   -- its key
-  pub key-there : key_at c.memo.ledger (record its { ip = its.ip + 1; pos = its.pos }) ≡ Some key-back
+  key-there : key_at c.memo.ledger (record its { ip = its.ip + 1; pos = its.pos }) ≡ Some key-back
   key-there =
       let paid = h.right.paid in
       let same : text_offset text rest-of.place ≡ its.pos = (offset-place_at text its.pos rest-of.place paid.is_text rest-of.at).0 in
@@ -177,17 +198,24 @@ module _ {P : Type 0} (offset : P → ℕ) (program : Program) (text : Text) (b 
       (lazy-key program c.memo.ledger paid.ledger paid.bounded text paid.is_text paid.bytes paid.short rightwards b.memory (tries (first_row program b.at)) h.work h.now left-off.rest
       its rest-of.test rest-of.least rest-of.place rest-of.run its-inside comes-back)
 
-  pub place-in : its.pos < c.memo.places
+  place-in : its.pos < c.memo.places
   place-in =
       let within = boundary_inside text h.right.paid.is_text its.pos (ap is_some rest-of.at) in
       let places = h.right.is_true.places in
       omega (arith, within, places)
 
-  -- it is known to fail
-  module _ (k : Key) (is : k ≡ key-back) where
+  -- a key that is found is it
+  module _ {found : Option Stored} {stored : Stored} (found_is : found ≡ Some stored) (told : option_map as_key found ≡ key_at c.memo.ledger (record its { ip = its.ip + 1; pos = its.pos })) where
+    abbrev k : Key
+    k = as_key stored
+
+    is : k ≡ key-back
+    is = some-key (sym (ap (option_map as_key) found_is) ∙ told ∙ key-there)
+
     abbrev on-back : (work : ℕ) → List Entry → Type 0
     on-back work row = HasCome program text c.memo.ledger rightwards b.memory (tries (first_row program b.at)) (h.work + work) h.now row
 
+    -- it is known to fail
     back-known : has_failure c.memo k ≡ true → on-back 1 left-off.rest
     back-known fails =
         let paid = h.right.paid in
@@ -215,11 +243,12 @@ module _ {P : Type 0} (offset : P → ℕ) (program : Program) (text : Text) (b 
     pub back-over : has_failure c.memo k ≡ false → (c' : Course) → c'.memo ≡ c.memo → IsSpent 2 c.left c'.left → IsOver offset program text b c'
     back-over unknown c' same spent = is-over offset program text b h _ 2 c' (back-again unknown) same spent
 
-    pub back-goes : has_failure c.memo k ≡ false → (stored : Stored) → as_key stored ≡ k → (next : State P) (new : List (Waiting P))
-        → IsNearest offset text rest-of.test rest-of.place state.pos state next (stack ++ AsRecord stored ∷ []) new
+    pub back-goes : has_failure c.memo k ≡ false → (next : State P) (mid new : List (Waiting P)) → mid ≡ stack ++ AsRecord stored ∷ []
+        → IsNearest offset text rest-of.test rest-of.place state.pos state next mid new
         → (c' : Course) → c'.memo ≡ c.memo → HasSpent 2 c.left c'.left → Stands offset program text b (front_of offset (Some next)) new c'
-    back-goes unknown stored stored-is next new near c' same spent =
+    back-goes unknown next mid new pushed near' c' same spent =
         let t = c.memo.ledger in
+        let near = subst (λ xs. IsNearest offset text rest-of.test rest-of.place state.pos state next xs new) pushed near' in
         let none : moved text rightwards 0 rest-of.place ≡ rest-of.place = moved-zero text rightwards rest-of.place in
         let at : text_offset text (moved text rightwards 0 rest-of.place) ≡ its.pos =
         ap (text_offset text) none ∙ (offset-place_at text its.pos rest-of.place h.right.paid.is_text rest-of.at).0 in
@@ -230,7 +259,27 @@ module _ {P : Type 0} (offset : P → ℕ) (program : Program) (text : Text) (b 
         rest-of.place (sym none) state.pos next (stack ++ AsRecord stored ∷ []) new near in
         let come = subst (λ r. on-back 2 (tried (running r) ∷ kept more ∷ noted k all ∷ left-off.rest)) nearest_is (back-again unknown) in
         let below : IsRow offset program text (stack ++ AsRecord stored ∷ []) (noted k all ∷ left-off.rest) =
-        row-push offset program text stack (AsRecord stored) (noted k all) left-off.rest (record { threads = all; is = ap (λ j. noted j all) (sym stored-is) }) left-off.below in
+        row-push offset program text stack (AsRecord stored) (noted k all) left-off.rest (record { threads = all; is = refl }) left-off.below in
         let x = with-behind offset program text t b.memory (tries (first_row program b.at)) (h.work + 2) h.now (state_of offset next) more (noted k all ∷ left-off.rest)
         (stack ++ AsRecord stored ∷ []) new come below after in
         goes-on offset program text b h (tried (running (state_of offset next)) ∷ []) x.row new 2 c' x.comes x.is same spent
+
+-- ---- What there is to come back to
+
+module _ {P : Type 0} {offset : P → ℕ} {program : Program} {text : Text} (stack : List (Waiting P)) (state : State P) {c : Course}
+    (there : IsStanding offset program text [] (stack ++ AsRun state ∷ []) c) where
+  -- its place is one of the memory's
+  pub back-place : offset state.pos < c.memo.places
+  back-place = ∥∥₁_elim there (Prim.hlevel props) (λ x. place-in stack state x.stands)
+
+  pub back-boundary : IsBoundary text (offset state.pos)
+  back-boundary = ∥∥₁_elim there (Prim.hlevel props) (λ x. ap is_some (rest-of stack state x.stands).at)
+
+  pub back-tested : IsSome (test_of program (slice_get program.insns (state.ip + 1)))
+  back-tested = ∥∥₁_elim there (Prim.hlevel props) (λ x. ap is_some (rest-of stack state x.stands).run.body)
+
+  -- it has a key
+  pub back-keyed : {found : Option Stored} → found ≡ None → option_map as_key found ≡ key_at c.memo.ledger (record (state_of offset state) { ip = state.ip + 1; pos = offset state.pos }) → ⊥
+  back-keyed none told =
+      ∥∥₁_elim there (Prim.hlevel props) (λ x.
+      let never = sym (ap (option_map as_key) none) ∙ told ∙ key-there stack state x.stands in let no : ⊥ = cc in no)

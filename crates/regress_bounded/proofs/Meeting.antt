@@ -6,7 +6,7 @@ use Rattle.regex_meaning.specs.Offsets.{place_at, offset as text_offset}
 use Rattle.regex_meaning.specs.Layout.{Program, Loop1CharBody}
 use Rattle.regex_meaning.proofs.TextLemmas.{place_at-offset}
 use Rattle.regress_machine.specs.Machine as machine
-use Rattle.regress_machine.specs.Machine.{Thread, running, Next, goes, scans, stuck, with_some, scan, test_of, act, act_on}
+use Rattle.regress_machine.specs.Machine.{Thread, running, Next, goes, scans, with_some, scan, test_of, act, act_on}
 use Rattle.regress_machine.specs.Turns.{CanTake}
 use Rattle.regress_linear.specs.Distinct.{IsNew}
 use Rattle.regress_linear.specs.Runs.{passing, waits_from}

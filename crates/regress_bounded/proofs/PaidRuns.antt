@@ -1,5 +1,5 @@
 -- Runs in a search that remembers: what they leave has keys, and each turn of one is paid.
-use Rattle.std.proofs.Common.{◌≡◌, ◌≤◌, ◌<◌, ◌^◌, ℕ, zero, suc, ◌+◌, ◌-◌, Bool, true, false, min, List, [], ◌∷◌, ◌++◌, map, reverse, length, Some, None, refl, sym, ap, ap₂, ◌∙◌, subst, arith, append_assoc, append-nil, slice_get, sum_by}
+use Rattle.std.proofs.Common.{◌≡◌, ◌≤◌, ◌<◌, ◌^◌, ℕ, zero, suc, ◌+◌, ◌-◌, Bool, true, false, min, List, [], ◌∷◌, ◌++◌, map, reverse, length, Some, None, refl, sym, ap, ◌∙◌, subst, arith, append_assoc, append-nil, slice_get, sum_by}
 use Rattle.std.specs.Prelude.{if◌then◌else◌, ◌≢◌}
 use mathlib.Core.Logic.{inl, inr}
 use Rattle.std.proofs.lemmas.Bool.{cases_lt}
@@ -12,11 +12,11 @@ use Rattle.regex_meaning.specs.Offsets.{IsText, offset, place_at, units}
 use Rattle.regex_meaning.specs.Layout.{Program, Loop1CharBody}
 use Rattle.regex_meaning.proofs.Each.{Each-append, Each-map, Each-reverse}
 use Rattle.regex_meaning.proofs.Lists.{length-numbers_from}
-use Rattle.regex_meaning.proofs.TextLemmas.{offset-place_at, offset-less}
+use Rattle.regex_meaning.proofs.TextLemmas.{offset-place_at}
 use Rattle.regress_machine.specs.Machine.{State, Thread, running, waiting, scans, in_turn, run_states, test_of, act}
 use Rattle.regress_machine.proofs.Beside.{moved-zero}
 use Rattle.regress_machine.proofs.Run.{numbers_between}
-use Rattle.regress_simulation.specs.Runs.{behind, most_first}
+use Rattle.regress_simulation.specs.Runs.{behind}
 use Rattle.regress_simulation.specs.Simulates.{FindNothing}
 use Rattle.regress_simulation.proofs.Runs.{behind-from, run-turn}
 use Rattle.regress_simulation.proofs.Simulates.{simulates-same}
@@ -29,19 +29,19 @@ use Rattle.regress_linear.specs.LaidOut.{state_of_thread}
 use Rattle.regress_linear.specs.Paid.{weight_by, IsPaid, RunIsPaid, LazyRunIsPaid, RunTurnsArePaid, LazyTurnsArePaid}
 use Rattle.regress_linear.specs.Plans.{IsRecorded, plan_taken}
 use Rattle.regress_linear.specs.RunKeys.{run_at, RunRecords, run_key}
-use Rattle.regress_linear.specs.Runs.{passing, run_from, waits_from}
+use Rattle.regress_linear.specs.Runs.{passing, waits_from}
 use Rattle.regress_linear.specs.RunTurns.{placed, AreUnknown, AtRun, GreedyGives, LazyGives}
 use Rattle.regress_linear.specs.Turns.{Key, Entry, tried, kept, noted, tries, threads_in, weighs, GoesOnward, IsOf, AreSound, Gives, Comes, gives}
-use Rattle.regress_linear.specs.Weights.{is_one_of, each_noted}
+use Rattle.regress_linear.specs.Weights.{each_noted}
 use Rattle.regress_linear.proofs.Beside.{others-paid, scans-give}
 use Rattle.regress_linear.proofs.Distinct.{Each-left, Each-right}
 use Rattle.regress_linear.proofs.Looks.{soundness-stays}
 use Rattle.regress_linear.proofs.Paid.{turns-paid, one-weighs}
 use Rattle.regress_linear.proofs.Plans.{plans-take}
 use Rattle.regress_linear.proofs.RunKeys.{runs-have-keys}
-use Rattle.regress_linear.proofs.Runs.{passing-left, passing-on, runs-begin, lazy-runs-go-on}
-use Rattle.regress_linear.proofs.RunTurns.{runs-give}
-use Rattle.regress_linear.proofs.Turns.{threads-tries, threads-joined, turns-right}
+use Rattle.regress_linear.proofs.Runs.{passing-left, passing-on, lazy-runs-go-on}
+use Rattle.regress_linear.proofs.RunTurns.{place-inside, row-next, row-last, runs-give}
+use Rattle.regress_linear.proofs.Turns.{threads-tries, turns-right}
 use Rattle.regress_linear.proofs.Weights.{turns-give}
 use Rattle.regress_ledger.specs.declared.ledger.Ledger.{Ledger}
 use Rattle.regress_ledger.specs.Bodies.{LeadsPast}
@@ -50,12 +50,14 @@ use Rattle.regress_ledger.specs.Checks.{StepIsRight, unlimited}
 use Rattle.regress_ledger.specs.Ledger.{line_of, account_of, questions_of, recorded, weights_of, price_of, way_of}
 use Rattle.regress_ledger.specs.Steps.{step_in}
 use Rattle.regress_ledger.specs.Whole.{IsLedgerOf, Serves}
-use Rattle.regress_ledger.proofs.WholeLemmas.{recorded-is, ledgers-serve}
+use Rattle.regress_ledger.proofs.WholeLemmas.{ledgers-serve}
 use Rattle.regress_memo.specs.Laws.{ledger_keys, KeyFails}
 use Rattle.regress_memo.specs.Memo.{key_at}
 use Rattle.regress_memo.specs.Search.{IsKeyed, AreKeyed, HasCome}
 use Rattle.regress_memo.proofs.LawLemmas.{keys-are-there, records-there}
+use Rattle.regress_memo.proofs.SearchLemmas.{HasKey, has-key, no-key, keyed-joined}
 use Rattle.regress_scan.proofs.Reach.{numbers-last}
+use Rattle.regress_scan.proofs.StopSets.{places-few}
 use Rattle.regress_bounded.specs.Paying.{IsEndless, key_on, row_on, row_of_places}
 
 -- ---- Numbers
@@ -115,49 +117,9 @@ module _ (R : Relation) where
 
 -- ---- Texts
 
--- a place is not beyond its offset
-pub places-few : (text : Text) → IsText text → (q : ℕ) → q ≤ last_place text → q ≤ offset text q
-places-few text is zero inside = omega arith
-places-few text is (suc q) inside =
-    let more = offset-less text q (suc q) is (omega arith) inside in
-    let before = places-few text is q (omega (arith, inside)) in
-    omega (arith, more, before)
-
 pub left-few : (text : Text) (d : Direction) (p : ℕ) → p ≤ last_place text → characters_left text d p ≤ last_place text
 left-few text rightwards p le = omega arith
 left-few text leftwards p le = le
-
-place-inside : (text : Text) (d : Direction) (n p : ℕ) → p ≤ last_place text → n ≤ characters_left text d p → moved text d n p ≤ last_place text
-place-inside text rightwards n p inside few = omega (arith, few, inside)
-place-inside text leftwards n p inside few = omega (arith, inside)
-
-moved-twice : (text : Text) (d : Direction) (m n p : ℕ) → moved text d n (moved text d m p) ≡ moved text d (m + n) p
-moved-twice text rightwards m n p = omega arith
-moved-twice text leftwards m n p = omega arith
-
--- ---- Keys of threads
-
--- what a state's key says of it
-record HasKey (t : Ledger) (s : State) (k : Key) : Type 0 where
-  records : (line_of t s.ip).records ≡ true
-  is : key_of (plan_code (questions_of t)) s ≡ k
-
-has-key : (t : Ledger) (s : State) (k : Key) → key_at t s ≡ Some k → HasKey t s k
-has-key t s k is = by (line_of t s.ip).records refl is
-  where
-    by : (b : Bool) → (line_of t s.ip).records ≡ b → (if b then Some (key_of (plan_code (questions_of t)) s) else None) ≡ Some k → HasKey t s k
-    by false e h = absurd (let no : ⊥ = cc in no)
-    by true e h = record { records = e; is = cc }
-
-no-key : (t : Ledger) (s : State) → key_at t s ≡ None → is_one_of (recorded t) s.ip ≡ false
-no-key t s none = by (is_one_of (recorded t) s.ip) refl
-  where
-    by : (b : Bool) → is_one_of (recorded t) s.ip ≡ b → is_one_of (recorded t) s.ip ≡ false
-    by false e = e
-    by true e =
-        let some : Some (key_of (plan_code (questions_of t)) s) ≡ None =
-        sym (ap (λ b. if b then Some (key_of (plan_code (questions_of t)) s) else None) (recorded-is t s.ip e)) ∙ none in
-        absurd (let no : ⊥ = cc in no)
 
 -- ---- Runs
 
@@ -171,12 +133,6 @@ module _ (program : Program) (t : Ledger) (of : IsLedgerOf program t) (bounded :
 
   abbrev served : Serves program t text
   served = ledgers-serve program t of text is_text bytes less
-
-  -- threads of entries that stand above a row
-  keyed-over : (entries rest : List Entry) → AllKeyed (threads_in entries) → AllKeyed (threads_in rest) → AllKeyed (threads_in (entries ++ rest))
-  keyed-over entries rest above below =
-      subst AllKeyed (sym (threads-joined entries rest))
-      (Each-append (λ u. Keyed (state_of_thread u)) (threads_in entries) (threads_in rest) above below)
 
   -- few threads, at states behind the run, which have keys
   record LeavesFew (s : State) (least most n : ℕ) (ts : List Thread) : Type 0 where
@@ -339,24 +295,6 @@ module _ (program : Program) (t : Ledger) (of : IsLedgerOf program t) (bounded :
     abbrev its-places-row : ℕ → List Entry
     its-places-row count = row_of_places program text t d test place s least count
 
-    row-next : (n : ℕ) → n + 1 ≤ passes → its-row (n + 1) ++ waiting (at-place n) ∷ [] ≡ its-row n
-    row-next n few =
-        let q = moved text d n place in
-        let sum = passing-on text test d n place inside (omega (arith, few)) in
-        let zero_on : n + 0 ≡ n = omega arith in
-        let here : behind text d q s 0 ≡ at-place n = sym (behind-from text d place s n 0) ∙ ap at-place zero_on in
-        sym (runs-begin text test d q 0 1 s (further-inside n (omega (arith, few))) (omega arith) (omega (arith, sum, few))
-        ∙ ap₂ (λ r u. run_from text test d 0 r s ++ waiting u ∷ []) (moved-twice text d n 1 place) here)
-
-    row-last : (n : ℕ) → n ≡ passes → running (at-place n) ∷ [] ≡ its-row n
-    row-last n same =
-        let q = moved text d n place in
-        let sum = passing-on text test d n place inside (omega (arith, same)) in
-        let one : 1 ≡ passing text test d q + 1 - 0 = omega (arith, sum, same) in
-        let zero_on : n ≡ n + 0 = omega arith in
-        let here : at-place n ≡ behind text d q s 0 = ap at-place zero_on ∙ behind-from text d place s n 0 in
-        ap (λ u. running u ∷ []) here ∙ ap (λ m. in_turn (most_first text d q s 0 m)) one
-
     waiting-back : (count : ℕ) → its-waiting (suc count) ≡ (waiting (at-place (least + count)), its-key (least + count)) ∷ its-waiting count
     waiting-back count =
         let pair : ℕ → Thread × Key = λ n. (waiting (at-place n), its-key n) in
@@ -371,7 +309,7 @@ module _ (program : Program) (t : Ledger) (of : IsLedgerOf program t) (bounded :
         let n = least + count in
         let next : least + suc count ≡ n + 1 = omega arith in
         let here : its-row (least + suc count) ++ waiting (at-place n) ∷ [] ≡ its-row n =
-        ap (λ m. its-row m ++ waiting (at-place n) ∷ []) next ∙ row-next n (omega (arith, few)) in
+        ap (λ m. its-row m ++ waiting (at-place n) ∷ []) next ∙ row-next text is_text test d place s inside n (omega (arith, few)) in
         ap (each_noted (its-row (least + suc count))) (waiting-back count)
         ∙ ap (λ ts. tried (waiting (at-place n)) ∷ noted (its-key n) ts ∷ each_noted ts (its-waiting count)) here
         ∙ ap (λ row. tried (waiting (at-place n)) ∷ noted (its-key n) (its-row n) ∷ row) (rows-are count (omega (arith, few)))
@@ -467,7 +405,7 @@ module _ (program : Program) (t : Ledger) (of : IsLedgerOf program t) (bounded :
         record {
           comes = gives work (n + 1) now (tried (running s) ∷ []) (tries ts) rest tt h.comes (given.turned n ts turned)
               (subst (λ us. Paid (n + 1) (tried (running s) ∷ []) (tries us)) l.are (paid-for.passed n l.states l.few l.as_many l.there (no-key t s none)));
-          keyed = keyed-over program t of bounded text is_text bytes less d (tries ts) rest l.keyed h.keyed.1;
+          keyed = keyed-joined program text t d (tries ts) rest l.keyed h.keyed.1;
         }
 
     with-its-key : HasKey t s (key_of (plan_code (questions_of t)) s) → IsNew (key_of (plan_code (questions_of t)) s) now → Come work now (tried (running s) ∷ rest)
@@ -478,21 +416,14 @@ module _ (program : Program) (t : Ledger) (of : IsLedgerOf program t) (bounded :
         let keyed = h.keyed.0 in
         let l = left keyed in
         let there = records-there t s.ip has.records in
-        let rec : IsRecorded program text (account_of t) (questions_of t) (way_of t) (recorded t) (plan_taken program) d now s = record {
-          records = there;
-          goes = keyed.way;
-          no_body = keyed.no_body;
-          of = keyed.of;
-          sound = keyed.sound;
-          one = plans-take.threads program key keyed.no_body;
-          new = new;
-        } in
+        let rec : IsRecorded program text (account_of t) (questions_of t) (way_of t) (recorded t) (plan_taken program) d now s =
+        record { records = there; goes = keyed.way; no_body = keyed.no_body; of = keyed.of; sound = keyed.sound; one = plans-take.threads program key keyed.no_body; new = new } in
         subst (Come (work + (n + 1)) now) (append_assoc (tries ts) (its ∷ []) rest) (record {
           comes = gives work (n + 1) now (tried (running s) ∷ []) (tries ts ++ its ∷ []) rest tt h.comes (given.recorded n ts turned rec)
               (subst (λ us. Paid (n + 1) (tried (running s) ∷ []) (tries us ++ its ∷ [])) l.are (paid-for.recorded n l.states l.few l.as_many l.there there));
           keyed =
               subst (λ row. AreKeyed program text t d (threads_in row)) (sym (append_assoc (tries ts) (its ∷ []) rest))
-              (keyed-over program t of bounded text is_text bytes less d (tries ts) (its ∷ rest) l.keyed h.keyed.1);
+              (keyed-joined program text t d (tries ts) (its ∷ rest) l.keyed h.keyed.1);
         })
 
     pub limited-recorded : (k : Key) → key_at t s ≡ Some k → IsNew k now → Come work now (tried (running s) ∷ rest)
@@ -568,7 +499,7 @@ module _ (program : Program) (t : Ledger) (of : IsLedgerOf program t) (bounded :
         let key = key_on program text t d test place s n in
         let entries_are : each_noted [] ((furthest_one, key) ∷ waiting_there)
         ≡ tried furthest_one ∷ noted key (row_on program text t d test place s n) ∷ row_of_places program text t d test place s least (n - least) =
-        ap (λ ts. tried furthest_one ∷ noted key ts ∷ each_noted ts waiting_there) (row-last program t of bounded text is_text bytes less d s test least true endless place on-text n same)
+        ap (λ ts. tried furthest_one ∷ noted key ts ∷ each_noted ts waiting_there) (row-last text is_text test d place s on-text n same)
         ∙ ap (λ row. tried furthest_one ∷ noted key (row_on program text t d test place s n) ∷ row)
         (rows-from program t of bounded text is_text bytes less d s test least true endless place on-text n le few) in
         record {

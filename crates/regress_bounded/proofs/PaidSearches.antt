@@ -1,32 +1,29 @@
 -- All attempts of an iteration that remembers are paid together.
-use Rattle.std.proofs.Common.{◌≡◌, ◌≤◌, ◌<◌, ◌^◌, ℕ, zero, suc, ◌+◌, ◌-◌, ◌*◌, Bool, true, false, if◌then◌else◌, List, [], ◌∷◌, length, Some, refl, ap, ◌∙◌, arith, slice_get, sum_by}
-use Rattle.std.specs.Prelude.{unwrap_or, nat_lt}
+use Rattle.std.proofs.Common.{◌≡◌, ◌≤◌, ◌<◌, ◌^◌, ℕ, ◌+◌, ◌-◌, ◌*◌, Bool, true, false, if◌then◌else◌, List, [], ◌∷◌, refl, ap, arith}
+use Rattle.std.specs.Prelude.{nat_lt}
 use Rattle.std.proofs.lemmas.Bool.{ltb-true}
 use Rattle.std.proofs.Math.Nat.{add-mul, mul-add}
-use Rattle.std.proofs.lemmas.List.Sums.{sum_by-cons}
 use Rattle.regex_meaning.specs.Text.{Text, rightwards}
 use Rattle.regex_meaning.specs.Offsets.{IsText, units}
 use Rattle.regex_meaning.specs.Layout.{Program}
 use Rattle.regress_machine.specs.Finds.{initial}
 use Rattle.regress_machine.specs.Machine.{Thread, running}
 use Rattle.regress_linear.specs.Account.{ReadsAsBytes}
-use Rattle.regress_linear.specs.Budget.{price_at_one}
 use Rattle.regress_linear.specs.Codes.{plan_codes}
 use Rattle.regress_linear.specs.Distinct.{IsIn}
 use Rattle.regress_linear.specs.Paid.{weight_by}
 use Rattle.regress_linear.specs.Starts.{at_first, passed, failed, found}
-use Rattle.regress_linear.specs.Turns.{Key, Entry, tried, noted, tries, keys_in, at_of, weighs, AreOnward, Answers, IsMemory}
+use Rattle.regress_linear.specs.Turns.{Key, Entry, tried, tries, keys_in, at_of, AreOnward, Answers, IsMemory}
 use Rattle.regress_linear.specs.Turns as turns
 use Rattle.regress_linear.proofs.Distinct.{Each-right, distinct-right}
 use Rattle.regress_linear.proofs.Paid.{one-weighs}
 use Rattle.regress_linear.proofs.Turns.{turns-go-on, work-is-bounded}
 use Rattle.regress_linear.proofs.Weights.{places-keys}
 use Rattle.regress_ledger.specs.declared.ledger.Ledger.{Ledger}
-use Rattle.regress_ledger.specs.declared.ledger.Line.{Line}
-use Rattle.regress_ledger.specs.Bound.{price_of_line, price_of_all, work_for_each, first_row}
-use Rattle.regress_ledger.specs.Ledger.{no_line, line_of, account_of, questions_of, recorded_from, recorded, weights_of, price_of}
-use Rattle.regress_ledger.specs.Whole.{AreCoded, IsLedgerOf, Serves}
-use Rattle.regress_ledger.proofs.BoundLemmas.{ledgers-bound}
+use Rattle.regress_ledger.specs.Bound.{price_of_all, work_for_each, first_row}
+use Rattle.regress_ledger.specs.Ledger.{line_of, account_of, questions_of, recorded, weights_of, price_of}
+use Rattle.regress_ledger.specs.Whole.{IsLedgerOf, Serves}
+use Rattle.regress_ledger.proofs.BoundLemmas.{ledgers-bound, prices-of-all}
 use Rattle.regress_ledger.proofs.WholeLemmas.{ledgers-serve}
 use Rattle.regress_memo.specs.Laws.{ledger_keys, Holds}
 use Rattle.regress_memo.specs.Memo.{has_failure, IsBegun}
@@ -51,49 +48,6 @@ behind-end at end le = by (nat_lt at end) refl
     by : (b : Bool) → nat_lt at end ≡ b → (end ≤ (if b then end else end + 1)) × (at < (if b then end else end + 1))
     by true e = let more = ltb-true at end e in (omega arith, more)
     by false e = (omega arith, omega (arith, le))
-
--- ---- What keys cost
-
--- the prices of lines, by what each instruction costs
-of-lines : (f : ℕ → ℕ) (first : ℕ) (lines : List Line)
-    → ((i : ℕ) (x : Line) → slice_get lines i ≡ Some x → x.records ≡ true → f (first + i) ≡ x.price * x.codes)
-    → sum_by f (recorded_from first lines) ≡ sum_by price_of_line lines
-of-lines f first [] same = omega arith
-of-lines f first (x ∷ lines) same = by x.records refl (of-lines f (first + 1) lines next)
-  where
-    next : (i : ℕ) (y : Line) → slice_get lines i ≡ Some y → y.records ≡ true → f (first + 1 + i) ≡ y.price * y.codes
-    next i y e on = let at : first + 1 + i ≡ first + suc i = omega arith in ap f at ∙ same (suc i) y e on
-
-    by : (b : Bool) → x.records ≡ b → sum_by f (recorded_from (first + 1) lines) ≡ sum_by price_of_line lines
-        → sum_by f (if b then first ∷ recorded_from (first + 1) lines else recorded_from (first + 1) lines) ≡ sum_by price_of_line (x ∷ lines)
-    by true e l =
-        let a = sum_by-cons f first (recorded_from (first + 1) lines) in
-        let b = sum_by-cons price_of_line x lines in
-        let at : first + 0 ≡ first = omega arith in
-        let here = same 0 x refl e in
-        let there = ap f at in
-        let its : price_of_line x ≡ x.price * x.codes = ap (λ b. if b then x.price * x.codes else 0) e in
-        omega (arith, a, b, here, there, its, l)
-    by false e l =
-        let b = sum_by-cons price_of_line x lines in
-        let its : price_of_line x ≡ 0 = ap (λ b. if b then x.price * x.codes else 0) e in
-        omega (arith, b, its, l)
-
-line-inside : (lines : List Line) (i : ℕ) (x : Line) → slice_get lines i ≡ Some x → i < length lines
-line-inside [] i x e = cc
-line-inside (y ∷ lines) zero x e = omega arith
-line-inside (y ∷ lines) (suc i) x e = let l = line-inside lines i x e in omega (arith, l)
-
-prices-of-all : (t : Ledger) → AreCoded t → price_at_one (questions_of t) (recorded t) (price_of t) ≡ price_of_all t
-prices-of-all t coded = of-lines (λ ip. price_of t ip * plan_codes (questions_of t) ip) 0 t.lines.items written
-  where
-    written : (i : ℕ) (x : Line) → slice_get t.lines.items i ≡ Some x → x.records ≡ true
-        → price_of t (0 + i) * plan_codes (questions_of t) (0 + i) ≡ x.price * x.codes
-    written i x e on =
-        let at : 0 + i ≡ i = omega arith in
-        let there : line_of t i ≡ x = ap (λ o. unwrap_or o no_line) e in
-        let codes : plan_codes (questions_of t) i ≡ x.codes = coded.counted i (line-inside t.lines.items i x e) ∙ ap (λ (y : Line). y.codes) there in
-        ap (λ ip. price_of t ip * plan_codes (questions_of t) ip) at ∙ ap (λ (y : Line). y.price * plan_codes (questions_of t) i) there ∙ ap (λ n. x.price * n) codes
 
 -- ---- Attempts
 

@@ -1,5 +1,5 @@
 -- Characters that a run passes, one after another.
-use Rattle.std.proofs.Common.{◌≡◌, ℕ, ◌+◌, Bool, true, false, Some, sym, ap, ◌∙◌, subst, arith}
+use Rattle.std.proofs.Common.{◌≡◌, ◌≤◌, ℕ, ◌+◌, Bool, true, false, Option, Some, sym, ap, ◌∙◌, subst, arith}
 use Rattle.regex_meaning.specs.Text.{Text, rightwards, moved}
 use Rattle.regex_meaning.specs.Offsets.{IsText, IsBoundary, offset as text_offset, place_at}
 use Rattle.regex_meaning.proofs.TextLemmas.{offset-place_at, offset-IsBoundary}
@@ -38,3 +38,9 @@ module _ {P : Type 0} (offset : P → ℕ) (text : Text) (is : IsText text) (tes
 
   pub past-boundary : (count : ℕ) (pos : P) → At count pos → IsBoundary text (offset pos)
   past-boundary count pos h = subst (IsBoundary text) (sym h.at) (offset-IsBoundary text (moved text rightwards count place) is h.within)
+
+-- Over the first characters of a run, from an offset: so many, by whatever its test is.
+pub record HasPassed {P : Type 0} (offset : P → ℕ) (text : Text) (tests : Option (ℕ → Bool)) (least from count : ℕ) (pos : P) : Type 0 where
+  pub boundary : IsBoundary text (offset pos)
+  pub few : count ≤ least
+  pub past : (test : ℕ → Bool) (place : ℕ) → tests ≡ Some test → place_at text from ≡ Some place → IsPast offset text test place count pos

@@ -31,7 +31,7 @@ use Rattle.regress_bounded.specs.declared.row.Waiting.TheVariants.{Thread as AsT
 use Rattle.regress_pikevm.specs.declared.pikevm.states.State.{State}
 use Rattle.std.proofs.Math.Logic.{∥∥₁_map, ∥∥₁_elim}
 use Rattle.std.proofs.Props.{props}
-use Rattle.regress_bounded.specs.Courses.{IsPaid, IsRight, KnowsRightly, IsStanding, Begin, HasKeyHere, StandsFor, AreFor, IsRow, Stands, IsOver, front_of}
+use Rattle.regress_bounded.specs.Courses.{IsPaid, IsRight, KnowsRightly, IsStanding, Begin, HasKeyHere, IsRecordOf, StandsFor, AreFor, IsRow, Stands, IsOver, front_of}
 use Rattle.regress_bounded.specs.Spending.{HasSpent, IsSpent}
 use Rattle.regress_pikevm.specs.States.{state_of}
 
@@ -194,49 +194,53 @@ module _ {P : Type 0} (offset : P → ℕ) (program : Program) (text : Text) (b 
   back-comes e is = subst (HasCome program text c.memo.ledger rightwards b.memory (tries (first_row program b.at)) h.work h.now) (popped.is ∙ ap (λ e. e ∷ popped.rest) is) h.comes
 
 -- to a thread
-module _ {P : Type 0} (offset : P → ℕ) (program : Program) (text : Text) (b : Begin) (stack : List (Waiting P)) (s : State P) {c : Course}
-    (h : Stands offset program text b [] (stack ++ AsThread s ∷ []) c) where
-  taken-up : back-on offset program text b stack (AsThread s) h 1 h.now (tried (running (state_of offset s)) ∷ (popped offset program text b stack (AsThread s) h).rest)
+module _ {P : Type 0} {offset : P → ℕ} {program : Program} {text : Text} {b : Begin} (stack : List (Waiting P)) (w : Waiting P) {c : Course}
+    (h : Stands offset program text b [] (stack ++ w ∷ []) c) (s : State P) (is : w ≡ AsThread s) where
+  taken-up : back-on offset program text b stack w h 1 h.now (tried (running (state_of offset s)) ∷ (popped offset program text b stack w h).rest)
   taken-up =
-      let p = popped offset program text b stack (AsThread s) h in
-      (laws offset program text b h h.work h.now p.rest).taken_up (state_of offset s) (back-comes offset program text b stack (AsThread s) h (tried (waiting (state_of offset s))) p.stands)
+      let p = popped offset program text b stack w h in
+      let there : p.entry ≡ tried (waiting (state_of offset s)) = subst (λ w. StandsFor offset program text w p.entry) is p.stands in
+      (laws offset program text b h h.work h.now p.rest).taken_up (state_of offset s) (back-comes offset program text b stack w h (tried (waiting (state_of offset s))) there)
 
   pub thread-goes : (c' : Course) → c'.memo ≡ c.memo → HasSpent 1 c.left c'.left → Stands offset program text b (front_of offset (Some s)) stack c'
   thread-goes c' same spent =
-      let p = popped offset program text b stack (AsThread s) h in
+      let p = popped offset program text b stack w h in
       goes-on offset program text b h (tried (running (state_of offset s)) ∷ []) p.rest stack 1 c' taken-up p.below same spent
 
   pub thread-over : (c' : Course) → c'.memo ≡ c.memo → IsSpent 1 c.left c'.left → IsOver offset program text b c'
   thread-over c' same spent = is-over offset program text b h _ 1 c' taken-up same spent
 
 -- to a record
-module _ {P : Type 0} (offset : P → ℕ) (program : Program) (text : Text) (b : Begin) (stack : List (Waiting P)) (k : Stored) {c : Course}
-    (h : Stands offset program text b [] (stack ++ AsRecord k ∷ []) c) where
-  abbrev pub below : Popped offset program text stack (AsRecord k) h.row
-  below = popped offset program text b stack (AsRecord k) h
+module _ {P : Type 0} {offset : P → ℕ} {program : Program} {text : Text} {b : Begin} (stack : List (Waiting P)) (w : Waiting P) {c : Course}
+    (h : Stands offset program text b [] (stack ++ w ∷ []) c) (k : Stored) (is : w ≡ AsRecord k) where
+  abbrev pub below : Popped offset program text stack w h.row
+  below = popped offset program text b stack w h
+
+  abbrev pub stood : IsRecordOf offset program text (as_key k) below.entry
+  stood = subst (λ w. StandsFor offset program text w below.entry) is below.stands
 
   abbrev keys : Keys
   keys = ledger_keys program text c.memo.ledger
 
-  at-record : HasCome program text c.memo.ledger rightwards b.memory (tries (first_row program b.at)) h.work h.now (noted (as_key k) below.stands.threads ∷ below.rest)
-  at-record = back-comes offset program text b stack (AsRecord k) h (noted (as_key k) below.stands.threads) below.stands.is
+  at-record : HasCome program text c.memo.ledger rightwards b.memory (tries (first_row program b.at)) h.work h.now (noted (as_key k) stood.threads ∷ below.rest)
+  at-record = back-comes offset program text b stack w h (noted (as_key k) stood.threads) stood.is
 
-  record-finds : Finds program text (account_of c.memo.ledger) keys rightwards h.now (noted (as_key k) below.stands.threads ∷ below.rest) b.found
+  record-finds : Finds program text (account_of c.memo.ledger) keys rightwards h.now (noted (as_key k) stood.threads ∷ below.rest) b.found
   record-finds = finds program text c.memo.ledger h.right.paid b h.is_memory h.answers h.work h.now _ at-record
 
   -- it has a bit
   pub record-bit : HasBit c.memo.ledger c.memo.places (as_key k)
   record-bit =
       subst (λ n. HasBit c.memo.ledger n (as_key k)) (sym h.right.is_true.places)
-      (keys-are-there.has_bit program text c.memo.ledger h.right.paid.ledger rightwards (as_key k) below.stands.threads record-finds.noted.0.is_of)
+      (keys-are-there.has_bit program text c.memo.ledger h.right.paid.ledger rightwards (as_key k) stood.threads record-finds.noted.0.is_of)
 
   record-fails : KeyFails program text c.memo.ledger (as_key k)
   record-fails =
       let s = served program text c.memo.ledger h.right.paid in
-      reached-fail program text (account_of c.memo.ledger) keys s.plan.account s.serves.keys rightwards h.now (as_key k) below.stands.threads below.rest b.found record-finds
+      reached-fail program text (account_of c.memo.ledger) keys s.plan.account s.serves.keys rightwards h.now (as_key k) stood.threads below.rest b.found record-finds
 
-  reached : back-on offset program text b stack (AsRecord k) h 1 (as_key k ∷ h.now) below.rest
-  reached = (laws offset program text b h h.work h.now below.rest).reached (as_key k) below.stands.threads at-record
+  reached : back-on offset program text b stack w h 1 (as_key k ∷ h.now) below.rest
+  reached = (laws offset program text b h h.work h.now below.rest).reached (as_key k) stood.threads at-record
 
   pub record-over : (c' : Course) → c'.memo ≡ c.memo → IsSpent 1 c.left c'.left → IsOver offset program text b c'
   record-over c' same spent =
@@ -279,20 +283,29 @@ module _ {P : Type 0} (offset : P → ℕ) (program : Program) (text : Text) (b 
 
 -- ---- What there is
 
-module _ {P : Type 0} (offset : P → ℕ) (program : Program) (text : Text) where
-  pub knows : (front : List Entry) (stack : List (Waiting P)) (c : Course) → IsStanding offset program text front stack c → KnowsRightly program text c.memo
-  knows front stack c h = ∥∥₁_map h (λ s. s.stands.right)
-
-pub same-knows : (program : Program) (text : Text) (m n : Known) → n ≡ m → KnowsRightly program text m → KnowsRightly program text n
-same-knows program text m n same h = subst (KnowsRightly program text) (sym same) h
-
--- ---- On from what there is
-
-module _ {P : Type 0} (offset : P → ℕ) (program : Program) (text : Text) {front front' : List Entry} {stack stack' : List (Waiting P)} {c c' : Course}
+module _ {P : Type 0} {offset : P → ℕ} {program : Program} {text : Text} {front : List Entry} {stack : List (Waiting P)} {c : Course}
     (there : IsStanding offset program text front stack c) where
-  pub standing-on : ((b : Begin) → Stands offset program text b front stack c → Stands offset program text b front' stack' c') → IsStanding offset program text front' stack' c'
+  pub knows : KnowsRightly program text c.memo
+  knows = ∥∥₁_map there (λ s. s.stands.right)
+
+  -- what is the same is known, too
+  pub still-knows : {n : Known} → n ≡ c.memo → KnowsRightly program text n
+  still-knows same = subst (KnowsRightly program text) (sym same) knows
+
+  -- on from what there is
+  pub standing-on : {front' : List Entry} {stack' : List (Waiting P)} {c' : Course}
+      → ((b : Begin) → Stands offset program text b front stack c → Stands offset program text b front' stack' c') → IsStanding offset program text front' stack' c'
   standing-on f = ∥∥₁_map there (λ s. record { begin = s.begin; stands = f s.begin s.stands })
 
-pub less-on : {P : Type 0} (offset : P → ℕ) (program : Program) (text : Text) (front : List Entry) (stack : List (Waiting P)) (c : Course) → IsStanding offset program text front stack c
-    → (n m : ℕ) → ((b : Begin) → Stands offset program text b front stack c → n < m) → n < m
-less-on offset program text front stack c there n m f = ∥∥₁_elim there (Prim.hlevel props) (λ s. f s.begin s.stands)
+  pub less-on : {n m : ℕ} → ((b : Begin) → Stands offset program text b front stack c → n < m) → n < m
+  less-on f = ∥∥₁_elim there (Prim.hlevel props) (λ s. f s.begin s.stands)
+
+-- with what is the same
+module _ {P : Type 0} {offset : P → ℕ} {program : Program} {text : Text} {next next' : Option (State P)} (next_is : next ≡ next') {stack stack' : List (Waiting P)} (stack_is : stack ≡ stack')
+    {c : Course} where
+  pub stands-as : {b : Begin} → Stands offset program text b (front_of offset next) stack c → Stands offset program text b (front_of offset next') stack' c
+  stands-as {b} h =
+      subst (λ xs. Stands offset program text b (front_of offset next') xs c) stack_is (subst (λ n. Stands offset program text b (front_of offset n) stack c) next_is h)
+
+  pub standing-as : IsStanding offset program text (front_of offset next) stack c → IsStanding offset program text (front_of offset next') stack' c
+  standing-as there = standing-on there (λ b h. stands-as h)

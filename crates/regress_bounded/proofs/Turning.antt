@@ -1,10 +1,10 @@
 -- One turn of a search in so much work: what it can do, and what becomes of what it leaves.
 use Rattle.std.proofs.Common.{◌≡◌, ◌≤◌, ◌<◌, ℕ, ◌+◌, Bool, true, false, min, List, [], ◌∷◌, ◌++◌, map, length, Option, Some, None, refl, sym, ap, ◌∙◌, subst, arith, inl, inr, append_assoc, append-nil, slice_get}
-use Rattle.std.specs.Prelude.{◌==◌, if◌then◌else◌, is_some, option_map, get_or}
+use Rattle.std.specs.Prelude.{◌==◌, ⊤, if◌then◌else◌, is_some, option_map, get_or, Result, Ok, Err, IsErrAnd}
 use Rattle.std.proofs.Math.Logic.{∥∥₁_elim}
 use Rattle.std.proofs.Props.{props}
 use Rattle.std.proofs.lemmas.Bool.{eqb-true}
-use Rattle.regex_meaning.specs.Text.{Text, Direction, rightwards, last_place}
+use Rattle.regex_meaning.specs.Text.{Text, rightwards, last_place}
 use Rattle.regex_meaning.specs.Offsets.{IsText, units}
 use Rattle.regex_meaning.specs.Layout.{Program, Insn, Loop1CharBody}
 use Rattle.regex_meaning.proofs.TextLemmas.{offset-place_at}
@@ -15,7 +15,7 @@ use Rattle.regress_plan.specs.declared.insn.Insn.{Insn as Coded}
 use Rattle.regress_plan.specs.declared.insn.Insn.TheVariants.{Loop1CharBody as CodedRun}
 use Rattle.regress_program.specs.Code.{compiled}
 use Rattle.regress_machine.specs.Machine as machine
-use Rattle.regress_machine.specs.Machine.{Thread, running, waiting, Next, goes, scans, ends, asks, stuck, in_turn, test_of, act}
+use Rattle.regress_machine.specs.Machine.{Thread, running, waiting, Next, goes, scans, ends, asks, stuck, in_turn, act}
 use Rattle.regress_machine.specs.Turns.{CanTake}
 use Rattle.regress_machine.proofs.Fetched.{act-some, fetched-below}
 use Rattle.regress_simulation.proofs.Runs.{run-turn}
@@ -25,22 +25,28 @@ use Rattle.regress_linear.proofs.Runs.{passing-left}
 use Rattle.regress_ledger.specs.Bound.{first_row}
 use Rattle.regress_ledger.specs.Checks.{unlimited}
 use Rattle.regress_memo.specs.declared.memo.Key.{Key as Stored}
-use Rattle.regress_memo.specs.Memo.{as_key}
+use Rattle.regress_memo.specs.Memo.{as_key, key_at, has_failure}
 use Rattle.regress_memo.specs.Search.{HasCome}
 use Rattle.regress_bounded.specs.declared.course.Course.{Course}
+use Rattle.regress_bounded.specs.declared.course.Refusal.{Refusal}
 use Rattle.regress_bounded.specs.declared.row.Waiting.{Waiting}
 use Rattle.regress_bounded.specs.declared.row.Waiting.TheVariants.{Thread as AsThread}
+use Rattle.regress_bounded.specs.declared.turns.Came.{Came}
 use Rattle.regress_pikevm.specs.declared.pikevm.states.State.{State}
-use Rattle.regress_bounded.specs.Courses.{Begin, IsStanding, IsRow, Stands, IsTurn, HasTaken, IsRunHere, front_of, known_of, endless_of}
-use Rattle.regress_pikevm.specs.States.{state_of, preferred_last, waiting_of}
+use Rattle.regress_pikevm.specs.declared.pikevm.states.Turn.{Turn}
+use Rattle.regress_pikevm.specs.declared.pikevm.states.Turn.TheVariants.{Ask}
+use Rattle.regress_bounded.specs.Courses.{Begin, HasKeyHere, IsLimited, IsStanding, IsRow, Stands, Turns, IsOver, IsTurn, Leaves, HasTaken, IsRunHere, front_of, known_of, endless_of}
+use Rattle.regress_bounded.specs.Spending.{HasSpent, IsSpent}
+use Rattle.regress_pikevm.specs.States.{state_of, preferred_last, next_of, waiting_of}
 use Rattle.regress_pikevm.proofs.Fetching.{insn-here}
 use Rattle.regress_pikevm.proofs.Remains.{scan-threads, waiting-append}
+use Rattle.regress_scan.proofs.StopSets.{places-few}
 use Rattle.regress_bounded.proofs.Bodies.{body-tested, body-insn, body-below}
 use Rattle.regress_bounded.proofs.Ends.{asks-none, scans-run}
 use Rattle.regress_bounded.proofs.Meeting.{scans-at}
-use Rattle.regress_bounded.proofs.PaidRuns.{left-few, places-few}
-use Rattle.regress_bounded.proofs.Stopping.{some-key}
-use Rattle.regress_bounded.proofs.Standing.{row-push, stands-with, can-turn, inside}
+use Rattle.regress_bounded.proofs.PaidRuns.{left-few}
+use Rattle.regress_bounded.proofs.Stopping.{some-key, turns-handed}
+use Rattle.regress_bounded.proofs.Standing.{row-push, stands-with, can-turn, inside, on, known, goes-on, is-over}
 
 -- ---- What the thread in hand can do
 
@@ -63,7 +69,7 @@ yes-can (ends s) h = tt
 yes-can (asks d negate u s) h = tt
 yes-can stuck h = cc
 
-module _ {P : Type 0} (offset : P → ℕ) (program : Program) (text : Text) (s : machine.State) {stack : List (Waiting P)} {c : Course}
+module _ {P : Type 0} {offset : P → ℕ} {program : Program} {text : Text} {s : machine.State} {stack : List (Waiting P)} {c : Course}
     (there : IsStanding offset program text (tried (running s) ∷ []) stack c) where
   pub standing-can : CanTake (act program text rightwards s)
   standing-can =
@@ -80,19 +86,32 @@ module _ {P : Type 0} (offset : P → ℕ) (program : Program) (text : Text) (s 
       let within = inside offset program text h.begin s h.stands in let all = h.stands.right.is_true.places in omega (arith, within, all))
 
   -- it asks nothing
-  pub standing-asks : (inner : Direction) (negate : Bool) (u t : machine.State) → act program text rightwards s ≡ asks inner negate u t → ⊥
-  standing-asks inner negate u t is =
-      ∥∥₁_elim there (Prim.hlevel props) (λ h. asks-none program text rightwards s inner negate u t is (h.stands.right.paid.no_look s.ip))
+  pub never-asks : {t : Turn P} → next_of offset t ≡ act program text rightwards s → {forward negate : Bool} {inner after : State P} → t ≡ Ask forward negate inner after → ⊥
+  never-asks turned is =
+      ∥∥₁_elim there (Prim.hlevel props) (λ h. asks-none program text rightwards s _ _ _ _ (sym turned ∙ ap (next_of offset) is) (h.stands.right.paid.no_look s.ip))
 
 -- a key that is known
-pub record IsKnownKey (test : Key → Bool) (o : Option Key) : Type 0 where
-  pub key : Key
-  pub is : o ≡ Some key
-  pub known : test key ≡ true
+record IsKnownKey (test : Key → Bool) (o : Option Key) : Type 0 where
+  key : Key
+  is : o ≡ Some key
+  known : test key ≡ true
 
-pub known-key : (test : Key → Bool) (key : Option Stored) (o : Option Key) → option_map as_key key ≡ o → known_of test (option_map as_key key) ≡ true → IsKnownKey test o
+known-key : (test : Key → Bool) (key : Option Stored) (o : Option Key) → option_map as_key key ≡ o → known_of test (option_map as_key key) ≡ true → IsKnownKey test o
 known-key test None o e h = cc
 known-key test (Some k) o e h = record { key = as_key k; is = sym e; known = h }
+
+-- it has failed
+module _ {P : Type 0} {offset : P → ℕ} {program : Program} {text : Text} {b : Begin} {s : machine.State} {stack : List (Waiting P)} {c : Course}
+    (h : Stands offset program text b (tried (running s) ∷ []) stack c) (key : Option Stored) (its : option_map as_key key ≡ key_at c.memo.ledger s)
+    (fails : known_of (has_failure c.memo) (option_map as_key key) ≡ true) where
+  comes-known : on offset program text b s h 1 h.row
+  comes-known = let k = known-key (has_failure c.memo) key (key_at c.memo.ledger s) its fails in known offset program text b s h k.key k.is k.known
+
+  pub known-over : (c' : Course) → c'.memo ≡ c.memo → IsSpent 1 c.left c'.left → IsOver offset program text b c'
+  known-over c' same spent = is-over offset program text b h h.row 1 c' comes-known same spent
+
+  pub known-goes : (c' : Course) → c'.memo ≡ c.memo → HasSpent 1 c.left c'.left → Stands offset program text b [] stack c'
+  known-goes c' same spent = goes-on offset program text b h [] h.row stack 1 c' comes-known h.is same spent
 
 -- ---- What stands there
 
@@ -125,16 +144,16 @@ module _ {P : Type 0} (offset : P → ℕ) (re : Regex) (text : Text) (insns : L
   pub record RunAt (greedy : Bool) (least : ℕ) : Type 0 where
     pub below : s.ip + 1 < length insns
     pub reads : (body : Coded) → body ≡ get_or insns (s.ip + 1) body → slice_get (compiled (tree_of re)).insns (s.ip + 1) ≡ Some (insn_of body)
-    pub here : (body : Coded) → body ≡ get_or insns (s.ip + 1) body → (which : Bool) → greedy ≡ which
-        → IsRunHere offset (compiled (tree_of re)) text (record { body = body; least = least }) which s
+    pub here : (body : Coded) → body ≡ get_or insns (s.ip + 1) body
+        → IsRunHere offset (compiled (tree_of re)) text (record { body = body; least = least; greedy = greedy }) greedy s
 
-module _ {P : Type 0} (offset : P → ℕ) (re : Regex) (text : Text) (insns : List Coded) (code : map insn_of insns ≡ (compiled (tree_of re)).insns) (s : machine.State)
+module _ {P : Type 0} {offset : P → ℕ} (re : Regex) {text : Text} (insns : List Coded) (code : map insn_of insns ≡ (compiled (tree_of re)).insns) {s : machine.State}
     {stack : List (Waiting P)} {c : Course} (there : IsStanding offset (compiled (tree_of re)) text (tried (running s) ∷ []) stack c) where
   abbrev its-program : Program
   its-program = compiled (tree_of re)
 
   its-can : CanTake (act its-program text rightwards s)
-  its-can = standing-can offset its-program text s there
+  its-can = standing-can there
 
   pub here-below : s.ip < length insns
   here-below = fetched-below insn_of insns its-program.insns s.ip code (act-some its-program text rightwards (slice_get its-program.insns s.ip) s its-can)
@@ -151,42 +170,76 @@ module _ {P : Type 0} (offset : P → ℕ) (re : Regex) (text : Text) (insns : L
       record {
         below = body-below re insns code s.ip tested;
         reads = λ body body_is. body-insn re insns code s.ip tested body body_is;
-        here = λ body body_is which same. record {
-          insn = run ∙ ap (λ b. Some (Loop1CharBody least unlimited b)) same;
-          body = body-insn re insns code s.ip tested body body_is;
-        };
+        here = λ body body_is. record { insn = run; body = body-insn re insns code s.ip tested body body_is };
       }
 
 -- ---- What its turn is
 
 -- how many characters it tries
-abbrev tried-in : Next → ℕ
-tried-in (scans tries ts) = tries
-tried-in _ = 0
+abbrev pub tried_in : Next → ℕ
+tried_in (scans tries ts) = tries
+tried_in _ = 0
+
+-- the threads that it leaves, where it neither asks nor ends
+abbrev pub left_in : Next → List Thread
+left_in (goes ts) = ts
+left_in (scans tries ts) = ts
+left_in _ = []
+
+abbrev pub LeadsOn : Next → Type 0
+LeadsOn (goes ts) = Unit {0}
+LeadsOn (scans tries ts) = Unit {0}
+LeadsOn _ = ⊥
 
 module _ {P : Type 0} (offset : P → ℕ) (program : Program) (text : Text) (s : machine.State) where
-  pub turn-goes : (ts : List Thread) → act program text rightwards s ≡ goes ts → IsTurn offset program text s 1 ts
-  turn-goes ts is = inl (is, refl)
+  is-turn : IsLimited program s.ip → (x : Next) → act program text rightwards s ≡ x → LeadsOn x → IsTurn offset program text s (tried_in x + 1) (left_in x)
+  is-turn limited (goes ts) is leads = inl (is, refl)
+  is-turn limited (scans tries ts) is leads =
+      let r = scans-run program text rightwards s tries ts is in
+      inr (record { least = r.least; most = r.most; greedy = r.greedy; run = r.is; limited = limited r.least r.most r.greedy r.is; tries = tries; acts = is; is = refl })
+  is-turn limited (ends t) is leads = absurd leads
+  is-turn limited (asks inner negate u t) is leads = absurd leads
+  is-turn limited stuck is leads = absurd leads
 
-  module _ (tries : ℕ) (ts : List Thread) (is : act program text rightwards s ≡ scans tries ts) where
-    pub turn-scans : ((least most : ℕ) (greedy : Bool) → slice_get program.insns s.ip ≡ Some (Loop1CharBody least most greedy) → (most == unlimited) ≡ false)
-        → IsTurn offset program text s (tries + 1) ts
-    turn-scans limited =
-        let r = scans-run program text rightwards s tries ts is in
-        inr (record { least = r.least; most = r.most; greedy = r.greedy; run = r.is; limited = limited r.least r.most r.greedy r.is; tries = tries; acts = is; is = refl })
+-- no more characters are tried than there are, and one
+tries-few : (program : Program) (text : Text) (s : machine.State) → IsText text → (x : Next) → act program text rightwards s ≡ x → tried_in x ≤ units text + 1
+tries-few program text s is_text (scans tries ts) is =
+    let r = scans-run program text rightwards s tries ts is in
+    let at = scans-at program text s r.least r.most r.greedy r.is (subst CanTake (sym is) tt) in
+    let place = (offset-place_at text s.pos at.place is_text at.at).1 in
+    let few : tries ≡ min r.most (passing text at.test rightwards at.place + 1) =
+    ap tried_in (sym is ∙ run-turn program text rightwards at.place s r.least r.most r.greedy at.test r.is at.body at.at) in
+    let a = passing-left text at.test rightwards at.place place in
+    let b = left-few text rightwards at.place place in
+    let c = places-few text is_text (last_place text) (omega arith) in
+    omega (arith, few, a, b, c)
+tries-few program text s is_text (goes ts) is = omega arith
+tries-few program text s is_text (ends t) is = omega arith
+tries-few program text s is_text (asks inner negate u t) is = omega arith
+tries-few program text s is_text stuck is = omega arith
 
-    -- no more characters are tried than there are, and one
-    pub tries-few : IsText text → tries ≤ units text + 1
-    tries-few is_text =
-        let r = scans-run program text rightwards s tries ts is in
-        let at = scans-at program text s r.least r.most r.greedy r.is (subst CanTake (sym is) tt) in
-        let place = (offset-place_at text s.pos at.place is_text at.at).1 in
-        let few : tries ≡ min r.most (passing text at.test rightwards at.place + 1) =
-        ap tried-in (sym is ∙ run-turn program text rightwards at.place s r.least r.most r.greedy at.test r.is at.body at.at) in
-        let a = passing-left text at.test rightwards at.place place in
-        let b = left-few text rightwards at.place place in
-        let c = places-few text is_text (last_place text) (omega arith) in
-        omega (arith, few, a, b, c)
+-- what the executor makes of it, by one arm of a turn
+module _ {P : Type 0} {offset : P → ℕ} {program : Program} {text : Text} {s : machine.State} {stack : List (Waiting P)} {c : Course} {t x : Turn P} where
+  pub arm-few : IsStanding offset program text (tried (running s) ∷ []) stack c → next_of offset t ≡ act program text rightwards s → t ≡ x → IsText text
+      → tried_in (next_of offset x) ≤ units text + 1
+  arm-few there turned is is_text = tries-few program text s is_text (next_of offset x) (sym turned ∙ ap (next_of offset) is)
+
+  module _ {b : Begin} (h : Stands offset program text b (tried (running s) ∷ []) stack c) (limited : IsLimited program s.ip) (turned : next_of offset t ≡ act program text rightwards s)
+      (is : t ≡ x) (leads : LeadsOn (next_of offset x)) where
+    pub arm-turn : IsTurn offset program text s (tried_in (next_of offset x) + 1) (left_in (next_of offset x))
+    arm-turn = is-turn offset program text s limited (next_of offset x) (sym turned ∙ ap (next_of offset) is) leads
+
+    module _ {key : Option Stored} (k : HasKeyHere c.memo s key) (stack' : List (Waiting P)) (c' : Course) where
+      -- what it leaves, by the clause of the function that does
+      abbrev LeftBy : Result ⊤ Refusal → Type 0
+      LeftBy r = (program : Program) (text : Text) (b : Begin) (s : machine.State) (ts : List Thread) → IsTurn offset program text s (tried_in (next_of offset x) + 1) ts
+          → HasKeyHere c.memo s key → Stands offset program text b (tried (running s) ∷ []) stack c → Leaves offset program text b c.left ts r stack' c'
+
+      pub arm-leaves : LeftBy (Ok tt) → Stands offset program text b (tries (left_in (next_of offset x))) stack' c' × (c'.left < c.left)
+      arm-leaves left = left program text b s (left_in (next_of offset x)) arm-turn k h
+
+      pub arm-stops : (r : Result (Came P) Refusal) (e : Refusal) → IsErrAnd r (λ f. f ≡ e) → LeftBy (Err e) → Turns offset program text b c.left r stack' c'
+      arm-stops r e handed left = turns-handed h c.left stack' c' r e handed (left program text b s (left_in (next_of offset x)) arm-turn k h)
 
 -- ---- What becomes of what it leaves
 
@@ -218,22 +271,31 @@ module _ {P : Type 0} (offset : P → ℕ) (program : Program) (text : Text) whe
         (subst (HasCome program text c.memo.ledger rightwards b.memory (tries (first_row program b.at)) h.work h.now) same h.comes) is h.spent c.memo refl
 
     -- the second one waits
-    pub one-waits : (u : Thread) (s : State P) (stack : List (Waiting P))
+    waits-on : (u : Thread) (s : State P) (stack : List (Waiting P))
         → Stands offset program text b (tries (u ∷ waiting (state_of offset s) ∷ [])) stack c → Stands offset program text b (tries (u ∷ [])) (stack ++ AsThread s ∷ []) c
-    one-waits u s stack h =
+    waits-on u s stack h =
         let e : Entry = tried (waiting (state_of offset s)) in
         parted h (tries (u ∷ [])) (e ∷ h.row) (stack ++ AsThread s ∷ []) refl (row-push offset program text stack (AsThread s) e h.row refl h.is)
 
     -- the preferred one is taken
-    pub one-taken : (states : List (State P)) (next : Option (State P)) (old new : List (Waiting P)) → HasTaken offset states old next new
+    takes-on : (states : List (State P)) (next : Option (State P)) (old new : List (Waiting P)) → HasTaken offset states old next new
         → Stands offset program text b (tries (in_turn (preferred_last offset states))) old c → Stands offset program text b (front_of offset next) new c
-    one-taken states None old new t h =
+    takes-on states None old new t h =
         subst (λ l. Stands offset program text b [] l c) (sym t.1)
         (subst (λ l. Stands offset program text b (tries (in_turn (preferred_last offset l))) old c) t.0 h)
-    one-taken states (Some s) old new t h =
+    takes-on states (Some s) old new t h =
         let order : in_turn (preferred_last offset states) ≡ running (state_of offset s) ∷ waiting_of offset t.others =
         sym (append-nil (in_turn (preferred_last offset states))) ∙ sym (scan-threads offset states t.others [] s t.is) in
         let h' : Stands offset program text b (tries (running (state_of offset s) ∷ waiting_of offset t.others)) old c =
         subst (λ us. Stands offset program text b (tries us) old c) order h in
         subst (λ l. Stands offset program text b (front_of offset (Some s)) l c) (sym t.wait)
         (parted h' (front_of offset (Some s)) (tries (waiting_of offset t.others) ++ h'.row) (old ++ map (λ o. AsThread o) t.others) refl (rows-push t.others old h'.row h'.is))
+
+module _ {P : Type 0} {offset : P → ℕ} {program : Program} {text : Text} {b : Begin} {c : Course} {old new : List (Waiting P)} where
+  pub one-waits : {u : Thread} (s : State P) → Stands offset program text b (tried u ∷ tried (waiting (state_of offset s)) ∷ []) old c → new ≡ old ++ AsThread s ∷ []
+      → Stands offset program text b (tried u ∷ []) new c
+  one-waits {u} s h is = subst (λ xs. Stands offset program text b (tried u ∷ []) xs c) (sym is) (waits-on offset program text b u s old h)
+
+  pub one-taken : (states : List (State P)) (next : Option (State P)) → Stands offset program text b (tries (in_turn (preferred_last offset states))) old c
+      → HasTaken offset states old next new → Stands offset program text b (front_of offset next) new c
+  one-taken states next h t = takes-on offset program text b states next old new t h

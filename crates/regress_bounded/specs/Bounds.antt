@@ -8,6 +8,7 @@ use Rattle.regex_meaning.specs.Tree.{Tree}
 use Rattle.regex_meaning.specs.Offsets.{units}
 use Rattle.regress_linear.specs.Behind.{look_at}
 use Rattle.regress_program.specs.Code.{compiled}
+use Rattle.regress_exec.specs.declared.exec.MatchProducer.{Ghosts}
 use Rattle.regress_ledger.specs.declared.ledger.Ledger.{Ledger}
 use Rattle.regress_ledger.specs.Bound.{IsBounded, work_for_each}
 use Rattle.regress_ledger.specs.Checks.{unlimited}
@@ -59,3 +60,9 @@ pub record IsAtStart (tree : Tree) (text : Text) (per_unit work : ℕ)
   pub is_enough : enough ≡ is_enough_for per_unit text work
   pub first : ahead ≡ 0
   pub has_left : left ≡ work
+
+-- the same of an executor by what it shows, with the bound of a tree's program, and its text by the tree's flag
+abbrev pub StartsBy : {E Q : Type 0} (e : Ghosts E Q) (tree : Tree) (text_of : Bool → Text) (bound : WorkBound) (work : ℕ) → E → Type 0
+StartsBy e tree text_of bound work x =
+    IsAtStart tree (text_of tree.flags.unicode) bound.per_unit work
+    (e.tree x) (e.text x) (e.budget x) (e.enough x) (e.ahead x) (e.left x)

@@ -3,7 +3,10 @@ use Rattle.std.specs.Prelude.{◌≡◌, ◌≤◌, ◌<◌, ◌^◌, ◌+◌, �
 use Rattle.regex_meaning.specs.Text.{Text, rightwards, moved, last_place}
 use Rattle.regex_meaning.specs.Offsets.{IsText, offset as text_offset, place_at, units}
 use Rattle.regex_meaning.specs.Layout.{Program, Insn, Loop1CharBody}
+use Rattle.regex_pattern_front.specs.TreeOf.{tree_of}
+use Rattle.regex_pattern_front.specs.declared.ir.Regex.{Regex}
 use Rattle.regress_plan.specs.Insns.{insn_of}
+use Rattle.regress_program.specs.Code.{compiled}
 use Rattle.regress_machine.specs.Machine as machine
 use Rattle.regress_machine.specs.Machine.{Thread, running, waiting, in_turn, goes, scans, ends, act, Found, search}
 use Rattle.regress_machine.specs.Turns.{behind_at}
@@ -53,6 +56,10 @@ module _ (program : Program) (text : Text) where
   abbrev pub KnowsRightly : Known → Type 0
   KnowsRightly m = ∥ IsRight m ∥₁
 
+-- of the program of a tree
+abbrev pub KnowsOf : Regex → Text → Known → Type 0
+KnowsOf re text m = KnowsRightly (compiled (tree_of re)) text m
+
 -- the key of a state, which is not known to fail
 pub record HasKeyHere (m : Known) (s : machine.State) (key : Option Stored) : Type 0 where
   pub is : key_at m.ledger s ≡ option_map as_key key
@@ -67,6 +74,11 @@ known_of known (Some k) = known k
 abbrev pub endless_of : Insn → Option (ℕ × Bool)
 endless_of (Loop1CharBody least most greedy) = if most == unlimited then Some (least, greedy) else None
 endless_of _ = None
+
+-- no run without a maximum stands there
+abbrev pub IsLimited : Program → (ip : ℕ) → Type 0
+IsLimited program ip = (least most : ℕ) (greedy : Bool)
+    → slice_get program.insns ip ≡ Some (Loop1CharBody least most greedy) → (most == unlimited) ≡ false
 
 -- An attempt: where it begins, what was known to fail, how much work might be done, and what the search finds.
 pub record Begin : Type 0 where
@@ -167,6 +179,11 @@ module _ {P : Type 0} (offset : P → ℕ) where
     GoesOn b left (Ok next) stack c = ComesOn b left next stack c
     GoesOn b left (Err e) stack c = MayStop b e c
 
+    -- and so does each attempt that stands so
+    abbrev pub GoesFrom : (front : List Entry) (old : List (Waiting P)) → Course → Result (Option (State P)) Refusal
+        → (new : List (Waiting P)) → Course → Type 0
+    GoesFrom front old c r new c' = (b : Begin) → Stands b front old c → GoesOn b c.left r new c'
+
     -- the thread in hand ends the search
     pub record EndsAt (b : Begin) (end : State P) (c : Course) : Type 0 where
       pub stack : List (Waiting P)
@@ -178,6 +195,10 @@ module _ {P : Type 0} (offset : P → ℕ) where
     Turns b left (Ok (On next)) stack c = ComesOn b left next stack c
     Turns b left (Ok (End s)) stack c = EndsAt b s c
     Turns b left (Err e) stack c = MayStop b e c
+
+    abbrev pub TurnsFrom : (front : List Entry) (old : List (Waiting P)) → Course → Result (Came P) Refusal
+        → (new : List (Waiting P)) → Course → Type 0
+    TurnsFrom front old c r new c' = (b : Begin) → Stands b front old c → Turns b c.left r new c'
 
     -- what is left of an attempt: nothing, the end that it finds, or a refusal
     abbrev pub Runs : Begin → Result (Option (State P)) Refusal → Course → Type 0

@@ -7,8 +7,8 @@ ghost use Rattle.regex_pattern_front.specs.TreeOf.{tree_of};
 ghost use Rattle.regress_exec.specs.{Attempts.{end_from}, Worked.{further_on}, declared.exec.SearchError.TheVariants.{Memory}};
 ghost use Rattle.regress_program.specs.Code.{compiled};
 ghost use Rattle.regress_pikevm.specs.{Acting.{end_with}, States.{groups_of}};
-ghost use Rattle.regress_bounded.specs.Bounds.{IsAtStart, IsBoundOf, is_enough_for};
-ghost use Rattle.regress_bounded.specs.{Courses.{Begin, Begins, KnowsRightly, Stands, IsStanding, Runs, front_of}, Walks.{HasWalked}};
+ghost use Rattle.regress_bounded.specs.Bounds.{IsBoundOf, StartsBy, is_enough_for};
+ghost use Rattle.regress_bounded.specs.{Courses.{Begin, Begins, KnowsOf, Stands, IsStanding, Runs, front_of}, Walks.{HasWalked}};
 
 use crate::bounds::WorkBound;
 use crate::course::{Course, Refusal};
@@ -38,7 +38,7 @@ pub struct BoundedExecutor<'r, Input: InputIndexer> {
     ahead: usize,
     // whether the last attempt was given up for want of work, of which none is left then
     out: bool,
-    ghost right: { KnowsRightly (compiled (tree_of searched.program.now)) (Input.text searched.input) course.memo } by { Prim.hlevel props },
+    ghost right: { KnowsOf searched.program.now (Input.text searched.input) course.memo } by { Prim.hlevel props },
     ghost walked: { enough ≡ true
         → HasWalked (compiled (tree_of searched.program.now)) (Input.text searched.input) course ahead } by { Prim.hlevel props },
     ghost spent: { out ≡ true → course.left ≡ 0 } by { Prim.hlevel props },
@@ -54,8 +54,7 @@ fn run<Input: InputIndexer>(
     requires stands { let s = searched.now in
         IsStanding Input.Position.offset (compiled (tree_of s.program.now)) (Input.text s.input)
         (front_of Input.Position.offset (Some start)) [] course.old }
-    ensures right { let s = searched.now in
-        KnowsRightly (compiled (tree_of s.program.now)) (Input.text s.input) course.new.memo }
+    ensures right { let s = searched.now in KnowsOf s.program.now (Input.text s.input) course.new.memo }
     ensures ledger { course.new.memo.ledger ≡ course.old.memo.ledger }
     ensures left { course.new.left ≤ course.old.left }
     ensures runs { let at = Input.Position.offset in let s = searched.now in
@@ -88,10 +87,8 @@ fn preferred_end<Input: InputIndexer>(
     pos: Input::Position,
 ) -> Result<Option<State<Input::Position>>, Refusal>
     requires at { IsBoundary (Input.text searched.now.input) (Input.Position.offset pos) }
-    requires right { let s = searched.now in
-        KnowsRightly (compiled (tree_of s.program.now)) (Input.text s.input) course.old.memo }
-    ensures right { let s = searched.now in
-        KnowsRightly (compiled (tree_of s.program.now)) (Input.text s.input) course.new.memo }
+    requires right { let s = searched.now in KnowsOf s.program.now (Input.text s.input) course.old.memo }
+    ensures right { let s = searched.now in KnowsOf s.program.now (Input.text s.input) course.new.memo }
     ensures found { let s = searched.now in IfOk result (λ end. end_with Input.Position.offset end
         ≡ end_from (tree_of s.program.now) (Input.text s.input) (Input.Position.offset pos)) }
     ensures ledger { course.new.memo.ledger ≡ course.old.memo.ledger }
@@ -112,6 +109,8 @@ impl<'r, Input: InputIndexer> Attempts for BoundedExecutor<'r, Input> {
 
     ghost text = { λ e. Input.text e.searched.input };
 
+    ghost is_text = { λ e. Input.is_text e.searched.input };
+
     ghost groups = { λ e. groups_of Input.Position.offset e.groups.items };
 
     ghost enough = { λ e. e.enough };
@@ -121,8 +120,6 @@ impl<'r, Input: InputIndexer> Attempts for BoundedExecutor<'r, Input> {
     ghost out_of_work = { λ e. e.out };
 
     ghost left = { λ e. e.course.left };
-
-    ghost is_text = { λ e. Input.is_text e.searched.input };
 
     fn program(&self) -> &Program {
         self.searched.program
@@ -160,10 +157,7 @@ impl<'r, Input: InputIndexer> Attempts for BoundedExecutor<'r, Input> {
     }
 
     fn group(&self, id: usize) -> Option<(Input::Position, Input::Position)> {
-        match self.groups.get(id) {
-            Some(range) => *range,
-            None => None,
-        }
+        *self.groups.get(id)?
     }
 
     fn place_from(&self, pos: Input::Position) -> Option<Input::Position> {
@@ -250,8 +244,7 @@ impl<'r, 't> BoundedExecutor<'r, Utf8Input<'t>> {
     ) -> Result<Self, SearchError>
         requires bound { IsBoundOf (tree_of re.now) bound.now }
         ensures start { let e = ⟦<BoundedExecutor<'r, Utf8Input<'t>> as MatchProducer>⟧ in
-            IfOk result (λ x. IsAtStart (tree_of re.now) (utf8_text text.now (tree_of re.now).flags.unicode)
-            bound.now.per_unit work (e.tree x) (e.text x) (e.budget x) (e.enough x) (e.ahead x) (e.left x)) }
+            IfOk result (StartsBy e (tree_of re.now) (utf8_text text.now) bound.now work) }
         ensures refused { IfErr result (λ e. e ≡ Memory) }
     {
         BoundedExecutor::over(Searched::in_utf8(re, text), bound, work)
@@ -273,8 +266,7 @@ impl<'r, 't> BoundedExecutor<'r, AsciiInput<'t>> {
         requires bound { IsBoundOf (tree_of re.now) bound.now }
         requires ascii { IsAscii text.now }
         ensures start { let e = ⟦<BoundedExecutor<'r, AsciiInput<'t>> as MatchProducer>⟧ in
-            IfOk result (λ x. IsAtStart (tree_of re.now) (ascii_text text.now (tree_of re.now).flags.unicode)
-            bound.now.per_unit work (e.tree x) (e.text x) (e.budget x) (e.enough x) (e.ahead x) (e.left x)) }
+            IfOk result (StartsBy e (tree_of re.now) (ascii_text text.now) bound.now work) }
         ensures refused { IfErr result (λ e. e ≡ Memory) }
     {
         BoundedExecutor::over(Searched::in_ascii(re, text), bound, work)
@@ -295,8 +287,7 @@ impl<'r, 't> BoundedExecutor<'r, Utf16Input<'t>> {
     ) -> Result<Self, SearchError>
         requires bound { IsBoundOf (tree_of re.now) bound.now }
         ensures start { let e = ⟦<BoundedExecutor<'r, Utf16Input<'t>> as MatchProducer>⟧ in
-            IfOk result (λ x. IsAtStart (tree_of re.now) (utf16_text text.now (tree_of re.now).flags.unicode)
-            bound.now.per_unit work (e.tree x) (e.text x) (e.budget x) (e.enough x) (e.ahead x) (e.left x)) }
+            IfOk result (StartsBy e (tree_of re.now) (utf16_text text.now) bound.now work) }
         ensures refused { IfErr result (λ e. e ≡ Memory) }
     {
         BoundedExecutor::over(Searched::in_utf16(re, text), bound, work)
@@ -317,8 +308,7 @@ impl<'r, 't> BoundedExecutor<'r, Ucs2Input<'t>> {
     ) -> Result<Self, SearchError>
         requires bound { IsBoundOf (tree_of re.now) bound.now }
         ensures start { let e = ⟦<BoundedExecutor<'r, Ucs2Input<'t>> as MatchProducer>⟧ in
-            IfOk result (λ x. IsAtStart (tree_of re.now) (ucs2_text text.now (tree_of re.now).flags.unicode)
-            bound.now.per_unit work (e.tree x) (e.text x) (e.budget x) (e.enough x) (e.ahead x) (e.left x)) }
+            IfOk result (StartsBy e (tree_of re.now) (ucs2_text text.now) bound.now work) }
         ensures refused { IfErr result (λ e. e ≡ Memory) }
     {
         BoundedExecutor::over(Searched::in_ucs2(re, text), bound, work)

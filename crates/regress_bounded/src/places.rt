@@ -8,7 +8,7 @@ ghost use Rattle.regress_machine.specs.Machine.{running};
 ghost use Rattle.regress_memo.specs.Memo.{has_failure};
 ghost use Rattle.regress_program.specs.{Code.{compiled}, Insns.{insn_of}};
 ghost use Rattle.regress_scan.specs.Passing.{IsSpelledFor, test_in};
-ghost use Rattle.regress_bounded.specs.Courses.{Begin, KnowsRightly, IsRunHere, Stands, IsStanding, GoesOn, HasMetPlaces, HasPassedOver, IsPast, IsNearest};
+ghost use Rattle.regress_bounded.specs.Courses.{KnowsOf, IsRunHere, IsStanding, GoesFrom, HasMetPlaces, HasPassedOver, IsPast, IsNearest};
 ghost use Rattle.regress_bounded.specs.declared.row.Waiting.TheVariants.{Run as AsRun};
 ghost use Rattle.regress_pikevm.specs.States.{state_of};
 
@@ -25,11 +25,12 @@ use regress_pikevm::pikevm::states::State;
 use regress_program::insn::Insn;
 use std::alloc::AllocError;
 
-/// A run without a maximum: what it reads, and how many characters at least.
+/// A run without a maximum: what it reads, how many characters at least, and whether it is greedy.
 #[derive(Clone, Copy)]
 pub(crate) struct Endless {
     pub(crate) body: Insn,
     pub(crate) least: usize,
+    pub(crate) greedy: bool,
 }
 
 // Over the characters that a run needs. So many there were.
@@ -58,27 +59,27 @@ fn pass<Input: InputIndexer>(
     count
 }
 
-/// A greedy run: the furthest place is taken, and nearer ones wait. From one on that is known to fail it is not gone over.
+/// A greedy run: the furthest place is taken, and nearer ones wait; from one on that is known to fail it is not gone over.
+/// Or a lazy one: the nearest place is taken, and the others wait together.
 pub(crate) fn meet_run<Input: InputIndexer>(
     searched: &Searched<'_, Input>,
     run: Endless,
-    state: &State<Input::Position>,
+    state: State<Input::Position>,
     stack: &mut Vec<Waiting<Input::Position>>,
     course: &mut Course,
 ) -> Result<Option<State<Input::Position>>, Refusal>
     requires run { let s = searched.now in IsRunHere Input.Position.offset (compiled (tree_of s.program.now))
-        (Input.text s.input) run true (state_of Input.Position.offset state.now) }
+        (Input.text s.input) run run.greedy (state_of Input.Position.offset state) }
     requires bytes { IsSpelledFor run.body (Input.text searched.now.input) Input.Units.ARE_BYTES }
-    requires within { state.now.ip + 2 < 2 ^ 64 }
+    requires within { state.ip + 2 < 2 ^ 64 }
     requires stands { let s = searched.now in
         IsStanding Input.Position.offset (compiled (tree_of s.program.now)) (Input.text s.input)
-        (tried (running (state_of Input.Position.offset state.now)) ∷ []) stack.old.items course.old }
+        (tried (running (state_of Input.Position.offset state)) ∷ []) stack.old.items course.old }
     ensures memo { course.new.memo ≡ course.old.memo }
     ensures left { course.new.left ≤ course.old.left }
     ensures goes { let at = Input.Position.offset in let s = searched.now in
-        let program = compiled (tree_of s.program.now) in let text = Input.text s.input in
-        (b : Begin) → Stands at program text b (tried (running (state_of at state.now)) ∷ []) stack.old.items course.old
-        → GoesOn at program text b course.old.left result stack.new.items course.new }
+        GoesFrom at (compiled (tree_of s.program.now)) (Input.text s.input) (tried (running (state_of at state)) ∷ [])
+        stack.old.items course.old result stack.new.items course.new }
 {
     let mut at = state.pos;
     let passed = pass(searched, run, &mut at);
@@ -86,9 +87,14 @@ pub(crate) fn meet_run<Input: InputIndexer>(
         course.spend(passed as u64 + 2)?;
         return Ok(None);
     }
-    let (next, count) = meet_places(searched, run, at, state, stack, course)?;
-    course.spend(count as u64 + 2)?;
-    Ok(next)
+    if run.greedy {
+        let (next, count) = meet_places(searched, run, at, &state, stack, course)?;
+        course.spend(count as u64 + 2)?;
+        return Ok(next);
+    }
+    course.spend(passed as u64 + 2)?;
+    let next = nearest(searched, run.body, at, state, stack)?;
+    Ok(Some(next))
 }
 
 // From the first place of a run on: the thread behind the furthest one, or none where it is known to fail from a place on,
@@ -101,8 +107,7 @@ fn meet_places<Input: InputIndexer>(
     stack: &mut Vec<Waiting<Input::Position>>,
     course: &Course,
 ) -> Result<(Option<State<Input::Position>>, usize), AllocError>
-    requires right { let s = searched.now in
-        KnowsRightly (compiled (tree_of s.program.now)) (Input.text s.input) course.now.memo }
+    requires right { let s = searched.now in KnowsOf s.program.now (Input.text s.input) course.now.memo }
     requires run { let s = searched.now in IsRunHere Input.Position.offset (compiled (tree_of s.program.now))
         (Input.text s.input) run true (state_of Input.Position.offset state.now) }
     requires bytes { IsSpelledFor run.body (Input.text searched.now.input) Input.Units.ARE_BYTES }
@@ -133,38 +138,6 @@ fn meet_places<Input: InputIndexer>(
         wait(Waiting::Thread(here), stack)?;
         count += 1;
     }
-}
-
-/// A lazy run: the nearest place is taken, and the others wait together.
-pub(crate) fn meet_lazy<Input: InputIndexer>(
-    searched: &Searched<'_, Input>,
-    run: Endless,
-    state: State<Input::Position>,
-    stack: &mut Vec<Waiting<Input::Position>>,
-    course: &mut Course,
-) -> Result<Option<State<Input::Position>>, Refusal>
-    requires run { let s = searched.now in IsRunHere Input.Position.offset (compiled (tree_of s.program.now))
-        (Input.text s.input) run false (state_of Input.Position.offset state) }
-    requires bytes { IsSpelledFor run.body (Input.text searched.now.input) Input.Units.ARE_BYTES }
-    requires within { state.ip + 2 < 2 ^ 64 }
-    requires stands { let s = searched.now in
-        IsStanding Input.Position.offset (compiled (tree_of s.program.now)) (Input.text s.input)
-        (tried (running (state_of Input.Position.offset state)) ∷ []) stack.old.items course.old }
-    ensures memo { course.new.memo ≡ course.old.memo }
-    ensures left { course.new.left ≤ course.old.left }
-    ensures goes { let at = Input.Position.offset in let s = searched.now in
-        let program = compiled (tree_of s.program.now) in let text = Input.text s.input in
-        (b : Begin) → Stands at program text b (tried (running (state_of at state)) ∷ []) stack.old.items course.old
-        → GoesOn at program text b course.old.left result stack.new.items course.new }
-{
-    let mut at = state.pos;
-    let passed = pass(searched, run, &mut at);
-    course.spend(passed as u64 + 2)?;
-    if passed < run.least {
-        return Ok(None);
-    }
-    let next = nearest(searched, run.body, at, state, stack)?;
-    Ok(Some(next))
 }
 
 // The thread behind a place of a lazy run, which goes on from the next one, if there is one.
@@ -208,9 +181,8 @@ pub(crate) fn back_to_run<Input: InputIndexer>(
     ensures memo { course.new.memo ≡ course.old.memo }
     ensures left { course.new.left ≤ course.old.left }
     ensures goes { let at = Input.Position.offset in let s = searched.now in
-        let program = compiled (tree_of s.program.now) in let text = Input.text s.input in
-        (b : Begin) → Stands at program text b [] (stack.old.items ++ AsRun state ∷ []) course.old
-        → GoesOn at program text b course.old.left result stack.new.items course.new }
+        GoesFrom at (compiled (tree_of s.program.now)) (Input.text s.input) []
+        (stack.old.items ++ AsRun state ∷ []) course.old result stack.new.items course.new }
 {
     let at = state.pos;
     let Some(key) = course.key_at(state.ip + 1, at, &state) else {

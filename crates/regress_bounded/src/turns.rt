@@ -1,18 +1,18 @@
 //! Turns of threads and ways back, each with the work that it is.
 
-ghost use Rattle.std.specs.Prelude.{◌≡◌, ◌≤◌, ◌==◌, ℕ, Bool, List, false, IfOk, IfSome, Some, [], ◌∷◌, ◌++◌, map, option_map, slice_get};
-ghost use Rattle.regex_meaning.specs.{Layout.{Program as Code, Loop1CharBody}, Text.{Text}};
+ghost use Rattle.std.specs.Prelude.{◌≡◌, ◌≤◌, List, IfOk, IfSome, [], ◌∷◌, ◌++◌, map, option_map};
+ghost use Rattle.regex_meaning.specs.{Layout.{Program as Code}, Text.{Text}};
 ghost use Rattle.regex_pattern_front.specs.TreeOf.{tree_of};
 ghost use Rattle.regress_linear.specs.Turns.{tried, tries};
 ghost use Rattle.regress_machine.specs.Machine.{State as MachineState, Thread, running};
 ghost use Rattle.regress_memo.specs.Memo.{as_key, has_failure};
 ghost use Rattle.regress_program.specs.{Code.{compiled}, Insns.{insn_of}};
-ghost use Rattle.regress_ledger.specs.{Checks.{unlimited}, Whole.{HasBit}};
-ghost use Rattle.regress_bounded.specs.Courses.{Begin, KnowsRightly, HasKeyHere, known_of, endless_of, IsTurn, Stands, IsStanding, GoesOn, Turns, Leaves, HasTaken};
-ghost use Rattle.regress_pikevm.specs.States.{state_of};
+ghost use Rattle.regress_ledger.specs.Whole.{HasBit};
+ghost use Rattle.regress_bounded.specs.Courses.{Begin, KnowsOf, HasKeyHere, IsLimited, known_of, endless_of, IsTurn, Stands, IsStanding, GoesFrom, TurnsFrom, Leaves, HasTaken};
+ghost use Rattle.regress_pikevm.specs.States.{state_of, running_of};
 
 use crate::course::{Course, Refusal};
-use crate::places::{Endless, back_to_run, meet_lazy, meet_run};
+use crate::places::{Endless, back_to_run, meet_run};
 use crate::row::{Waiting, wait};
 use regress_exec::searched::Searched;
 use regress_input::cursor::Forward;
@@ -46,9 +46,8 @@ pub(crate) fn turn<Input: InputIndexer>(
     ensures memo { course.new.memo ≡ course.old.memo }
     ensures left { course.new.left ≤ course.old.left }
     ensures goes { let at = Input.Position.offset in let s = searched.now in
-        let program = compiled (tree_of s.program.now) in let text = Input.text s.input in
-        (b : Begin) → Stands at program text b (tried (running (state_of at state)) ∷ []) stack.old.items course.old
-        → Turns at program text b course.old.left result stack.new.items course.new }
+        TurnsFrom at (compiled (tree_of s.program.now)) (Input.text s.input) (tried (running (state_of at state)) ∷ [])
+        stack.old.items course.old result stack.new.items course.new }
 {
     let key = course.key_at(state.ip, state.pos, &state);
     if is_known(key, course) {
@@ -61,12 +60,9 @@ pub(crate) fn turn<Input: InputIndexer>(
     let run = Endless {
         body: insns[state.ip + 1],
         least,
+        greedy,
     };
-    let next = if greedy {
-        meet_run(searched, run, &state, stack, course)?
-    } else {
-        meet_lazy(searched, run, state, stack, course)?
-    };
+    let next = meet_run(searched, run, state, stack, course)?;
     Ok(Came::On(next))
 }
 
@@ -116,25 +112,16 @@ fn turn_above<Input: InputIndexer>(
         IsStanding Input.Position.offset (compiled (tree_of s.program.now)) (Input.text s.input)
         (tried (running (state_of Input.Position.offset state)) ∷ []) stack.old.items course.old }
     requires key { HasKeyHere course.old.memo (state_of Input.Position.offset state) key }
-    requires limited { (least most : ℕ) (greedy : Bool)
-        → slice_get (compiled (tree_of searched.now.program.now)).insns state.ip ≡ Some (Loop1CharBody least most greedy)
-        → (most == unlimited) ≡ false }
+    requires limited { IsLimited (compiled (tree_of searched.now.program.now)) state.ip }
     ensures memo { course.new.memo ≡ course.old.memo }
     ensures left { course.new.left ≤ course.old.left }
     ensures goes { let at = Input.Position.offset in let s = searched.now in
-        let program = compiled (tree_of s.program.now) in let text = Input.text s.input in
-        (b : Begin) → Stands at program text b (tried (running (state_of at state)) ∷ []) stack.old.items course.old
-        → Turns at program text b course.old.left result stack.new.items course.new }
+        TurnsFrom at (compiled (tree_of s.program.now)) (Input.text s.input) (tried (running (state_of at state)) ∷ [])
+        stack.old.items course.old result stack.new.items course.new }
 {
     match take_turn(searched, insns, Forward, state)? {
-        Turn::Dead => {
-            leave(key, 1, stack, course)?;
-            Ok(Came::On(None))
-        }
-        Turn::Go(next) => {
-            leave(key, 1, stack, course)?;
-            Ok(Came::On(Some(next)))
-        }
+        Turn::Dead => go_on(key, None, stack, course),
+        Turn::Go(next) => go_on(key, Some(next), stack, course),
         Turn::Fork(next, other) => {
             leave(key, 1, stack, course)?;
             wait(Waiting::Thread(other), stack)?;
@@ -148,6 +135,25 @@ fn turn_above<Input: InputIndexer>(
         Turn::Ask { .. } => unreachable!(),
         Turn::Done(end) => Ok(Came::End(end)),
     }
+}
+
+// A turn behind which this thread goes on alone, if one does.
+#[inline(always)]
+fn go_on<P: PositionType>(
+    key: Option<Key>,
+    next: Option<State<P>>,
+    stack: &mut Vec<Waiting<P>>,
+    course: &mut Course,
+) -> Result<Came<P>, Refusal>
+    ensures memo { course.new.memo ≡ course.old.memo }
+    ensures left { course.new.left ≤ course.old.left }
+    ensures goes { (program : Code) (text : Text) (s : MachineState) → HasKeyHere course.old.memo s key
+        → IsTurn P.offset program text s 1 (running_of P.offset next)
+        → TurnsFrom P.offset program text (tried (running s) ∷ []) stack.old.items course.old
+        result stack.new.items course.new }
+{
+    leave(key, 1, stack, course)?;
+    Ok(Came::On(next))
 }
 
 // So much work is done, and a record is made, if there is a key.
@@ -200,14 +206,12 @@ pub(crate) fn back_to<Input: InputIndexer>(
     requires stands { let s = searched.now in
         IsStanding Input.Position.offset (compiled (tree_of s.program.now)) (Input.text s.input)
         [] (stack.old.items ++ waiting ∷ []) course.old }
-    ensures right { let s = searched.now in
-        KnowsRightly (compiled (tree_of s.program.now)) (Input.text s.input) course.new.memo }
+    ensures right { let s = searched.now in KnowsOf s.program.now (Input.text s.input) course.new.memo }
     ensures ledger { course.new.memo.ledger ≡ course.old.memo.ledger }
     ensures left { course.new.left ≤ course.old.left }
     ensures goes { let at = Input.Position.offset in let s = searched.now in
-        let program = compiled (tree_of s.program.now) in let text = Input.text s.input in
-        (b : Begin) → Stands at program text b [] (stack.old.items ++ waiting ∷ []) course.old
-        → GoesOn at program text b course.old.left result stack.new.items course.new }
+        GoesFrom at (compiled (tree_of s.program.now)) (Input.text s.input) []
+        (stack.old.items ++ waiting ∷ []) course.old result stack.new.items course.new }
 {
     match waiting {
         Waiting::Thread(state) => {

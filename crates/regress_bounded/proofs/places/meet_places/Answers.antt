@@ -1,55 +1,44 @@
 use Rattle.std.proofs.Common.{◌∷◌, ◌++◌, [], sym, ap, ◌∙◌, subst, arith}
 use Rattle.std.specs.Prelude.{IfSome}
-use Rattle.regex_pattern_front.specs.TreeOf.{tree_of}
 use Rattle.regress_input.proofs.Places.{boundary_inside}
 use Rattle.regress_ledger.specs.Whole.{HasBit}
 use Rattle.regress_memo.specs.Memo.{as_key}
-use Rattle.regress_program.specs.Code.{compiled}
 use Rattle.regress_scan.proofs.Reach.{some-of}
 use Rattle.regress_scan.specs.Passing.{test_in}
 use Rattle.regress_bounded.specs.declared.row.Waiting.TheVariants.{Thread as AsThread}
-use Rattle.regress_bounded.proofs.Furthest.{one-further, key-some, place-kept, furthest-none, furthest-known, furthest-all, furthest-more}
+use Rattle.regress_bounded.proofs.Furthest.{further-by, key-some, place-kept, furthest-none, furthest-known, furthest-all, furthest-more}
 use Rattle.regress_bounded.proofs.places.meet_places.Goals as goal
 
 pub places-init : goal.places-init
 places-init g c =
-    let program = compiled (tree_of c.args.searched.now.program.now) in
-    let text = g.Input.InputIndexer.text c.args.searched.now.input in
-    let offset = g.Input.Position.PositionType.offset in
     record {
       boundary = c.requires.at;
       few = c.requires.few;
       going = λ test place e h.
-          furthest-none offset program text c.args.run c.args.state.now c.requires.run c.args.course.now.memo c.requires.right test place c.args.stack.now.items c.args.from h;
+          furthest-none c.args.state.now c.requires.run c.requires.right test place c.args.stack.now.items c.args.from h;
     }
 
 pub unreachable-requires : goal.unreachable-requires
 unreachable-requires g c =
-    let program = compiled (tree_of c.args.searched.now.program.now) in
-    let text = g.Input.InputIndexer.text c.args.searched.now.input in
     let is = g.met.Input.InputIndexer.is_text c.args.searched.now.input in
     let offset = g.Input.Position.PositionType.offset in
     let t = some-of (test_in c.args.searched.now.program.now c.args.run.body) c.requires.test in
-    key-some offset program text c.args.run c.args.state.now c.requires.run c.args.course.now.memo c.requires.right t.0 t.1 is (offset c.places.at) c.places.invariant.boundary
+    key-some c.args.state.now c.requires.run c.requires.right t.0 t.1 is (offset c.places.at) c.places.invariant.boundary
     c.key_at.result c.in_default.is c.key_at.ensures.key
 
 pub fails-requires : goal.fails-requires
 fails-requires g c =
-    let program = compiled (tree_of c.args.searched.now.program.now) in
     let text = g.Input.InputIndexer.text c.args.searched.now.input in
     let is = g.met.Input.InputIndexer.is_text c.args.searched.now.input in
     let offset = g.Input.Position.PositionType.offset in
     let m = c.args.course.now.memo in
     let inside = boundary_inside text is (offset c.places.at) c.places.invariant.boundary in
     subst (λ found. IfSome found (λ k. HasBit m.ledger m.places (as_key k))) c.in-Some.is
-    (c.key_at.ensures.bit (place-kept offset program text c.args.run c.args.state.now c.requires.run m c.requires.right (offset c.places.at) inside))
+    (c.key_at.ensures.bit (place-kept c.args.state.now c.requires.run c.requires.right (offset c.places.at) inside))
 
 pub returns-then-fails : goal.returns-then-fails
 returns-then-fails g c = λ test place e h.
-    let program = compiled (tree_of c.args.searched.now.program.now) in
-    let text = g.Input.InputIndexer.text c.args.searched.now.input in
-    let offset = g.Input.Position.PositionType.offset in
-    furthest-known offset program text c.args.run c.args.state.now c.requires.run c.args.course.now.memo c.requires.right test e place c.args.stack.now.items c.places.stack.items c.places.at
+    furthest-known c.args.state.now c.requires.run c.requires.right test e place c.args.stack.now.items c.places.stack.items c.places.at
     c.places.count c.key_at.result c.in-Some.key c.in-Some.is c.key_at.ensures.key (c.places.invariant.going test place e h) (sym c.fails.ensures ∙ c.if-fails.true)
 
 pub accepts_next-requires-clause-at : goal.accepts_next-requires-clause-at
@@ -57,11 +46,8 @@ accepts_next-requires-clause-at g c = c.places.invariant.boundary
 
 pub returns-then-not-accepts_next : goal.returns-then-not-accepts_next
 returns-then-not-accepts_next g c = λ test place e h.
-    let program = compiled (tree_of c.args.searched.now.program.now) in
-    let text = g.Input.InputIndexer.text c.args.searched.now.input in
     let is = g.met.Input.InputIndexer.is_text c.args.searched.now.input in
-    let offset = g.Input.Position.PositionType.offset in
-    furthest-all offset program text c.args.run c.args.state.now c.requires.run c.args.course.now.memo c.requires.right test e place c.args.stack.now.items c.places.stack.items c.places.at
+    furthest-all c.args.state.now c.requires.run c.requires.right test e place c.args.stack.now.items c.places.stack.items c.places.at
     c.places.count c.key_at.result c.in-Some.key c.in-Some.is c.key_at.ensures.key (c.places.invariant.going test place e h) (sym c.fails.ensures ∙ c.if-fails.false)
     c.in_ok-here.here c.in_ok-here.ensures c.accepts_next.new.pos c.accepts_next.result is c.if-not-accepts_next.true (c.accepts_next.ensures test e) c.wait.new.stack.items
     c.in_ok-wait.ensures
@@ -77,32 +63,26 @@ overflow_add-count g c =
 
 pub places-smaller : goal.places-smaller
 places-smaller g c =
-    let text = g.Input.InputIndexer.text c.args.searched.now.input in
-    let is = g.met.Input.InputIndexer.is_text c.args.searched.now.input in
-    let t = some-of (test_in c.args.searched.now.program.now c.args.run.body) c.requires.test in
-    let on =
-    one-further g.Input.Position.PositionType.offset text is t.0 c.places.at c.accepts_next.new.pos c.accepts_next.result c.places.invariant.boundary
-    c.if-not-accepts_next.false (c.accepts_next.ensures t.0 t.1) in
+    let input = c.args.searched.now.input in
+    let on = further-by g.Input.Position.PositionType.offset (g.Input.InputIndexer.text input) (g.met.Input.InputIndexer.is_text input) c.requires.test c.places.at c.accepts_next.new.pos
+    c.accepts_next.result c.places.invariant.boundary c.if-not-accepts_next.false c.accepts_next.ensures in
     let more = on.more in
     let inside = on.inside in
     omega (arith, more, inside)
 
 pub places-preserved : goal.places-preserved
 places-preserved g c =
-    let program = compiled (tree_of c.args.searched.now.program.now) in
     let text = g.Input.InputIndexer.text c.args.searched.now.input in
     let is = g.met.Input.InputIndexer.is_text c.args.searched.now.input in
-    let offset = g.Input.Position.PositionType.offset in
-    let t = some-of (test_in c.args.searched.now.program.now c.args.run.body) c.requires.test in
-    let on =
-    one-further offset text is t.0 c.places.at c.accepts_next.new.pos c.accepts_next.result c.places.invariant.boundary c.if-not-accepts_next.false (c.accepts_next.ensures t.0 t.1) in
+    let on = further-by g.Input.Position.PositionType.offset text is c.requires.test c.places.at c.accepts_next.new.pos c.accepts_next.result c.places.invariant.boundary
+    c.if-not-accepts_next.false c.accepts_next.ensures in
     let more = on.more in
     let few = c.places.invariant.few in
     record {
       boundary = on.boundary;
       few = omega (arith, few, more);
       going = λ test place e h.
-          furthest-more offset program text c.args.run c.args.state.now c.requires.run c.args.course.now.memo c.requires.right test e place c.args.stack.now.items c.places.stack.items c.places.at
+          furthest-more c.args.state.now c.requires.run c.requires.right test e place c.args.stack.now.items c.places.stack.items c.places.at
           c.places.count c.key_at.result c.in-Some.key c.in-Some.is c.key_at.ensures.key (c.places.invariant.going test place e h) (sym c.fails.ensures ∙ c.if-fails.false)
           c.in_ok-here.here c.in_ok-here.ensures c.accepts_next.new.pos c.accepts_next.result is c.if-not-accepts_next.false (c.accepts_next.ensures test e) c.wait-in-places.new.stack.items
           (c.in_ok-wait-2.ensures ∙ ap (λ xs. xs ++ AsThread c.in_ok-here.here ∷ []) c.in_ok-wait.ensures);

@@ -24,3 +24,5 @@ pub mod Memos
 pub mod RunRecords
 pub mod GoingOver
 pub mod Leaving
+pub mod Ascii
+pub mod Acts

@@ -1,16 +1,17 @@
 //! The executor that keeps one state and undoes its changes.
 
-ghost use Rattle.std.specs.Prelude.{◌≡◌, ◌≤◌, IsAscii, IfOk, None, option_map, ⊤, ℕ, List};
-ghost use Rattle.std.specs.Borrow.{Bor};
+ghost use Rattle.std.specs.Prelude.{◌≡◌, ◌≤◌, IsAscii, IfOk, None, option_map, ⊤};
 ghost use Rattle.std.proofs.Props.{props};
 ghost use Rattle.regex_meaning.specs.{Offsets.{IsBoundary}, Text.{ascii_text, utf8_text, utf16_text, ucs2_text}};
 ghost use Rattle.regex_pattern_front.specs.TreeOf.{tree_of};
 ghost use Rattle.regress_exec.specs.Attempts.{IsNextTry, IsVain};
 ghost use Rattle.regress_machine.specs.Finds.{CanSearch};
+ghost use Rattle.regress_plan.specs.Keys.{is_wide};
 ghost use Rattle.regress_scan.specs.Searching.{program_of};
 ghost use Rattle.regress_memo.specs.Memo.{has_failure};
 ghost use Rattle.regress_program.specs.Code.{compiled};
-ghost use Rattle.regress_backtrack.specs.{Memory.{state_of}, Memos.{terms_of}, Planning.{run_in}, Remembered.{IsRightOf, terms_in, failed_in}};
+ghost use Rattle.regress_backtrack.specs.{Ascii.{ReadsInBytes}, Memory.{state_of}, Memos.{terms_of}, Planning.{run_in}};
+ghost use Rattle.regress_backtrack.specs.Remembered.{IsRightOf, terms_in, failed_in};
 
 use crate::attempts::{attempt, attempt_again};
 pub use crate::limited::LimitedExecutor;
@@ -71,9 +72,13 @@ fn work_at_first(units: usize, insns: usize) -> u64 {
 
 impl<'r, Input: InputIndexer> BacktrackExecutor<'r, Input> {
     // The executor that has tried nothing yet. It takes no memory.
-    fn over(search: PlannedSearch<'r, Input>) -> Self
-        ensures { result.search ≡ search.entry }
+    fn over(program: PlannedProgram<'r>, searched: Searched<'r, Input>) -> Self
+        requires same { program.regex ≡ searched.program.now }
+        requires wide { program.wide ≡ is_wide Input.Units.encoding }
+        ensures tree { tree_of result.search.program.regex ≡ tree_of searched.entry.program.now }
+        ensures text { Input.text result.search.searched.input ≡ Input.text searched.entry.input }
     {
+        let search = PlannedSearch::new(program, searched);
         let alloc = search.searched.program.allocator();
         let units = search.searched.input.unit_count();
         let work = work_at_first(units, search.program.insns().len());
@@ -88,7 +93,7 @@ impl<'r, Input: InputIndexer> BacktrackExecutor<'r, Input> {
             },
             again: Again {
                 course: Course {
-                    steps: Unbound,
+                    steps: Unbound::up_to(0),
                     memo: None,
                     end: None,
                 },
@@ -234,18 +239,13 @@ impl<'r, 't> BacktrackExecutor<'r, Utf16Input<'t>> {
     ///
     /// None so far: it takes no memory.
     pub fn new_utf16(re: &'r CompiledUnits, text: &'t [u16]) -> Result<Self, AllocError>
-        ensures tree { IfOk result (λ e. ⟦<BacktrackExecutor<'r, Utf16Input<'t>> as MatchProducer>⟧.tree e
-            ≡ tree_of re.now) }
+        ensures tree { IfOk result (λ e. ⟦<BacktrackExecutor<'r, Utf16Input<'t>> as MatchProducer>⟧.tree e ≡ tree_of re.now) }
         ensures text { IfOk result (λ e. ⟦<BacktrackExecutor<'r, Utf16Input<'t>> as MatchProducer>⟧.text e
             ≡ utf16_text text.now (tree_of re.now).flags.unicode) }
-        ensures unlimited { IfOk result (λ e.
-            ⟦<BacktrackExecutor<'r, Utf16Input<'t>> as MatchProducer>⟧.budget e ≡ None) }
+        ensures unlimited { IfOk result (λ e. ⟦<BacktrackExecutor<'r, Utf16Input<'t>> as MatchProducer>⟧.budget e ≡ None) }
     {
-        let search = PlannedSearch::new(
-            PlannedProgram::for_units(re),
-            Searched::in_utf16(re, text),
-        );
-        Ok(BacktrackExecutor::over(search))
+        let program = PlannedProgram::for_units(re);
+        Ok(BacktrackExecutor::over(program, Searched::in_utf16(re, text)))
     }
 }
 
@@ -256,15 +256,13 @@ impl<'r, 't> BacktrackExecutor<'r, Ucs2Input<'t>> {
     ///
     /// None so far: it takes no memory.
     pub fn new_ucs2(re: &'r CompiledUnits, text: &'t [u16]) -> Result<Self, AllocError>
-        ensures tree { IfOk result (λ e. ⟦<BacktrackExecutor<'r, Ucs2Input<'t>> as MatchProducer>⟧.tree e
-            ≡ tree_of re.now) }
+        ensures tree { IfOk result (λ e. ⟦<BacktrackExecutor<'r, Ucs2Input<'t>> as MatchProducer>⟧.tree e ≡ tree_of re.now) }
         ensures text { IfOk result (λ e. ⟦<BacktrackExecutor<'r, Ucs2Input<'t>> as MatchProducer>⟧.text e
             ≡ ucs2_text text.now (tree_of re.now).flags.unicode) }
-        ensures unlimited { IfOk result (λ e.
-            ⟦<BacktrackExecutor<'r, Ucs2Input<'t>> as MatchProducer>⟧.budget e ≡ None) }
+        ensures unlimited { IfOk result (λ e. ⟦<BacktrackExecutor<'r, Ucs2Input<'t>> as MatchProducer>⟧.budget e ≡ None) }
     {
-        let search = PlannedSearch::new(PlannedProgram::for_units(re), Searched::in_ucs2(re, text));
-        Ok(BacktrackExecutor::over(search))
+        let program = PlannedProgram::for_units(re);
+        Ok(BacktrackExecutor::over(program, Searched::in_ucs2(re, text)))
     }
 }
 
@@ -276,13 +274,9 @@ impl<'r, 't> Searcher<'r> for BacktrackExecutor<'r, Utf8Input<'t>> {
     ghost text_of = { λ text. utf8_text text.now };
 
     fn new(re: &'r CompiledRegex, text: &'t str) -> Result<Self, AllocError> {
-        let search = PlannedSearch::new(PlannedProgram::for_bytes(re), Searched::in_utf8(re, text));
-        Ok(BacktrackExecutor::over(search))
+        let program = PlannedProgram::for_bytes(re);
+        Ok(BacktrackExecutor::over(program, Searched::in_utf8(re, text)))
     }
-}
-
-impl<'r, 't> Executor<'r, 't> for BacktrackExecutor<'r, Utf8Input<'t>> {
-    type AsAscii = BacktrackExecutor<'r, AsciiInput<'t>>;
 }
 
 impl<'r, 't> Searcher<'r> for BacktrackExecutor<'r, AsciiInput<'t>> {
@@ -294,12 +288,13 @@ impl<'r, 't> Searcher<'r> for BacktrackExecutor<'r, AsciiInput<'t>> {
     ghost text_of = { λ text. ascii_text text.now };
 
     fn new(re: &'r CompiledRegex, text: &'t str) -> Result<Self, AllocError> {
-        let search = PlannedSearch::new(
-            PlannedProgram::for_bytes(re),
-            Searched::in_ascii(re, text),
-        );
-        Ok(BacktrackExecutor::over(search))
+        let program = PlannedProgram::for_bytes(re);
+        Ok(BacktrackExecutor::over(program, Searched::in_ascii(re, text)))
     }
+}
+
+impl<'r, 't> Executor<'r, 't> for BacktrackExecutor<'r, Utf8Input<'t>> {
+    type AsAscii = BacktrackExecutor<'r, AsciiInput<'t>>;
 }
 
 impl<'r, 't> Executor<'r, 't> for BacktrackExecutor<'r, AsciiInput<'t>> {
@@ -317,16 +312,10 @@ type OfAscii = <OverAscii as Executor<'static, 'static>>::AsAscii;
 
 /// What `AsAscii` of the executor over UTF-8 names takes each text of ASCII, and reads each of its bytes as a character.
 pub fn ascii_is_read_in_bytes()
-    ensures takes { let ascii = ⟦<OfUtf8 as Searcher<'static>>⟧ in
-        (text : Bor (List ℕ)) → IsAscii text.now → ascii.can_search text }
-    ensures reads { let ascii = ⟦<OfUtf8 as Searcher<'static>>⟧ in
-        ascii.text_of ≡ (λ text. ascii_text text.now) }
+    ensures { let ascii = ⟦<OfUtf8 as Searcher<'static>>⟧ in ReadsInBytes ascii.can_search ascii.text_of }
 {}
 
 /// What `AsAscii` of the executor over ASCII names does so too.
 pub fn ascii_stays_in_bytes()
-    ensures takes { let ascii = ⟦<OfAscii as Searcher<'static>>⟧ in
-        (text : Bor (List ℕ)) → IsAscii text.now → ascii.can_search text }
-    ensures reads { let ascii = ⟦<OfAscii as Searcher<'static>>⟧ in
-        ascii.text_of ≡ (λ text. ascii_text text.now) }
+    ensures { let ascii = ⟦<OfAscii as Searcher<'static>>⟧ in ReadsInBytes ascii.can_search ascii.text_of }
 {}

@@ -168,31 +168,26 @@ fn reserve(
     if used < *free {
         return Ok(true);
     }
-    make_room(log, free, used, marks, noted)
+    if since(marks) < noted as usize {
+        return Ok(false);
+    }
+    make_room(log, free, used)?;
+    Ok(true)
 }
 
-// The same where none is free.
+// Room for one change more, and so many are free then.
 #[inline(never)]
-fn make_room(
-    log: &mut Vec<Change>,
-    free: &mut usize,
-    used: usize,
-    marks: &[Mark],
-    noted: u32,
-) -> Result<bool, AllocError>
+fn make_room(log: &mut Vec<Change>, free: &mut usize, used: usize) -> Result<(), AllocError>
     requires used { used ≤ length log.old.items }
     requires free { free.old ≤ length log.old.items }
-    ensures room { IfOk result (HasRoom used (noted_since marks.now) noted log.new.items) }
+    ensures room { OnOk result (used < length log.new.items) }
     ensures kept { take used log.new.items ≡ take used log.old.items }
     ensures used { used ≤ length log.new.items }
     ensures free { free.new ≤ length log.new.items }
 {
-    if since(marks) < noted as usize {
-        return Ok(false);
-    }
     lengthen(log, used)?;
     *free = at_most(log.len(), ALL_NOTED);
-    Ok(true)
+    Ok(())
 }
 
 // Makes a log longer of which so many are used, if all are.
@@ -286,14 +281,7 @@ fn make(slots: &mut Vec<Slot>, count: usize) -> Result<(), AllocError>
 fn first_slot(at: usize) -> Slot
     ensures { result ≡ first_slot_at at }
 {
-    Slot {
-        at,
-        from: 0,
-        to: 0,
-        noted: 0,
-        has_range: false,
-        is_set: false,
-    }
+    Slot { at, ..NO_SLOT }
 }
 
 // No slot was set.
@@ -385,7 +373,8 @@ impl Memory {
     #[inline(always)]
     fn held(&self, slot: usize) -> Slot
         requires { slot < length self.now.slots }
-        ensures { slice_get self.now.slots slot ≡ Some result }
+        ensures slot { slice_get self.now.slots slot ≡ Some result }
+        ensures noted { result.noted ≡ 0 }
     {
         let held = self.slots[slot];
         if held.is_set {
@@ -509,11 +498,8 @@ impl Memory {
     {
         let opened = Slot {
             at,
-            from: 0,
-            to: 0,
-            noted: 0,
-            has_range: false,
             is_set: true,
+            ..NO_SLOT
         };
         let _laid_out = self.groups;
         self.set(id, opened)
@@ -528,7 +514,6 @@ impl Memory {
     {
         let _laid_out = self.groups;
         let reset = Slot {
-            noted: 0,
             has_range: false,
             is_set: true,
             ..self.held(id)
@@ -547,7 +532,6 @@ impl Memory {
         let closed = Slot {
             from,
             to,
-            noted: 0,
             has_range: true,
             is_set: true,
             ..self.held(id)
@@ -610,10 +594,8 @@ impl Memory {
         let entered = Slot {
             at,
             from: k,
-            to: 0,
-            noted: 0,
-            has_range: false,
             is_set: true,
+            ..NO_SLOT
         };
         self.set(self.groups + id, entered)
     }

@@ -1,13 +1,13 @@
 //! Failures that a memory of keys remembers, by the ledger of a program.
 
-ghost use Rattle.std.specs.Prelude.{◌≡◌, ℕ, true, false, None, IfOk, IfSome, map};
+ghost use Rattle.std.specs.Prelude.{◌≡◌, ℕ, true, false, None, is_some, IfOk, IfSome, map};
 ghost use Rattle.regress_linear.specs.{Codes.{IsStateOf}, RunKeys.{run_at, insn_before}};
 ghost use Rattle.regress_memo.specs.Memo.{has_failure, as_key as key_known};
-ghost use Rattle.regress_plan.specs.Insns.{insn_of};
+ghost use Rattle.regress_plan.specs.{Insns.{insn_of}, Plans.{run_of}};
 ghost use Rattle.regress_scan.specs.Searching.{program_of};
-ghost use Rattle.regress_backtrack.specs.{Memory.{state_of}, Memos.{terms_of, is_run, KnowsRightly}, Remembered.{as_key, terms_in, failed_in}};
+ghost use Rattle.regress_backtrack.specs.{Memory.{state_of}, Memos.{terms_of, KnowsRightly}, Remembered.{as_key, terms_in, failed_in}};
 
-use crate::here::Here;
+use crate::here::Headed;
 use crate::memory::Memory;
 use crate::remembering::{Course, Key, Remembers};
 use crate::steps::Unbound;
@@ -48,23 +48,17 @@ fn is_body<W: Planned>(planned: &W, ip: usize) -> bool
     }
     planned.is_of_program();
     match planned.op_at(ip - 1) {
-        Some(op) => !is_no_run(op),
+        Some(op) => is_run(op),
         None => false,
     }
 }
 
-// Whether an operation is no run.
+// Whether an operation is a run.
 #[inline(always)]
-fn is_no_run(op: &Op) -> bool
-    ensures { result ≡ true → is_run op.now ≡ false }
+fn is_run(op: &Op) -> bool
+    ensures { result ≡ is_some (run_of op.now) }
 {
-    match op {
-        Op::Goal | Op::Fail | Op::Unit(_) | Op::Char(_) | Op::Bytes(_) | Op::One(_) => true,
-        Op::LineStart { .. } | Op::LineEnd { .. } | Op::WordEdge(_) => true,
-        Op::Go(_) | Op::Either(_) | Op::Enter(_) | Op::LoopEnd(_) => true,
-        Op::Open(_) | Op::Close(_) | Op::Reset(_) | Op::Same(_) | Op::Look(_) => true,
-        Op::PossessiveRun(_) | Op::Run(_) | Op::LazyRun(_) => false,
-    }
+    op.run().is_some()
 }
 
 // Whether there are as many groups and loops as the program has.
@@ -87,13 +81,8 @@ impl Remembers for Memo {
     ghost failed = { λ m. has_failure m };
 
     #[inline(always)]
-    fn key_at<W: Planned>(
-        &self,
-        planned: &W,
-        forward: bool,
-        here: Here,
-        memory: &Memory,
-    ) -> Option<Key> {
+    fn key_at<W: Planned>(&self, planned: &W, thread: Headed, memory: &Memory) -> Option<Key> {
+        let Headed { here, forward } = thread;
         let line = self.ledger().line(here.ip);
         if !line.records || line.forward != forward || is_body(planned, here.ip) {
             return None;
@@ -110,13 +99,8 @@ impl Remembers for Memo {
     }
 
     #[inline(always)]
-    fn run_key<W: Planned>(
-        &self,
-        planned: &W,
-        forward: bool,
-        from: Here,
-        memory: &Memory,
-    ) -> Option<Key> {
+    fn run_key<W: Planned>(&self, planned: &W, run: Headed, memory: &Memory) -> Option<Key> {
+        let (from, forward) = (run.here, run.forward);
         if from.ip >= usize::MAX - 2 {
             return None;
         }
@@ -189,29 +173,17 @@ impl<M: Remembers> Remembers for Option<Box<M>> {
     ghost failed = { failed_in (λ memo. M.failed memo.value) };
 
     #[inline(always)]
-    fn key_at<W: Planned>(
-        &self,
-        planned: &W,
-        forward: bool,
-        here: Here,
-        memory: &Memory,
-    ) -> Option<Key> {
+    fn key_at<W: Planned>(&self, planned: &W, thread: Headed, memory: &Memory) -> Option<Key> {
         match self {
-            Some(memo) => memo.key_at(planned, forward, here, memory),
+            Some(memo) => memo.key_at(planned, thread, memory),
             None => None,
         }
     }
 
     #[inline(always)]
-    fn run_key<W: Planned>(
-        &self,
-        planned: &W,
-        forward: bool,
-        from: Here,
-        memory: &Memory,
-    ) -> Option<Key> {
+    fn run_key<W: Planned>(&self, planned: &W, run: Headed, memory: &Memory) -> Option<Key> {
         match self {
-            Some(memo) => memo.run_key(planned, forward, from, memory),
+            Some(memo) => memo.run_key(planned, run, memory),
             None => None,
         }
     }

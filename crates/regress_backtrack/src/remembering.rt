@@ -6,7 +6,7 @@ ghost use Rattle.regress_linear.specs.Turns.{Key as KeyOf};
 ghost use Rattle.regress_machine.specs.Machine.{running};
 ghost use Rattle.regress_backtrack.specs.{Memory.{state_of}, RunRecords.{TellsOfRest}, Remembered.{Terms, IsRight, IsKeyOf, as_key, no_terms}};
 
-use crate::here::Here;
+use crate::here::Headed;
 use crate::memory::Memory;
 use crate::steps::Steps;
 use regress_scan::planned::Planned;
@@ -31,29 +31,17 @@ pub trait Remembers {
     ghost failed: { Self → KeyOf → Bool };
 
     /// The key of a thread, if it has one.
-    fn key_at<W: Planned>(
-        &self,
-        planned: &W,
-        forward: bool,
-        here: Here,
-        memory: &Memory,
-    ) -> Option<Key>
+    fn key_at<W: Planned>(&self, planned: &W, thread: Headed, memory: &Memory) -> Option<Key>
         requires right { IsRight (W.searching planned.now) (terms self.now) (failed self.now) }
-        requires inside { here.at ≤ units (W.searching planned.now).text }
-        ensures { IfSome result (λ k. IsKeyOf (W.searching planned.now) (terms self.now) forward (as_key k)
-            (running (state_of memory.now here.ip here.at) ∷ [])) };
+        requires inside { thread.here.at ≤ units (W.searching planned.now).text }
+        ensures { IfSome result (λ k. IsKeyOf (W.searching planned.now) (terms self.now) thread.forward (as_key k)
+            (running (state_of memory.now thread.here.ip thread.here.at) ∷ [])) };
 
     /// The key of what a run without a maximum leaves from a place on, if it has one.
-    fn run_key<W: Planned>(
-        &self,
-        planned: &W,
-        forward: bool,
-        from: Here,
-        memory: &Memory,
-    ) -> Option<Key>
+    fn run_key<W: Planned>(&self, planned: &W, run: Headed, memory: &Memory) -> Option<Key>
         requires right { IsRight (W.searching planned.now) (terms self.now) (failed self.now) }
-        ensures { IfSome result (λ k. TellsOfRest (W.searching planned.now) (terms self.now) forward from (as_key k)
-            memory.now) };
+        ensures { IfSome result (λ k. TellsOfRest (W.searching planned.now) (terms self.now) run.forward run.here
+            (as_key k) memory.now) };
 
     /// Whether it is known that a key fails.
     fn has_failed(&self, key: Key) -> bool
@@ -95,24 +83,12 @@ impl Remembers for Forgets {
     ghost failed = { λ _ _. false };
 
     #[inline(always)]
-    fn key_at<W: Planned>(
-        &self,
-        _planned: &W,
-        _forward: bool,
-        _here: Here,
-        _memory: &Memory,
-    ) -> Option<Key> {
+    fn key_at<W: Planned>(&self, _: &W, _: Headed, _: &Memory) -> Option<Key> {
         None
     }
 
     #[inline(always)]
-    fn run_key<W: Planned>(
-        &self,
-        _planned: &W,
-        _forward: bool,
-        _from: Here,
-        _memory: &Memory,
-    ) -> Option<Key> {
+    fn run_key<W: Planned>(&self, _: &W, _: Headed, _: &Memory) -> Option<Key> {
         None
     }
 

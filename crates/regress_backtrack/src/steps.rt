@@ -56,24 +56,30 @@ const LONG: usize = 16;
 // From here on work is below 0.
 const BELOW_ZERO: u64 = 0x8000_0000_0000_0000;
 
-/// Any number of steps, and so much work.
+/// Any number of steps, and so much work where that is bound.
 #[derive(Clone, Copy)]
-pub struct Free {
+pub struct Uncounted<const BOUND: bool> {
     // What is left of it. Below 0 it goes on from 2^64, so that no work is too much to count.
     work: u64,
 }
 
-impl Free {
+/// Any number of steps, and so much work.
+pub type Free = Uncounted<true>;
+
+/// Any number of steps, and any work.
+pub type Unbound = Uncounted<false>;
+
+impl<const BOUND: bool> Uncounted<BOUND> {
     /// So much work may be done.
     #[inline(always)]
     pub fn up_to(work: u64) -> Self {
-        Free { work }
+        Uncounted { work }
     }
 
     /// None may be done.
     #[inline(always)]
     pub fn spent() -> Self {
-        Free { work: BELOW_ZERO }
+        Uncounted { work: BELOW_ZERO }
     }
 
     /// Whether more was done.
@@ -83,12 +89,12 @@ impl Free {
     }
 }
 
-impl Steps for Free {
+impl<const BOUND: bool> Steps for Uncounted<BOUND> {
     ghost COUNTS = { false };
 
     const COUNTS: bool = false;
 
-    const AT_ONCE: bool = true;
+    const AT_ONCE: bool = BOUND;
 
     ghost budget = { λ _. record { left = 0; out = false } };
 
@@ -99,48 +105,19 @@ impl Steps for Free {
 
     #[inline(always)]
     fn go_back(&mut self) -> Result<(), Stop> {
+        if !BOUND {
+            return Ok(());
+        }
         self.work = self.work.wrapping_sub(1);
         if self.is_spent() { Err(Stop) } else { Ok(()) }
     }
 
     #[inline(always)]
     fn read(&mut self, units: usize) {
-        if units >= LONG {
+        if BOUND && units >= LONG {
             self.work = self.work.wrapping_sub(units as u64);
         }
     }
-
-    #[inline(always)]
-    fn is_out(&self) -> bool {
-        false
-    }
-}
-
-/// Any number of steps, and any work.
-#[derive(Clone, Copy)]
-pub struct Unbound;
-
-impl Steps for Unbound {
-    ghost COUNTS = { false };
-
-    const COUNTS: bool = false;
-
-    const AT_ONCE: bool = false;
-
-    ghost budget = { λ _. record { left = 0; out = false } };
-
-    #[inline(always)]
-    fn take(&mut self, _steps: usize) -> Result<(), Stop> {
-        Ok(())
-    }
-
-    #[inline(always)]
-    fn go_back(&mut self) -> Result<(), Stop> {
-        Ok(())
-    }
-
-    #[inline(always)]
-    fn read(&mut self, _units: usize) {}
 
     #[inline(always)]
     fn is_out(&self) -> bool {

@@ -1,6 +1,6 @@
-use Rattle.std.proofs.Common.{◌-◌, sym}
+use Rattle.std.proofs.Common.{◌-◌, ◌∙◌, sym}
 use Rattle.regress_scan.specs.Searching.{program_of}
-use Rattle.regress_backtrack.proofs.MemoKeys.{no-run, no-run-before, not-false}
+use Rattle.regress_backtrack.proofs.MemoKeys.{no-run, no-run-before}
 use Rattle.regress_backtrack.proofs.memos.is_body.Goals as goal
 
 pub returns-in-Some : goal.returns-in-Some
@@ -8,4 +8,4 @@ returns-in-Some g c = λ h.
     let w = g.W.Planned.searching c.args.planned.now in
     no-run-before (program_of w) c.args.ip
     (λ insn is. no-run (program_of w) w.plan (c.args.ip - 1) insn _ (c.is_of_program.ensures.each (c.args.ip - 1) _ insn (sym c.in-Some.ensures) is)
-    (c.is_no_run.ensures (not-false _ h)))
+    (sym c.is_run.ensures ∙ h))

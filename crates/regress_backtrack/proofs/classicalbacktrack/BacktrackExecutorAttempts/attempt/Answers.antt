@@ -1,13 +1,13 @@
 use Rattle.regex_pattern_front.specs.TreeOf.{tree_of}
 use Rattle.regress_backtrack.specs.Memory.{state_of}
 use Rattle.regress_exec.proofs.InWork.{goes-on-free}
-use Rattle.regress_backtrack.proofs.InPlace.{can-be, can-planned, ends-planned}
+use Rattle.regress_backtrack.proofs.InPlace.{can-be, can-run, ends-planned}
 use Rattle.regress_backtrack.proofs.classicalbacktrack.BacktrackExecutorAttempts.attempt.Goals as goal
 
 pub attempt_again-requires-clause-can : goal.attempt_again-requires-clause-can
 attempt_again-requires-clause-can g c =
     let s = c.args.self.now.search in
-    (can-planned s.program.wide (tree_of s.program.regex) _ (can-be s.same s.searched.well_formed s.searched.unicode s.searched.bytes), c.requires)
+    (can-run s.program.wide s.same s.searched.well_formed s.searched.unicode s.searched.bytes, c.requires)
 
 pub returns-then-is_spent-clause-found : goal.returns-then-is_spent-clause-found
 returns-then-is_spent-clause-found g c =
@@ -20,7 +20,7 @@ returns-then-is_spent-clause-found g c =
 pub attempt-end-requires-clause-can : goal.attempt-end-requires-clause-can
 attempt-end-requires-clause-can g c =
     let s = c.args.self.now.search in
-    (can-planned s.program.wide (tree_of s.program.regex) _ (can-be s.same s.searched.well_formed s.searched.unicode s.searched.bytes), c.requires)
+    (can-run s.program.wide s.same s.searched.well_formed s.searched.unicode s.searched.bytes, c.requires)
 
 pub returns-then-is_ok-clause-found : goal.returns-then-is_ok-clause-found
 returns-then-is_ok-clause-found g c =
@@ -33,7 +33,7 @@ returns-then-is_ok-clause-found g c =
 pub attempt_again-requires-2-clause-can : goal.attempt_again-requires-2-clause-can
 attempt_again-requires-2-clause-can g c =
     let s = c.args.self.now.search in
-    (can-planned s.program.wide (tree_of s.program.regex) _ (can-be s.same s.searched.well_formed s.searched.unicode s.searched.bytes), c.requires)
+    (can-run s.program.wide s.same s.searched.well_formed s.searched.unicode s.searched.bytes, c.requires)
 
 pub returns-clause-found : goal.returns-clause-found
 returns-clause-found g c =

@@ -3,14 +3,13 @@ use Rattle.std.specs.Prelude.{option_map}
 use Rattle.regex_pattern_front.specs.TreeOf.{tree_of}
 use Rattle.regress_exec.specs.Attempts.{IsNextTry}
 use Rattle.regress_backtrack.proofs.NextStarts.{next-further}
-use Rattle.regress_backtrack.proofs.InPlace.{can-be, search-planned, end-planned, next-tree, next-planned}
+use Rattle.regress_backtrack.proofs.InPlace.{can-be, search-run, end-planned, next-tree, next-planned}
 use Rattle.regress_backtrack.proofs.classicalbacktrack.BacktrackExecutorAttempts.place_behind.Goals as goal
 
 pub next_place-requires-clause-can : goal.next_place-requires-clause-can
 next_place-requires-clause-can g c =
     let s = c.args.self.now.search in
-    search-planned s.program.wide (tree_of s.program.regex) (g.Input.InputIndexer.text s.searched.input)
-    (can-be s.same s.searched.well_formed s.searched.unicode s.searched.bytes) (g.met.Input.InputIndexer.is_text s.searched.input)
+    search-run s.program.wide s.same s.searched.well_formed s.searched.unicode s.searched.bytes (g.met.Input.InputIndexer.is_text s.searched.input)
 
 pub next_place_past-requires-clause-at : goal.next_place_past-requires-clause-at
 next_place_past-requires-clause-at g c = c.in_ok-to.ensures.0
@@ -21,8 +20,7 @@ next_place_past-requires-clause-ahead g c = omega (arith, c.in_ok-next.ensures.1
 pub next_place_past-requires-clause-can : goal.next_place_past-requires-clause-can
 next_place_past-requires-clause-can g c =
     let s = c.args.self.now.search in
-    search-planned s.program.wide (tree_of s.program.regex) (g.Input.InputIndexer.text s.searched.input)
-    (can-be s.same s.searched.well_formed s.searched.unicode s.searched.bytes) (g.met.Input.InputIndexer.is_text s.searched.input)
+    search-run s.program.wide s.same s.searched.well_formed s.searched.unicode s.searched.bytes (g.met.Input.InputIndexer.is_text s.searched.input)
 
 pub next_place_past-requires-clause-vain : goal.next_place_past-requires-clause-vain
 next_place_past-requires-clause-vain g c =
@@ -43,11 +41,11 @@ pub returns-then-goes_over-clause-next : goal.returns-then-goes_over-clause-next
 returns-then-goes_over-clause-next g c =
     let s = c.args.self.now.search in
     let can = can-be s.same s.searched.well_formed s.searched.unicode s.searched.bytes in
-    let text = g.Input.InputIndexer.text s.searched.input in
     let offset = g.Input.Position.PositionType.offset in
     let behind = offset c.args.tried + 1 in
     let to = offset c.in_ok-to.to in
     let last = option_map offset c.next_place_past.result in
+    let text = g.Input.InputIndexer.text s.searched.input in
     next-further (tree_of s.program.regex) text behind to last
     (next-planned s.program.wide text s.same can.well_formed behind (offset c.in_ok-next.next) (Some to) c.in_ok-next.ensures c.in_ok-to.ensures)
     (next-tree s.program.wide (tree_of s.program.regex) _ can.well_formed to last c.next_place_past.ensures)
@@ -56,7 +54,6 @@ pub returns-clause-next : goal.returns-clause-next
 returns-clause-next g c =
     let s = c.args.self.now.search in
     let can = can-be s.same s.searched.well_formed s.searched.unicode s.searched.bytes in
-    let text = g.Input.InputIndexer.text s.searched.input in
     let offset = g.Input.Position.PositionType.offset in
-    next-planned s.program.wide text s.same can.well_formed (offset c.args.tried + 1) (offset c.in_ok-next.next) (Some (offset c.in_ok-to.to))
+    next-planned s.program.wide (g.Input.InputIndexer.text s.searched.input) s.same can.well_formed (offset c.args.tried + 1) (offset c.in_ok-next.next) (Some (offset c.in_ok-to.to))
     c.in_ok-next.ensures c.in_ok-to.ensures

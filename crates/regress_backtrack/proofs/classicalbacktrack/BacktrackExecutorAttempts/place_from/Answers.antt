@@ -1,7 +1,7 @@
 use Rattle.std.proofs.Common.{le_refl, arith}
 use Rattle.std.specs.Prelude.{option_map}
 use Rattle.regex_pattern_front.specs.TreeOf.{tree_of}
-use Rattle.regress_backtrack.proofs.InPlace.{can-be, search-planned, next-tree}
+use Rattle.regress_backtrack.proofs.InPlace.{can-be, search-run, next-tree}
 use Rattle.regress_backtrack.proofs.classicalbacktrack.BacktrackExecutorAttempts.place_from.Goals as goal
 
 pub returns-then-is_anchored-clause-next : goal.returns-then-is_anchored-clause-next
@@ -11,8 +11,7 @@ returns-then-is_anchored-clause-next g c =
 pub next_place-requires-clause-can : goal.next_place-requires-clause-can
 next_place-requires-clause-can g c =
     let s = c.args.self.now.search in
-    search-planned s.program.wide (tree_of s.program.regex) (g.Input.InputIndexer.text s.searched.input)
-    (can-be s.same s.searched.well_formed s.searched.unicode s.searched.bytes) (g.met.Input.InputIndexer.is_text s.searched.input)
+    search-run s.program.wide s.same s.searched.well_formed s.searched.unicode s.searched.bytes (g.met.Input.InputIndexer.is_text s.searched.input)
 
 pub returns-clause-next : goal.returns-clause-next
 returns-clause-next g c =

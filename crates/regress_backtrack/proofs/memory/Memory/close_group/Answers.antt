@@ -9,6 +9,6 @@ use Rattle.regress_backtrack.proofs.memory.Memory.close_group.Goals as goal
 pub returns-clause-closed : goal.returns-clause-closed
 returns-clause-closed c =
     let h = c.args.self.now in
-    let closed : Slot = record (c.held.result) { from = c.args.from; to = c.args.to; has_range = true; noted = 0; is_set = true } in
+    let closed : Slot = record (c.held.result) { from = c.args.from; to = c.args.to; has_range = true; is_set = true } in
     ok-more c.set.result (becomes (with_range c.args.id c.args.from c.args.to) c.args.id closed h c.set.new.self
-    (λ ip pos. keeps h.groups h.slots ip pos c.args.id c.requires closed c.held.result (sym (get_or_from_slice_get h.slots c.args.id c.held.result c.held.result c.held.ensures)) refl)) c.set.ensures.set
+    (λ ip pos. keeps h.groups h.slots ip pos c.args.id c.requires closed c.held.result (sym (get_or_from_slice_get h.slots c.args.id c.held.result c.held.result c.held.ensures.slot)) refl)) c.set.ensures.set

@@ -8,10 +8,10 @@ pub returns-then-slot : goal.returns-then-slot
 returns-then-slot c =
     let h = c.args.self.now in
     let s = c.held-slot.result in
-    of-group range_in h.groups h.slots c.args.id s c.requires c.held-slot.ensures ∙ ap (λ b. Some (if b then Some (s.from, s.to) else None)) c.if-slot.true
+    of-group range_in h.groups h.slots c.args.id s c.requires c.held-slot.ensures.slot ∙ ap (λ b. Some (if b then Some (s.from, s.to) else None)) c.if-slot.true
 
 pub returns-else-slot : goal.returns-else-slot
 returns-else-slot c =
     let h = c.args.self.now in
     let s = c.held-slot.result in
-    of-group range_in h.groups h.slots c.args.id s c.requires c.held-slot.ensures ∙ ap (λ b. Some (if b then Some (s.from, s.to) else None)) c.if-slot.false
+    of-group range_in h.groups h.slots c.args.id s c.requires c.held-slot.ensures.slot ∙ ap (λ b. Some (if b then Some (s.from, s.to) else None)) c.if-slot.false

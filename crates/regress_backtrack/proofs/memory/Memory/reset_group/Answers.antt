@@ -8,6 +8,6 @@ use Rattle.regress_backtrack.proofs.memory.Memory.reset_group.Goals as goal
 pub returns-clause-reset : goal.returns-clause-reset
 returns-clause-reset c =
     let h = c.args.self.now in
-    let reset = record (c.held.result) { has_range = false; noted = 0; is_set = true } in
+    let reset = record (c.held.result) { has_range = false; is_set = true } in
     ok-more c.set.result (becomes (without_range c.args.id) c.args.id reset h c.set.new.self
-    (λ ip pos. keeps h.groups h.slots ip pos c.args.id c.requires reset c.held.result (sym (get_or_from_slice_get h.slots c.args.id c.held.result c.held.result c.held.ensures)) refl)) c.set.ensures.set
+    (λ ip pos. keeps h.groups h.slots ip pos c.args.id c.requires reset c.held.result (sym (get_or_from_slice_get h.slots c.args.id c.held.result c.held.result c.held.ensures.slot)) refl)) c.set.ensures.set

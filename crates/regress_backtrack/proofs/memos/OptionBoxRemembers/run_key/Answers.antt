@@ -18,5 +18,5 @@ run_key-requires g c =
 pub returns-in-Some : goal.returns-in-Some
 returns-in-Some g c =
     let w = g.W.Planned.searching c.args.planned.now in
-    subst (λ o. IfSome c.run_key.result (λ k. TellsOfRest w (terms_in (λ memo. g.M.Remembers.terms memo.value) o) c.args.forward c.args.from (as_key k) c.args.memory.now)) (sym c.in-Some.is)
-    (subst (λ m. IfSome c.run_key.result (λ k. TellsOfRest w (g.M.Remembers.terms m) c.args.forward c.args.from (as_key k) c.args.memory.now)) c.deref.ensures c.run_key.ensures)
+    subst (λ o. IfSome c.run_key.result (λ k. TellsOfRest w (terms_in (λ memo. g.M.Remembers.terms memo.value) o) c.args.run.forward c.args.run.here (as_key k) c.args.memory.now)) (sym c.in-Some.is)
+    (subst (λ m. IfSome c.run_key.result (λ k. TellsOfRest w (g.M.Remembers.terms m) c.args.run.forward c.args.run.here (as_key k) c.args.memory.now)) c.deref.ensures c.run_key.ensures)

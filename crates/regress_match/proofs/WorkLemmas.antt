@@ -1,6 +1,6 @@
 -- Searches in so much work: what they yield, and what their calls answer in a row.
 use Rattle.std.proofs.Common.{◌≡◌, ◌≤◌, ◌<◌, ◌⊎◌, ◌+◌, ◌*◌, ℕ, Bool, List, [], ◌∷◌, true, false, refl, sym, ap, ◌∙◌, subst, inl, inr, nat_le, nat_lt, not, if◌then◌else◌, arith}
-use Rattle.std.specs.Prelude.{Option, Some, None, Ok, Err}
+use Rattle.std.specs.Prelude.{Option, Some, None, Ok, Err, IfSome}
 use Rattle.std.proofs.Math.Nat.{mul-le-mul_right}
 use Rattle.std.proofs.Math.Dec.{leb-zero}
 use Rattle.std.proofs.lemmas.Bool.{le-leb, ltb-false, ltb-true}
@@ -12,7 +12,8 @@ use Rattle.regex_meaning.specs.Text.{Text}
 use Rattle.regex_meaning.specs.Tree.{Tree}
 use Rattle.regress_exec.specs.Worked.{InWork, is_enough}
 use Rattle.regress_exec.specs.declared.exec.worked.WorkError.TheVariants.{Memory, WorkLimit}
-use Rattle.regress_bounded.specs.Bounds.{IsAtStart}
+use Rattle.regress_bounded.specs.Bounds.{IsAtStart, IsBoundOf}
+use Rattle.regress_bounded.specs.declared.bounds.WorkBound.{WorkBound}
 use Rattle.regress_match.specs.Work.{AnsweredInWork, AnswerInWork, Bounded, CallsInWork, SearchesAnswerInWork, YieldsInWork, all_work, higher}
 use Rattle.regress_match.specs.declared.api.regex.Regex.{Regex}
 
@@ -54,6 +55,11 @@ searches-AnswerInWork tree text start per_unit work it t rs y k = (
 
 -- ---- What is enough
 
+-- a bound that was reckoned of a program, which is a pattern's
+pub bound-came : {X : Type 0} (of : X → Tree) (program own : X) (found : Option WorkBound) (bound : WorkBound) → IfSome found (IsBoundOf (of program)) → found ≡ Some bound → program ≡ own
+    → IsBoundOf (of own) bound
+bound-came of program own found bound each is same = subst (λ p. IsBoundOf (of p) bound) same (subst (λ o. IfSome o (IsBoundOf (of program))) is each)
+
 -- either number is at most the higher one
 pub higher-left : (a b : ℕ) → a ≤ higher a b
 higher-left a b = by (nat_lt a b) refl
@@ -82,23 +88,21 @@ fresh-enough enough ahead true start e z = rw (e, z) (leb-zero start)
 fresh-enough enough ahead false start e z = e
 
 -- What is to come of an executor at its start is what it yields; the bound of its program is at most `many`.
-pub record HasBegun (tree : Tree) (text : Text) (budget : Option ℕ) (enough : Bool) (ahead left start : ℕ) (it : InWork) : Type 0 where
-  pub answers : it.come.answers ≡ answers_within tree text budget start
-  pub limited : it.come.limited ≡ not (end_within tree text budget start)
-  pub text_end : it.come.text_end ≡ units text
-  pub left_is : it.left ≡ left
-  pub enough_is : it.enough ≡ is_enough enough ahead (if nat_le start (units text) then Some start else None)
+abbrev pub HasBegun : (tree : Tree) (text : Text) (budget : Option ℕ) (enough : Bool) (ahead left start : ℕ) (it : InWork) → Type 0
+HasBegun tree text budget enough ahead left start it =
+    (it.come.answers ≡ answers_within tree text budget start) × (it.come.limited ≡ not (end_within tree text budget start)) × (it.come.text_end ≡ units text)
+    × (it.left ≡ left) × (it.enough ≡ is_enough enough ahead (if nat_le start (units text) then Some start else None))
 
 begun-Yields : (tree : Tree) (text : Text) (few many work : ℕ) (its_tree : Tree) (its_text : Text) (budget : Option ℕ) (enough : Bool) (ahead left start : ℕ) (it : InWork)
     → IsAtStart tree text few work its_tree its_text budget enough ahead left
     → HasBegun its_tree its_text budget enough ahead left start it → few ≤ many
     → YieldsInWork tree text start many work it
 begun-Yields tree text few many work its_tree its_text budget enough ahead left start it s b l = record {
-  answers = b.answers ∙ rw (s.of_tree, s.of_text, s.unlimited) refl;
-  unlimited = b.limited ∙ rw (s.of_tree, s.of_text, s.unlimited) refl;
-  text_end = b.text_end ∙ ap units s.of_text;
-  left = b.left_is ∙ s.has_left;
-  enough = λ e. b.enough_is
+  answers = b.0 ∙ rw (s.of_tree, s.of_text, s.unlimited) refl;
+  unlimited = b.1 ∙ rw (s.of_tree, s.of_text, s.unlimited) refl;
+  text_end = b.2 ∙ ap units s.of_text;
+  left = b.3 ∙ s.has_left;
+  enough = λ e. b.4
       ∙ fresh-enough enough ahead (nat_le start (units its_text)) start (s.is_enough ∙ lower-enough few many (units text + 1) work l e) s.first;
 }
 

@@ -3,11 +3,4 @@ use Rattle.regex_meaning.specs.Tree as tree
 use Rattle.regress_match.specs.declared.api.flags.Flags.{Flags}
 
 abbrev pub flags_of : Flags → tree.Flags
-flags_of f = record {
-  icase = f.icase;
-  multiline = f.multiline;
-  dot_all = f.dot_all;
-  no_opt = f.no_opt;
-  unicode = f.unicode;
-  unicode_sets = f.unicode_sets;
-}
+flags_of f = record { icase = f.icase; multiline = f.multiline; dot_all = f.dot_all; no_opt = f.no_opt; unicode = f.unicode; unicode_sets = f.unicode_sets }

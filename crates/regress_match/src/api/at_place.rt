@@ -7,9 +7,7 @@ ghost use Rattle.regress_match.specs.{Programs.{ascii_answer_at, ucs2_answer_at,
 ghost use Rattle.regress_match.specs.Replacements.{FitsText, FitsUnits};
 
 use crate::api::{Match, Regex, SearchError};
-use crate::executors::{
-    DefaultAsciiExecutor, DefaultExecutor, DefaultUcs2Executor, DefaultUtf16Executor,
-};
+use crate::executors::DefaultAsciiExecutor;
 use regress_exec::exec::Searcher;
 use regress_exec::places::match_at;
 
@@ -29,8 +27,7 @@ impl Regex {
         ensures fits { IfOk result (λ m. IfSome m (λ found. FitsText text.now (answer_of found))) }
         ensures refused { IfErr result IsMemory }
     {
-        let mut executor = DefaultExecutor::new(self.byte_program(), text)?;
-        match_at(&mut executor, at)
+        match_at(&mut self.utf8_search(text)?, at)
     }
 
     /// As `match_at`, in a text of ASCII (`is_ascii`).
@@ -60,8 +57,7 @@ impl Regex {
         ensures fits { IfOk result (λ m. IfSome m (λ found. FitsUnits text.now (answer_of found))) }
         ensures refused { IfErr result IsMemory }
     {
-        let mut executor = DefaultUtf16Executor::new_utf16(self.unit_program(), text)?;
-        match_at(&mut executor, at)
+        match_at(&mut self.utf16_search(text)?, at)
     }
 
     /// The most preferred match in a text in UCS-2 that begins at an offset in units; none exactly where none begins there,
@@ -75,7 +71,6 @@ impl Regex {
         ensures fits { IfOk result (λ m. IfSome m (λ found. FitsUnits text.now (answer_of found))) }
         ensures refused { IfErr result IsMemory }
     {
-        let mut executor = DefaultUcs2Executor::new_ucs2(self.unit_program(), text)?;
-        match_at(&mut executor, at)
+        match_at(&mut self.ucs2_search(text)?, at)
     }
 }

@@ -48,15 +48,16 @@ impl<'r> Model for BoundedRegex<'r> {
 }
 
 impl Regex {
-    /// The pattern for searches in so much work; none where no bound is known, as with a lookaround or a backreference, a run
-    /// of one character with a maximum of 65,536 or more, more than 64 answers of the loops round one instruction, or loops
-    /// that stand in one another deeper than 64 (`docs/LINEAR.md` has all of it).
+    /// The pattern for searches in so much work, with how much is enough; none where no bound is known, as with a lookaround or
+    /// a backreference, a run of one character with a maximum of 65,536 or more, more than 64 answers of the loops round one
+    /// instruction, or loops that stand in one another deeper than 64 (`docs/LINEAR.md` has all of it).
     ///
     /// # Errors
     ///
     /// Where there is no memory to reckon the bound.
     pub fn bounded(&self) -> Result<Option<BoundedRegex<'_>>, AllocError>
-        ensures { IfOk result (λ found. IfSome found (λ bounded. bounded.re ≡ self.now)) }
+        ensures pattern { IfOk result (λ found. IfSome found (λ bounded. bounded.re ≡ self.now)) }
+        ensures enough { IfOk result (λ found. IfSome found (λ bounded. IsEnoughEach self.now bounded.per_unit)) }
     {
         let Some(bytes) = WorkBound::in_bytes(self.byte_program())? else {
             return Ok(None);

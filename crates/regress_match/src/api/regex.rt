@@ -141,12 +141,25 @@ impl Regex {
     ///
     /// `Memory` where there is no memory for the search.
     pub fn find(&self, text: &str) -> Result<Option<Match>, SearchError>
-        ensures first { IfOk result (λ m. option_map answer_of m
-            ≡ slice_get (utf8_answers self.now text.now 0) 0) }
+        ensures first { IfOk result (λ m. option_map answer_of m ≡ slice_get (utf8_answers self.now text.now 0) 0) }
         ensures fits { IfOk result (λ m. IfSome m (λ found. FitsText text.now (answer_of found))) }
         ensures refused { IfErr result IsMemory }
     {
         first(self.find_iter(text)?)
+    }
+
+    /// The first match in a text of ASCII (`is_ascii`), none exactly where there is none.
+    ///
+    /// # Errors
+    ///
+    /// `Memory` where there is no memory for the search.
+    pub fn find_ascii(&self, text: &str) -> Result<Option<Match>, SearchError>
+        requires { IsAscii text.now }
+        ensures first { IfOk result (λ m. option_map answer_of m ≡ slice_get (ascii_answers self.now text.now 0) 0) }
+        ensures fits { IfOk result (λ m. IfSome m (λ found. FitsText text.now (answer_of found))) }
+        ensures refused { IfErr result IsMemory }
+    {
+        first(self.find_iter_ascii(text)?)
     }
 
     /// The matches in `text`, from its left end on. Those of `a*` in `aab` are `0..2`, `2..2` and `3..3` (a row of
@@ -164,6 +177,21 @@ impl Regex {
         self.find_from(text, 0)
     }
 
+    /// The matches in a text of ASCII (`is_ascii`), from its left end on.
+    ///
+    /// # Errors
+    ///
+    /// `Memory` where there is no memory for the search.
+    pub fn find_iter_ascii<'t>(&self, text: &'t str) -> Result<AsciiMatches<'_, 't>, SearchError>
+        requires { IsAscii text.now }
+        ensures answers { IfOk result (YieldsMatches (byte_tree self.now) (as_ascii self.now text.now) 0) }
+        ensures stand { IfOk result (λ it. StandFrom text.now 0 it.answers) }
+        ensures live { IfOk result (λ it. it.ended ≡ false) }
+        ensures refused { IfErr result IsMemory }
+    {
+        self.find_from_ascii(text, 0)
+    }
+
     /// The matches in `text` from an offset in bytes on, which is a boundary of its characters
     /// (`is_char_boundary`) or past the end. From past the end there are none.
     ///
@@ -179,8 +207,7 @@ impl Regex {
         start: usize,
     ) -> Result<Matches<'r, 't>, SearchError>
         requires { IsCharBoundary text.now start ⊎ (length text.now < start) }
-        ensures answers { IfOk result
-            (YieldsMatches (byte_tree self.now) (as_utf8 self.now text.now) start) }
+        ensures answers { IfOk result (YieldsMatches (byte_tree self.now) (as_utf8 self.now text.now) start) }
         ensures stand { IfOk result (λ it. StandFrom text.now start it.answers) }
         ensures ended { IfOk result (λ it. it.ended ≡ not (nat_le start (length text.now))) }
         ensures refused { IfErr result IsMemory }
@@ -218,39 +245,6 @@ impl Regex {
         Ok(matches)
     }
 
-    /// The first match in a text of ASCII (`is_ascii`), none exactly where there is none.
-    ///
-    /// # Errors
-    ///
-    /// `Memory` where there is no memory for the search.
-    pub fn find_ascii(&self, text: &str) -> Result<Option<Match>, SearchError>
-        requires { IsAscii text.now }
-        ensures first { IfOk result (λ m. option_map answer_of m
-            ≡ slice_get (ascii_answers self.now text.now 0) 0) }
-        ensures fits { IfOk result (λ m. IfSome m (λ found. FitsText text.now (answer_of found))) }
-        ensures refused { IfErr result IsMemory }
-    {
-        first(self.find_iter_ascii(text)?)
-    }
-
-    /// The matches in a text of ASCII (`is_ascii`), from its left end on.
-    ///
-    /// # Errors
-    ///
-    /// `Memory` where there is no memory for the search.
-    pub fn find_iter_ascii<'r, 't>(
-        &'r self,
-        text: &'t str,
-    ) -> Result<AsciiMatches<'r, 't>, SearchError>
-        requires { IsAscii text.now }
-        ensures answers { IfOk result (YieldsMatches (byte_tree self.now) (as_ascii self.now text.now) 0) }
-        ensures stand { IfOk result (λ it. StandFrom text.now 0 it.answers) }
-        ensures live { IfOk result (λ it. it.ended ≡ false) }
-        ensures refused { IfErr result IsMemory }
-    {
-        self.find_from_ascii(text, 0)
-    }
-
     /// The matches in a text of ASCII (`is_ascii`) from an offset on. From past the end there are none.
     ///
     /// # Errors
@@ -262,8 +256,7 @@ impl Regex {
         start: usize,
     ) -> Result<AsciiMatches<'r, 't>, SearchError>
         requires { IsAscii text.now }
-        ensures answers { IfOk result
-            (YieldsMatches (byte_tree self.now) (as_ascii self.now text.now) start) }
+        ensures answers { IfOk result (YieldsMatches (byte_tree self.now) (as_ascii self.now text.now) start) }
         ensures stand { IfOk result (λ it. StandFrom text.now start it.answers) }
         ensures ended { IfOk result (λ it. it.ended ≡ not (nat_le start (length text.now))) }
         ensures refused { IfErr result IsMemory }

@@ -24,13 +24,11 @@ impl Regex {
         start: usize,
     ) -> Result<Matches<DefaultUtf16Executor<'r, 't>>, SearchError>
         requires { IsTrue (is_boundary_of text.now start) ⊎ (length text.now < start) }
-        ensures answers { IfOk result
-            (YieldsMatches (unit_tree self.now) (as_utf16 self.now text.now) start) }
+        ensures answers { IfOk result (YieldsMatches (unit_tree self.now) (as_utf16 self.now text.now) start) }
         ensures ended { IfOk result (λ it. it.ended ≡ not (nat_le start (length text.now))) }
         ensures refused { IfErr result IsMemory }
     {
-        let executor = DefaultUtf16Executor::new_utf16(self.unit_program(), text)?;
-        Ok(Matches::new(executor, start))
+        Ok(Matches::new(self.utf16_search(text)?, start))
     }
 
     /// The matches in a text in UCS-2, where each unit is a character, from an offset in units on. From past the end there
@@ -44,12 +42,10 @@ impl Regex {
         text: &'t [u16],
         start: usize,
     ) -> Result<Matches<DefaultUcs2Executor<'r, 't>>, SearchError>
-        ensures answers { IfOk result
-            (YieldsMatches (unit_tree self.now) (as_ucs2 self.now text.now) start) }
+        ensures answers { IfOk result (YieldsMatches (unit_tree self.now) (as_ucs2 self.now text.now) start) }
         ensures ended { IfOk result (λ it. it.ended ≡ not (nat_le start (length text.now))) }
         ensures refused { IfErr result IsMemory }
     {
-        let executor = DefaultUcs2Executor::new_ucs2(self.unit_program(), text)?;
-        Ok(Matches::new(executor, start))
+        Ok(Matches::new(self.ucs2_search(text)?, start))
     }
 }

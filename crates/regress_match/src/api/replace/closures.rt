@@ -59,14 +59,12 @@ fn write_answer<E>(made: &mut String, answer: Result<String, E>) -> Result<(), R
 }
 
 // The text with what the closure answers at the first match in place of it.
-fn write_first<P: MatchProducer + Drop, E, F>(
+fn write_first<P: MatchProducer + Drop, E, F: FnOnce(&Match) -> Result<String, E>>(
     alloc: Global,
     mut matches: Matches<P>,
     text: &str,
     with: F,
 ) -> Result<String, ReplaceError<E>>
-where
-    F: FnOnce(&Match) -> Result<String, E>,
     requires stand { StandFrom text.now 0 matches.answers }
     requires can { CanBeCalled (F.pre with) (take 1 matches.answers) }
     ensures made { IfOk result (λ s.
@@ -85,14 +83,12 @@ where
 }
 
 // The text with what the closure answers at each match in place of it.
-fn write_each<P: MatchProducer + Drop, E, F>(
+fn write_each<P: MatchProducer + Drop, E, F: Fn(&Match) -> Result<String, E>>(
     alloc: Global,
     matches: Matches<P>,
     text: &str,
     with: F,
 ) -> Result<String, ReplaceError<E>>
-where
-    F: Fn(&Match) -> Result<String, E>,
     requires stand { StandFrom text.now 0 matches.answers }
     requires can { CanBeCalled (F.pre with) matches.answers }
     ensures made { IfOk result (λ s.

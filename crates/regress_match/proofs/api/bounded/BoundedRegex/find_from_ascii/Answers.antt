@@ -16,17 +16,11 @@ pub new-requires : goal.new-requires
 new-requires c = ascii_start _ c.args.text.now _ c.in_ok-executor.ensures.start.of_text c.args.start
 
 pub returns-clause-yields : goal.returns-clause-yields
-returns-clause-yields c =
-    let is = c.new.ensures in
-    bound-Yields byte_tree c.self.inside.re.now (ascii_text c.args.text.now) (higher-left c.self.inside.bytes.per_unit c.self.inside.units.per_unit)
-    c.self.view_is (ap tree_of c.byte_program-program.ensures)
-    c.in_ok-executor.ensures.start (record { answers = is.answers; limited = is.limited; text_end = is.text_end; left_is = is.left; enough_is = is.enough })
-
-pub returns-clause-ended : goal.returns-clause-ended
-returns-clause-ended c =
-    c.new.ensures.ended
-    ∙ ap (λ n. not (nat_le c.args.start n)) (ascii_units _ c.args.text.now _ c.in_ok-executor.ensures.start.of_text)
+returns-clause-yields c = let is = c.new.ensures in bound-Yields byte_tree c.self.inside.re.now (ascii_text c.args.text.now) (higher-left _ _) c.self.view_is (ap tree_of c.byte_program-program.ensures) c.in_ok-executor.ensures.start (is.answers, is.limited, is.text_end, is.left, is.enough)
 
 pub returns-clause-stand : goal.returns-clause-stand
 returns-clause-stand c =
     subst (StandFrom c.args.text.now c.args.start) (sym (returns-clause-yields c).answers) (ascii-stand c.args.self.now.re c.args.text.now c.args.start c.utf8.text c.requires)
+
+pub returns-clause-ended : goal.returns-clause-ended
+returns-clause-ended c = c.new.ensures.ended ∙ ap (λ n. not (nat_le c.args.start n)) (ascii_units _ c.args.text.now _ c.in_ok-executor.ensures.start.of_text)

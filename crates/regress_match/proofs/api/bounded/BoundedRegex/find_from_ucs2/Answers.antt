@@ -14,13 +14,7 @@ pub new-requires : goal.new-requires
 new-requires c = ucs2_start _ c.args.text.now _ c.in_ok-executor.ensures.start.of_text c.args.start
 
 pub returns-clause-yields : goal.returns-clause-yields
-returns-clause-yields c =
-    let is = c.new.ensures in
-    bound-Yields unit_tree c.self.inside.re.now (ucs2_text c.args.text.now) (higher-right c.self.inside.bytes.per_unit c.self.inside.units.per_unit)
-    c.self.view_is (ap tree_of c.unit_program-program.ensures)
-    c.in_ok-executor.ensures.start (record { answers = is.answers; limited = is.limited; text_end = is.text_end; left_is = is.left; enough_is = is.enough })
+returns-clause-yields c = let is = c.new.ensures in bound-Yields unit_tree c.self.inside.re.now (ucs2_text c.args.text.now) (higher-right _ _) c.self.view_is (ap tree_of c.unit_program-program.ensures) c.in_ok-executor.ensures.start (is.answers, is.limited, is.text_end, is.left, is.enough)
 
 pub returns-clause-ended : goal.returns-clause-ended
-returns-clause-ended c =
-    c.new.ensures.ended
-    ∙ ap (λ n. not (nat_le c.args.start n)) (ucs2_units _ c.args.text.now _ c.in_ok-executor.ensures.start.of_text)
+returns-clause-ended c = c.new.ensures.ended ∙ ap (λ n. not (nat_le c.args.start n)) (ucs2_units _ c.args.text.now _ c.in_ok-executor.ensures.start.of_text)

@@ -14,13 +14,7 @@ pub new-requires : goal.new-requires
 new-requires c = utf16_start _ c.args.text.now _ c.in_ok-executor.ensures.start.of_text (λ k _. (c.type_inv.text k).fits) c.args.start c.requires
 
 pub returns-clause-yields : goal.returns-clause-yields
-returns-clause-yields c =
-    let is = c.new.ensures in
-    bound-Yields unit_tree c.self.inside.re.now (utf16_text c.args.text.now) (higher-right c.self.inside.bytes.per_unit c.self.inside.units.per_unit)
-    c.self.view_is (ap tree_of c.unit_program-program.ensures)
-    c.in_ok-executor.ensures.start (record { answers = is.answers; limited = is.limited; text_end = is.text_end; left_is = is.left; enough_is = is.enough })
+returns-clause-yields c = let is = c.new.ensures in bound-Yields unit_tree c.self.inside.re.now (utf16_text c.args.text.now) (higher-right _ _) c.self.view_is (ap tree_of c.unit_program-program.ensures) c.in_ok-executor.ensures.start (is.answers, is.limited, is.text_end, is.left, is.enough)
 
 pub returns-clause-ended : goal.returns-clause-ended
-returns-clause-ended c =
-    c.new.ensures.ended
-    ∙ ap (λ n. not (nat_le c.args.start n)) (utf16_units _ c.args.text.now _ c.in_ok-executor.ensures.start.of_text (λ k _. (c.type_inv.text k).fits))
+returns-clause-ended c = c.new.ensures.ended ∙ ap (λ n. not (nat_le c.args.start n)) (utf16_units _ c.args.text.now _ c.in_ok-executor.ensures.start.of_text (λ k _. (c.type_inv.text k).fits))

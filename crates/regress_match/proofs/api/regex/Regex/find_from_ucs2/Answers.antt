@@ -3,9 +3,9 @@ use Rattle.regress_match.proofs.Starts.{ucs2_start, ucs2_units}
 use Rattle.regress_match.proofs.api.regex.Regex.find_from_ucs2.Goals as goal
 
 pub new-requires : goal.new-requires
-new-requires c = ucs2_start _ c.args.text.now _ c.in_ok-executor.ensures.text c.args.start
+new-requires c = ucs2_start _ c.args.text.now _ c.in_ok-ucs2_search.ensures.text c.args.start
 
 pub returns-clause-ended : goal.returns-clause-ended
 returns-clause-ended c =
     c.new.ensures.ended
-    ∙ ap (λ n. not (nat_le c.args.start n)) (ucs2_units _ c.args.text.now _ c.in_ok-executor.ensures.text)
+    ∙ ap (λ n. not (nat_le c.args.start n)) (ucs2_units _ c.args.text.now _ c.in_ok-ucs2_search.ensures.text)

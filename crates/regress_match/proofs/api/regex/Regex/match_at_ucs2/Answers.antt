@@ -1,3 +1,4 @@
+use Rattle.std.proofs.Common.{refl}
 use Rattle.regex_meaning.specs.Text.{ucs2_text}
 use Rattle.regress_match.proofs.FlagLemmas.{IfOk-map}
 use Rattle.regex_meaning.proofs.TextLemmas.{ucs2_text-IsText}
@@ -8,10 +9,10 @@ use Rattle.regress_match.proofs.Starts.{ucs2_start}
 use Rattle.regress_match.proofs.api.regex.Regex.match_at_ucs2.Goals as goal
 
 pub match_at-requires : goal.match_at-requires
-match_at-requires c = ucs2_start _ c.args.text.now _ c.in_ok-executor.ensures.text c.args.at
+match_at-requires c = ucs2_start _ c.args.text.now _ c.in_ok-ucs2_search.ensures.text c.args.at
 
 pub returns-clause-found : goal.returns-clause-found
-returns-clause-found c = IfOk-map c.match_at.result _ _ (λ m. at-found (ucs2_text c.args.text.now) _ _ _ _ c.args.at _ c.in_ok-executor.ensures.tree c.in_ok-executor.ensures.text c.unit_program.ensures) c.match_at.ensures.found
+returns-clause-found c = IfOk-map c.match_at.result _ _ (λ m. at-found (ucs2_text c.args.text.now) _ _ _ _ c.args.at _ c.in_ok-ucs2_search.ensures.tree c.in_ok-ucs2_search.ensures.text refl) c.match_at.ensures.found
 
 pub returns-clause-fits : goal.returns-clause-fits
 returns-clause-fits c = IfOk-map c.match_at.result _ _ (λ m e. at-fits_units (unit_tree c.args.self.now).root (as_ucs2 c.args.self.now c.args.text.now) (ucs2_text-IsText c.args.text.now (unit_tree c.args.self.now).flags.unicode) c.args.text.now (ucs2_text-units c.args.text.now (unit_tree c.args.self.now).flags.unicode) c.args.at m e) (returns-clause-found c)

@@ -1,9 +1,9 @@
-use Rattle.std.proofs.Common.{◌≡◌, subst}
+use Rattle.std.proofs.Common.{subst, sym}
 use Rattle.std.specs.Prelude.{IfSome}
 use Rattle.regress_match.specs.Work.{Bounded, IsEnoughEach}
 use Rattle.regress_match.proofs.api.regex.Regex.work_per_unit.Goals as goal
 
 pub returns-in-Some : goal.returns-in-Some
 returns-in-Some c =
-    let same : c.in-Some.bounded.re ≡ c.args.self.now = subst (λ found. IfSome found (λ (b : Bounded). b.re ≡ c.args.self.now)) c.in-Some.is c.in_ok-bounded.ensures in
-    subst (λ re. IsEnoughEach re c.work_per_unit.result) same c.work_per_unit.ensures.enough
+    subst (IsEnoughEach c.args.self.now) (sym c.work_per_unit.ensures.number)
+    (subst (λ found. IfSome found (λ (b : Bounded). IsEnoughEach c.args.self.now b.per_unit)) c.in-Some.is c.in_ok-bounded.ensures.enough)

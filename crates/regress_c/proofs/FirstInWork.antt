@@ -35,6 +35,13 @@ found-by re bytes start work left text bounds bounded found starts same is first
     started re bytes start work left found starts.1 starts.2
     (subst (λ r. IsFirstInWork r bytes start work found left) of_re (subst (λ t. IsFirstInWork bounded.re t start work found left) starts.0 first))
 
+-- and its number is that of bounds
+pub enough-by : (re : Regex) (bounds : Option Bounded) (bounded : Bounded) → IfSome bounds (λ b. b.re ≡ re) → IfSome bounds (λ b. IsEnoughEach re b.per_unit) → bounds ≡ Some bounded
+    → IsEnoughEach bounded.re bounded.per_unit
+enough-by re bounds bounded same each is =
+    let of_re : bounded.re ≡ re = subst (λ o. IfSome o (λ b. b.re ≡ re)) is same in
+    subst (λ r. IsEnoughEach r bounded.per_unit) (sym of_re) (subst (λ o. IfSome o (λ b. IsEnoughEach re b.per_unit)) is each)
+
 -- what was reckoned by the pattern of a handle
 pub reckoned-by : (held : Option Regex) (re at : Regex) (found : Option ℕ) (number : ℕ) → Some re ≡ held → at ≡ re → IfSome found (IsEnoughEach at) → found ≡ Some number
     → Reckons held (Ok number)

@@ -4,7 +4,7 @@ ghost use Rattle.std.specs.Prelude.{◌≡◌, ◌≤◌, get_or, length, map, s
 ghost use Rattle.std.specs.List.{sum_by};
 ghost use Rattle.std.specs.Result.{result_map_both};
 ghost use Rattle.regress_c.specs.Compiling.{given};
-ghost use Rattle.regress_c.specs.Texts.{Diagnoses, Escapes, Names, NamesBy, Replaces, ReplacesBy, RepliesText, RepliesTold, count_reply, left_by_made, left_by_text, made_reply, text_reply};
+ghost use Rattle.regress_c.specs.Texts.{Diagnoses, Escapes, Names, Replaces, ReplacesBy, RepliesText, RepliesTold, count_reply, left_by_made, left_by_text, made_reply, text_reply};
 
 use crate::flags::flags_from;
 use crate::pattern::Pattern;
@@ -106,24 +106,7 @@ pub(crate) fn range_count(alloc: Global, pattern: &mut Pattern) -> Reply
 }
 
 /// Writes the name of a group, nothing where it has none.
-pub(crate) fn group_name(
-    alloc: Global,
-    pattern: &mut Pattern,
-    number: usize,
-    buffer: &mut [u8],
-) -> Reply
-    ensures replies { RepliesText (NamesBy pattern.old.held number) buffer.old buffer.new result }
-    ensures kept { pattern.new.held ≡ pattern.old.held }
-{
-    let Some(re) = pattern.take(alloc) else {
-        return Refusal::Empty.reply();
-    };
-    let reply = named(&re, number, buffer);
-    pattern.put(re);
-    reply
-}
-
-fn named(re: &Regex, number: usize, buffer: &mut [u8]) -> Reply
+pub(crate) fn named(re: &Regex, number: usize, buffer: &mut [u8]) -> Reply
     ensures { RepliesText (Names re.now number) buffer.old buffer.new result }
 {
     if number == 0 || re.group_count() < number {

@@ -3,7 +3,8 @@
 ghost use Rattle.std.specs.Prelude.{◌≡◌, ℕ, List, None};
 ghost use Rattle.regex_meaning.specs.Tree.{Flags as Asked};
 ghost use Rattle.std.specs.Result.{result_map_both};
-ghost use Rattle.regress_c.specs.{Compiling.{Compiles, RefusesPattern, RepliesMade, given}, declared.refusal.Refusal.TheVariants.{Memory}};
+ghost use Rattle.regress_c.specs.Compiling.{Compiles, RefusesPattern, RepliesMade, code_of_made, given, held_after};
+ghost use Rattle.regress_c.specs.declared.refusal.Refusal.TheVariants.{Memory};
 
 use crate::flags::flags_from;
 use crate::pattern::Pattern;
@@ -48,22 +49,17 @@ pub(crate) fn compile<S: Source>(
             pattern.put(held);
             Refusal::Full.code()
         }
-        None => fill(alloc, pattern, source, flags, bounds),
+        None => fill(pattern, compiled(alloc, source, flags, bounds)),
     }
 }
 
-fn fill<S: Source>(
-    alloc: Global,
-    pattern: &mut Pattern,
-    source: &S,
-    flags: &[u8],
-    bounds: Bounds,
-) -> u32
+// Puts what was compiled into a handle, which is empty.
+fn fill(pattern: &mut Pattern, made: Result<Box<Regex>, Refusal>) -> u32
     requires { pattern.old.held ≡ None }
-    ensures { RepliesMade None (given (S.is_text source.now) (S.characters source.now) flags.now) bounds
-        pattern.new.held result }
+    ensures code { result ≡ code_of_made (result_map_both (λ b. b.value) (λ e. e) made) }
+    ensures held { pattern.new.held ≡ held_after None (result_map_both (λ b. b.value) (λ e. e) made) }
 {
-    match compiled(alloc, source, flags, bounds) {
+    match made {
         Ok(re) => {
             pattern.put(re);
             DONE

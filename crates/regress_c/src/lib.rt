@@ -30,17 +30,18 @@ mod source;
 mod subject;
 mod worked;
 
-use crate::answer::Which;
+use crate::answer::{Which, named};
 use crate::compiling::{Bounds, compile};
 use crate::going::go_on;
 use crate::opening::open;
 use crate::pattern::Pattern;
-use crate::reply::{Reply, Span};
+use crate::refusal::Refusal;
+use crate::reply::{Reply, Span, reply_with};
 use crate::search::Search;
 use crate::searching::search;
 use crate::source::{Utf8Source, Utf16Source};
 use crate::subject::{Ucs2, Utf8, Utf16};
-use crate::worked::{reckon, search_in_work};
+use crate::worked::{find, reckon};
 use std::alloc::Global;
 
 /// The version, as the header has it: of `1.2.3` 10203.
@@ -194,7 +195,12 @@ pub extern "C" fn regress_c_group_name(
     ensures replies { RepliesText (NamesBy pattern.old.held number) name.old name.new result }
     ensures kept { pattern.new.held ≡ pattern.old.held }
 {
-    answer::group_name(alloc, pattern, number, name)
+    let Some(re) = pattern.take(alloc) else {
+        return Refusal::Empty.reply();
+    };
+    let reply = named(&re, number, name);
+    pattern.put(re);
+    reply
 }
 
 // ---- The first match
@@ -275,7 +281,7 @@ pub extern "C" fn regress_c_find_utf8_in_work(
     ensures replies { RepliesInWork pattern.old.held text.now start work.old work.new spans.old spans.new result }
     ensures kept { pattern.new.held ≡ pattern.old.held }
 {
-    search_in_work(alloc, pattern, text, start, work, spans)
+    reply_with(find(alloc, pattern, text, start, work), spans)
 }
 
 // ---- All matches

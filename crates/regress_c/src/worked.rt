@@ -1,33 +1,18 @@
 //! Searches in so much work, by a handle.
 
 ghost use Rattle.std.specs.Prelude.{◌≡◌};
-ghost use Rattle.regress_c.specs.InWork.{FindsInWork, FindsInWorkBy, IsFirstInWork, Reckons, RepliesInWork, RepliesReckoned};
-ghost use Rattle.regress_c.specs.Searching.{can_start_utf8};
+ghost use Rattle.regress_c.specs.{InWork.{FindsInWork, FindsInWorkBy, IsFirstInWork, Reckons, RepliesReckoned}, Searching.{can_start_utf8}};
+ghost use Rattle.regress_match.specs.Work.{IsEnoughEach};
 
 use crate::pattern::Pattern;
 use crate::refusal::{DONE, Refusal};
-use crate::reply::{Reply, Span, reply_with};
 use crate::subject::text_from;
 use regress_match::{BoundedRegex, Match, Regex};
 use std::alloc::Global;
 
-/// The reply to a search for the first match in at most so much work, which becomes what is left.
-pub(crate) fn search_in_work(
-    alloc: Global,
-    pattern: &mut Pattern,
-    bytes: &[u8],
-    start: usize,
-    work: &mut u64,
-    spans: &mut [Span],
-) -> Reply
-    ensures replies { RepliesInWork pattern.old.held bytes.now start work.old work.new spans.old spans.new result }
-    ensures kept { pattern.new.held ≡ pattern.old.held }
-{
-    reply_with(find(alloc, pattern, bytes, start, work), spans)
-}
-
-// The first match by the pattern of the handle, which holds it again afterwards.
-fn find(
+/// The first match by the pattern of the handle, which holds it again afterwards, in at most so much work, which becomes what
+/// is left.
+pub(crate) fn find(
     alloc: Global,
     pattern: &mut Pattern,
     bytes: &[u8],
@@ -63,11 +48,10 @@ fn first_in_work(
     start: usize,
     work: &mut u64,
 ) -> Result<Option<Match>, Refusal>
-    requires { can_start_utf8 text.now start }
+    requires start { can_start_utf8 text.now start }
+    requires enough { IsEnoughEach bounded.now.re bounded.now.per_unit }
     ensures { IsFirstInWork bounded.now.re text.now start work.old result work.new }
 {
-    // by its clause the number of `find_from` is that of bounds
-    let _ = bounded.work_per_unit();
     let mut matches = bounded.find_from(text, start, *work)?;
     let first = matches.next();
     *work = matches.work_left();

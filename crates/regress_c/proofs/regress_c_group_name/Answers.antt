@@ -1,7 +1,7 @@
 use Rattle.std.proofs.Common.{refl, subst, Err}
 use Rattle.regress_c.specs.Texts.{NamesBy}
 use Rattle.regress_c.specs.declared.refusal.Refusal.TheVariants.{Empty}
-use Rattle.regress_c.proofs.answer.group_name.Goals as goal
+use Rattle.regress_c.proofs.regress_c_group_name.Goals as goal
 
 pub returns-in_default-clause-replies : goal.returns-in_default-clause-replies
 returns-in_default-clause-replies c =

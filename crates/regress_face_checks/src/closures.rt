@@ -97,11 +97,7 @@ fn write_replaced(
     }
 }
 
-pub fn check_closure(
-    alloc: Global,
-    differing: &mut String,
-    row: Row<'_>,
-) -> Result<(), AllocError> {
+pub fn check_with(alloc: Global, differing: &mut String, row: Row<'_>) -> Result<(), AllocError> {
     let fields: Vec<&str> = row.asked.split('~').collect(alloc)?;
     let [pattern, text, which, answers] = *fields.as_slice() else {
         return compare(differing, row, "other than five fields", "");

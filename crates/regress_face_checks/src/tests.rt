@@ -1,6 +1,6 @@
 //! The tests: each goes over tables.
 
-use crate::closures::{CLOSURES, check_closure};
+use crate::closures::{CLOSURES, check_with};
 use crate::constructors::CONSTRUCTORS;
 use crate::deep::{NESTS, check_nest};
 use crate::flags::{FLAGS, check_flags};
@@ -42,7 +42,7 @@ fn check_row(
     match table {
         Table::Matches => check_match(alloc, differing, row)?,
         Table::Replacements => check_replacement(alloc, differing, row)?,
-        Table::Closures => check_closure(alloc, differing, row)?,
+        Table::Closures => check_with(alloc, differing, row)?,
         Table::Flags => check_flags(alloc, differing, row)?,
         Table::Runs => check_run(alloc, differing, row)?,
         Table::Nests => check_nest(alloc, differing, row)?,

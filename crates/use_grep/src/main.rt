@@ -15,11 +15,11 @@ mod select;
 use crate::options::{Options, command};
 use crate::pattern::{compile, say_refused};
 use crate::search::{Search, Tally};
-use anyhow::{Context, Result};
-use std::env;
+use anyhow::Result;
+use clap::{ArgMatches, Command, Error};
+use std::alloc::Global;
 use std::process::ExitCode;
-
-const TROUBLE: u8 = 2;
+use use_support::{Program, TROUBLE, run};
 
 // The status that tells what came of a search.
 fn status(tally: &Tally) -> u8
@@ -31,38 +31,25 @@ fn status(tally: &Tally) -> u8
     if tally.selected == 0 { 1 } else { 0 }
 }
 
-// Searches what the words of a command line ask for, and answers with which status the program ends.
-fn run(rt: &HostRuntime, words: &[String]) -> Result<u8> {
-    let alloc = rt.alloc();
-    let matches = match command(alloc)?.try_get_matches_from(words) {
-        Ok(matches) => matches,
-        Err(why) => {
-            why.print(rt)?;
-            return Ok(if why.use_stderr() { TROUBLE } else { 0 });
-        }
-    };
-    let options = Options::of(rt, &matches)?;
-    match compile(alloc, &options) {
-        Ok(query) => Ok(status(&Search::new(rt, &query, &options)?.all()?)),
-        Err(why) => {
-            say_refused(rt, &options, &why)?;
-            Ok(TROUBLE)
+struct Grep;
+
+impl Program for Grep {
+    fn command<'a>(alloc: Global) -> Result<Command<'a>, Error> {
+        command(alloc)
+    }
+
+    fn run(rt: &HostRuntime, matches: &ArgMatches<'_>) -> Result<u8> {
+        let options = Options::of(rt, matches)?;
+        match compile(rt.alloc(), &options) {
+            Ok(query) => Ok(status(&Search::new(rt, &query, &options)?.all()?)),
+            Err(why) => {
+                say_refused(rt, &options, &why)?;
+                Ok(TROUBLE)
+            }
         }
     }
-}
-
-fn run_words(rt: &HostRuntime) -> Result<u8> {
-    let words = env::args(rt).context("reading the command line")?;
-    let words: Vec<String> = words.collect(rt.alloc())?;
-    run(rt, &words)
 }
 
 fn main(rt: HostRuntime) -> ExitCode {
-    match run_words(&rt) {
-        Ok(status) => ExitCode::from(status),
-        Err(why) => {
-            let _ = eprintln!(rt; "use_grep: {why:#}");
-            ExitCode::from(TROUBLE)
-        }
-    }
+    run::<Grep>(&rt, "use_grep")
 }

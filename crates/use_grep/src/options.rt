@@ -3,6 +3,7 @@
 use clap::{Arg, ArgAction, ArgMatches, Command, Error, value_parser};
 use std::alloc::{AllocError, Global};
 use std::io::IsTerminal;
+use use_support::{text_of, texts_of};
 
 static COLORS: [&str; 3] = ["never", "always", "auto"];
 
@@ -53,26 +54,6 @@ impl<'a> Options<'a> {
             most: matches.get_one("max-count").unwrap_or(u64::MAX),
             longest: matches.get_one("max-line").unwrap_or(u64::MAX),
         })
-    }
-}
-
-// The value of an argument.
-fn text_of<'a>(matches: &ArgMatches<'a>, id: &str) -> &'a str {
-    match matches.get_str(id) {
-        Some(text) => text,
-        None => "",
-    }
-}
-
-// All of its values.
-fn texts_of<'a>(
-    alloc: Global,
-    matches: &ArgMatches<'a>,
-    id: &str,
-) -> Result<Vec<&'a str>, AllocError> {
-    match matches.get_strs(id) {
-        Some(texts) => Vec::from_slice(alloc, texts),
-        None => Ok(Vec::new(alloc)),
     }
 }
 

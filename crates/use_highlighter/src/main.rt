@@ -13,11 +13,12 @@ use crate::pieces::cut;
 use crate::show::show;
 use crate::tokens::{compile, tokens};
 use anyhow::{Context, Result};
+use clap::{ArgMatches, Command, Error};
+use std::alloc::Global;
 use std::io::IsTerminal;
 use std::process::ExitCode;
-use std::{env, fs, io};
-
-const TROUBLE: u8 = 2;
+use std::{fs, io};
+use use_support::{Program, run};
 
 const MB: usize = 1_000_000;
 
@@ -61,33 +62,19 @@ fn print(rt: &HostRuntime, options: &Options<'_>) -> Result<()> {
     Ok(())
 }
 
-// Does what the words of a command line ask for, and answers with which status the program ends.
-fn run(rt: &HostRuntime, words: &[String]) -> Result<u8> {
-    let alloc = rt.alloc();
-    match command(alloc)?.try_get_matches_from(words) {
-        Ok(matches) => {
-            print(rt, &Options::of(alloc, &matches)?)?;
-            Ok(0)
-        }
-        Err(why) => {
-            why.print(rt)?;
-            Ok(if why.use_stderr() { TROUBLE } else { 0 })
-        }
-    }
-}
+struct Highlighter;
 
-fn run_words(rt: &HostRuntime) -> Result<u8> {
-    let words = env::args(rt).context("reading the command line")?;
-    let words: Vec<String> = words.collect(rt.alloc())?;
-    run(rt, &words)
+impl Program for Highlighter {
+    fn command<'a>(alloc: Global) -> Result<Command<'a>, Error> {
+        command(alloc)
+    }
+
+    fn run(rt: &HostRuntime, matches: &ArgMatches<'_>) -> Result<u8> {
+        print(rt, &Options::of(rt.alloc(), matches)?)?;
+        Ok(0)
+    }
 }
 
 fn main(rt: HostRuntime) -> ExitCode {
-    match run_words(&rt) {
-        Ok(status) => ExitCode::from(status),
-        Err(why) => {
-            let _ = eprintln!(rt; "use_highlighter: {why:#}");
-            ExitCode::from(TROUBLE)
-        }
-    }
+    run::<Highlighter>(&rt, "use_highlighter")
 }

@@ -3,6 +3,7 @@
 use crate::show::Style;
 use clap::{Arg, ArgAction, ArgMatches, Command, Error};
 use std::alloc::{AllocError, Global};
+use use_support::{text_of, texts_of};
 
 /// What tokens there are, what is shown, and how.
 #[derive(Debug, Drop)]
@@ -30,26 +31,6 @@ impl<'a> Options<'a> {
             file: text_of(matches, "file"),
             style,
         })
-    }
-}
-
-// The value of an argument.
-fn text_of<'a>(matches: &ArgMatches<'a>, id: &str) -> &'a str {
-    match matches.get_str(id) {
-        Some(text) => text,
-        None => "",
-    }
-}
-
-// All of its values.
-fn texts_of<'a>(
-    alloc: Global,
-    matches: &ArgMatches<'a>,
-    id: &str,
-) -> Result<Vec<&'a str>, AllocError> {
-    match matches.get_strs(id) {
-        Some(texts) => Vec::from_slice(alloc, texts),
-        None => Ok(Vec::new(alloc)),
     }
 }
 

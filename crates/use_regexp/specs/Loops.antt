@@ -6,6 +6,7 @@ use Rattle.regex_meaning.specs.Names.{Answer}
 use Rattle.use_regexp.specs.Exec.{found, last_behind}
 use Rattle.use_regexp.specs.Units.{advanced}
 use Rattle.use_regexp.specs.declared.pattern.Pattern.{Pattern}
+use Rattle.use_regexp.specs.declared.regexp.RegExp.{RegExp}
 
 module _ (p : Pattern) (text : List ℕ) where
   -- from where the loop goes on behind a match: its end, or behind the character there where it is empty
@@ -25,3 +26,7 @@ module _ (p : Pattern) (text : List ℕ) where
   -- `lastIndex` behind them: with `g` the last search has found nothing
   abbrev pub last_taken : (last : ℕ) → ℕ
   last_taken last = if p.flags.global then 0 else last_behind p last (found p text last)
+
+-- an object whose `lastIndex` is left so
+abbrev pub LeavesTaken : (before after : RegExp) → (text : List ℕ) → Type 0
+LeavesTaken before after text = after.last_index ≡ last_taken before.pattern text before.last_index

@@ -61,15 +61,11 @@ impl Pattern {
     }
 
     // The first match from an index on.
-    pub(crate) fn first_match(
-        &self,
-        text: &[u16],
-        index: usize,
-    ) -> Result<Option<Match>, SearchError>
-        ensures found { IfOk result (λ m. option_map answer_of m ≡ first_match self.now text.now index) }
+    pub(crate) fn first_match(&self, text: &[u16], at: usize) -> Result<Option<Match>, SearchError>
+        ensures found { IfOk result (λ m. option_map answer_of m ≡ first_match self.now text.now at) }
         ensures refused { IfErr result IsMemory }
     {
-        let start = units::character_start(self.flags.unicode, text, index);
+        let start = units::character_start(self.flags.unicode, text, at);
         if self.flags.unicode {
             first(self.re.find_from_utf16(text, start)?)
         } else {
@@ -78,15 +74,11 @@ impl Pattern {
     }
 
     // The match that begins at an index, if one does. No other place is tried.
-    pub(crate) fn match_here(
-        &self,
-        text: &[u16],
-        index: usize,
-    ) -> Result<Option<Match>, SearchError>
-        ensures found { IfOk result (λ m. option_map answer_of m ≡ match_here self.now text.now index) }
+    pub(crate) fn match_here(&self, text: &[u16], at: usize) -> Result<Option<Match>, SearchError>
+        ensures found { IfOk result (λ m. option_map answer_of m ≡ match_here self.now text.now at) }
         ensures refused { IfErr result IsMemory }
     {
-        let start = units::character_start(self.flags.unicode, text, index);
+        let start = units::character_start(self.flags.unicode, text, at);
         if self.flags.unicode {
             self.re.match_at_utf16(text, start)
         } else {

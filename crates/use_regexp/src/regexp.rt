@@ -1,9 +1,9 @@
 //! The object: a pattern, and where its next search begins.
 
-ghost use Rattle.std.specs.Prelude.{◌≡◌, IfErr, IfOk, OnErr, is_some, map, option_map};
+ghost use Rattle.std.specs.Prelude.{◌≡◌, IfErr, IfOk, OnErr, if◌then◌else◌, is_some, map, option_map, slice_get};
 ghost use Rattle.regress_exec.specs.Answers.{answer_of};
 ghost use Rattle.regress_match.specs.Refusals.{IsMemory};
-ghost use Rattle.use_regexp.specs.{Compiled.{IsPatternOf}, Exec.{found, last_behind}, Loops.{AreTaken, last_taken}, Refusals.{CanRefuse}};
+ghost use Rattle.use_regexp.specs.{Compiled.{IsPatternOf}, Exec.{found, last_behind}, Loops.{AreTaken, LeavesTaken}, Refusals.{CanRefuse}};
 ghost use Rattle.use_regexp.specs.Source.{escaped_source, literal_of};
 
 use crate::error::RegExpError;
@@ -140,16 +140,24 @@ impl RegExp {
     pub fn match_text(&mut self, alloc: Global, text: &[u16]) -> Result<Vec<Match>, SearchError>
         ensures taken { IfOk result (λ v.
             AreTaken self.old.pattern text.now 0 self.old.last_index (map answer_of v.items)) }
-        ensures last { IfOk result (λ v. self.new.last_index
-            ≡ last_taken self.old.pattern text.now self.old.last_index) }
+        ensures last { IfOk result (λ _. LeavesTaken self.old self.new text.now) }
         ensures same { self.new.pattern ≡ self.old.pattern }
         ensures refused { IfErr result IsMemory }
         ensures unchanged { OnErr result (self.new ≡ self.old) }
     {
         let matches = self.pattern.taken(alloc, text, 0, self.last_index)?;
-        let last_index = self.pattern.last_taken(self.last_index, matches.as_slice());
-        self.last_index = last_index;
+        self.pass(matches.as_slice());
         Ok(matches)
+    }
+
+    // Leaves `lastIndex` as it is behind these matches.
+    pub(crate) fn pass(&mut self, matches: &[Match])
+        ensures last { self.new.last_index ≡ (if self.old.pattern.flags.global then 0
+            else last_behind self.old.pattern self.old.last_index (slice_get (map answer_of matches.now) 0)) }
+        ensures same { self.new.pattern ≡ self.old.pattern }
+    {
+        let last_index = self.pattern.last_taken(self.last_index, matches);
+        self.last_index = last_index;
     }
 
     /// With `g` all matches, one after the other from `lastIndex` on, and else the one of `exec`, if there is one.

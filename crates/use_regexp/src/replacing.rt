@@ -5,7 +5,7 @@ ghost use Rattle.std.specs.Result.{IsOkAnd};
 ghost use Rattle.regex_meaning.specs.Replace.{replaced};
 ghost use Rattle.regress_exec.specs.Answers.{answer_of};
 ghost use Rattle.regress_match.specs.{Answered.{CanRefuseAnswer}, Closures.{CanBeCalled}, Refusals.{IsMemory}, Replacements.{FitsUnits}};
-ghost use Rattle.use_regexp.specs.Loops.{last_taken};
+ghost use Rattle.use_regexp.specs.Loops.{LeavesTaken};
 ghost use Rattle.use_regexp.specs.Replace.{CanBeTaken, CanRefuseAt, CanRefuseWith, IsReplaced, IsReplacedBy, IsReplacedWith, StandInUnits, substituted};
 
 use crate::regexp::RegExp;
@@ -32,17 +32,14 @@ impl RegExp {
     ) -> Result<Vec<u16>, SearchError>
         ensures made { IfOk result (λ v.
             IsReplaced self.old.pattern self.old.last_index text.now template.now v.items) }
-        ensures last { IfOk result (λ v. self.new.last_index
-            ≡ last_taken self.old.pattern text.now self.old.last_index) }
+        ensures last { IfOk result (λ _. LeavesTaken self.old self.new text.now) }
         ensures same { self.new.pattern ≡ self.old.pattern }
         ensures refused { IfErr result IsMemory }
         ensures unchanged { OnErr result (self.new ≡ self.old) }
     {
         let matches = self.pattern.taken(alloc, text, 0, self.last_index)?;
-        let list = matches.as_slice();
-        let made = write_template(alloc, text, list, template)?;
-        let last_index = self.pattern.last_taken(self.last_index, list);
-        self.last_index = last_index;
+        let made = write_template(alloc, text, matches.as_slice(), template)?;
+        self.pass(matches.as_slice());
         Ok(made)
     }
 
@@ -64,18 +61,15 @@ impl RegExp {
         requires { CanBeTaken (F.pre with) self.old.pattern text.now self.old.last_index }
         ensures made { IfOk result (λ v.
             IsReplacedWith (F.post with) self.old.pattern text.now self.old.last_index v.items) }
-        ensures last { IfOk result (λ v. self.new.last_index
-            ≡ last_taken self.old.pattern text.now self.old.last_index) }
+        ensures last { IfOk result (λ _. LeavesTaken self.old self.new text.now) }
         ensures same { self.new.pattern ≡ self.old.pattern }
         ensures refused { IfErr result
             (CanRefuseWith (F.post with) self.old.pattern text.now self.old.last_index) }
         ensures unchanged { OnErr result (self.new ≡ self.old) }
     {
         let matches = self.pattern.taken(alloc, text, 0, self.last_index)?;
-        let list = matches.as_slice();
-        let made = write_answers(alloc, text, list, with)?;
-        let last_index = self.pattern.last_taken(self.last_index, list);
-        self.last_index = last_index;
+        let made = write_answers(alloc, text, matches.as_slice(), with)?;
+        self.pass(matches.as_slice());
         Ok(made)
     }
 }

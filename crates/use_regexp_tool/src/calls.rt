@@ -88,57 +88,30 @@ fn is(word: &[u16], name: &str) -> bool {
             .all(|(unit, byte)| *unit == u16::from(byte))
 }
 
+// The methods by their names.
+const METHODS: [(&str, Method); 12] = [
+    ("exec", Method::Exec),
+    ("test", Method::Test),
+    ("search", Method::Search),
+    ("match", Method::Match),
+    ("matchAll", Method::MatchAll),
+    ("replace", Method::Replace),
+    ("replaceWith", Method::ReplaceWith),
+    ("split", Method::Split),
+    ("toString", Method::ToText),
+    ("source", Method::Source),
+    ("flags", Method::Flags),
+    ("lastIndex", Method::LastIndex),
+];
+
 // The method of a name.
 fn method_of(name: &[u16]) -> Option<Method> {
-    match property(name) {
-        Some(method) => Some(method),
-        None => of_text(name),
+    for (text, method) in METHODS {
+        if is(name, text) {
+            return Some(method);
+        }
     }
-}
-
-// What is asked of the object alone.
-fn property(name: &[u16]) -> Option<Method> {
-    if is(name, "toString") {
-        Some(Method::ToText)
-    } else if is(name, "source") {
-        Some(Method::Source)
-    } else if is(name, "flags") {
-        Some(Method::Flags)
-    } else if is(name, "lastIndex") {
-        Some(Method::LastIndex)
-    } else {
-        None
-    }
-}
-
-// What is asked of a text.
-fn of_text(name: &[u16]) -> Option<Method> {
-    if is(name, "exec") {
-        Some(Method::Exec)
-    } else if is(name, "test") {
-        Some(Method::Test)
-    } else if is(name, "search") {
-        Some(Method::Search)
-    } else if is(name, "match") {
-        Some(Method::Match)
-    } else if is(name, "matchAll") {
-        Some(Method::MatchAll)
-    } else {
-        of_text_and_more(name)
-    }
-}
-
-// What is asked of a text and makes another one of it.
-fn of_text_and_more(name: &[u16]) -> Option<Method> {
-    if is(name, "replace") {
-        Some(Method::Replace)
-    } else if is(name, "replaceWith") {
-        Some(Method::ReplaceWith)
-    } else if is(name, "split") {
-        Some(Method::Split)
-    } else {
-        None
-    }
+    None
 }
 
 // Whether the method is given a text.
@@ -214,79 +187,21 @@ fn answer_call(alloc: Global, out: &mut String, re: &mut RegExp, call: &Call) ->
 
 // Writes what a call answers.
 fn value(alloc: Global, out: &mut String, re: &mut RegExp, call: &Call) -> Result<()> {
+    let text = call.text.as_slice();
     match call.method {
-        Method::Exec => exec(out, re, &call.text),
-        Method::Test => test(out, re, &call.text),
-        Method::Search => search(out, re, &call.text),
-        Method::Match => matches(alloc, out, re, &call.text),
-        Method::MatchAll => all(alloc, out, re, &call.text),
-        Method::Replace => replace(alloc, out, re, &call.text, &call.template),
-        Method::ReplaceWith => replace_with(alloc, out, re, &call.text),
-        Method::Split => split(alloc, out, re, &call.text, call.limit),
-        Method::ToText => to_text(alloc, out, re),
-        Method::Source => source(alloc, out, re),
-        Method::Flags => flags(alloc, out, re),
-        Method::LastIndex => last_index(out, re),
+        Method::Exec => found_or_null(out, text, re.exec(text)?)?,
+        Method::Test => json::truth(out, re.test(text)?)?,
+        Method::Search => index_or_none(out, re.search(text)?)?,
+        Method::Match => matches(alloc, out, re, text)?,
+        Method::MatchAll => every(out, text, &re.match_all(alloc, text)?)?,
+        Method::Replace => json::string(out, &re.replace(alloc, text, &call.template)?)?,
+        Method::ReplaceWith => replace_with(alloc, out, re, text)?,
+        Method::Split => pieces(out, text, &re.split(alloc, text, call.limit)?)?,
+        Method::ToText => json::string(out, &re.to_text(alloc)?)?,
+        Method::Source => json::string(out, &re.source(alloc)?)?,
+        Method::Flags => json::string(out, &re.flags().letters(alloc)?)?,
+        Method::LastIndex => write!(out, "{}", re.last_index)?,
     }
-}
-
-fn exec(out: &mut String, re: &mut RegExp, text: &[u16]) -> Result<()> {
-    let found = re.exec(text)?;
-    found_or_null(out, text, found)?;
-    Ok(())
-}
-
-fn test(out: &mut String, re: &mut RegExp, text: &[u16]) -> Result<()> {
-    let found = re.test(text)?;
-    json::truth(out, found)?;
-    Ok(())
-}
-
-fn search(out: &mut String, re: &mut RegExp, text: &[u16]) -> Result<()> {
-    let at = re.search(text)?;
-    index_or_none(out, at)?;
-    Ok(())
-}
-
-fn replace(
-    alloc: Global,
-    out: &mut String,
-    re: &mut RegExp,
-    text: &[u16],
-    template: &[u16],
-) -> Result<()> {
-    let made = re.replace(alloc, text, template)?;
-    json::string(out, &made)?;
-    Ok(())
-}
-
-fn split(alloc: Global, out: &mut String, re: &mut RegExp, text: &[u16], limit: u32) -> Result<()> {
-    let found = re.split(alloc, text, limit)?;
-    pieces(out, text, &found)?;
-    Ok(())
-}
-
-fn to_text(alloc: Global, out: &mut String, re: &RegExp) -> Result<()> {
-    let text = re.to_text(alloc)?;
-    json::string(out, &text)?;
-    Ok(())
-}
-
-fn source(alloc: Global, out: &mut String, re: &RegExp) -> Result<()> {
-    let source = re.source(alloc)?;
-    json::string(out, &source)?;
-    Ok(())
-}
-
-fn flags(alloc: Global, out: &mut String, re: &RegExp) -> Result<()> {
-    let letters = re.flags().letters(alloc)?;
-    json::string(out, &letters)?;
-    Ok(())
-}
-
-fn last_index(out: &mut String, re: &RegExp) -> Result<()> {
-    let last_index = re.last_index;
-    write!(out, "{last_index}")?;
     Ok(())
 }
 
@@ -318,31 +233,29 @@ fn matches(alloc: Global, out: &mut String, re: &mut RegExp, text: &[u16]) -> Re
     Ok(())
 }
 
+// Parts an item of a list from the one before it.
+fn part(out: &mut String, number: usize) -> Result<(), AllocError> {
+    if number != 0 {
+        out.push(',')?;
+    }
+    Ok(())
+}
+
 // Writes the text of each match.
 fn texts(out: &mut String, text: &[u16], found: &[Match]) -> Result<(), AllocError> {
     out.push('[')?;
     for (number, found) in found.iter().enumerate() {
-        if number != 0 {
-            out.push(',')?;
-        }
+        part(out, number)?;
         json::slice(out, text, &Some(found.range()))?;
     }
     out.push(']')
-}
-
-fn all(alloc: Global, out: &mut String, re: &mut RegExp, text: &[u16]) -> Result<()> {
-    let found = re.match_all(alloc, text)?;
-    every(out, text, &found)?;
-    Ok(())
 }
 
 // Writes each match as `exec` answers it.
 fn every(out: &mut String, text: &[u16], found: &[Match]) -> Result<(), AllocError> {
     out.push('[')?;
     for (number, found) in found.iter().enumerate() {
-        if number != 0 {
-            out.push(',')?;
-        }
+        part(out, number)?;
         json::exec(out, text, found)?;
     }
     out.push(']')
@@ -356,9 +269,7 @@ fn pieces(
 ) -> Result<(), AllocError> {
     out.push('[')?;
     for (number, piece) in pieces.iter().enumerate() {
-        if number != 0 {
-            out.push(',')?;
-        }
+        part(out, number)?;
         json::slice(out, text, piece)?;
     }
     out.push(']')

@@ -8,9 +8,10 @@ mod script;
 
 use crate::calls::answer;
 use anyhow::{Context, Result};
-use clap::Command;
-use std::env;
+use clap::{ArgMatches, Command, Error};
+use std::alloc::Global;
 use std::process::ExitCode;
+use use_support::{Program, run};
 
 const ABOUT: &str =
     "Answers calls of a script's regular expressions, a line of them at a time from standard input, in JSON.";
@@ -31,27 +32,23 @@ fn answer_lines(rt: &HostRuntime) -> Result<()> {
     Ok(())
 }
 
-// Does what the words of a command line ask for, and answers with which status the program ends.
-fn run_words(rt: &HostRuntime) -> Result<u8> {
-    let words = env::args(rt).context("reading the command line")?;
-    let words: Vec<String> = words.collect(rt.alloc())?;
-    let command = Command::new(rt.alloc(), "use_regexp_tool")
-        .about(ABOUT)
-        .after_help(AFTER);
-    if let Err(why) = command.try_get_matches_from(words.as_slice()) {
-        why.print(rt)?;
-        return Ok(if why.use_stderr() { 2 } else { 0 });
+struct Tool;
+
+impl Program for Tool {
+    fn command<'a>(alloc: Global) -> Result<Command<'a>, Error> {
+        Ok(
+            Command::new(alloc, "use_regexp_tool")
+                .about(ABOUT)
+                .after_help(AFTER),
+        )
     }
-    answer_lines(rt)?;
-    Ok(0)
+
+    fn run(rt: &HostRuntime, _: &ArgMatches<'_>) -> Result<u8> {
+        answer_lines(rt)?;
+        Ok(0)
+    }
 }
 
 fn main(rt: HostRuntime) -> ExitCode {
-    match run_words(&rt) {
-        Ok(status) => ExitCode::from(status),
-        Err(why) => {
-            let _ = eprintln!(rt; "use_regexp_tool: {why:#}");
-            ExitCode::from(2)
-        }
-    }
+    run::<Tool>(&rt, "use_regexp_tool")
 }

@@ -3,6 +3,7 @@
 use clap::{Arg, ArgAction, ArgMatches, Command};
 use regress_match::Flags;
 use std::alloc::{AllocError, Global};
+use use_support::text_of;
 
 /// What is asked for.
 #[derive(Drop)]
@@ -13,6 +14,7 @@ pub struct Options<'a> {
     pub flags: Flags,
     pub apply: bool,
     pub groups: bool,
+    pub rows: bool,
 }
 
 const ABOUT: &str = "Renames the files of a folder by what a pattern matches in their names.
@@ -66,6 +68,11 @@ pub fn command<'a>(alloc: Global) -> Result<Command<'a>, AllocError> {
             "groups",
             "Also show what the groups with names matched first",
         ))?
+        .arg(switch(
+            alloc,
+            "rows",
+            "Also show what would become of the names in rows of standard input: PATTERN~TEMPLATE~FILES~OTHERS",
+        ))?
         .arg(switch(alloc, "ignore-case", "Letters match in either case").short('i'))
 }
 
@@ -78,12 +85,13 @@ impl<'a> Options<'a> {
             ""
         };
         Options {
-            pattern: matches.get_str("pattern").unwrap_or(""),
-            template: matches.get_str("template").unwrap_or(""),
-            folder: matches.get_str("folder").unwrap_or("."),
+            pattern: text_of(matches, "pattern"),
+            template: text_of(matches, "template"),
+            folder: text_of(matches, "folder"),
             flags: Flags::from(flags),
             apply: matches.get_flag("apply"),
             groups: matches.get_flag("groups"),
+            rows: matches.get_flag("rows"),
         }
     }
 }

@@ -9,17 +9,20 @@ mod folder;
 mod groups;
 mod names;
 mod plan;
-#[cfg(test)]
-mod tests;
+mod rows;
 
 use crate::command::{Options, command};
 use crate::folder::{apply, list};
 use crate::groups::parts;
 use crate::plan::{Refusal, Rename, plan};
-use anyhow::{Context, Result, bail};
+use crate::rows::answer_rows;
+use anyhow::{Result, bail};
+use clap::{ArgMatches, Command};
 use regress_match::{Error, Flags, Regex};
+use std::alloc::Global;
+use std::io;
 use std::process::ExitCode;
-use std::{env, io};
+use use_support::{Program, run};
 
 // The pattern as a program. What is wrong with one that is none stands in the error, with the place below it.
 fn compile(rt: &HostRuntime, pattern: &str, flags: Flags) -> Result<Regex> {
@@ -50,7 +53,7 @@ fn show(rt: &HostRuntime, options: &Options<'_>, re: &Regex, plan: &[Rename]) ->
 }
 
 // Whether the files are renamed, or would be.
-fn run(rt: &HostRuntime, options: &Options<'_>) -> Result<bool> {
+fn rename(rt: &HostRuntime, options: &Options<'_>) -> Result<bool> {
     let alloc = rt.alloc();
     let re = compile(rt, options.pattern, options.flags)?;
     let folder = list(rt, options.folder)?;
@@ -81,31 +84,23 @@ fn run(rt: &HostRuntime, options: &Options<'_>) -> Result<bool> {
     Ok(true)
 }
 
-// Does what the words of a command line ask for, and answers with which status the program ends.
-fn run_words(rt: &HostRuntime) -> Result<u8> {
-    let alloc = rt.alloc();
-    let words = env::args(rt).context("reading the command line")?;
-    let words: Vec<String> = words.collect(alloc)?;
-    let matches = match command(alloc)?.try_get_matches_from(words.as_slice()) {
-        Ok(matches) => matches,
-        Err(error) => {
-            error.print(rt)?;
-            return Ok(if error.exit_code() == 0 { 0 } else { 2 });
+struct Renamer;
+
+impl Program for Renamer {
+    fn command<'a>(alloc: Global) -> Result<Command<'a>, clap::Error> {
+        Ok(command(alloc)?)
+    }
+
+    fn run(rt: &HostRuntime, matches: &ArgMatches<'_>) -> Result<u8> {
+        let options = Options::of(matches);
+        let is_renamed = rename(rt, &options)?;
+        if options.rows {
+            answer_rows(rt)?;
         }
-    };
-    Ok(if run(rt, &Options::of(&matches))? {
-        0
-    } else {
-        1
-    })
+        Ok(if is_renamed { 0 } else { 1 })
+    }
 }
 
 fn main(rt: HostRuntime) -> ExitCode {
-    match run_words(&rt) {
-        Ok(status) => ExitCode::from(status),
-        Err(why) => {
-            let _ = eprintln!(rt; "use_renamer: {why:#}");
-            ExitCode::from(2)
-        }
-    }
+    run::<Renamer>(&rt, "use_renamer")
 }

@@ -2,6 +2,7 @@
 
 use clap::{Arg, ArgAction, ArgMatches, Command, value_parser};
 use std::alloc::{AllocError, Global};
+use use_support::text_of;
 
 /// What is asked for.
 #[derive(Drop)]
@@ -10,6 +11,7 @@ pub struct Options<'a> {
     pub document: &'a str,
     /// How many steps each search may take at first.
     pub steps: u64,
+    pub rows: bool,
 }
 
 const ABOUT: &str =
@@ -25,9 +27,10 @@ impl<'a> Options<'a> {
     /// What the words of a command line ask for.
     pub fn of(matches: &ArgMatches<'a>) -> Self {
         Options {
-            schema: matches.get_str("schema").unwrap_or("-"),
-            document: matches.get_str("document").unwrap_or("-"),
+            schema: text_of(matches, "schema"),
+            document: text_of(matches, "document"),
             steps: matches.get_one::<u64>("steps").unwrap_or(0),
+            rows: matches.get_flag("rows"),
         }
     }
 }
@@ -54,9 +57,14 @@ pub fn command<'a>(alloc: Global) -> Result<Command<'a>, AllocError> {
         )
         .value_parser(value_parser!(u64))
         .default_value(STEPS);
+    let rows = Arg::new(alloc, "rows")
+        .long("rows")
+        .action(ArgAction::SetTrue)
+        .help("Also answer rows of standard input: SCHEMA | DOCUMENT | N");
     Command::new(alloc, "use_validator")
         .about(ABOUT)
         .arg(schema)?
         .arg(document)?
-        .arg(steps)
+        .arg(steps)?
+        .arg(rows)
 }

@@ -6,18 +6,21 @@
 mod command;
 mod judge;
 mod pointer;
+mod rows;
 mod schema;
-#[cfg(test)]
-mod tests;
 mod walk;
 
 use crate::command::{Options, command};
+use crate::rows::answer_rows;
 use crate::schema::Patterns;
 use crate::walk::findings;
-use anyhow::{Context, Result, bail};
+use anyhow::{Result, bail};
+use clap::{ArgMatches, Command};
 use serde_json::Value;
+use std::alloc::Global;
 use std::process::ExitCode;
-use std::{env, fs, io};
+use std::{fs, io};
+use use_support::{Program, run};
 
 // A file's text; that of `-` is standard input.
 fn read(rt: &HostRuntime, path: &str) -> io::Result<String> {
@@ -39,8 +42,8 @@ fn read_value(rt: &HostRuntime, path: &str) -> Result<Value> {
     }
 }
 
-// Whether all strings are valid. Each that is not is told in a line.
-fn run(rt: &HostRuntime, options: &Options<'_>) -> Result<bool> {
+// Whether all strings are valid. Each that is not is told in a line. Where rows are asked for, they are answered, too.
+fn validate(rt: &HostRuntime, options: &Options<'_>) -> Result<bool> {
     let alloc = rt.alloc();
     let schema = read_value(rt, options.schema)?;
     let patterns = Patterns::of(alloc, &schema)?;
@@ -49,34 +52,25 @@ fn run(rt: &HostRuntime, options: &Options<'_>) -> Result<bool> {
     for finding in &findings {
         println!(rt; "{finding}")?;
     }
+    if options.rows {
+        answer_rows(rt)?;
+    }
     Ok(findings.is_empty())
 }
 
-// Does what the words of a command line ask for, and answers with which status the program ends.
-fn run_words(rt: &HostRuntime) -> Result<u8> {
-    let alloc = rt.alloc();
-    let words = env::args(rt).context("reading the command line")?;
-    let words: Vec<String> = words.collect(alloc)?;
-    let matches = match command(alloc)?.try_get_matches_from(words.as_slice()) {
-        Ok(matches) => matches,
-        Err(error) => {
-            error.print(rt)?;
-            return Ok(if error.exit_code() == 0 { 0 } else { 2 });
-        }
-    };
-    Ok(if run(rt, &Options::of(&matches))? {
-        0
-    } else {
-        1
-    })
+struct Validator;
+
+impl Program for Validator {
+    fn command<'a>(alloc: Global) -> Result<Command<'a>, clap::Error> {
+        Ok(command(alloc)?)
+    }
+
+    fn run(rt: &HostRuntime, matches: &ArgMatches<'_>) -> Result<u8> {
+        let are_valid = validate(rt, &Options::of(matches))?;
+        Ok(if are_valid { 0 } else { 1 })
+    }
 }
 
 fn main(rt: HostRuntime) -> ExitCode {
-    match run_words(&rt) {
-        Ok(status) => ExitCode::from(status),
-        Err(why) => {
-            let _ = eprintln!(rt; "use_validator: {why:#}");
-            ExitCode::from(2)
-        }
-    }
+    run::<Validator>(&rt, "use_validator")
 }

@@ -12,8 +12,8 @@ are_local-is_local_node-requires t c =
 
 pub is_local_node-are_local-requires : goal.is_local_node-are_local-requires
 is_local_node-are_local-requires t c =
-    let is : node_of c.loop-rest.rest.now ≡ cat_of c.deref.result.now = ap node_of c.in-Cat.is ∙ node_of-Cat c.in-Cat.nodes ∙ ap cat_of (sym c.deref.ensures.value) in
-    let same : weight (node_of c.loop-rest.rest.now) ≡ weight (cat_of c.deref.result.now) = ap weight is in
+    let same : weight (node_of c.loop-rest.rest.now) ≡ weight (cat_of c.deref.result.now) =
+    ap weight (ap node_of c.in-Cat.is ∙ node_of-Cat c.in-Cat.nodes ∙ ap cat_of (sym c.deref.ensures.value)) in
     let within = c.loop-rest.invariant.within in
     search rules
 

@@ -1,9 +1,10 @@
-use Rattle.std.proofs.Common.{◌∙◌, ◌++◌, ap, string_bytes}
+use Rattle.std.proofs.Common.{◌≡◌, ◌∙◌, ◌++◌, false, ap, string_bytes}
 use Rattle.regress_exec.specs.Answers.{answer_of}
 use Rattle.regress_exec.specs.ToCome.{ToCome}
-use Rattle.regress_match.proofs.CallerLemmas.{reached-unlimited, takes-next}
-use Rattle.use_grep.specs.Selecting.{colored_from}
+use Rattle.regress_match.proofs.CallerLemmas.{IsReached, reached-unlimited, takes-next}
+use Rattle.use_grep.specs.Selecting.{colored, colored_from}
 use Rattle.use_grep.proofs.Parts.{red-more, red-end}
+use Rattle.use_grep.proofs.select.colored.Goals.{In_ok-from}
 use Rattle.use_grep.proofs.select.colored.Goals as goal
 
 pub loop-item-init : goal.loop-item-init
@@ -24,31 +25,23 @@ push_match-requires-clause-before c = (takes-next _ _ _ _ _ _ c.in_ok-found.foun
 pub push_match-requires-clause-fits : goal.push_match-requires-clause-fits
 push_match-requires-clause-fits c = (takes-next _ _ _ _ _ _ c.in_ok-found.found c.loop-item.invariant.reached c.in-Some.ensures.steps c.in_ok-found.was).fits
 
-pub loop-item-preserved : goal.loop-item-preserved
-loop-item-preserved c =
+-- what holds once a match is in red
+written : (c : In_ok-from)
+    → IsReached c.args.line.now false c.in_ok-from.from c.next.new.self
+    × (string_bytes c.push_match.new.made ++ colored_from c.args.line.now c.in_ok-from.from c.next.new.self.answers ≡ colored c.args.re.now c.args.line.now)
+written c =
     let line = c.args.line.now in
-    let takes = takes-next line _ _ c.loop-item.item-iterator c.next.new.self _ c.in_ok-found.found c.loop-item.invariant.reached c.in-Some.ensures.steps c.in_ok-found.was in
-    record {
-      can = tt;
-      finite = tt;
-      reached = takes.reached c.in_ok-from.from c.in_ok-from.ensures.behind;
-      made =
-          red-more line (string_bytes c.loop-item.made) (string_bytes c.push_match.new.made) _ c.loop-item.from c.in_ok-from.from c.loop-item.item-iterator.answers c.next.new.self.answers
-          (answer_of c.in_ok-found.found) c.loop-item.invariant.made takes.next c.in_ok-from.ensures.made c.in_ok-from.ensures.behind;
-    }
+    let takes = takes-next line _ _ c.loop-item.item-iterator c.next.new.self _ c.in_ok-found.found c.loop-item.invariant.reached c.in-Some.ensures.steps c.in_ok-found.was in (
+      takes.reached c.in_ok-from.from c.in_ok-from.ensures.behind,
+      red-more line (string_bytes c.loop-item.made) (string_bytes c.push_match.new.made) _ c.loop-item.from c.in_ok-from.from c.loop-item.item-iterator.answers c.next.new.self.answers
+          (answer_of c.in_ok-found.found) c.loop-item.invariant.made takes.next c.in_ok-from.ensures.made c.in_ok-from.ensures.behind,
+    )
+
+pub loop-item-preserved : goal.loop-item-preserved
+loop-item-preserved c = let w = written (goal.at.loop-item-preserved c).In_ok-from in record { can = tt; finite = tt; reached = w.0; made = w.1 }
 
 pub loop-item-preserved-in_ok-from : goal.loop-item-preserved-in_ok-from
-loop-item-preserved-in_ok-from c =
-    let line = c.args.line.now in
-    let takes = takes-next line _ _ c.loop-item.item-iterator c.next.new.self _ c.in_ok-found.found c.loop-item.invariant.reached c.in-Some.ensures.steps c.in_ok-found.was in
-    record {
-      can = tt;
-      finite = tt;
-      reached = takes.reached c.in_ok-from.from c.in_ok-from.ensures.behind;
-      made =
-          red-more line (string_bytes c.loop-item.made) (string_bytes c.push_match.new.made) _ c.loop-item.from c.in_ok-from.from c.loop-item.item-iterator.answers c.next.new.self.answers
-          (answer_of c.in_ok-found.found) c.loop-item.invariant.made takes.next c.in_ok-from.ensures.made c.in_ok-from.ensures.behind;
-    }
+loop-item-preserved-in_ok-from c = let w = written (goal.at.loop-item-preserved-in_ok-from c).In_ok-from in record { can = tt; finite = tt; reached = w.0; made = w.1 }
 
 pub returns-clause-colored : goal.returns-clause-colored
 returns-clause-colored c =

@@ -9,6 +9,6 @@ pub returns-clause-last : goal.returns-clause-last
 returns-clause-last c =
     let p = c.args.self.now.pattern in
     let last = c.args.self.now.last_index in
-    c.last_taken-last_index.ensures
+    c.pass.ensures.last
     ∙ ap (λ xs. if p.flags.global then 0 else last_behind p last (slice_get (map answer_of xs) 0)) c.as_slice.ensures.value
     ∙ taken-last p c.args.text.now last (map answer_of c.in_ok-matches.matches.items) c.in_ok-matches.ensures.taken

@@ -1,30 +1,24 @@
-//! Rows of plans.
+//! Rows of plans, on standard input: what would become of names that stand in no folder.
 
 use crate::plan::{Refusal, Rename, plan};
+use anyhow::{Context, Result};
 use regress_match::Regex;
 use std::alloc::{AllocError, Global};
 
-// Rows of five fields: a pattern, a template, the names of the files, those of what else stands in the folder, and what is
-// answered: the renamings, or why there are none.
-const PLANS: &str = r#"(\d+)-(\d+)~$2-$1~1-2 3-4 x~~1-2>2-1 3-4>4-3
-a~b~a ab ba~~ab>bb ba>bb: same
-a~b~a aa b~~a>b: taken
-a~b~a~b~a>b: taken
-a~b~a c~b.old~a>b
-^a$~b~a ab b~~a>b: taken
-x~~x y~~x>: no name
-x~.~x~~x>.: no name
-x~.~xx~~xx>..: no name
-x~.~xxx~~xxx>...
-x~/tmp/x~x~~x>/tmp/x: no name
--~/~a-b~~a-b>a/b: no name
-q~b~a c~d~
-~$0~a~~
-a~a~a~b~
-(?<n>\d)~${n}${n}~1 2~~1>11 2>22
-1~2~1 2~~1>2: taken
-(.)~[$1]~ab é~~ab>[a][b] é>[é]
-"#;
+/// Prints each row of standard input with one more field: the renamings, or why there are none. A row has four fields, with
+/// `~` between them: a pattern, a template, the names of the files, and those of what else stands in the folder.
+///
+/// # Errors
+///
+/// Where a row cannot be read or printed, or there is no memory.
+pub fn answer_rows(rt: &HostRuntime) -> Result<()> {
+    for row in rt.stdin().lines(rt.alloc()) {
+        let row = row.context("reading standard input")?;
+        let planned = answer(rt.alloc(), row.as_str())?;
+        println!(rt; "{row}~{planned}")?;
+    }
+    Ok(())
+}
 
 fn names_of(alloc: Global, words: &str) -> Result<Vec<String>, AllocError> {
     words
@@ -56,30 +50,17 @@ fn write_plan(line: &mut String, plan: &Result<Vec<Rename>, Refusal>) -> Result<
     }
 }
 
-fn answer(alloc: Global, row: &[&str]) -> Result<String, AllocError> {
-    let mut line = String::new(alloc);
-    let [pattern, template, files, others, ..] = row else {
-        line.push_str("no row")?;
-        return Ok(line);
+fn answer(alloc: Global, row: &str) -> Result<String, AllocError> {
+    let fields: Vec<&str> = row.split('~').collect(alloc)?;
+    let [pattern, template, files, others] = *fields.as_slice() else {
+        return String::from_str(alloc, "no row");
     };
     let Ok(re) = Regex::new(alloc, pattern) else {
-        line.push_str("no pattern")?;
-        return Ok(line);
+        return String::from_str(alloc, "no pattern");
     };
     let files = names_of(alloc, files)?;
     let others = names_of(alloc, others)?;
+    let mut line = String::new(alloc);
     write_plan(&mut line, &plan(alloc, &re, template, &files, &others))?;
     Ok(line)
-}
-
-#[test]
-fn plans(rt: HostRuntime) -> Result<(), AllocError> {
-    let alloc = rt.alloc();
-    for row in PLANS.lines() {
-        let fields: Vec<&str> = row.split('~').collect(alloc)?;
-        let wanted = fields.last().copied().unwrap_or("");
-        let told = answer(alloc, &fields)?;
-        assert_eq!(rt; told.as_str(), wanted, "{row}");
-    }
-    Ok(())
 }

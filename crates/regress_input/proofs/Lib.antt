@@ -13,3 +13,4 @@ pub mod OneUnit
 pub mod AsciiSets
 pub mod Utf16Reads
 pub mod Utf16Slices
+pub mod HeldUnits

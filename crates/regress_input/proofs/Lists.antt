@@ -1,5 +1,6 @@
 -- Lists by their numbers, and tests.
-use Rattle.std.proofs.Common.{◌≡◌, ℕ, zero, suc, ◌+◌, ◌-◌, ◌<◌, ◌≤◌, List, [], ◌∷◌, ◌++◌, length, take, drop, slice_get, slice_range, Some, Bool, true, false, not, ◌&&◌, ◌≢◌, nat_le, nat_eq, refl, sym, ◌∙◌, ap, arith, eq-eqb, eqb-true, le-leb, leb-true}
+use Rattle.std.proofs.Common.{◌≡◌, ℕ, zero, suc, ◌+◌, ◌-◌, ◌<◌, ◌≤◌, List, [], ◌∷◌, ◌++◌, length, take, drop, slice_get, slice_range, Some, Bool}
+use Rattle.std.proofs.Common.{true, false, not, ◌&&◌, ◌≢◌, nat_le, nat_eq, refl, sym, ◌∙◌, ap, arith, eq-eqb, eqb-true, le-leb, leb-true}
 use lib.Pointwise.{pointwise}
 use Rattle.regex_meaning.proofs.Booleans.{same-truth}
 

@@ -1,5 +1,6 @@
 -- Texts of which each unit is a character.
-use Rattle.std.proofs.Common.{◌≡◌, ◌≢◌, ℕ, zero, suc, ◌+◌, ◌-◌, ◌<◌, ◌≤◌, List, [], ◌∷◌, length, get_or, take, flat_map, slice_range, Bool, nat_eq, Some, None, option_map, refl, sym, ◌∙◌, ap, ap₂, subst, arith}
+use Rattle.std.proofs.Common.{◌≡◌, ◌≢◌, ℕ, zero, suc, ◌+◌, ◌-◌, ◌<◌, ◌≤◌, List, [], ◌∷◌, length, get_or, take, flat_map, slice_range, Bool, nat_eq}
+use Rattle.std.proofs.Common.{Some, None, option_map, refl, sym, ◌∙◌, ap, ap₂, subst, arith}
 use Rattle.std.proofs.lemmas.Option.{slice_get-get_or, slice_get_past}
 use Rattle.regex_meaning.specs.Text.{Text, Direction, rightwards, leftwards, one_unit}
 use Rattle.regex_meaning.specs.Offsets.{IsText, IsBoundary, offset, units, place_at, read}
@@ -69,9 +70,6 @@ module _ (us : List ℕ) (unicode : Bool) (fold : ℕ → ℕ) where
   pub reads-on : (at to : ℕ) → at < units this → to ≡ at + 1 → read this rightwards at ≡ Some (pair (get_or us at 0) to)
   reads-on at to l e = read-unit at (within at l) ∙ ap (λ n. Some (pair (get_or us at 0) n)) (sym e)
 
-  pub leads-on : (at to : ℕ) → at < units this → to ≡ at + 1 → option_map (λ r. r.1) (read this rightwards at) ≡ Some to
-  leads-on at to l e = ap (option_map (λ r. r.1)) (reads-on at to l e)
-
   pub read-start : (at : ℕ) → at ≡ 0 → read this leftwards at ≡ None
   read-start at e = ap (read this leftwards) e ∙ read-place this leftwards 0 0 (found_at 0 (omega arith))
 
@@ -85,9 +83,6 @@ module _ (us : List ℕ) (unicode : Bool) (fold : ℕ → ℕ) where
 
   pub reads-back : (at to : ℕ) → IsBoundary this at → 0 < at → to ≡ at - 1 → read this leftwards at ≡ Some (pair (get_or us (at - 1) 0) to)
   reads-back at to b l e = read-unit-left at (inside at b) (λ z. absurd (omega (arith, l, z))) ∙ ap (λ n. Some (pair (get_or us (at - 1) 0) n)) (sym e)
-
-  pub leads-back : (at to : ℕ) → IsBoundary this at → 0 < at → to ≡ at - 1 → option_map (λ r. r.1) (read this leftwards at) ≡ Some to
-  leads-back at to b l e = ap (option_map (λ r. r.1)) (reads-back at to b l e)
 
   between_is : (a b : ℕ) → IsBoundary this a → IsBoundary this b → characters_between this a b ≡ slice_range us a b
   between_is a b f g = ap₂ (slice_range us) (place_is this a a (found_at a (inside a f))) (place_is this b b (found_at b (inside b g)))

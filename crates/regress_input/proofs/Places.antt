@@ -1,5 +1,6 @@
 -- Places of a text and their offsets.
-use Rattle.std.proofs.Common.{◌≡◌, ℕ, zero, suc, ◌+◌, ◌-◌, ◌<◌, ◌≤◌, IsTrue, slice_get, Option, Some, None, is_some, option_map, option_and_then, refl, sym, ◌∙◌, ap, subst, arith, add-one, le_refl}
+use Rattle.std.proofs.Common.{◌≡◌, ℕ, zero, suc, ◌+◌, ◌-◌, ◌<◌, ◌≤◌, IsTrue, slice_get, Option, Some, None, is_some, option_map, option_and_then}
+use Rattle.std.proofs.Common.{refl, sym, ◌∙◌, ap, subst, arith, add-one, le_refl}
 use Rattle.std.proofs.lemmas.Option.{slice_get_within, slice_get_past, some_pair_parts}
 use Rattle.regex_meaning.proofs.TextLemmas.{offset-less, offset-le, place_at-offset, offset-place_at}
 use Rattle.regex_meaning.specs.Text.{Text, Direction, rightwards, leftwards, last_place}

@@ -1,8 +1,11 @@
 -- Characters in UTF-16, read from their units.
-use Rattle.std.proofs.Common.{◌≡◌, ◌≢◌, ℕ, zero, suc, ◌+◌, ◌-◌, ◌/◌, ◌%◌, ◌<◌, ◌≤◌, ◌⊎◌, inl, inr, Bool, true, false, cond, if◌then◌else◌, not, ◌&&◌, List, [], ◌∷◌, ◌++◌, length, get_or, take, drop, flat_map, slice_get, slice_index, nat_le, nat_eq, Some, None, option_map, refl, sym, ◌∙◌, ap, ap₂, subst, arith, add-one, eq-eqb, ne_eqb, le-leb, leb-true, lt-ltb, le-ltb, get_or-drop}
+use Rattle.std.proofs.Common.{◌≡◌, ◌≢◌, ℕ, zero, suc, ◌+◌, ◌-◌, ◌/◌, ◌%◌, ◌<◌, ◌≤◌, ◌⊎◌, inl, inr, Bool, true, false, cond, if◌then◌else◌, not, ◌&&◌}
+use Rattle.std.proofs.Common.{List, [], ◌∷◌, ◌++◌, length, get_or, take, drop, flat_map, slice_get, slice_index, nat_le, nat_eq, Some, None, refl}
+use Rattle.std.proofs.Common.{sym, ◌∙◌, ap, ap₂, subst, arith, add-one, eq-eqb, ne_eqb, le-leb, leb-true, lt-ltb, le-ltb, get_or-drop}
 use Rattle.std.proofs.Math.Bool.{and-true, and-false}
 use Rattle.std.proofs.lemmas.Bool.{and_parts, lt-leb, and_from, false_from_ne_true, cases_lt}
-use Rattle.regex_meaning.specs.Text.{Text, rightwards, leftwards, is_high_surrogate, is_low_surrogate, character_of_pair, utf16_width, utf16_characters, utf16_text, is_unit_boundary, fold_code_point}
+use Rattle.regex_meaning.specs.Text.{Text, rightwards, leftwards, is_high_surrogate, is_low_surrogate, character_of_pair, utf16_width}
+use Rattle.regex_meaning.specs.Text.{utf16_characters, utf16_text, is_unit_boundary, fold_code_point}
 use Rattle.regex_meaning.specs.Offsets.{IsBoundary, units, read}
 use Rattle.regex_meaning.specs.Units.{utf16, spelled_in}
 use Rattle.regex_meaning.specs.Laws.{is_within_pair}
@@ -370,9 +373,3 @@ module _ (us : List ℕ) (small : AreUnits us) where
 
     pub left-is : (at : ℕ) → IsBoundary text at → at ≢ 0 → (r : ℕ × ℕ) → r ≡ character_before us at → read text leftwards at ≡ Some (pair r.0 r.1)
     left-is at b n r e = read-left at b n ∙ ap Some (sym e)
-
-    pub right-past : (at : ℕ) → IsBoundary text at → at ≢ length us → (to : ℕ) → to ≡ (character_behind us at).1 → option_map (λ r. r.1) (read text rightwards at) ≡ Some to
-    right-past at b n to e = ap (option_map (λ r. r.1)) (read-right at b n) ∙ ap Some (sym e)
-
-    pub left-past : (at : ℕ) → IsBoundary text at → at ≢ 0 → (to : ℕ) → to ≡ (character_before us at).1 → option_map (λ r. r.1) (read text leftwards at) ≡ Some to
-    left-past at b n to e = ap (option_map (λ r. r.1)) (read-left at b n) ∙ ap Some (sym e)

@@ -1,12 +1,15 @@
 -- Ranges of texts in UTF-16.
 use Rattle.std.proofs.Common.{◌≡◌, ℕ, ◌-◌, ◌≤◌, List, drop, slice_range, Bool, true, cond, nat_eq, Option, Some, None, sym, ◌∙◌, ap}
-use Rattle.regex_meaning.specs.Text.{Text, Direction, rightwards, leftwards, utf16_width, utf16_characters, utf16_text, is_unit_boundary, fold_code_point}
+use Rattle.regex_meaning.specs.Text.{Text, Direction, rightwards, leftwards, utf16_width, utf16_characters, utf16_text, is_unit_boundary}
+use Rattle.regex_meaning.specs.Text.{fold_code_point}
 use Rattle.regex_meaning.specs.Offsets.{IsBoundary}
 use Rattle.regress_input.specs.Reading.{part, characters_between, past_spelled, past_bytes}
 use Rattle.regress_input.specs.Utf16.{AreUnits, if_boundary}
 use Rattle.regress_input.proofs.Spelled.{text_of}
-use Rattle.regress_input.proofs.Slices.{range-units, part-is, found-right, found-left, IsInjective, past_bytes-right, right-past_bytes, past_bytes-left, left-past_bytes, chosen}
-use Rattle.regress_input.proofs.Utf16Reads.{spell, sized, spelled, Decoded, decoded, decoded-take, decoded-drop, decode, unit_boundary, boundary_of_units}
+use Rattle.regress_input.proofs.Slices.{range-units, part-is, found-right, found-left, IsInjective, past_bytes-right, right-past_bytes}
+use Rattle.regress_input.proofs.Slices.{past_bytes-left, left-past_bytes, chosen}
+use Rattle.regress_input.proofs.Utf16Reads.{spell, sized, spelled, Decoded, decoded, decoded-take, decoded-drop, decode, unit_boundary}
+use Rattle.regress_input.proofs.Utf16Reads.{boundary_of_units}
 use Rattle.regex_meaning.proofs.TextLemmas.{utf16_width-positive}
 
 -- what a test of the boundary leaves

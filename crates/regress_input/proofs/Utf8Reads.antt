@@ -1,5 +1,7 @@
 -- Characters in UTF-8, read from their bytes.
-use Rattle.std.proofs.Common.{◌≡◌, ℕ, zero, suc, ◌+◌, ◌-◌, ◌*◌, ◌<◌, ◌≤◌, ◌≢◌, ◌/◌, ◌⊎◌, inl, inr, ⊎_elim, ltb, lt-ltb, le-ltb, List, [], ◌∷◌, ◌++◌, ◌&&◌, Some, None, length, get_or, flat_map, slice_get, Bool, true, false, IsUtf8, chars, refl, sym, ◌∙◌, ap, ap₂, subst, option_map, arith, length-append, length-drop, get_or-drop}
+use Rattle.std.proofs.Common.{◌≡◌, ℕ, zero, suc, ◌+◌, ◌-◌, ◌*◌, ◌<◌, ◌≤◌, ◌≢◌, ◌/◌, ◌⊎◌, inl, inr, ⊎_elim, ltb, lt-ltb, le-ltb, List, [], ◌∷◌, ◌++◌}
+use Rattle.std.proofs.Common.{◌&&◌, Some, None, length, get_or, flat_map, slice_get, Bool, true, false, IsUtf8, chars, refl, sym, ◌∙◌, ap, ap₂}
+use Rattle.std.proofs.Common.{subst, arith, length-append, length-drop, get_or-drop}
 use Rattle.std.proofs.lemmas.Bool.{cases_lt}
 use Rattle.std.specs.Char.{IsScalar, len_utf8}
 use Rattle.std.proofs.lemmas.Str.{encodes-chars, scalars-chars, IsUtf8-had, length-encode, len_utf8_bounds}
@@ -7,7 +9,6 @@ use lib.Utf8.{scalar, scalars, encode, encodes, next, scalar_cases}
 use Rattle.regex_meaning.specs.Text.{Text, utf8_text, rightwards, leftwards, fold_char}
 use Rattle.regex_meaning.specs.Offsets.{IsBoundary, units, read}
 use Rattle.regress_input.specs.Utf8.{StandsAt, EndsAt}
-use Rattle.regress_input.specs.Reading.{bytes_of}
 use Rattle.regress_input.proofs.Spelled.{ReadsRight, ReadsLeft, reads_right, reads_left, at_end, before_character, at_start, behind_character}
 use Rattle.regex_meaning.proofs.UnitLengths.{utf8_text-units}
 
@@ -321,10 +322,6 @@ module _ (bytes : List ℕ) (unicode : Bool) (is_utf8 : ∥ IsUtf8 bytes ∥₁)
   pub boundary_inside : (at : ℕ) → IsBoundary text at → at ≤ length bytes
   boundary_inside at b = elim (right at b) [ at_the_end e r ↦ omega arith | character_behind c s l i r ↦ omega arith ]
 
-  -- the bytes of the text are these
-  pub bytes-of-text : bytes_of text ≡ bytes
-  bytes-of-text = encodes-chars bytes u
-
   pub read-start : (at : ℕ) → IsBoundary text at → at ≡ 0 → read text leftwards at ≡ None
   read-start at b e = elim (left at b) [ at_the_start z r ↦ r | character_before start c s l i r ↦ absurd (omega arith) ]
 
@@ -350,12 +347,6 @@ module _ (bytes : List ℕ) (unicode : Bool) (is_utf8 : ∥ IsUtf8 bytes ∥₁)
       | character_behind c s l i r ↦ let both = is c (subst (λ l. StandsAt l at c) (sym same) s) in ap₂ (λ v w. Some (v, w)) both.0 both.1 ∙ sym r
     ]
 
-    pub read-past : (at y : ℕ) → IsBoundary text at → at ≢ length bs → ((c : ℕ) → StandsAt bs at c → y ≡ at + len_utf8 c) → Some y ≡ option_map (λ r. r.1) (read text rightwards at)
-    read-past at y b n is = elim (right at b) [
-      | at_the_end e r ↦ absurd (n (omega (arith, e, ap length same)))
-      | character_behind c s l i r ↦ let past = is c (subst (λ l. StandsAt l at c) (sym same) s) in ap Some past ∙ sym (ap (option_map (λ v. v.1)) r)
-    ]
-
     -- a boundary that is not the left end has a character before it
     pub ends_at : (at : ℕ) → IsBoundary text at → at ≢ 0 → (start : ℕ) × (c : ℕ) × EndsAt bs at start c
     ends_at at b n = elim (left at b) [
@@ -367,10 +358,4 @@ module _ (bytes : List ℕ) (unicode : Bool) (is_utf8 : ∥ IsUtf8 bytes ∥₁)
     read-character-left at x y b n is = elim (left at b) [
       | at_the_start e r ↦ absurd (n e)
       | character_before start c s l i r ↦ let both = is start c (subst (λ l. EndsAt l at start c) (sym same) s) in ap₂ (λ v w. Some (v, w)) both.0 both.1 ∙ sym r
-    ]
-
-    pub read-before : (at y : ℕ) → IsBoundary text at → at ≢ 0 → ((start c : ℕ) → EndsAt bs at start c → y ≡ start) → Some y ≡ option_map (λ r. r.1) (read text leftwards at)
-    read-before at y b n is = elim (left at b) [
-      | at_the_start e r ↦ absurd (n e)
-      | character_before start c s l i r ↦ let past = is start c (subst (λ l. EndsAt l at start c) (sym same) s) in ap Some past ∙ sym (ap (option_map (λ v. v.1)) r)
     ]

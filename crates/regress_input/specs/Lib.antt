@@ -3,3 +3,4 @@ pub mod Reading
 pub mod InUtf8
 pub mod Utf16
 pub mod Spellings
+pub mod Held

@@ -1,10 +1,12 @@
 //! Inputs: texts that are read a character at a time.
 
-ghost use Rattle.std.specs.Prelude.{◌≡◌, ◌<◌, ◌≤◌, ◌^◌, option_map, IfSome, IfNone, IsTrue, Some, slice_get};
+ghost use Rattle.std.specs.Prelude.{◌≡◌, ◌<◌, ◌≤◌, ◌^◌, map, option_map, IfSome, IfNone, IsTrue, Some, slice_get};
 ghost use Rattle.std.specs.List.{list_all};
 ghost use Rattle.regex_meaning.specs.{Text.{Text, rightwards, leftwards}, Offsets.{IsText, IsBoundary, units, read}};
 ghost use Rattle.regex_meaning.specs.Units.{units_in, IsSpelledIn, is_character};
-ghost use Rattle.regress_input.specs.Reading.{heading, led_to, same_fold, character, past as past_character, past_range, part, IsReadBack, units_on, bytes_of, bytes_if, IsInUtf8, byte_beside, past_bytes, where_bytes, IsFoundFrom};
+ghost use Rattle.regress_input.specs.Reading.{heading, led_to, same_fold, character, past as past_character, past_range, part, IsReadBack, units_on};
+ghost use Rattle.regress_input.specs.Held.{StandAsCharacters};
+ghost use Rattle.regress_input.specs.Reading.{bytes_of, bytes_if, IsInUtf8, byte_beside, past_bytes, where_bytes, IsFoundFrom};
 
 mod ascii_input;
 mod ucs2_input;
@@ -15,7 +17,9 @@ pub use self::ascii_input::{ASCIICharProperties, AsciiInput};
 pub use self::ucs2_input::{Ucs2Input, Utf16CharProperties};
 pub use self::utf8_input::{UTF8CharProperties, Utf8Input};
 pub use self::utf16_input::Utf16Input;
-pub use crate::code_units::{ByteUnits, CodeUnits, HasUnits, Ucs2Units, UnitsAre, Utf16Units};
+pub use crate::code_units::{
+    ByteUnits, CodeUnit, CodeUnits, HasUnits, Ucs2Units, UnitsAre, Utf16Units,
+};
 pub use crate::elements::{CharProperties, ElementType};
 use crate::front::ByteSearcher;
 use crate::position::{Direction, PositionType};
@@ -41,23 +45,12 @@ pub trait InputIndexer: Copy + Debug + UnitsAre {
     fn unicode(&self) -> bool
         ensures { result ≡ (text self.now).unicode };
 
-    /// What stands for a character where case does not count.
-    fn fold(&self, c: Self::Element) -> Self::Element
-        ensures { Self.Element.number result ≡ (text self.now).fold (Self.Element.number c) };
-
-    /// The length, in units.
-    fn unit_count(&self) -> usize
-        ensures { result ≡ units (text self.now) };
-
-    /// The bytes; none where units are no bytes.
-    fn as_bytes(&self) -> Option<&[u8]>
-        ensures { option_map (λ all. all.now) result ≡ bytes_if Self.Units.ARE_BYTES (text self.now) };
-
-    /// The unit at any offset that is not the right end.
-    fn unit(&self, pos: Self::Position) -> u32
-        requires { Self.Position.offset pos < units (text self.now) }
-        ensures { slice_get (units_in Self.Units.encoding (text self.now)) (Self.Position.offset pos)
-            ≡ Some result };
+    /// The units that its characters are spelled with. A range of them stands again where its characters do.
+    fn code_units(&self) -> &[<Self::Units as CodeUnits>::Unit]
+        ensures units { map Self.Units.Unit.number result.now
+            ≡ units_in Self.Units.encoding (text self.now) }
+        ensures again { StandAsCharacters Self.Units.encoding
+            (map Self.Units.Unit.number result.now) (text self.now) };
 
     /// The character to the right of a boundary that is not the right end, and the position past it.
     fn character_right(&self, pos: Self::Position) -> (Self::Element, Self::Position)
@@ -73,42 +66,12 @@ pub trait InputIndexer: Copy + Debug + UnitsAre {
         ensures { let at = Self.Position.offset in
             read (text self.now) leftwards (at pos) ≡ Some (Self.Element.number result.0, at result.1) };
 
-    /// The position past the character to the right of a boundary that is not the right end.
-    fn past(&self, pos: Self::Position) -> Self::Position
-        requires at { IsBoundary (text self.now) (Self.Position.offset pos) }
-        requires inside { Self.Position.offset pos < units (text self.now) }
-        ensures { let at = Self.Position.offset in
-            past_character (text self.now) rightwards (at pos) ≡ Some (at result) };
-
-    /// The position before the character to the left of a boundary that is not the left end.
-    fn before(&self, pos: Self::Position) -> Self::Position
-        requires at { IsBoundary (text self.now) (Self.Position.offset pos) }
-        requires inside { 0 < Self.Position.offset pos }
-        ensures { let at = Self.Position.offset in
-            past_character (text self.now) leftwards (at pos) ≡ Some (at result) };
-
     /// The text between two boundaries. Its positions count from its own left end.
     fn between(&self, start: Self::Position, end: Self::Position) -> Self
         requires from { IsBoundary (text self.now) (Self.Position.offset start) }
         requires to { IsBoundary (text self.now) (Self.Position.offset end) }
         requires in_order { Self.Position.offset start ≤ Self.Position.offset end }
         ensures { let at = Self.Position.offset in text result ≡ part (text self.now) (at start) (at end) };
-
-    /// The position behind the characters between two boundaries, where they stand once more on the direction's side of
-    /// a third, read left to right.
-    fn past_again<Dir: Direction>(
-        &self,
-        dir: Dir,
-        pos: Self::Position,
-        start: Self::Position,
-        end: Self::Position,
-    ) -> Option<Self::Position>
-        requires at { IsBoundary (text self.now) (Self.Position.offset pos) }
-        requires from { IsBoundary (text self.now) (Self.Position.offset start) }
-        requires to { IsBoundary (text self.now) (Self.Position.offset end) }
-        requires in_order { Self.Position.offset start ≤ Self.Position.offset end }
-        ensures { let at = Self.Position.offset in option_map at result
-            ≡ past_range (text self.now) (at start) (at end) (heading Dir.FORWARD) (at pos) };
 
     ghost is_text: { (it : Self) → IsText (text it) };
 
@@ -121,6 +84,90 @@ pub trait InputIndexer: Copy + Debug + UnitsAre {
 
     // Where units are bytes, they are those of UTF-8.
     ghost in_utf8: { (it : Self) → IsTrue Self.Units.ARE_BYTES → IsInUtf8 (text it) };
+
+    ghost folds: { (it : Self) → (text it).fold ≡ Self.CharProps.folded (text it).unicode };
+
+    /// What stands for a character where case does not count.
+    #[inline(always)]
+    final fn fold(&self, c: Self::Element) -> Self::Element
+        ensures { Self.Element.number result ≡ (text self.now).fold (Self.Element.number c) }
+    {
+        Self::CharProps::fold(c, self.unicode())
+    }
+
+    /// The length, in units.
+    #[inline(always)]
+    final fn unit_count(&self) -> usize
+        ensures { result ≡ units (text self.now) }
+    {
+        self.code_units().len()
+    }
+
+    /// The bytes; none where units are no bytes.
+    #[inline(always)]
+    final fn as_bytes(&self) -> Option<&[u8]>
+        ensures { option_map (λ all. all.now) result ≡ bytes_if Self.Units.ARE_BYTES (text self.now) }
+    {
+        <Self::Units as CodeUnits>::Unit::as_bytes(self.code_units())
+    }
+
+    /// The unit at any offset that is not the right end.
+    #[inline(always)]
+    final fn unit(&self, pos: Self::Position) -> u32
+        requires { Self.Position.offset pos < units (text self.now) }
+        ensures { slice_get (units_in Self.Units.encoding (text self.now)) (Self.Position.offset pos)
+            ≡ Some result }
+    {
+        let unit = self.code_units()[pos.to_offset()];
+        unit.to_u32()
+    }
+
+    /// The position past the character to the right of a boundary that is not the right end.
+    #[inline(always)]
+    final fn past(&self, pos: Self::Position) -> Self::Position
+        requires at { IsBoundary (text self.now) (Self.Position.offset pos) }
+        requires inside { Self.Position.offset pos < units (text self.now) }
+        ensures { let at = Self.Position.offset in
+            past_character (text self.now) rightwards (at pos) ≡ Some (at result) }
+    {
+        let (_c, to) = self.character_right(pos);
+        to
+    }
+
+    /// The position before the character to the left of a boundary that is not the left end.
+    #[inline(always)]
+    final fn before(&self, pos: Self::Position) -> Self::Position
+        requires at { IsBoundary (text self.now) (Self.Position.offset pos) }
+        requires inside { 0 < Self.Position.offset pos }
+        ensures { let at = Self.Position.offset in
+            past_character (text self.now) leftwards (at pos) ≡ Some (at result) }
+    {
+        let (_c, to) = self.character_left(pos);
+        to
+    }
+
+    /// The position behind the characters between two boundaries, where they stand once more on the direction's side of
+    /// a third, read left to right.
+    #[inline(always)]
+    final fn past_again<Dir: Direction>(
+        &self,
+        _dir: Dir,
+        pos: Self::Position,
+        start: Self::Position,
+        end: Self::Position,
+    ) -> Option<Self::Position>
+        requires at { IsBoundary (text self.now) (Self.Position.offset pos) }
+        requires from { IsBoundary (text self.now) (Self.Position.offset start) }
+        requires to { IsBoundary (text self.now) (Self.Position.offset end) }
+        requires in_order { Self.Position.offset start ≤ Self.Position.offset end }
+        ensures { let at = Self.Position.offset in option_map at result
+            ≡ past_range (text self.now) (at start) (at end) (heading Dir.FORWARD) (at pos) }
+    {
+        let all = self.code_units();
+        let at = pos.to_offset();
+        let to = units::past_range(all, Dir::FORWARD, at, start.to_offset(), end.to_offset());
+        units::position_at(Self::Units::if_whole(all, to))
+    }
 
     /// Whether two characters are the same, or have the same fold.
     #[inline(always)]

@@ -48,19 +48,6 @@ pub(crate) fn character_at(units: &[u16], at: usize) -> (u32, usize)
     }
 }
 
-/// Where the character ends that begins at a boundary.
-#[inline(always)]
-pub(crate) fn end_of_character(units: &[u16], at: usize) -> usize
-    requires { at < length units.now }
-    ensures { result ≡ (character_behind units.now at).1 }
-{
-    if stands_pair(units, at) {
-        at + 2
-    } else {
-        at + 1
-    }
-}
-
 /// The character that ends at a boundary, and where it begins.
 #[inline(always)]
 pub(crate) fn character_before(units: &[u16], end: usize) -> (u32, usize)
@@ -72,20 +59,6 @@ pub(crate) fn character_before(units: &[u16], end: usize) -> (u32, usize)
         (character_of(units[end - 2], units[end - 1]), end - 2)
     } else {
         (units[end - 1] as u32, end - 1)
-    }
-}
-
-/// Where the character begins that ends at a boundary.
-#[inline(always)]
-pub(crate) fn start_of_character(units: &[u16], end: usize) -> usize
-    requires some { 0 < end }
-    requires inside { end ≤ length units.now }
-    ensures { result ≡ (character_ahead_of units.now end).1 }
-{
-    if end >= 2 && stands_pair(units, end - 2) {
-        end - 2
-    } else {
-        end - 1
     }
 }
 

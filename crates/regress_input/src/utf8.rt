@@ -28,24 +28,6 @@ pub(crate) fn character_at(bytes: &[u8], at: usize) -> (char, usize)
     )
 }
 
-/// Where the character ends that begins at an offset.
-#[inline(always)]
-pub(crate) fn end_of_character(bytes: &[u8], at: usize) -> usize
-    requires { (c : ℕ) × StandsAt bytes.now at c }
-    ensures { (c : ℕ) → StandsAt bytes.now at c → result ≡ at + len_utf8 c }
-{
-    let first = bytes[at];
-    if first < 0x80 {
-        at + 1
-    } else if first < 0xE0 {
-        at + 2
-    } else if first < 0xF0 {
-        at + 3
-    } else {
-        at + 4
-    }
-}
-
 /// The character that ends at an offset, and where it begins.
 #[inline(always)]
 pub(crate) fn character_before(bytes: &[u8], end: usize) -> (char, usize)
@@ -68,24 +50,6 @@ pub(crate) fn character_before(bytes: &[u8], end: usize) -> (char, usize)
         character_of_four(bytes[end - 4], third, second, last),
         end - 4,
     )
-}
-
-/// Where the character begins that ends at an offset.
-#[inline(always)]
-pub(crate) fn start_of_character(bytes: &[u8], end: usize) -> usize
-    requires { (start : ℕ) × (c : ℕ) × EndsAt bytes.now end start c }
-    ensures { (start c : ℕ) → EndsAt bytes.now end start c → result ≡ start }
-{
-    let last = bytes[end - 1];
-    if last < 0x80 {
-        return end - 1;
-    }
-    let second = bytes[end - 2];
-    if second >= 0xC0 {
-        return end - 2;
-    }
-    let third = bytes[end - 3];
-    if third >= 0xC0 { end - 3 } else { end - 4 }
 }
 
 // The characters that such bytes spell. A lead byte has a fixed part, and so has each of the others; together these

@@ -1,14 +1,13 @@
 //! Texts of ASCII, a character a byte.
 
-ghost use Rattle.std.specs.Prelude.{◌≡◌, ◌<◌, ◌^◌, nat_le, ℕ, length, IsAscii};
+ghost use Rattle.std.specs.Prelude.{◌≡◌, refl, ◌<◌, ◌^◌, nat_le, ℕ, length, IsAscii};
 ghost use Rattle.std.proofs.Common.{rules};
 ghost use Rattle.regex_meaning.specs.Text.{ascii_text, fold_ascii};
 ghost use Rattle.regex_meaning.proofs.{CharactersIn.{ascii-characters}, TextLemmas.{ascii_text-IsText}};
 ghost use Rattle.regress_input.specs.{InUtf8.{ascii_text-IsInUtf8}, Spellings.{ascii_text-IsSpelled, ascii_text-fits}};
 
 use super::{ByteUnits, CharProperties, ElementType, HasUnits, InputIndexer};
-use crate::position::{DefPosition, Direction, IndexPosition};
-use crate::units;
+use crate::position::{DefPosition, IndexPosition};
 
 impl ElementType for u8 {
     ghost number = { λ c. c };
@@ -95,29 +94,16 @@ impl<'a> InputIndexer for AsciiInput<'a> {
 
     ghost in_utf8 = { λ it _. ascii_text-IsInUtf8 it.input.now it.unicode it.is_ascii };
 
+    ghost folds = { λ it. refl };
+
     #[inline(always)]
     fn unicode(&self) -> bool {
         self.unicode
     }
 
     #[inline(always)]
-    fn fold(&self, c: u8) -> u8 {
-        ASCIICharProperties::fold(c, self.unicode)
-    }
-
-    #[inline(always)]
-    fn unit_count(&self) -> usize {
-        self.input.len()
-    }
-
-    #[inline(always)]
-    fn as_bytes(&self) -> Option<&[u8]> {
-        Some(self.input)
-    }
-
-    #[inline(always)]
-    fn unit(&self, pos: DefPosition<'a>) -> u32 {
-        self.input[pos.offset] as u32
+    fn code_units(&self) -> &[u8] {
+        self.input
     }
 
     #[inline(always)]
@@ -132,16 +118,6 @@ impl<'a> InputIndexer for AsciiInput<'a> {
     }
 
     #[inline(always)]
-    fn past(&self, pos: DefPosition<'a>) -> DefPosition<'a> {
-        IndexPosition::new(pos.offset + 1)
-    }
-
-    #[inline(always)]
-    fn before(&self, pos: DefPosition<'a>) -> DefPosition<'a> {
-        IndexPosition::new(pos.offset - 1)
-    }
-
-    #[inline(always)]
     fn between(&self, start: DefPosition<'a>, end: DefPosition<'a>) -> Self {
         let start = start.offset;
         let end = end.offset;
@@ -149,20 +125,5 @@ impl<'a> InputIndexer for AsciiInput<'a> {
             input: &self.input[start..end],
             unicode: self.unicode,
         }
-    }
-
-    #[inline(always)]
-    fn past_again<Dir: Direction>(
-        &self,
-        _dir: Dir,
-        pos: DefPosition<'a>,
-        start: DefPosition<'a>,
-        end: DefPosition<'a>,
-    ) -> Option<DefPosition<'a>> {
-        let at = pos.offset;
-        let start = start.offset;
-        let end = end.offset;
-        let to = units::past_range(self.input, Dir::FORWARD, at, start, end);
-        units::position_at(to)
     }
 }

@@ -1,6 +1,6 @@
 //! Texts of 16-bit units, a character a unit.
 
-ghost use Rattle.std.specs.Prelude.{◌≡◌, ◌<◌, ◌*◌, ◌^◌, ℕ, true, length};
+ghost use Rattle.std.specs.Prelude.{◌≡◌, refl, ◌<◌, ◌*◌, ◌^◌, ℕ, true, length};
 ghost use Rattle.std.proofs.Common.{rules};
 ghost use Rattle.regex_meaning.specs.Text.{ucs2_text, fold_code_point};
 ghost use Rattle.regex_meaning.proofs.{CharactersIn.{ucs2-characters}, TextLemmas.{ucs2_text-IsText}};
@@ -8,8 +8,7 @@ ghost use Rattle.regress_input.specs.{Utf16.{AreUnits}, Reading.{no_bytes}, Spel
 
 use super::{CharProperties, ElementType, HasUnits, InputIndexer, Ucs2Units};
 use crate::front::fold_code_point;
-use crate::position::{DefPosition, Direction, IndexPosition};
-use crate::units;
+use crate::position::{DefPosition, IndexPosition};
 
 impl ElementType for u32 {
     ghost number = { λ c. c };
@@ -88,29 +87,16 @@ impl<'a> InputIndexer for Ucs2Input<'a> {
 
     ghost in_utf8 = { λ it bytes. no_bytes bytes };
 
+    ghost folds = { λ it. refl };
+
     #[inline(always)]
     fn unicode(&self) -> bool {
         self.unicode
     }
 
     #[inline(always)]
-    fn fold(&self, c: u32) -> u32 {
-        Utf16CharProperties::fold(c, self.unicode)
-    }
-
-    #[inline(always)]
-    fn unit_count(&self) -> usize {
-        self.input.len()
-    }
-
-    #[inline(always)]
-    fn as_bytes(&self) -> Option<&[u8]> {
-        None
-    }
-
-    #[inline(always)]
-    fn unit(&self, pos: DefPosition<'a>) -> u32 {
-        self.input[pos.offset] as u32
+    fn code_units(&self) -> &[u16] {
+        self.input
     }
 
     #[inline(always)]
@@ -128,16 +114,6 @@ impl<'a> InputIndexer for Ucs2Input<'a> {
     }
 
     #[inline(always)]
-    fn past(&self, pos: DefPosition<'a>) -> DefPosition<'a> {
-        IndexPosition::new(pos.offset + 1)
-    }
-
-    #[inline(always)]
-    fn before(&self, pos: DefPosition<'a>) -> DefPosition<'a> {
-        IndexPosition::new(pos.offset - 1)
-    }
-
-    #[inline(always)]
     fn between(&self, start: DefPosition<'a>, end: DefPosition<'a>) -> Self {
         let start = start.offset;
         let end = end.offset;
@@ -145,20 +121,5 @@ impl<'a> InputIndexer for Ucs2Input<'a> {
             input: &self.input[start..end],
             unicode: self.unicode,
         }
-    }
-
-    #[inline(always)]
-    fn past_again<Dir: Direction>(
-        &self,
-        _dir: Dir,
-        pos: DefPosition<'a>,
-        start: DefPosition<'a>,
-        end: DefPosition<'a>,
-    ) -> Option<DefPosition<'a>> {
-        let at = pos.offset;
-        let start = start.offset;
-        let end = end.offset;
-        let to = units::past_range(self.input, Dir::FORWARD, at, start, end);
-        units::position_at(to)
     }
 }

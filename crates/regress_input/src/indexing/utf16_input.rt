@@ -1,13 +1,13 @@
 //! Texts in UTF-16.
 
-ghost use Rattle.std.specs.Prelude.{◌≡◌, ◌<◌, ◌*◌, ◌^◌, length};
+ghost use Rattle.std.specs.Prelude.{◌≡◌, refl, ◌<◌, ◌*◌, ◌^◌, length};
 ghost use Rattle.regex_meaning.specs.Text.{utf16_text};
 ghost use Rattle.regex_meaning.proofs.{CharactersIn.{utf16-characters}, TextLemmas.{utf16_text-IsText}};
 ghost use Rattle.regress_input.specs.{Utf16.{AreUnits}, Reading.{no_bytes}, Spellings.{utf16_text-IsSpelled, utf16_text-fits}};
 
 use super::{CharProperties, HasUnits, InputIndexer, Utf16CharProperties, Utf16Units};
-use crate::position::{DefPosition, Direction, IndexPosition};
-use crate::{units, utf16};
+use crate::position::{DefPosition, IndexPosition};
+use crate::utf16;
 
 /// A text in UTF-16: a high surrogate before a low one is one character with it, and any other unit is itself.
 #[derive(Clone, Copy, Debug)]
@@ -52,29 +52,16 @@ impl<'a> InputIndexer for Utf16Input<'a> {
 
     ghost in_utf8 = { λ it bytes. no_bytes bytes };
 
+    ghost folds = { λ it. refl };
+
     #[inline(always)]
     fn unicode(&self) -> bool {
         self.unicode
     }
 
     #[inline(always)]
-    fn fold(&self, c: u32) -> u32 {
-        Utf16CharProperties::fold(c, self.unicode)
-    }
-
-    #[inline(always)]
-    fn unit_count(&self) -> usize {
-        self.input.len()
-    }
-
-    #[inline(always)]
-    fn as_bytes(&self) -> Option<&[u8]> {
-        None
-    }
-
-    #[inline(always)]
-    fn unit(&self, pos: DefPosition<'a>) -> u32 {
-        self.input[pos.offset] as u32
+    fn code_units(&self) -> &[u16] {
+        self.input
     }
 
     #[inline(always)]
@@ -92,20 +79,6 @@ impl<'a> InputIndexer for Utf16Input<'a> {
     }
 
     #[inline(always)]
-    fn past(&self, pos: DefPosition<'a>) -> DefPosition<'a> {
-        let at = pos.offset;
-        let end = utf16::end_of_character(self.input, at);
-        IndexPosition::new(end)
-    }
-
-    #[inline(always)]
-    fn before(&self, pos: DefPosition<'a>) -> DefPosition<'a> {
-        let at = pos.offset;
-        let start = utf16::start_of_character(self.input, at);
-        IndexPosition::new(start)
-    }
-
-    #[inline(always)]
     fn between(&self, start: DefPosition<'a>, end: DefPosition<'a>) -> Self {
         let start = start.offset;
         let end = end.offset;
@@ -113,21 +86,5 @@ impl<'a> InputIndexer for Utf16Input<'a> {
             input: &self.input[start..end],
             unicode: self.unicode,
         }
-    }
-
-    #[inline(always)]
-    fn past_again<Dir: Direction>(
-        &self,
-        _dir: Dir,
-        pos: DefPosition<'a>,
-        start: DefPosition<'a>,
-        end: DefPosition<'a>,
-    ) -> Option<DefPosition<'a>> {
-        let all = self.input;
-        let at = pos.offset;
-        let start = start.offset;
-        let end = end.offset;
-        let to = units::past_range(all, Dir::FORWARD, at, start, end);
-        units::position_at(utf16::at_boundary(all, to))
     }
 }

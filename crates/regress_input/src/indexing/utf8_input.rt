@@ -1,6 +1,6 @@
 //! Texts in UTF-8.
 
-ghost use Rattle.std.specs.Prelude.{◌≡◌, ◌<◌, ◌^◌, ◌==◌, ℕ, length, IsUtf8};
+ghost use Rattle.std.specs.Prelude.{◌≡◌, refl, ◌<◌, ◌^◌, ◌==◌, ℕ, length, IsUtf8};
 ghost use Rattle.regex_meaning.specs.Text.{utf8_text, is_scalar, fold_char};
 ghost use Rattle.regex_meaning.proofs.{CharactersIn.{utf8-characters}, TextLemmas.{utf8_text-IsText}};
 ghost use Rattle.std.proofs.Common.{rules};
@@ -8,8 +8,8 @@ ghost use Rattle.regress_input.specs.{InUtf8.{utf8_text-IsInUtf8}, Spellings.{ut
 
 use super::{ByteUnits, CharProperties, ElementType, HasUnits, InputIndexer};
 use crate::front::fold_code_point;
-use crate::position::{DefPosition, Direction, IndexPosition};
-use crate::{units, utf8};
+use crate::position::{DefPosition, IndexPosition};
+use crate::utf8;
 
 impl ElementType for char {
     ghost number = { λ c. c };
@@ -87,29 +87,16 @@ impl<'a> InputIndexer for Utf8Input<'a> {
 
     ghost in_utf8 = { λ it _. utf8_text-IsInUtf8 it.input.now it.unicode it.is_utf8 };
 
+    ghost folds = { λ it. refl };
+
     #[inline(always)]
     fn unicode(&self) -> bool {
         self.unicode
     }
 
     #[inline(always)]
-    fn fold(&self, c: char) -> char {
-        UTF8CharProperties::fold(c, self.unicode)
-    }
-
-    #[inline(always)]
-    fn unit_count(&self) -> usize {
-        self.input.len()
-    }
-
-    #[inline(always)]
-    fn as_bytes(&self) -> Option<&[u8]> {
-        Some(self.input.as_bytes())
-    }
-
-    #[inline(always)]
-    fn unit(&self, pos: DefPosition<'a>) -> u32 {
-        self.input.as_bytes()[pos.offset] as u32
+    fn code_units(&self) -> &[u8] {
+        self.input.as_bytes()
     }
 
     #[inline(always)]
@@ -127,20 +114,6 @@ impl<'a> InputIndexer for Utf8Input<'a> {
     }
 
     #[inline(always)]
-    fn past(&self, pos: DefPosition<'a>) -> DefPosition<'a> {
-        let at = pos.offset;
-        let end = utf8::end_of_character(self.input.as_bytes(), at);
-        IndexPosition::new(end)
-    }
-
-    #[inline(always)]
-    fn before(&self, pos: DefPosition<'a>) -> DefPosition<'a> {
-        let at = pos.offset;
-        let start = utf8::start_of_character(self.input.as_bytes(), at);
-        IndexPosition::new(start)
-    }
-
-    #[inline(always)]
     fn between(&self, start: DefPosition<'a>, end: DefPosition<'a>) -> Self {
         let start = start.offset;
         let end = end.offset;
@@ -148,20 +121,5 @@ impl<'a> InputIndexer for Utf8Input<'a> {
             input: &self.input[start..end],
             unicode: self.unicode,
         }
-    }
-
-    #[inline(always)]
-    fn past_again<Dir: Direction>(
-        &self,
-        _dir: Dir,
-        pos: DefPosition<'a>,
-        start: DefPosition<'a>,
-        end: DefPosition<'a>,
-    ) -> Option<DefPosition<'a>> {
-        let at = pos.offset;
-        let start = start.offset;
-        let end = end.offset;
-        let to = units::past_range(self.input.as_bytes(), Dir::FORWARD, at, start, end);
-        units::position_at(to)
     }
 }

@@ -7,7 +7,8 @@ use Rattle.regress_pikevm.specs.States.{state_of, next_of, running_of, waiting_o
 use Rattle.regress_exec.specs.Attempts.{turns_from, search_from}
 use Rattle.regress_machine.specs.Turns.{end_of_search}
 use Rattle.regress_machine.proofs.Remains.{Remains, steps_of, remains-begin}
-use Rattle.regress_pikevm.proofs.Remains.{TakenUp, less-by, turn-can, turn-inside, turn-dead, turn-go, turn-fork, turn-scans, taken-up, reads-literals, turn-ends, turn-ask, turn-resumed, turn-none}
+use Rattle.regress_pikevm.proofs.Remains.{TakenUp, less-by, turn-can, turn-inside, turn-dead, turn-go, turn-fork, turn-scans, taken-up}
+use Rattle.regress_pikevm.proofs.Remains.{reads-literals, turn-ends, turn-ask, turn-resumed, turn-none}
 use Rattle.regress_pikevm.proofs.pikevm.+run.Given.{Over}
 use Rattle.regress_pikevm.proofs.pikevm.+run.Goals.{In-Some}
 use Rattle.regress_pikevm.proofs.pikevm.+run.Goals as goal
@@ -85,7 +86,7 @@ pub run-requires : goal.run-requires
 run-requires g n c =
     let up = taken g n (goal.at.run-requires g n c).In-Some in
     let asked = turn-ask up _ c.in_ok-turn_in.ensures c.in-Ask.forward c.in-Ask.negate c.in-Ask.inner c.in-Ask.after c.in-Ask.is in
-    λ κs h. (less-by _ _ n asked.fewer c.decreases, (h.0, (h.1.0, (h.1.1.0, (h.1.1.1.0, (h.1.1.1.1, (asked.inside, asked.answers)))))))
+    λ κs h. (less-by _ _ n asked.fewer c.decreases, (h.0, (h.1.0, (h.1.1.0, (h.1.1.1.0, (h.1.1.1.1.0, (h.1.1.1.1.1, (asked.inside, asked.answers))))))))
 
 pub search-preserved : goal.search-preserved
 search-preserved g n c =

@@ -1,0 +1,5 @@
+use Rattle.regress_input.proofs.HeldUnits.{count-is}
+use Rattle.regress_input.proofs.indexing.InputIndexer.unit_count.Goals as goal
+
+pub returns : goal.returns
+returns g c = count-is g.Self.Units.Unit.CodeUnit.number _ _ (g.met.Self.InputIndexer.spelled c.args.self.now) _ c.code_units.ensures.units

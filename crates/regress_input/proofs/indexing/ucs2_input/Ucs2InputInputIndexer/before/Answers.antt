@@ -1,6 +1,0 @@
-use Rattle.regex_meaning.specs.Text.{fold_code_point}
-use Rattle.regress_input.proofs.OneUnit.{leads-back}
-use Rattle.regress_input.proofs.indexing.ucs2_input.Ucs2InputInputIndexer.before.Goals as goal
-
-pub returns : goal.returns
-returns c = leads-back c.args.self.now.input.now c.args.self.now.unicode (fold_code_point c.args.self.now.unicode) _ _ c.requires.at c.requires.inside c.new.ensures

@@ -7,7 +7,8 @@ use Rattle.regex_meaning.specs.Lists.{contains}
 use Rattle.regex_meaning.specs.Flags.{special, escaped, escape}
 use Rattle.regex_grammar.specs.Reading.{Text, Whole, ◌∈◌}
 use Rattle.regex_grammar.specs.Characters.{identity_escape, IsQuantified}
-use Rattle.regex_grammar.specs.Grammar.{character_node, Leaf, pattern_character, character_escape, Alternative, no_terms, terms, atom, leaf, last_alternative, pattern_is}
+use Rattle.regex_grammar.specs.Grammar.{character_node, Leaf, pattern_character, character_escape, Alternative, no_terms, terms, atom, leaf}
+use Rattle.regex_grammar.specs.Grammar.{last_alternative, pattern_is}
 use Rattle.regex_grammar.specs.Laws.{EscapedTextsAreRead}
 use Rattle.regex_grammar.proofs.Leaves.{inside}
 use Rattle.regex_grammar.proofs.Quantifiers.{head, not_quantified}

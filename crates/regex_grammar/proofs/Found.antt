@@ -1,5 +1,6 @@
 -- The names that are found ahead are those that open.
-use Rattle.std.proofs.Common.{◌≡◌, ℕ, Bool, true, false, not, ◌&&◌, List, [], ◌∷◌, ◌++◌, length, drop, true≢false, ⊎_elim, nat_eq, refl, sym, ap, ap₂, subst, ◌∙◌, arith, append_assoc, append-nil, one-add}
+use Rattle.std.proofs.Common.{◌≡◌, ℕ, Bool, true, false, not, ◌&&◌, List, [], ◌∷◌, ◌++◌, length, drop, true≢false, ⊎_elim, nat_eq, refl, sym, ap}
+use Rattle.std.proofs.Common.{ap₂, subst, ◌∙◌, arith, append_assoc, append-nil, one-add}
 use Rattle.std.specs.Prelude.{codes, ◌||◌, if◌then◌else◌, take_while}
 use Rattle.std.specs.List.{list_all}
 use Rattle.std.specs.Char.{is_digit}
@@ -8,10 +9,16 @@ use Rattle.std.proofs.Math.Seq.{drop-append_seam}
 use Rattle.regex_meaning.specs.Lists.{contains}
 use Rattle.regex_meaning.specs.Tree.{Node, Flags, Quantifier, BracketContents}
 use Rattle.regex_grammar.specs.Reading.{Text, Place, Whole, ◌▸◌, at, opening, ◌∈◌, begins, Digits, digits_from, digits}
-use Rattle.regex_grammar.specs.Characters.{Hex, hex, Pair, pair, UnicodeEscape, surrogates, four_digits, code_point, CharacterEscape, control_escape, null, hex_escape, unicode_escape, identity_escape, GroupName, group_name, begins_name, goes_on_name, is_name, QuantifierPrefix, star, plus, question, exactly, at_least, between, Quantified, greedy, lazy}
-use Rattle.regex_grammar.specs.Classes.{Member, ClassAtom, verbatim, of_class, backspace, escaped, ClassMembers, alone, from_to, no_range, ClassRanges, no_more, more, CharacterClass, plain, inverted}
+use Rattle.regex_grammar.specs.Characters.{Hex, hex, Pair, pair, UnicodeEscape, surrogates, four_digits, code_point, CharacterEscape, control_escape}
+use Rattle.regex_grammar.specs.Characters.{null, hex_escape, unicode_escape, identity_escape, GroupName, group_name, begins_name, goes_on_name}
+use Rattle.regex_grammar.specs.Characters.{is_name, QuantifierPrefix, star, plus, question, exactly, at_least, between, Quantified, greedy, lazy}
+use Rattle.regex_grammar.specs.Classes.{Member, ClassAtom, verbatim, of_class, backspace, escaped, ClassMembers, alone, from_to, no_range}
+use Rattle.regex_grammar.specs.Classes.{ClassRanges, no_more, more, CharacterClass, plain, inverted}
 use Prim.Native.String.{String}
-use Rattle.regex_grammar.specs.Grammar.{opener, Disjunction, Alternative, Term, Assertion, Atom, last_alternative, alternatives, no_terms, terms, assertion, atom, quantified, start, end, boundary, look, leaf, group, named_group, plain_group, Leaf, pattern_character, extended_character, any_character, decimal_escape, named_reference, character_escape, character_class_escape, character_class}
+use Rattle.regex_grammar.specs.Grammar.{opener, Disjunction, Alternative, Term, Assertion, Atom, last_alternative, alternatives, no_terms, terms}
+use Rattle.regex_grammar.specs.Grammar.{assertion, atom, quantified, start, end, boundary, look, leaf, group, named_group, plain_group, Leaf}
+use Rattle.regex_grammar.specs.Grammar.{pattern_character, extended_character, any_character, decimal_escape, named_reference, character_escape}
+use Rattle.regex_grammar.specs.Grammar.{character_class_escape, character_class}
 use Rattle.regex_grammar.specs.Ahead.{name_at, opened_name, names_ahead}
 use Rattle.regex_grammar.specs.Laws.{GroupsAreFound}
 use Rattle.regex_grammar.proofs.Leaves.{inside}

@@ -1,12 +1,15 @@
 -- Escapes, names and quantifiers are read in one way.
-use Rattle.std.proofs.Common.{◌≡◌, ℕ, ◌<◌, Bool, true, false, not, [], ◌∷◌, ◌++◌, length, true≢false, ⊎_elim, nat_eq, refl, sym, ap, ap₂, subst, ◌∙◌, arith}
+use Rattle.std.proofs.Common.{◌≡◌, ℕ, ◌<◌, Bool, true, false, not, [], ◌∷◌, ◌++◌, length, true≢false, ⊎_elim, nat_eq, refl, sym, ap, ap₂, subst, ◌∙◌}
+use Rattle.std.proofs.Common.{arith}
 use Rattle.std.specs.Prelude.{codes, Option, Some, None, if◌then◌else◌}
 use Rattle.std.specs.List.{list_all}
 use Rattle.std.specs.Char.{is_digit, is_ascii_alphanumeric}
 use Rattle.std.proofs.lemmas.Bool.{or_cases, and_parts, eqb-true}
 use Rattle.regex_meaning.specs.Lists.{contains}
 use Rattle.regex_grammar.specs.Reading.{Text, ◌∈◌, begins, Digits, digits_from, digits, number}
-use Rattle.regex_grammar.specs.Characters.{Hex, hex, Pair, pair, UnicodeEscape, surrogates, four_digits, code_point, CharacterEscape, control, control_escape, null, hex_escape, unicode_escape, identity_escape, group_name, begins_name, goes_on_name, is_name, count, QuantifierPrefix, star, plus, question, exactly, at_least, between, greedy, lazy}
+use Rattle.regex_grammar.specs.Characters.{Hex, hex, Pair, pair, UnicodeEscape, surrogates, four_digits, code_point, CharacterEscape, control}
+use Rattle.regex_grammar.specs.Characters.{control_escape, null, hex_escape, unicode_escape, identity_escape, group_name, begins_name, goes_on_name}
+use Rattle.regex_grammar.specs.Characters.{is_name, count, QuantifierPrefix, star, plus, question, exactly, at_least, between, greedy, lazy}
 use Rattle.regex_grammar.proofs.OneTree.{first, rest_of, unlike, QuantifiersAgree, NamesAgree}
 
 -- one reading of each

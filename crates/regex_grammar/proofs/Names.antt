@@ -1,19 +1,24 @@
 -- The names of a tree's groups are those that its text has.
-use Rattle.std.proofs.Common.{◌≡◌, ℕ, zero, suc, ◌+◌, ◌<◌, Bool, true, false, ◌||◌, List, [], ◌∷◌, ◌++◌, length, map, get_or, reverse, true≢false, refl, sym, ap, ◌∙◌, arith, append_assoc, append-nil}
+use Rattle.std.proofs.Common.{◌≡◌, ℕ, zero, suc, ◌+◌, ◌<◌, Bool, true, false, ◌||◌, List, [], ◌∷◌, ◌++◌, length, map, get_or, reverse, true≢false}
+use Rattle.std.proofs.Common.{refl, sym, ap, ◌∙◌, arith, append_assoc, append-nil}
 use Rattle.std.specs.Prelude.{if◌then◌else◌, nat_eq, ◌==◌}
 use Rattle.std.specs.List.{list_all}
 use Rattle.std.proofs.lemmas.Bool.{eqb-true, eq-eqb, ne_eqb, and_parts, and_from}
 use Rattle.std.proofs.lemmas.List.{length-map, ext_get_or, map-append}
 use Rattle.std.proofs.Math.Seq.{get_or-append_seam}
 use Rattle.regex_meaning.specs.Lists.{contains, numbers_from}
-use Rattle.regex_meaning.specs.Tree.{Node, cat, alt, capture_group, lookaround, loop, loop_1_char_body, char, char_set, match_any, match_any_except_line_terminator, group_ids}
+use Rattle.regex_meaning.specs.Tree.{Node, cat, alt, capture_group, lookaround, loop, loop_1_char_body, char, char_set, match_any}
+use Rattle.regex_meaning.specs.Tree.{match_any_except_line_terminator, group_ids}
 use Rattle.regex_meaning.specs.Names.{named_ids, name_of}
 use Rattle.regex_meaning.specs.Laws.{Each}
 use Rattle.regex_meaning.proofs.Each.{Each-append, Each-reverse}
 use Rattle.regex_meaning.proofs.Booleans.{same-truth}
 use Rattle.regex_meaning.proofs.Lists.{length-numbers_from}
 use Rattle.regex_grammar.specs.Reading.{Text, Place, Whole, groups_at, at, opening, arm, cat_of}
-use Rattle.regex_grammar.specs.Grammar.{Leaf, pattern_character, extended_character, any_character, decimal_escape, named_reference, character_escape, character_class_escape, character_class, Disjunction, Alternative, Term, Assertion, Atom, last_alternative, alternatives, no_terms, terms, assertion, atom, quantified, start, end, boundary, look, leaf, group, named_group, plain_group, pattern_is}
+use Rattle.regex_grammar.specs.Grammar.{Leaf, pattern_character, extended_character, any_character, decimal_escape, named_reference}
+use Rattle.regex_grammar.specs.Grammar.{character_escape, character_class_escape, character_class, Disjunction, Alternative, Term, Assertion, Atom}
+use Rattle.regex_grammar.specs.Grammar.{last_alternative, alternatives, no_terms, terms, assertion, atom, quantified, start, end, boundary, look}
+use Rattle.regex_grammar.specs.Grammar.{leaf, group, named_group, plain_group, pattern_is}
 use Rattle.regex_grammar.specs.Ahead.{names_ahead}
 use Rattle.regex_grammar.specs.Laws.{NamesAreFound}
 use Rattle.regex_grammar.proofs.Parts.{contains-counted, once-inside}

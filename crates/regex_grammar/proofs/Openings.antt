@@ -4,9 +4,12 @@ use Rattle.regex_meaning.specs.Tree.{Node, Lookaround, lookaround, capture_group
 use Rattle.std.proofs.lemmas.Bool.{and_parts}
 use Rattle.regex_grammar.specs.Reading.{Text, Place, Whole, groups_at, ◌▸◌, at, opening, begins}
 use Rattle.regex_grammar.specs.Characters.{GroupName, group_name, begins_name}
-use Rattle.regex_grammar.specs.Grammar.{Disjunction, Term, Assertion, Atom, opener, assertion, atom, quantified, start, end, boundary, look, leaf, group, named_group, plain_group}
-use Rattle.regex_grammar.specs.Open.{Level, nothing_read, Open, Opened, captures, plain, looks, IsTerm, once, repeated, Closes, looked, captured, enclosed, CompletesAll}
-use Rattle.regex_grammar.proofs.OneTree.{ends_here, behind_word, places_differ, unlike, first, third, rest_of, leaf_begins, name_from, of_look, look_word, meant}
+use Rattle.regex_grammar.specs.Grammar.{Disjunction, Term, Assertion, Atom, opener, assertion, atom, quantified, start, end, boundary, look, leaf}
+use Rattle.regex_grammar.specs.Grammar.{group, named_group, plain_group}
+use Rattle.regex_grammar.specs.Open.{Level, nothing_read, Open, Opened, captures, plain, looks, IsTerm, once, repeated, Closes, looked, captured}
+use Rattle.regex_grammar.specs.Open.{enclosed, CompletesAll}
+use Rattle.regex_grammar.proofs.OneTree.{ends_here, behind_word, places_differ, unlike, first, third, rest_of, leaf_begins, name_from, of_look}
+use Rattle.regex_grammar.proofs.OneTree.{look_word, meant}
 use Rattle.regex_grammar.proofs.Leaves.{one_name}
 use Rattle.regex_grammar.proofs.Members.{leaf_apart}
 use Rattle.regex_grammar.proofs.Stack.{begin}

@@ -2,8 +2,10 @@
 use Rattle.std.proofs.Common.{◌≡◌, ℕ, Bool, true, false, List, [], ◌∷◌, ◌++◌, true≢false, nat_eq, refl, sym, ap, ap₂, subst, ◌∙◌, append-nil, ◌↔◌}
 use Rattle.regex_meaning.specs.Tree.{Node, capture_group}
 use Rattle.regex_grammar.specs.Reading.{Text, Place, Whole, groups_at, ◌▸◌, opening, begins, arm}
-use Rattle.regex_grammar.specs.Grammar.{Disjunction, Alternative, Term, Atom, no_terms, terms, assertion, atom, quantified, start, end, boundary, look, leaf, group, named_group, plain_group}
-use Rattle.regex_grammar.specs.Open.{Level, nothing_read, push, join, Completes, last_arm, further_arms, Open, Opened, captures, plain, looks, IsTerm, once, repeated, Closes, looked, captured, enclosed, CompletesAll}
+use Rattle.regex_grammar.specs.Grammar.{Disjunction, Alternative, Term, Atom, no_terms, terms, assertion, atom, quantified, start, end, boundary}
+use Rattle.regex_grammar.specs.Grammar.{look, leaf, group, named_group, plain_group}
+use Rattle.regex_grammar.specs.Open.{Level, nothing_read, push, join, Completes, last_arm, further_arms, Open, Opened, captures, plain, looks}
+use Rattle.regex_grammar.specs.Open.{IsTerm, once, repeated, Closes, looked, captured, enclosed, CompletesAll}
 use Rattle.regex_grammar.proofs.OneTree.{closes, closes_here, ends_here, close_ends, no_close, behind_word, unlike, first, rest_of, leaf_begins}
 use Rattle.regex_grammar.proofs.Members.{leaf_apart}
 use Rattle.regex_grammar.proofs.Stack.{begin, no_term, pushed, unpushed}

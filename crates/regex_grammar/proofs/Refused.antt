@@ -4,8 +4,11 @@ use Rattle.std.specs.Prelude.{codes}
 use Rattle.regex_meaning.specs.Tree.{Node, Quantifier}
 use Rattle.regex_grammar.specs.Reading.{Text, Place, Whole, ◌▸◌, ◌∈◌}
 use Rattle.regex_grammar.specs.Characters.{IsQuantified, Quantified}
-use Rattle.regex_grammar.specs.Grammar.{Leaf, pattern_character, extended_character, any_character, decimal_escape, named_reference, character_escape, character_class_escape, character_class, Term, assertion, atom, quantified, start, end, boundary, look, Atom, leaf, group, named_group, plain_group}
-use Rattle.regex_grammar.specs.Open.{Level, push, Open, Opened, captures, plain, looks, IsTerm, once, repeated, Closes, looked, captured, enclosed, CompletesAll}
+use Rattle.regex_grammar.specs.Grammar.{Leaf, pattern_character, extended_character, any_character, decimal_escape, named_reference}
+use Rattle.regex_grammar.specs.Grammar.{character_escape, character_class_escape, character_class, Term, assertion, atom, quantified, start, end}
+use Rattle.regex_grammar.specs.Grammar.{boundary, look, Atom, leaf, group, named_group, plain_group}
+use Rattle.regex_grammar.specs.Open.{Level, push, Open, Opened, captures, plain, looks, IsTerm, once, repeated, Closes, looked, captured, enclosed}
+use Rattle.regex_grammar.specs.Open.{CompletesAll}
 use Rattle.regex_grammar.proofs.OneTree.{leaf_begins, ends_here}
 use Rattle.regex_grammar.proofs.Leaves.{inside}
 use Rattle.regex_grammar.proofs.Members.{one_leaf, leaf_apart, leaf_no_boundary}

@@ -1,5 +1,6 @@
 -- What a reader with a stack knows, from step to step.
-use Rattle.std.proofs.Common.{◌≡◌, ℕ, ◌+◌, ◌<◌, ◌≤◌, ◌⊎◌, inl, inr, Bool, true, false, List, [], ◌∷◌, ◌++◌, length, true≢false, ⊎_elim, nat_eq, refl, sym, ap, subst, ◌∙◌, arith, append_assoc, append-nil, length-append, ◌↔◌, Some, None}
+use Rattle.std.proofs.Common.{◌≡◌, ℕ, ◌+◌, ◌<◌, ◌≤◌, ◌⊎◌, inl, inr, Bool, true, false, List, [], ◌∷◌, ◌++◌, length, true≢false, ⊎_elim, nat_eq, refl}
+use Rattle.std.proofs.Common.{sym, ap, subst, ◌∙◌, arith, append_assoc, append-nil, length-append, ◌↔◌, Some, None}
 use Rattle.std.specs.Prelude.{codes, suc, slice_index_or, Option}
 use Rattle.std.specs.Cmp.Lexicographic.{same_text}
 use Rattle.std.proofs.lemmas.Cmp.{nat_list_eq_equiv}
@@ -10,9 +11,11 @@ use lib.Pointwise.{pointwise}
 use Rattle.regex_meaning.specs.Tree.{Node, Tree, Flags, Quantifier, goal, cat, end_of_cat, lookaround, capture_group}
 use Rattle.regex_grammar.specs.Reading.{Text, Place, Whole, groups_at, begins, number_of, arm}
 use Rattle.regex_grammar.specs.Characters.{GroupName, group_name, is_name, IsQuantified, Quantified, greedy, lazy}
-use Rattle.regex_grammar.specs.Grammar.{Disjunction, Term, Atom, assertion, atom, quantified, start, end, boundary, look, leaf, group, named_group, plain_group, Parses, pattern_is, AreDistinct, opener, no_terms}
+use Rattle.regex_grammar.specs.Grammar.{Disjunction, Term, Atom, assertion, atom, quantified, start, end, boundary, look, leaf, group, named_group}
+use Rattle.regex_grammar.specs.Grammar.{plain_group, Parses, pattern_is, AreDistinct, opener, no_terms}
 use Rattle.regex_grammar.specs.Ahead.{names_ahead}
-use Rattle.regex_grammar.specs.Open.{Level, nothing_read, push, end_arm, join, Completes, last_arm, Open, Opened, captures, plain, looks, IsTerm, once, repeated, Closes, looked, captured, enclosed}
+use Rattle.regex_grammar.specs.Open.{Level, nothing_read, push, end_arm, join, Completes, last_arm, Open, Opened, captures, plain, looks, IsTerm}
+use Rattle.regex_grammar.specs.Open.{once, repeated, Closes, looked, captured, enclosed}
 use Rattle.regex_grammar.specs.Standing.{NoTree, names_of, AreFew, with_groups, spot, Goes, Makes, AreNumbered, Stands}
 use Rattle.regex_grammar.proofs.Leaves.{one_quantifier}
 use Rattle.regex_grammar.proofs.OneTree.{ends_here, places_differ, first, third, rest_of}

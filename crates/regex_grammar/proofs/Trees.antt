@@ -1,20 +1,26 @@
 -- The trees of patterns are well formed.
-use Rattle.std.proofs.Common.{◌≡◌, ℕ, ◌+◌, ◌<◌, ◌≤◌, Bool, true, false, ◌&&◌, List, [], ◌∷◌, ◌++◌, length, count_by, refl, sym, ap, subst, ◌∙◌, arith, length-append, append-nil, reverse}
+use Rattle.std.proofs.Common.{◌≡◌, ℕ, ◌+◌, ◌<◌, ◌≤◌, Bool, true, false, ◌&&◌, List, [], ◌∷◌, ◌++◌, length, count_by, refl, sym, ap, subst, ◌∙◌}
+use Rattle.std.proofs.Common.{arith, length-append, append-nil, reverse}
 use Rattle.std.specs.Prelude.{if◌then◌else◌, nat_le, nat_lt, nat_eq, ◌==◌, IsTrue}
 use Rattle.std.proofs.lemmas.Bool.{le-leb}
 use Rattle.std.proofs.lemmas.List.{reverse-append}
-use Rattle.regex_meaning.specs.Tree.{Node, Flags, Quantifier, group_ids, every, char, char_set, cat, end_of_cat, back_ref, match_any, match_any_except_line_terminator, capture_group}
+use Rattle.regex_meaning.specs.Tree.{Node, Flags, Quantifier, group_ids, every, char, char_set, cat, end_of_cat, back_ref, match_any}
+use Rattle.regex_meaning.specs.Tree.{match_any_except_line_terminator, capture_group}
 use Rattle.regex_meaning.specs.Text.{expand_code_point, fold_code_point, all_with_fold, to_uppercase, to_lowercase}
 use Rattle.regex_meaning.specs.WellFormed.{is_in_order, goal_count}
 use Rattle.regex_grammar.specs.Reading.{Text, Place, Whole, groups_at, arm, cat_of}
 use Rattle.regex_grammar.specs.Characters.{Quantified, greedy, lazy}
-use Rattle.regex_grammar.specs.Grammar.{character_node, Leaf, pattern_character, extended_character, any_character, decimal_escape, named_reference, character_escape, character_class_escape, character_class, Disjunction, Alternative, Term, Assertion, Atom, last_alternative, alternatives, no_terms, terms, assertion, atom, quantified, start, end, boundary, look, leaf, group, named_group, plain_group, pattern_is}
+use Rattle.regex_grammar.specs.Grammar.{character_node, Leaf, pattern_character, extended_character, any_character, decimal_escape, named_reference}
+use Rattle.regex_grammar.specs.Grammar.{character_escape, character_class_escape, character_class, Disjunction, Alternative, Term, Assertion, Atom}
+use Rattle.regex_grammar.specs.Grammar.{last_alternative, alternatives, no_terms, terms, assertion, atom, quantified, start, end, boundary, look}
+use Rattle.regex_grammar.specs.Grammar.{leaf, group, named_group, plain_group, pattern_is}
 use Rattle.regex_grammar.specs.Parts.{is_sound, times, once_within, IsPart, IsLeaf}
 use Rattle.regex_grammar.specs.Ahead.{names_ahead}
 use Rattle.regex_meaning.proofs.Booleans.{and-left, and-right}
 use Rattle.regex_grammar.proofs.Found.{groups_are_found}
 use Rattle.regex_grammar.specs.Laws.{GroupsAreCounted, TreesAreWellFormed}
-use Rattle.regex_grammar.proofs.Parts.{part-leaf, IsJoined, part-joined, joined-cat, joined-alt, part-group, part-lookaround, part-loop, count_by-append, whole, whole-reads_none, whole-plain}
+use Rattle.regex_grammar.proofs.Parts.{part-leaf, IsJoined, part-joined, joined-cat, joined-alt, part-group, part-lookaround, part-loop}
+use Rattle.regex_grammar.proofs.Parts.{count_by-append, whole, whole-reads_none, whole-plain}
 use Rattle.regex_grammar.proofs.References.{number-positive, number_of-bounds}
 
 -- ---- Atoms without groups

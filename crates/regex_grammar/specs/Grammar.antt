@@ -1,6 +1,8 @@
 -- The grammar of patterns, by the productions of ECMA-262, 9th edition, 21.2.1, and the tree of each.
 use Rattle.std.specs.Prelude.{◌≡◌, ℕ, ◌≤◌, Bool, true, false, ◌&&◌, List, [], ◌∷◌, ◌++◌, AllPairs, nat_lt, length, codes, Some, if◌then◌else◌}
-use Rattle.regex_meaning.specs.Tree.{Node, Tree, Flags, Quantifier, BracketContents, Intervals, goal, char, char_set, cat, end_of_cat, alt, bracket, match_any, match_any_except_line_terminator, anchor, start_of_line, end_of_line, word_boundary, capture_group, back_ref, lookaround, loop}
+use Rattle.regex_meaning.specs.Tree.{Node, Tree, Flags, Quantifier, BracketContents, Intervals, goal, char, char_set, cat, end_of_cat, alt, bracket}
+use Rattle.regex_meaning.specs.Tree.{match_any, match_any_except_line_terminator, anchor, start_of_line, end_of_line, word_boundary, capture_group}
+use Rattle.regex_meaning.specs.Tree.{back_ref, lookaround, loop}
 use Rattle.regex_meaning.specs.Text.{expand_code_point}
 use Rattle.regex_grammar.specs.Reading.{Text, Place, Whole, groups_at, ◌▸◌, at, opening, ◌∈◌, begins, Digits, number_of, arm}
 use Rattle.regex_grammar.specs.Characters.{CharacterEscape, GroupName, IsQuantified, Quantified}

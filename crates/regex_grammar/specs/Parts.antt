@@ -1,7 +1,8 @@
 -- What is known of the tree of each part of a pattern.
 use Rattle.std.specs.Prelude.{◌≡◌, ℕ, ◌+◌, Bool, true, false, ◌&&◌, [], length, count_by, nat_eq, nat_le, nat_lt, if◌then◌else◌, IsTrue}
 use Rattle.regex_meaning.specs.Tree.{Node, byte_set, byte_sequence, loop_1_char_body, group_ids, every}
-use Rattle.regex_meaning.specs.WellFormed.{goal_count, names_the_groups_inside, refers_to_a_group, has_order_in_quantifier, has_one_character_body, fits_instructions}
+use Rattle.regex_meaning.specs.WellFormed.{goal_count, names_the_groups_inside, refers_to_a_group, has_order_in_quantifier, has_one_character_body}
+use Rattle.regex_meaning.specs.WellFormed.{fits_instructions}
 
 -- what the text of a pattern can say: no set and no sequence of bytes, and no loop over one character
 abbrev pub is_of_pattern : Node → Bool

@@ -9,11 +9,14 @@ use Rattle.std.specs.List.{list_all}
 use Rattle.std.specs.Int.{is_in_range}
 use Rattle.std.proofs.lemmas.Slice.Eq.{bytes_eq-Decides}
 use Rattle.regex_meaning.specs.Lists.{contains, numbers_from}
-use Rattle.regex_meaning.specs.Tree.{Intervals, Node, char_set, byte_set, byte_sequence, cat, alt, bracket, capture_group, loop, loop_1_char_body, every, Tree}
+use Rattle.regex_meaning.specs.Tree.{Intervals, Node, char_set, byte_set, byte_sequence, cat, alt, bracket, capture_group, loop, loop_1_char_body}
+use Rattle.regex_meaning.specs.Tree.{every, Tree}
 use Rattle.regex_meaning.specs.Text.{is_scalar}
 use Rattle.regex_meaning.specs.WellFormed.{has_text_in_sequence, fits_instructions, IsWellFormed}
 use Rattle.regex_meaning.proofs.WellFormedLemmas.{clauses}
-use Rattle.regex_meaning.specs.StartPredicate.{Beginning, open_ended, arbitrary, sequence, one_of, sequence_of, sequence_or, shared_front, first_byte, union, then_of, join, beginning, bytes_where, begun_by, meet, first_bytes, code_points, IsSound, begins_characters, is_filled, is_anchored, start_of, start_anchored, start_predicate}
+use Rattle.regex_meaning.specs.StartPredicate.{Beginning, open_ended, arbitrary, sequence, one_of, sequence_of, sequence_or, shared_front}
+use Rattle.regex_meaning.specs.StartPredicate.{first_byte, union, then_of, join, beginning, bytes_where, begun_by, meet, first_bytes, code_points}
+use Rattle.regex_meaning.specs.StartPredicate.{IsSound, begins_characters, is_filled, is_anchored, start_of, start_anchored, start_predicate}
 use Rattle.regex_meaning.proofs.FirstBytes.{in_range-below, in_range-true, true-in_range, first_of_char}
 use Rattle.regex_meaning.proofs.Sound.{all-contains, predicate-holds}
 use Rattle.std.proofs.lemmas.Bool.{or_cases, and_from, or_left, or_right, ltb-true, le-ltb, ne_eqb}

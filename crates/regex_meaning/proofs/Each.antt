@@ -1,5 +1,6 @@
 -- A fact of each element of a list.
-use Rattle.std.proofs.Common.{◌≡◌, ℕ, zero, suc, Bool, true, false, List, [], ◌∷◌, refl, sym, subst, ◌++◌, filter, flat_map, map, take, drop, reverse, replicate, slice_set}
+use Rattle.std.proofs.Common.{◌≡◌, ℕ, zero, suc, Bool, true, false, List, [], ◌∷◌, refl, sym, subst, ◌++◌, filter, flat_map, map, take, drop}
+use Rattle.std.proofs.Common.{reverse, replicate, slice_set}
 use Rattle.std.proofs.lemmas.List.{reverse-append}
 use Rattle.std.specs.Prelude.{if◌then◌else◌}
 pub use Rattle.regex_meaning.specs.Laws.{Each}

@@ -1,5 +1,6 @@
 -- One text in two encodings has the same matches.
-use Rattle.std.proofs.Common.{◌≡◌, ℕ, suc, ◌+◌, ◌-◌, ◌<◌, Bool, true, false, List, [], ◌∷◌, map, Option, Some, None, refl, sym, ap, ◌∙◌, arith, ne_eqb, lt-ltb, le-leb, leb-true}
+use Rattle.std.proofs.Common.{◌≡◌, ℕ, suc, ◌+◌, ◌-◌, ◌<◌, Bool, true, false, List, [], ◌∷◌, map, Option, Some, None, refl, sym, ap, ◌∙◌, arith}
+use Rattle.std.proofs.Common.{ne_eqb, lt-ltb, le-leb, leb-true}
 use Rattle.std.specs.Prelude.{if◌then◌else◌, nat_le, ◌==◌, IsAscii, chars}
 use Rattle.std.specs.Option.{option_map_or}
 use Rattle.std.specs.Char.{len_utf8}
@@ -7,7 +8,8 @@ use Rattle.std.proofs.lemmas.Bool.{cases_Bool, and_parts}
 use Rattle.std.proofs.lemmas.Str.{chars-IsAscii}
 use mathlib.Core.Logic.{inl, inr}
 use Rattle.regex_meaning.specs.Tree.{Node}
-use Rattle.regex_meaning.specs.Text.{Text, is_scalar, is_lowercase, is_uppercase, to_lowercase, to_uppercase, fold_code_point, fold_char, fold_ascii, offsets_from, one_unit, utf16_width, utf16_characters, utf8_text, ascii_text, utf16_text}
+use Rattle.regex_meaning.specs.Text.{Text, is_scalar, is_lowercase, is_uppercase, to_lowercase, to_uppercase, fold_code_point, fold_char, fold_ascii}
+use Rattle.regex_meaning.specs.Text.{offsets_from, one_unit, utf16_width, utf16_characters, utf8_text, ascii_text, utf16_text}
 use Rattle.regex_meaning.specs.Offsets.{place_at}
 use Rattle.regex_meaning.specs.Find.{match_list}
 use Rattle.regex_meaning.specs.Names.{answer, answers_from}

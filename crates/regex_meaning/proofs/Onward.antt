@@ -1,9 +1,12 @@
 -- No outcome goes back.
-use Rattle.std.proofs.Common.{◌≡◌, ℕ, zero, suc, ◌+◌, ◌-◌, ◌<◌, ◌≤◌, Bool, true, false, List, [], ◌∷◌, length, Option, Some, None, arith, leb→le, T, filter, flat_map}
+use Rattle.std.proofs.Common.{◌≡◌, ℕ, zero, suc, ◌+◌, ◌-◌, ◌<◌, ◌≤◌, Bool, true, false, List, [], ◌∷◌, length, Option, Some, None, arith, leb→le, T}
+use Rattle.std.proofs.Common.{filter, flat_map}
 use Rattle.std.specs.Prelude.{if◌then◌else◌, ◌&&◌, nat_le, nat_lt, slice_get}
-use Rattle.regex_meaning.specs.Tree.{Node, empty, goal, byte_sequence, cat, end_of_cat, alt, string_set, anchor, word_boundary, capture_group, back_ref, lookaround, loop, loop_1_char_body}
+use Rattle.regex_meaning.specs.Tree.{Node, empty, goal, byte_sequence, cat, end_of_cat, alt, string_set, anchor, word_boundary, capture_group}
+use Rattle.regex_meaning.specs.Tree.{back_ref, lookaround, loop, loop_1_char_body}
 use Rattle.regex_meaning.specs.Text.{Text, Direction, rightwards, leftwards, characters_left, moved, next_character}
-use Rattle.regex_meaning.specs.Outcomes.{Groups, Outcome, Repetition, rounds, outcomes, counts, preferred, captured, cleared, is_some_and, one_character, spelled, spells, same_as_group, here_if, looked}
+use Rattle.regex_meaning.specs.Outcomes.{Groups, Outcome, Repetition, rounds, outcomes, counts, preferred, captured, cleared, is_some_and}
+use Rattle.regex_meaning.specs.Outcomes.{one_character, spelled, spells, same_as_group, here_if, looked}
 pub use Rattle.regex_meaning.specs.Laws.{IsOnward}
 use Rattle.regex_meaning.proofs.Each.{Each, Each-append, Each-if, Each-when, Each-filter, Each-map, Each-flat_map, Each-image}
 

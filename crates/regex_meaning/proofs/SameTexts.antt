@@ -1,11 +1,14 @@
 -- Texts of the same characters have the same outcomes, where their folds agree on these.
-use Rattle.std.proofs.Common.{◌≡◌, ℕ, zero, suc, ◌+◌, ◌-◌, Bool, ◌&&◌, ◌||◌, List, [], ◌∷◌, length, map, drop, Option, Some, None, refl, ap, ◌∙◌, flat_map, option_and_then}
+use Rattle.std.proofs.Common.{◌≡◌, ℕ, zero, suc, ◌+◌, ◌-◌, Bool, ◌&&◌, ◌||◌, List, [], ◌∷◌, length, map, drop, Option, Some, None, refl, ap, ◌∙◌}
+use Rattle.std.proofs.Common.{flat_map, option_and_then}
 use Rattle.std.specs.Prelude.{◌==◌, slice_range}
 use mathlib.Core.Path.{fun_ext}
 use lib.Pointwise.{pointwise}
-use Rattle.regex_meaning.specs.Tree.{Quantifier, Node, empty, goal, byte_sequence, cat, end_of_cat, alt, string_set, anchor, start_of_line, end_of_line, word_boundary, capture_group, back_ref, lookaround, loop, loop_1_char_body}
+use Rattle.regex_meaning.specs.Tree.{Quantifier, Node, empty, goal, byte_sequence, cat, end_of_cat, alt, string_set, anchor, start_of_line}
+use Rattle.regex_meaning.specs.Tree.{end_of_line, word_boundary, capture_group, back_ref, lookaround, loop, loop_1_char_body}
 use Rattle.regex_meaning.specs.Text.{Text, Direction, rightwards, leftwards}
-use Rattle.regex_meaning.specs.Outcomes.{Groups, Outcome, Repetition, repetition, repeat, outcomes, captured, cleared, one_character, spelled, same_as_group, group_range, looked, direction_of}
+use Rattle.regex_meaning.specs.Outcomes.{Groups, Outcome, Repetition, repetition, repeat, outcomes, captured, cleared, one_character, spelled}
+use Rattle.regex_meaning.specs.Outcomes.{same_as_group, group_range, looked, direction_of}
 use Rattle.regex_meaning.specs.Find.{Found, no_groups, first_match, first_match_among, place_behind, matches_from, match_list}
 use Rattle.regex_meaning.proofs.Each.{Each, Each-take, Each-drop}
 use Rattle.regex_meaning.proofs.Lists.{flat_map-same}

@@ -1,5 +1,6 @@
 -- Wherever a tree has an outcome, its start predicate holds.
-use Rattle.std.proofs.Common.{◌≡◌, ◌≢◌, ℕ, zero, suc, ◌+◌, ◌-◌, ◌<◌, ◌≤◌, Bool, true, false, not, ◌&&◌, List, [], ◌∷◌, map, length, drop, filter, flat_map, refl, ap, sym, subst, ◌∙◌, arith}
+use Rattle.std.proofs.Common.{◌≡◌, ◌≢◌, ℕ, zero, suc, ◌+◌, ◌-◌, ◌<◌, ◌≤◌, Bool, true, false, not, ◌&&◌, List, [], ◌∷◌, map, length, drop, filter}
+use Rattle.std.proofs.Common.{flat_map, refl, ap, sym, subst, ◌∙◌, arith}
 use Rattle.std.specs.Prelude.{if◌then◌else◌, nat_lt, nat_le, nat_eq, ◌==◌, encode_utf8_all, bytes_eq, slice_get, slice_range, chars, IsTrue}
 use Rattle.std.specs.Str.{is_utf8}
 use Rattle.std.specs.List.{list_all}
@@ -8,16 +9,22 @@ use lib.Pointwise.{pointwise}
 use lib.Utf8.{scalars}
 use Rattle.regex_meaning.specs.Lists.{contains}
 use Rattle.regex_meaning.specs.Laws.{Each}
-use Rattle.regex_meaning.specs.Tree.{Quantifier, Node, empty, goal, char, char_set, byte_set, byte_sequence, cat, end_of_cat, alt, bracket, string_set, match_any, match_any_except_line_terminator, anchor, start_of_line, word_boundary, capture_group, back_ref, lookaround, loop, loop_1_char_body, every, Tree}
+use Rattle.regex_meaning.specs.Tree.{Quantifier, Node, empty, goal, char, char_set, byte_set, byte_sequence, cat, end_of_cat, alt, bracket}
+use Rattle.regex_meaning.specs.Tree.{string_set, match_any, match_any_except_line_terminator, anchor, start_of_line, word_boundary, capture_group}
+use Rattle.regex_meaning.specs.Tree.{back_ref, lookaround, loop, loop_1_char_body, every, Tree}
 use Rattle.regex_meaning.specs.Text.{Text, rightwards, is_scalar, character_before, last_place}
-use Rattle.regex_meaning.specs.Outcomes.{Outcome, Groups, Repetition, repetition, rounds, counts, preferred, captured, cleared, accepts, one_character, spelled, looked, is_edge, outcomes}
+use Rattle.regex_meaning.specs.Outcomes.{Outcome, Groups, Repetition, repetition, rounds, counts, preferred, captured, cleared, accepts}
+use Rattle.regex_meaning.specs.Outcomes.{one_character, spelled, looked, is_edge, outcomes}
 use Rattle.regex_meaning.specs.WellFormed.{has_text_in_sequence, fits_instructions, IsWellFormed}
 use Rattle.regex_meaning.proofs.WellFormedLemmas.{clauses}
-use Rattle.regex_meaning.specs.StartPredicate.{Beginning, open_ended, arbitrary, sequence, one_of, sequence_of, then_of, join, beginning, bytes_from, bytes_where, first_bytes, code_points, is_anchored, start_of, start_anchored, start_predicate, may_start}
+use Rattle.regex_meaning.specs.StartPredicate.{Beginning, open_ended, arbitrary, sequence, one_of, sequence_of, then_of, join, beginning, bytes_from}
+use Rattle.regex_meaning.specs.StartPredicate.{bytes_where, first_bytes, code_points, is_anchored, start_of, start_anchored, start_predicate}
+use Rattle.regex_meaning.specs.StartPredicate.{may_start}
 use Rattle.regex_meaning.specs.Find.{no_groups}
 use Rattle.regex_meaning.proofs.Each.{Each-append, Each-if, Each-when, Each-filter, Each-map, Each-flat_map, Each-image, Each-all}
 use Rattle.regex_meaning.proofs.FirstBytes.{encode-1, FirstOf, contains-bytes_where}
-use Rattle.regex_meaning.proofs.Start.{Says, OfChars, starts-first, from-byte, join-left, join-right, next-says, spelled-bytes, first-byte-in, in-singles, in-bracket}
+use Rattle.regex_meaning.proofs.Start.{Says, OfChars, starts-first, from-byte, join-left, join-right, next-says, spelled-bytes, first-byte-in}
+use Rattle.regex_meaning.proofs.Start.{in-singles, in-bracket}
 use Rattle.std.proofs.lemmas.Bool.{ltb-true, lt-leb, eq-eqb, eqb-true}
 use Rattle.regex_meaning.proofs.Booleans.{and-left, and-right}
 

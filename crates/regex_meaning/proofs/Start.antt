@@ -1,5 +1,6 @@
 -- Wherever a tree has an outcome, its start predicate holds.
-use Rattle.std.proofs.Common.{◌≡◌, ℕ, zero, suc, ◌+◌, ◌-◌, ◌<◌, ◌≤◌, Bool, true, false, ◌||◌, List, [], ◌∷◌, ◌++◌, map, length, take, drop, flat_map, refl, sym, arith}
+use Rattle.std.proofs.Common.{◌≡◌, ℕ, zero, suc, ◌+◌, ◌-◌, ◌<◌, ◌≤◌, Bool, true, false, ◌||◌, List, [], ◌∷◌, ◌++◌, map, length, take, drop, flat_map}
+use Rattle.std.proofs.Common.{refl, sym, arith}
 use Rattle.std.specs.Prelude.{if◌then◌else◌, nat_lt, nat_eq, ◌==◌, encode_utf8_all, slice_get}
 use Rattle.std.specs.List.{list_any, list_all, starts_with}
 use Rattle.std.specs.Char.{encode_utf8 as encode}
@@ -10,7 +11,9 @@ use Rattle.std.specs.Prelude.{min, max}
 use Rattle.regex_meaning.specs.Tree.{Intervals, BracketContents, bracket}
 use Rattle.regex_meaning.specs.Text.{Text, is_scalar}
 use Rattle.regex_meaning.specs.Outcomes.{is_some_and, in_intervals, accepts}
-use Rattle.regex_meaning.specs.StartPredicate.{Beginning, open_ended, arbitrary, sequence, one_of, join, sequence_or, shared_front, union, first_byte, begins_with_one_of, bytes_from, outside, without, code_points, first_bytes, begun_by, meet}
+use Rattle.regex_meaning.specs.StartPredicate.{Beginning, open_ended, arbitrary, sequence, one_of, join, sequence_or, shared_front, union}
+use Rattle.regex_meaning.specs.StartPredicate.{first_byte, begins_with_one_of, bytes_from, outside, without, code_points, first_bytes, begun_by}
+use Rattle.regex_meaning.specs.StartPredicate.{meet}
 use Rattle.regex_meaning.specs.Lists.{contains}
 use Rattle.regex_meaning.proofs.FirstBytes.{in_range-true, true-in_range, scalar-below, contains-bytes_where, first_of_char, FirstOf}
 use Rattle.std.proofs.lemmas.Bool.{cases_lt, not-true, and_from, or_left, or_right, lt-ltb, eq-eqb, eqb-true}

@@ -1,9 +1,12 @@
 -- What outcomes keep of places and of groups.
 use Rattle.std.proofs.Common.{ℕ, zero, suc, ◌+◌, ◌-◌, Bool, true, false, List, [], ◌∷◌, map, min, max, Option, Some, None, filter, flat_map}
 use Rattle.std.specs.Prelude.{if◌then◌else◌, nat_lt, nat_le, slice_set}
-use Rattle.regex_meaning.specs.Tree.{Node, empty, goal, char, char_set, byte_set, byte_sequence, cat, end_of_cat, alt, bracket, string_set, match_any, match_any_except_line_terminator, anchor, word_boundary, capture_group, back_ref, lookaround, loop, loop_1_char_body}
+use Rattle.regex_meaning.specs.Tree.{Node, empty, goal, char, char_set, byte_set, byte_sequence, cat, end_of_cat, alt, bracket, string_set}
+use Rattle.regex_meaning.specs.Tree.{match_any, match_any_except_line_terminator, anchor, word_boundary, capture_group, back_ref, lookaround, loop}
+use Rattle.regex_meaning.specs.Tree.{loop_1_char_body}
 use Rattle.regex_meaning.specs.Text.{Text, Direction}
-use Rattle.regex_meaning.specs.Outcomes.{Groups, Outcome, Repetition, rounds, outcomes, counts, preferred, captured, cleared, one_character, spelled, spells, same_as_group, here_if, looked, direction_of}
+use Rattle.regex_meaning.specs.Outcomes.{Groups, Outcome, Repetition, rounds, outcomes, counts, preferred, captured, cleared, one_character, spelled}
+use Rattle.regex_meaning.specs.Outcomes.{spells, same_as_group, here_if, looked, direction_of}
 use Rattle.regex_meaning.specs.Laws.{IsOnward}
 use Rattle.regex_meaning.proofs.Each.{Each, Each-append, Each-if, Each-filter, Each-flat_map, Each-image}
 use Rattle.regex_meaning.proofs.Onward.{one_character-onward, spelled-onward}

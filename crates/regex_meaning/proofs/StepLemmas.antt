@@ -1,5 +1,6 @@
 -- What a budget is enough for, one match after another.
-use Rattle.std.proofs.Common.{◌≡◌, ℕ, zero, suc, ◌+◌, ◌-◌, ◌<◌, ◌≤◌, Bool, true, false, ◌&&◌, List, [], ◌∷◌, map, Option, Some, None, refl, ap, ap₂, sym, ◌∙◌, subst, arith}
+use Rattle.std.proofs.Common.{◌≡◌, ℕ, zero, suc, ◌+◌, ◌-◌, ◌<◌, ◌≤◌, Bool, true, false, ◌&&◌, List, [], ◌∷◌, map, Option, Some, None, refl, ap, ap₂}
+use Rattle.std.proofs.Common.{sym, ◌∙◌, subst, arith}
 use Rattle.std.proofs.lemmas.Bool.{le-leb, leb-true, leb-false, lt-leb}
 use Rattle.std.specs.Prelude.{if◌then◌else◌, nat_le, option_map, option_and_then, is_some, IsTrue}
 use Rattle.std.specs.Option.{option_map_or}
@@ -12,7 +13,8 @@ use Rattle.regex_meaning.specs.Names.{Answer, answer, answers_from}
 use Rattle.regex_meaning.specs.Answers.{first_answer, first_found, next_start, answers_on, answer_then_list}
 use Rattle.regex_meaning.specs.Ticks.{need, needs, needs_from}
 use Rattle.regex_meaning.specs.Laws.{needs_on, needs_behind}
-use Rattle.regex_meaning.specs.Steps.{is_within, left_of, those_within, need_from, needs_of_answers, answers_within, end_within, answers_next, end_next}
+use Rattle.regex_meaning.specs.Steps.{is_within, left_of, those_within, need_from, needs_of_answers, answers_within, end_within, answers_next}
+use Rattle.regex_meaning.specs.Steps.{end_next}
 use Rattle.regex_meaning.proofs.AnswerLemmas.{answers-go_on}
 use Rattle.regex_meaning.proofs.Matches.{StandsFrom, stands-first, GoesOnInside, goes-inside}
 use Rattle.regex_meaning.proofs.Needs.{needs-unfold}

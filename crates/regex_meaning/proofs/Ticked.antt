@@ -1,10 +1,14 @@
 -- Without its ticks, the list with ticks is the list of outcomes.
 use Rattle.std.proofs.Common.{◌≡◌, ℕ, zero, suc, ◌+◌, ◌-◌, Bool, true, false, List, [], ◌∷◌, refl, ap, sym, ◌∙◌, ◌++◌, filter, flat_map, map}
 use Rattle.std.specs.Prelude.{if◌then◌else◌, nat_le, nat_lt}
-use Rattle.regex_meaning.specs.Tree.{Quantifier, Node, empty, goal, char, char_set, byte_set, byte_sequence, cat, end_of_cat, alt, bracket, string_set, match_any, match_any_except_line_terminator, anchor, word_boundary, capture_group, back_ref, lookaround, loop, loop_1_char_body}
+use Rattle.regex_meaning.specs.Tree.{Quantifier, Node, empty, goal, char, char_set, byte_set, byte_sequence, cat, end_of_cat, alt, bracket}
+use Rattle.regex_meaning.specs.Tree.{string_set, match_any, match_any_except_line_terminator, anchor, word_boundary, capture_group, back_ref}
+use Rattle.regex_meaning.specs.Tree.{lookaround, loop, loop_1_char_body}
 use Rattle.regex_meaning.specs.Text.{Text, Direction}
-use Rattle.regex_meaning.specs.Outcomes.{Groups, Outcome, repetition, rounds, counts, preferred, captured, cleared, looked, direction_of, spelled, spells, outcomes, most_of}
-use Rattle.regex_meaning.specs.Ticks.{Item, tick, pair, pairs, ticks, and_then, ticked_pairs, with_ticks_between, ticked_alt, ways, ticked_rounds, ticked_string, ticked_strings, ticked}
+use Rattle.regex_meaning.specs.Outcomes.{Groups, Outcome, repetition, rounds, counts, preferred, captured, cleared, looked, direction_of, spelled}
+use Rattle.regex_meaning.specs.Outcomes.{spells, outcomes, most_of}
+use Rattle.regex_meaning.specs.Ticks.{Item, tick, pair, pairs, ticks, and_then, ticked_pairs, with_ticks_between, ticked_alt, ways, ticked_rounds}
+use Rattle.regex_meaning.specs.Ticks.{ticked_string, ticked_strings, ticked}
 use Rattle.std.proofs.lemmas.List.{append-nil, map-id}
 use Rattle.std.proofs.lemmas.List.Concat.{flat_map_single}
 use Rattle.regex_meaning.proofs.Lists.{flat_map-same}

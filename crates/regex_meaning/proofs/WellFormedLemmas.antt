@@ -2,7 +2,9 @@
 use Rattle.std.proofs.Common.{Bool, ◌&&◌, length}
 use Rattle.std.specs.Prelude.{IsTrue}
 use Rattle.regex_meaning.specs.Tree.{Node, group_ids, every}
-use Rattle.regex_meaning.specs.WellFormed.{IsWellFormed, is_well_formed, goal_is_last, each_id_stands_once, names_the_groups_inside, refers_to_a_group, has_order_in_quantifier, has_one_character_body, has_text_in_sequence, fits_instructions}
+use Rattle.regex_meaning.specs.WellFormed.{IsWellFormed, is_well_formed, goal_is_last, each_id_stands_once, names_the_groups_inside}
+use Rattle.regex_meaning.specs.WellFormed.{refers_to_a_group, has_order_in_quantifier, has_one_character_body, has_text_in_sequence}
+use Rattle.regex_meaning.specs.WellFormed.{fits_instructions}
 use Rattle.std.proofs.lemmas.Bool.{and_from}
 use Rattle.regex_meaning.proofs.Booleans.{and-left, and-right}
 

@@ -1,5 +1,6 @@
 -- Offsets in units, and what is read from them.
-use Rattle.std.specs.Prelude.{◌≡◌, ℕ, ◌+◌, ◌<◌, IsTrue, List, [], ◌∷◌, length, position, nat_eq, slice_index, is_some, option_map, option_and_then, Option}
+use Rattle.std.specs.Prelude.{◌≡◌, ℕ, ◌+◌, ◌<◌, IsTrue, List, [], ◌∷◌, length, position, nat_eq, slice_index, is_some, option_map, option_and_then}
+use Rattle.std.specs.Prelude.{Option}
 use Rattle.regex_meaning.specs.Text.{Text, Direction, next_character, moved, last_place}
 
 -- Each number is less than the next.

@@ -1,11 +1,16 @@
 -- The outcomes of a node at a place, most preferred first.
-use Rattle.std.specs.Prelude.{ℕ, zero, suc, ◌+◌, ◌-◌, ◌^◌, min, max, Bool, true, false, not, ◌&&◌, ◌||◌, List, [], ◌∷◌, length, Option, Some, None, if◌then◌else◌, nat_lt, nat_le, nat_eq, ◌==◌, slice_get, slice_set, slice_range, chars, unwrap_or, ◌++◌, filter, flat_map, map}
+use Rattle.std.specs.Prelude.{ℕ, zero, suc, ◌+◌, ◌-◌, ◌^◌, min, max, Bool, true, false, not, ◌&&◌, ◌||◌, List, [], ◌∷◌, length, Option, Some, None}
+use Rattle.std.specs.Prelude.{if◌then◌else◌, nat_lt, nat_le, nat_eq, ◌==◌, slice_get, slice_set, slice_range, chars, unwrap_or, ◌++◌, filter}
+use Rattle.std.specs.Prelude.{flat_map, map}
 use Rattle.std.specs.List.{list_any}
 use Rattle.std.specs.Option.{option_map_or}
 use lib.Pointwise.{pointwise}
 use Rattle.regex_meaning.specs.Lists.{contains}
-use Rattle.regex_meaning.specs.Tree.{Intervals, AnchorType, start_of_line, end_of_line, Quantifier, Lookaround, Node, empty, goal, char, char_set, byte_set, byte_sequence, cat, end_of_cat, alt, bracket, string_set, match_any, match_any_except_line_terminator, anchor, word_boundary, capture_group, back_ref, lookaround, loop, loop_1_char_body}
-use Rattle.regex_meaning.specs.Text.{Text, Direction, rightwards, leftwards, is_line_terminator, is_word_char, expand_code_point, character_before, character_after, next_character, characters_left, moved, characters_beside}
+use Rattle.regex_meaning.specs.Tree.{Intervals, AnchorType, start_of_line, end_of_line, Quantifier, Lookaround, Node, empty, goal, char, char_set}
+use Rattle.regex_meaning.specs.Tree.{byte_set, byte_sequence, cat, end_of_cat, alt, bracket, string_set, match_any, match_any_except_line_terminator}
+use Rattle.regex_meaning.specs.Tree.{anchor, word_boundary, capture_group, back_ref, lookaround, loop, loop_1_char_body}
+use Rattle.regex_meaning.specs.Text.{Text, Direction, rightwards, leftwards, is_line_terminator, is_word_char, expand_code_point, character_before}
+use Rattle.regex_meaning.specs.Text.{character_after, next_character, characters_left, moved, characters_beside}
 use Rattle.std.specs.Int.{is_in_range}
 
 -- one entry for each capturing group: none, or two places in order

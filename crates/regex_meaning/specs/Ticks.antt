@@ -1,11 +1,14 @@
 -- The outcomes of a node with ticks among them: one for each step of a search that tries them in order.
-use Rattle.std.specs.Prelude.{ℕ, zero, suc, ◌+◌, ◌-◌, min, Bool, true, false, List, [], ◌∷◌, map, reverse, length, take, drop, replicate, Option, Some, None, if◌then◌else◌, nat_lt, nat_le, nat_eq, encode_utf8_all, filter, ◌++◌}
+use Rattle.std.specs.Prelude.{ℕ, zero, suc, ◌+◌, ◌-◌, min, Bool, true, false, List, [], ◌∷◌, map, reverse, length, take, drop, replicate, Option}
+use Rattle.std.specs.Prelude.{Some, None, if◌then◌else◌, nat_lt, nat_le, nat_eq, encode_utf8_all, filter, ◌++◌}
 use Rattle.std.specs.List.{starts_with, prefix_len}
 use Rattle.std.specs.Option.{option_map_or}
 use Rattle.regex_meaning.specs.Lists.{numbers_from}
-use Rattle.regex_meaning.specs.Tree.{Quantifier, Node, empty, byte_sequence, cat, end_of_cat, alt, string_set, capture_group, lookaround, loop, loop_1_char_body, Tree}
+use Rattle.regex_meaning.specs.Tree.{Quantifier, Node, empty, byte_sequence, cat, end_of_cat, alt, string_set, capture_group, lookaround, loop}
+use Rattle.regex_meaning.specs.Tree.{loop_1_char_body, Tree}
 use Rattle.regex_meaning.specs.Text.{Text, Direction, rightwards, leftwards, last_place, characters_left}
-use Rattle.regex_meaning.specs.Outcomes.{Groups, Outcome, accepts, cleared, captured, most_of, Repetition, repetition, counts, spells, spelled, looked, direction_of, outcomes}
+use Rattle.regex_meaning.specs.Outcomes.{Groups, Outcome, accepts, cleared, captured, most_of, Repetition, repetition, counts, spells, spelled}
+use Rattle.regex_meaning.specs.Outcomes.{looked, direction_of, outcomes}
 use Rattle.regex_meaning.specs.StartPredicate.{StartPredicate, start_anchored, start_predicate, may_start}
 use Rattle.regex_meaning.specs.Find.{no_groups, first_match, place_behind}
 use Rattle.regex_meaning.specs.Layout.{chunks}

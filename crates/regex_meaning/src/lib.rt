@@ -1,7 +1,11 @@
 // The meaning of patterns: definitions that contracts cite, and laws of theirs.
 #![tactic(auto)]
 
-ghost use Rattle.regex_meaning.specs.Laws.{PairsAreOutcomes, RepeatUnfolds, OutcomesGoOn, OutcomesKeepGroups, OutcomesStayInText, FirstMatchUnfolds, MatchListUnfolds, NeedsUnfold, PlacesHaveOffsets, EncodingsAreTexts, UnitBoundariesAreBoundaries, SameInUtf16, SameInAscii, AnswersGoOn, ListGoesOnAhead, AnswersStandInText, MatchesAtAreFirst, AnswersAreRanges, AnswersStandInOrder, AnswersAreFew, AnswersResume, NamesAgree, WholeMatchesChangeNothing, FlagsReadBack, EscapeIsInjective, PredicateIsSound};
+ghost use Rattle.regex_meaning.specs.Laws.{PairsAreOutcomes, RepeatUnfolds, OutcomesGoOn, OutcomesKeepGroups, OutcomesStayInText, FirstMatchUnfolds};
+ghost use Rattle.regex_meaning.specs.Laws.{MatchListUnfolds, NeedsUnfold, PlacesHaveOffsets, EncodingsAreTexts, UnitBoundariesAreBoundaries};
+ghost use Rattle.regex_meaning.specs.Laws.{SameInUtf16, SameInAscii, AnswersGoOn, ListGoesOnAhead, AnswersStandInText, MatchesAtAreFirst};
+ghost use Rattle.regex_meaning.specs.Laws.{AnswersAreRanges, AnswersStandInOrder, AnswersAreFew, AnswersResume, NamesAgree};
+ghost use Rattle.regex_meaning.specs.Laws.{WholeMatchesChangeNothing, FlagsReadBack, EscapeIsInjective, PredicateIsSound};
 
 /// The ticks of a search are put among its outcomes, and change none of them.
 pub fn ticks_change_nothing()

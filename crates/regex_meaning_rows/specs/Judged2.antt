@@ -1,7 +1,8 @@
 -- Patterns on texts as another engine judges them, part 2: what JavaScript's V8 answers with the same flags, its indices
 -- turned into bytes. The trees are those of the patterns, optimised.
 use Rattle.std.specs.Prelude.{◌≡◌, [], ◌∷◌, Some, None, refl, true, false}
-use Rattle.regex_meaning.specs.Tree.{goal, char, char_set, cat, end_of_cat, alt, bracket, match_any, match_any_except_line_terminator, anchor, start_of_line, end_of_line, word_boundary, capture_group, back_ref, lookaround, loop, loop_1_char_body}
+use Rattle.regex_meaning.specs.Tree.{goal, char, char_set, cat, end_of_cat, alt, bracket, match_any, match_any_except_line_terminator, anchor}
+use Rattle.regex_meaning.specs.Tree.{start_of_line, end_of_line, word_boundary, capture_group, back_ref, lookaround, loop, loop_1_char_body}
 use Rattle.regex_meaning.specs.Text.{utf8_text}
 use Rattle.regex_meaning_rows.specs.Computing.{found, matches, times, in_brackets, look}
 

@@ -1,7 +1,8 @@
 -- Programs and the trees whose code they are.
 use Rattle.std.specs.Prelude.{◌≡◌, ℕ, ◌^◌, ◌-◌, List, [], ◌∷◌, None, refl, true, false}
 use Rattle.regex_meaning.specs.Tree.{goal, char, byte_set, byte_sequence, cat, end_of_cat, alt, lookaround, loop, loop_1_char_body}
-use Rattle.regex_meaning.specs.Layout.{Insn, Goal, Char, Alt, Jump, EnterLoop, LoopAgain, Loop1CharBody, ByteSeq, Lookbehind, Program, Mark, IsCode, reads_bytes}
+use Rattle.regex_meaning.specs.Layout.{Insn, Goal, Char, Alt, Jump, EnterLoop, LoopAgain, Loop1CharBody, ByteSeq, Lookbehind, Program, Mark, IsCode}
+use Rattle.regex_meaning.specs.Layout.{reads_bytes}
 use Rattle.regex_meaning.specs.StartPredicate.{start_arbitrary}
 use Rattle.regex_meaning_rows.specs.Computing.{times, look, no_flags}
 

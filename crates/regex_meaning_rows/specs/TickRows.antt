@@ -1,6 +1,7 @@
 -- Needs and start predicates.
 use Rattle.std.specs.Prelude.{◌≡◌, [], ◌∷◌, Some, None, refl, true, false}
-use Rattle.regex_meaning.specs.Tree.{Node, goal, char, byte_set, byte_sequence, cat, end_of_cat, alt, bracket, anchor, start_of_line, capture_group, lookaround, loop, loop_1_char_body}
+use Rattle.regex_meaning.specs.Tree.{Node, goal, char, byte_set, byte_sequence, cat, end_of_cat, alt, bracket, anchor, start_of_line, capture_group}
+use Rattle.regex_meaning.specs.Tree.{lookaround, loop, loop_1_char_body}
 use Rattle.regex_meaning.specs.Text.{utf8_text}
 use Rattle.regex_meaning.specs.StartPredicate.{start_arbitrary, start_byte_set, start_byte_sequence, start_anchored}
 use Rattle.regex_meaning_rows.specs.Computing.{needs_of, start_of_tree, times, in_brackets, look}

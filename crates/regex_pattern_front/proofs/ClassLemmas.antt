@@ -1,5 +1,6 @@
 -- Classes, as they are read, and the sets of their members.
-use Rattle.std.proofs.Common.{◌≡◌, ℕ, ◌<◌, ◌≤◌, ◌⊎◌, inl, inr, Bool, true, false, not, ◌&&◌, ◌||◌, List, [], ◌∷◌, ◌++◌, map, true≢false, ⊎_elim, nat_eq, refl, sym, ap, ap₂, subst, ◌∙◌, arith, append_assoc, append-nil, Some, None}
+use Rattle.std.proofs.Common.{◌≡◌, ℕ, ◌<◌, ◌≤◌, ◌⊎◌, inl, inr, Bool, true, false, not, ◌&&◌, ◌||◌, List, [], ◌∷◌, ◌++◌, map, true≢false, ⊎_elim}
+use Rattle.std.proofs.Common.{nat_eq, refl, sym, ap, ap₂, subst, ◌∙◌, arith, append_assoc, append-nil, Some, None}
 use Rattle.std.specs.Prelude.{if◌then◌else◌, ◌==◌, nat_le, Option, Result, Ok, Err, IfOk, OnOk, IsErr, IsTrue}
 use Rattle.std.specs.Result.{IsErrAnd}
 use Rattle.std.specs.List.{list_any}
@@ -12,7 +13,9 @@ use Rattle.regex_meaning.specs.Outcomes.{in_intervals}
 use Rattle.regex_meaning.specs.Text.{expand_code_point, is_scalar}
 use Rattle.regex_grammar.specs.Reading.{Text, ◌∈◌}
 use Rattle.regex_grammar.specs.Characters.{CharacterEscape}
-use Rattle.regex_grammar.specs.Classes.{Member, character, range, class, class_escape, closed, is_of, AreApart, IsSetOf, ClassAtom, verbatim, of_class, backspace, escaped, are_characters, IsRange, ClassMembers, alone, from_to, no_range, ClassRanges, no_more, more, CharacterClass, plain, inverted, has_set_operation}
+use Rattle.regex_grammar.specs.Classes.{Member, character, range, class, class_escape, closed, is_of, AreApart, IsSetOf, ClassAtom, verbatim}
+use Rattle.regex_grammar.specs.Classes.{of_class, backspace, escaped, are_characters, IsRange, ClassMembers, alone, from_to, no_range, ClassRanges}
+use Rattle.regex_grammar.specs.Classes.{no_more, more, CharacterClass, plain, inverted, has_set_operation}
 use Rattle.regex_grammar.proofs.OneTree.{first, rest_of}
 use Rattle.regex_grammar.proofs.Leaves.{behind}
 use Rattle.regex_grammar.proofs.Members.{class_letter, one_class_atom, atom_starts, is_range, atom_from, character_inj, one_member, member_starts}

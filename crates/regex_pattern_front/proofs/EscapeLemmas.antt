@@ -5,7 +5,8 @@ use Rattle.std.specs.Option.{SomeIff, ok_or}
 use Rattle.std.specs.Char.{IsScalar, OutOfScalarRange, is_ascii_digit, is_ascii_alphanumeric}
 use Rattle.regex_meaning.specs.Text.{is_scalar}
 use Rattle.regex_grammar.specs.Reading.{Text, Digits}
-use Rattle.regex_grammar.specs.Characters.{Hex, Pair, pair, is_lead, is_trail, UnicodeEscape, surrogates, four_digits, code_point, CharacterEscape, control, control_escape, null, hex_escape, unicode_escape, identity_escape}
+use Rattle.regex_grammar.specs.Characters.{Hex, Pair, pair, is_lead, is_trail, UnicodeEscape, surrogates, four_digits, code_point, CharacterEscape}
+use Rattle.regex_grammar.specs.Characters.{control, control_escape, null, hex_escape, unicode_escape, identity_escape}
 use Rattle.regex_grammar.proofs.OneTree.{first, rest_of, unlike}
 use Rattle.regex_grammar.proofs.Leaves.{behind, one_hex, no_brace, no_brace_pair}
 use Rattle.regex_grammar.proofs.Members.{may_escape, escape_begins}

@@ -7,7 +7,8 @@ use Rattle.regex_grammar.proofs.Trees.{leaf-reference}
 use Rattle.regex_pattern_front.specs.TreeOf.{node_of}
 use Rattle.regex_pattern_front.specs.Parts.{IsPart, AreParts, IsLeaf}
 use Rattle.regex_pattern_front.specs.declared.ir.AnchorType.{AnchorType}
-use Rattle.regex_pattern_front.specs.declared.ir.Node.TheVariants.{Empty, Char, CharSet, Bracket, MatchAny, MatchAnyExceptLineTerminator, Anchor, WordBoundary, BackRef}
+use Rattle.regex_pattern_front.specs.declared.ir.Node.TheVariants.{Empty, Char, CharSet, Bracket, MatchAny, MatchAnyExceptLineTerminator, Anchor}
+use Rattle.regex_pattern_front.specs.declared.ir.Node.TheVariants.{WordBoundary, BackRef}
 use Rattle.regex_pattern_front.specs.declared.types.BracketContents.{BracketContents}
 use Rattle.regex_pattern_front.proofs.PartLemmas.{part-leaf}
 

@@ -1,10 +1,14 @@
 -- Nodes as trees.
-use Rattle.std.proofs.Common.{◌≡◌, Bool, false, List, [], ◌∷◌, ℕ, zero, suc, ◌+◌, ◌-◌, ◌<◌, ap, ◌∙◌, refl, arith, length, get_or, sym, Vec, Global, Box, Option, String}
+use Rattle.std.proofs.Common.{◌≡◌, Bool, false, List, [], ◌∷◌, ℕ, zero, suc, ◌+◌, ◌-◌, ◌<◌, ap, ◌∙◌, refl, arith, length, get_or, sym, Vec, Global}
+use Rattle.std.proofs.Common.{Box, Option, String}
 use Rattle.regex_meaning.specs.Tree as tree
 use Rattle.regex_pattern_front.specs.TreeOf.{node_of, nodes_of, cat_of}
 use Rattle.regex_pattern_front.specs.Optimized.{reads_one_character, optimized, narrowed, behind_first, with_first, turned_back}
-use Rattle.regex_pattern_front.specs.declared.ir.Node.{Node, Row_of-Node, end_of-Node, more_of-Node, items-the_row-Node, items_hidden-the_row-Node-0, Cat'}
-use Rattle.regex_pattern_front.specs.declared.ir.Node.TheVariants.{Char, CharSet, ByteSet, Cat, Alt, Bracket, MatchAny, MatchAnyExceptLineTerminator, CaptureGroup, LookaroundAssertion, Loop, Loop1CharBody, rolls-Cat, rolls-Alt, rolls-CaptureGroup, rolls-LookaroundAssertion, rolls-Loop, rolls-Loop1CharBody}
+use Rattle.regex_pattern_front.specs.declared.ir.Node.{Node, Row_of-Node, end_of-Node, more_of-Node, items-the_row-Node, items_hidden-the_row-Node-0}
+use Rattle.regex_pattern_front.specs.declared.ir.Node.{Cat'}
+use Rattle.regex_pattern_front.specs.declared.ir.Node.TheVariants.{Char, CharSet, ByteSet, Cat, Alt, Bracket, MatchAny, MatchAnyExceptLineTerminator}
+use Rattle.regex_pattern_front.specs.declared.ir.Node.TheVariants.{CaptureGroup, LookaroundAssertion, Loop, Loop1CharBody, rolls-Cat, rolls-Alt}
+use Rattle.regex_pattern_front.specs.declared.ir.Node.TheVariants.{rolls-CaptureGroup, rolls-LookaroundAssertion, rolls-Loop, rolls-Loop1CharBody}
 use Rattle.regex_pattern_front.specs.declared.ir.Node.TheOpen.{Node-F}
 use Rattle.regex_pattern_front.specs.declared.ir.Node.TheViews.{roll-Node}
 use Rattle.regex_pattern_front.specs.declared.ir.Quantifier.{Quantifier}

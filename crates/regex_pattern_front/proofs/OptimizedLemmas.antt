@@ -5,14 +5,19 @@ use Rattle.std.specs.Prelude.{if◌then◌else◌, nat_le, map, ◌==◌}
 use Rattle.std.specs.List.{list_all}
 use Rattle.regex_pattern_front.proofs.BoolLemmas.{left, right, and_from}
 use Rattle.regex_meaning.specs.Lists.{contains, numbers_from}
-use Rattle.regex_meaning.specs.Tree.{Quantifier, Node, char, char_set, byte_set, byte_sequence, cat, alt, bracket, string_set, match_any, match_any_except_line_terminator, capture_group, back_ref, lookaround, loop, loop_1_char_body, group_ids, own_id, gathered, every}
+use Rattle.regex_meaning.specs.Tree.{Quantifier, Node, char, char_set, byte_set, byte_sequence, cat, alt, bracket, string_set, match_any}
+use Rattle.regex_meaning.specs.Tree.{match_any_except_line_terminator, capture_group, back_ref, lookaround, loop, loop_1_char_body, group_ids}
+use Rattle.regex_meaning.specs.Tree.{own_id, gathered, every}
 use Rattle.regex_meaning.specs.Names.{name_of, named_ids, names_by_id, own_name}
 use Rattle.regex_meaning.specs.Text.{Text, Direction}
 use Rattle.regex_meaning.specs.Outcomes.{Groups, Outcome, outcomes}
 use Rattle.regex_meaning.specs.Layout.{reads_bytes, is_of_bytes}
-use Rattle.regex_meaning.specs.WellFormed.{goal_count, own_goals, is_end_of_cat, ends_in_goal, encloses, names_the_groups_inside, refers_to_a_group, has_order_in_quantifier, is_one_character, has_one_character_body, has_text_in_sequence, fits_instructions}
+use Rattle.regex_meaning.specs.WellFormed.{goal_count, own_goals, is_end_of_cat, ends_in_goal, encloses, names_the_groups_inside, refers_to_a_group}
+use Rattle.regex_meaning.specs.WellFormed.{has_order_in_quantifier, is_one_character, has_one_character_body, has_text_in_sequence}
+use Rattle.regex_meaning.specs.WellFormed.{fits_instructions}
 use Rattle.regex_meaning.proofs.WellFormedLemmas.{clauses, by_clauses}
-use Rattle.regex_pattern_front.specs.Optimized.{reads_one_character, optimized, OptimizedIsWellFormed, OptimizedHasSameOutcomes, OptimizedHasSameAnswers}
+use Rattle.regex_pattern_front.specs.Optimized.{reads_one_character, optimized, OptimizedIsWellFormed, OptimizedHasSameOutcomes}
+use Rattle.regex_pattern_front.specs.Optimized.{OptimizedHasSameAnswers}
 use Rattle.regex_pattern_front.proofs.MatchLemmas.{answers-same}
 use Rattle.std.proofs.lemmas.Bool.{and_from}
 use Rattle.regex_meaning.proofs.Booleans.{and-left, and-right}

@@ -1,5 +1,6 @@
 -- What the parser reads, in the words of the grammar.
-use Rattle.std.proofs.Common.{◌≡◌, ℕ, ◌+◌, ◌<◌, ◌≤◌, ◌⊎◌, Bool, true, false, List, [], ◌∷◌, ◌++◌, length, true≢false, refl, sym, ap, subst, ◌∙◌, arith, Some, None, Ok, Err, not, nat_eq, length-append}
+use Rattle.std.proofs.Common.{◌≡◌, ℕ, ◌+◌, ◌<◌, ◌≤◌, ◌⊎◌, Bool, true, false, List, [], ◌∷◌, ◌++◌, length, true≢false, refl, sym, ap, subst, ◌∙◌}
+use Rattle.std.proofs.Common.{arith, Some, None, Ok, Err, not, nat_eq, length-append}
 use Rattle.std.specs.Prelude.{Option, Result, String, IsTrue, IfOk, IfErr, IfSome, ◌||◌, string_bytes}
 use Rattle.std.specs.Option.{option_eq}
 use Rattle.std.specs.Result.{IsErrAnd, result_err}
@@ -13,7 +14,8 @@ use Rattle.regex_grammar.specs.Standing.{NoTree, names_of, AreFew, with_groups, 
 use Rattle.regex_grammar.proofs.OneTree.{ends_here}
 use Rattle.regex_grammar.proofs.Leaves.{one_name}
 use Rattle.regex_grammar.proofs.Found.{Ahead}
-use Rattle.regex_grammar.proofs.Standing.{stands-group, stands-named, stands-plain, stands-look, stands-leave, shape, is_look, of_term, of_look, contents_of, wrong-name, group-repeated, look-repeated, stands-begin, too-many, still-open, no-opening}
+use Rattle.regex_grammar.proofs.Standing.{stands-group, stands-named, stands-plain, stands-look, stands-leave, shape, is_look, of_term, of_look}
+use Rattle.regex_grammar.proofs.Standing.{contents_of, wrong-name, group-repeated, look-repeated, stands-begin, too-many, still-open, no-opening}
 use Rattle.regex_grammar.proofs.Terms.{NoTermAt, ahead_term, stands-atom, atom-refused, stands-assertion, assertion-refused}
 use Rattle.regex_pattern_front.specs.declared.fault.Fault.{Fault}
 use Rattle.regex_pattern_front.specs.declared.groups.Opening.{Opening}
@@ -26,7 +28,8 @@ use Rattle.regex_pattern_front.specs.GroupReads.{AreNumbers, IsOpeningRead, None
 use Rattle.regex_pattern_front.specs.LeafReads.{IsAtomOr}
 use Rattle.regex_pattern_front.specs.Levels.{IsReading, captures}
 use Rattle.regex_pattern_front.specs.Model.{level_of}
-use Rattle.regex_pattern_front.specs.Parsed.{IsRepeated, IsNameRead, is_named, around_from, open_of, opened_of, node_around, HasRead, ReadsOn, IsParsed}
+use Rattle.regex_pattern_front.specs.Parsed.{IsRepeated, IsNameRead, is_named, around_from, open_of, opened_of, node_around, HasRead, ReadsOn}
+use Rattle.regex_pattern_front.specs.Parsed.{IsParsed}
 use Rattle.regex_pattern_front.specs.Reads.{IsFound, is_refused}
 use Rattle.regex_pattern_front.specs.TreeOf.{node_of, name_of, quantifier_of, flags_of}
 

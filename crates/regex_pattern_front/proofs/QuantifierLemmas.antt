@@ -1,10 +1,12 @@
 -- Quantifiers, as the reader reads them.
-use Rattle.std.proofs.Common.{◌≡◌, ℕ, ◌-◌, ◌^◌, ◌<◌, inl, inr, Bool, true, false, [], ◌∷◌, length, true≢false, refl, sym, ap, ap₂, subst, ◌∙◌, arith, Some, None}
+use Rattle.std.proofs.Common.{◌≡◌, ℕ, ◌-◌, ◌^◌, ◌<◌, inl, inr, Bool, true, false, [], ◌∷◌, length, true≢false, refl, sym, ap, ap₂, subst, ◌∙◌, arith}
+use Rattle.std.proofs.Common.{Some, None}
 use Rattle.std.specs.Prelude.{Option, not}
 use Rattle.regex_meaning.specs.Tree.{Quantifier}
 use Rattle.regex_meaning.specs.WellFormed.{is_in_order}
 use Rattle.regex_grammar.specs.Reading.{Text, Digits, digits_from, digits}
-use Rattle.regex_grammar.specs.Characters.{count, QuantifierPrefix, star, plus, question, exactly, at_least, between, IsQuantified, Quantified, greedy, lazy}
+use Rattle.regex_grammar.specs.Characters.{count, QuantifierPrefix, star, plus, question, exactly, at_least, between, IsQuantified, Quantified}
+use Rattle.regex_grammar.specs.Characters.{greedy, lazy}
 use Rattle.regex_grammar.proofs.OneTree.{unlike}
 use Rattle.regex_grammar.proofs.Leaves.{behind, firsts, digits_on, one_prefix, no_digit}
 use Rattle.regex_pattern_front.specs.Reads.{IsEaten, IsNumberRead, IsMostRead}

@@ -1,5 +1,6 @@
 -- References to groups, and what else stands behind a backslash.
-use Rattle.std.proofs.Common.{◌≡◌, ℕ, zero, suc, ◌-◌, ◌<◌, ◌≤◌, ◌^◌, max, ◌⊎◌, inl, inr, Bool, true, false, not, List, [], ◌∷◌, ◌++◌, length, true≢false, ⊎_elim, nat_eq, nat_lt, refl, sym, ap, subst, ◌∙◌, arith, Some, None}
+use Rattle.std.proofs.Common.{◌≡◌, ℕ, zero, suc, ◌-◌, ◌<◌, ◌≤◌, ◌^◌, max, ◌⊎◌, inl, inr, Bool, true, false, not, List, [], ◌∷◌, ◌++◌, length}
+use Rattle.std.proofs.Common.{true≢false, ⊎_elim, nat_eq, nat_lt, refl, sym, ap, subst, ◌∙◌, arith, Some, None}
 use Rattle.std.specs.Prelude.{codes, Option, ◌||◌, ◌==◌, Result, Ok, Err, IsTrue, option_map, String}
 use Rattle.std.specs.Result.{IsErrAnd}
 use Rattle.std.specs.BTreeMap.{BTreeMap, get_by_text}
@@ -13,7 +14,8 @@ use Rattle.regex_meaning.specs.Tree.{Node, back_ref, bracket}
 use Rattle.regex_grammar.specs.Reading.{Text, Whole, ◌∈◌, begins, Digits, digits_from, digits, number_of}
 use Rattle.regex_grammar.specs.Characters.{CharacterEscape, GroupName, group_name}
 use Rattle.regex_grammar.specs.Classes.{Member, class, class_escape, IsSetOf}
-use Rattle.regex_grammar.specs.Grammar.{Leaf, pattern_character, extended_character, any_character, decimal_escape, named_reference, character_escape, character_class_escape, character_class}
+use Rattle.regex_grammar.specs.Grammar.{Leaf, pattern_character, extended_character, any_character, decimal_escape, named_reference}
+use Rattle.regex_grammar.specs.Grammar.{character_escape, character_class_escape, character_class}
 use Rattle.regex_grammar.specs.Laws.{no_flags}
 use Rattle.regex_grammar.proofs.OneTree.{first}
 use Rattle.regex_grammar.proofs.Leaves.{inside, firsts, behind, one_digits, one_name, Some_inj}
@@ -28,7 +30,8 @@ use Rattle.regex_pattern_front.specs.ClassReads.{base_class, escape_member, esca
 use Rattle.regex_pattern_front.specs.Reads.{peeked, IsNext, is_refused, IsNumberRead}
 use Rattle.regex_pattern_front.specs.declared.fault.Fault.{Fault}
 use Rattle.regex_pattern_front.specs.TreeOf.{node_of, flags_of, contents_of}
-use Rattle.regex_pattern_front.specs.LeafReads.{NoLeaf, whole, AreGroups, IsReadOrNot, IsPassed, begins_reference, IsReference, IsReferenceRead, IsNamed, IsNamedRead, IsCounted, IsDecimalRead}
+use Rattle.regex_pattern_front.specs.LeafReads.{NoLeaf, whole, AreGroups, IsReadOrNot, IsPassed, begins_reference, IsReference, IsReferenceRead}
+use Rattle.regex_pattern_front.specs.LeafReads.{IsNamed, IsNamedRead, IsCounted, IsDecimalRead}
 use Rattle.regex_pattern_front.proofs.TermLemmas.{leaf-of}
 
 -- ---- What was asked for stands here

@@ -1,5 +1,6 @@
 -- Where no term begins, and what terms without groups are.
-use Rattle.std.proofs.Common.{◌≡◌, ℕ, ◌<◌, ◌≤◌, ◌⊎◌, inl, inr, Bool, true, false, not, List, [], ◌∷◌, length, true≢false, ⊎_elim, nat_eq, nat_lt, refl, sym, ap, ap₂, subst, ◌∙◌, arith, Vec, Global}
+use Rattle.std.proofs.Common.{◌≡◌, ℕ, ◌<◌, ◌≤◌, ◌⊎◌, inl, inr, Bool, true, false, not, List, [], ◌∷◌, length, true≢false, ⊎_elim, nat_eq, nat_lt}
+use Rattle.std.proofs.Common.{refl, sym, ap, ap₂, subst, ◌∙◌, arith, Vec, Global}
 use Rattle.std.specs.Prelude.{codes, ◌||◌, ◌&&◌, Result, Ok, Err, IfOk, IfErr, IsTrue}
 use Rattle.std.specs.List.{list_all}
 use Rattle.std.specs.Result.{IsErrAnd}
@@ -10,7 +11,9 @@ use Rattle.regex_meaning.specs.Tree.{Node, BracketContents, back_ref, bracket}
 use Rattle.regex_grammar.specs.Reading.{Text, Place, Whole, ◌∈◌}
 use Rattle.regex_grammar.specs.Characters.{IsQuantified}
 use Rattle.regex_grammar.specs.Classes.{CharacterClass}
-use Rattle.regex_grammar.specs.Grammar.{character_node, Leaf, pattern_character, extended_character, any_character, decimal_escape, named_reference, character_escape, character_class_escape, character_class, Term, assertion, atom, quantified, Assertion, start, end, boundary, look, Atom, leaf, group, named_group, plain_group}
+use Rattle.regex_grammar.specs.Grammar.{character_node, Leaf, pattern_character, extended_character, any_character, decimal_escape, named_reference}
+use Rattle.regex_grammar.specs.Grammar.{character_escape, character_class_escape, character_class, Term, assertion, atom, quantified, Assertion}
+use Rattle.regex_grammar.specs.Grammar.{start, end, boundary, look, Atom, leaf, group, named_group, plain_group}
 use Rattle.regex_grammar.proofs.OneTree.{first, rest_of}
 use Rattle.regex_grammar.proofs.Leaves.{inside, firsts, behind}
 use Rattle.regex_grammar.specs.Ahead.{names_ahead}
@@ -22,11 +25,13 @@ use Rattle.regex_pattern_front.specs.declared.flags.Flags.{Flags}
 use Rattle.regex_pattern_front.specs.declared.ir.AnchorType.{AnchorType}
 use Rattle.regex_pattern_front.specs.declared.ir.AnchorType.TheVariants.{StartOfLine, EndOfLine}
 use Rattle.regex_pattern_front.specs.declared.ir.Node.{Node as TheNode}
-use Rattle.regex_pattern_front.specs.declared.ir.Node.TheVariants.{Char, CharSet, Bracket, MatchAny, MatchAnyExceptLineTerminator, Anchor, WordBoundary, BackRef}
+use Rattle.regex_pattern_front.specs.declared.ir.Node.TheVariants.{Char, CharSet, Bracket, MatchAny, MatchAnyExceptLineTerminator, Anchor}
+use Rattle.regex_pattern_front.specs.declared.ir.Node.TheVariants.{WordBoundary, BackRef}
 use Rattle.regex_pattern_front.specs.declared.leaves.Leaf.{Leaf as TheLeaf}
 use Rattle.regex_pattern_front.specs.declared.types.BracketContents.{BracketContents as TheContents}
 use Rattle.regex_pattern_front.specs.TreeOf.{node_of, flags_of, contents_of}
-use Rattle.regex_pattern_front.specs.LeafReads.{NoLeaf, NoTerm, place, whole, IsLeafOf, IsAtomOr, IsReadOrNot, IsAtomRead, IsLeafRead, IsPassed, IsAssertion, sign_of, boundary_letter, divides, repeats, closes}
+use Rattle.regex_pattern_front.specs.LeafReads.{NoLeaf, NoTerm, place, whole, IsLeafOf, IsAtomOr, IsReadOrNot, IsAtomRead, IsLeafRead, IsPassed}
+use Rattle.regex_pattern_front.specs.LeafReads.{IsAssertion, sign_of, boundary_letter, divides, repeats, closes}
 
 -- another character stands first
 other : (test : ℕ → Bool) {c d : ℕ} {cs ds : Text} → test c ≡ false → test d ≡ true → c ∷ cs ≡ d ∷ ds → ⊥

@@ -1,11 +1,13 @@
 -- Classes, as they are read: `here` is the text before, `there` the text behind.
-use Rattle.std.specs.Prelude.{◌≡◌, ℕ, Bool, true, false, ◌||◌, ◌&&◌, ◌==◌, List, [], ◌∷◌, map, if◌then◌else◌, IsTrue, Option, Some, None, Result, Ok, Err}
+use Rattle.std.specs.Prelude.{◌≡◌, ℕ, Bool, true, false, ◌||◌, ◌&&◌, ◌==◌, List, [], ◌∷◌, map, if◌then◌else◌, IsTrue, Option, Some, None, Result, Ok}
+use Rattle.std.specs.Prelude.{Err}
 use Rattle.std.specs.List.{list_any}
 use Rattle.regex_meaning.specs.Tree as tree
 use Rattle.regex_meaning.specs.Text.{expand_code_point}
 use Rattle.regex_meaning.specs.Outcomes.{in_intervals}
 use Rattle.regex_grammar.specs.Reading.{Text, ◌∈◌}
-use Rattle.regex_grammar.specs.Classes.{Member, are_characters, character, class, digit_class, word_class, space_class, class_escape, closed, is_of, AreApart, IsSetOf, ClassAtom, ClassMembers, ClassRanges, one, IsRange, has_set_operation}
+use Rattle.regex_grammar.specs.Classes.{Member, are_characters, character, class, digit_class, word_class, space_class, class_escape, closed, is_of}
+use Rattle.regex_grammar.specs.Classes.{AreApart, IsSetOf, ClassAtom, ClassMembers, ClassRanges, one, IsRange, has_set_operation}
 use Rattle.regex_pattern_front.specs.declared.classes.Atom.{Atom}
 use Rattle.regex_pattern_front.specs.declared.classes.Atom.TheVariants.{Character, Escape}
 use Rattle.regex_pattern_front.specs.declared.classes.Base.{Base}

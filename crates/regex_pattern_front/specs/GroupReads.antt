@@ -1,5 +1,6 @@
 -- How a parenthesis opens, and the names of groups: `here` is the text before, `there` the text behind.
-use Rattle.std.specs.Prelude.{◌≡◌, not, ◌&&◌, ◌==◌, if◌then◌else◌, ℕ, ◌≤◌, Bool, true, false, List, [], ◌∷◌, ◌++◌, length, codes, Option, Some, None, is_some, Result, Ok, Err, String, IsTrue}
+use Rattle.std.specs.Prelude.{◌≡◌, not, ◌&&◌, ◌==◌, if◌then◌else◌, ℕ, ◌≤◌, Bool, true, false, List, [], ◌∷◌, ◌++◌, length, codes, Option, Some, None}
+use Rattle.std.specs.Prelude.{is_some, Result, Ok, Err, String, IsTrue}
 use Rattle.std.specs.Str.{bytes_eq}
 use Rattle.std.specs.BTreeMap.{BTreeMap, get_by_text}
 use Rattle.regex_grammar.specs.Reading.{Text, number_of}

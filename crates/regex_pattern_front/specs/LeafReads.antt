@@ -1,5 +1,6 @@
 -- Terms without groups, as they are read: `here` is the text before, `there` the text behind.
-use Rattle.std.specs.Prelude.{◌≡◌, ◌==◌, ◌||◌, ℕ, ◌<◌, ◌≤◌, ◌^◌, ◌⊎◌, Bool, true, false, List, ◌∷◌, ◌++◌, length, codes, Option, Some, None, Result, Ok, Err, String, IsTrue, if◌then◌else◌}
+use Rattle.std.specs.Prelude.{◌≡◌, ◌==◌, ◌||◌, ℕ, ◌<◌, ◌≤◌, ◌^◌, ◌⊎◌, Bool, true, false, List, ◌∷◌, ◌++◌, length, codes, Option, Some, None, Result}
+use Rattle.std.specs.Prelude.{Ok, Err, String, IsTrue, if◌then◌else◌}
 use Rattle.std.specs.Int.{is_in_range}
 use Rattle.std.specs.BTreeMap.{BTreeMap}
 use Rattle.regex_meaning.specs.Tree as tree

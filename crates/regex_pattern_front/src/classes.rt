@@ -5,7 +5,8 @@ ghost use Rattle.regex_meaning.specs.Outcomes.{in_intervals};
 ghost use Rattle.regex_grammar.specs.Classes.{class as class_of, one, CharacterClass, ClassAtom, IsSetOf, is_of};
 ghost use Rattle.std.specs.List.{list_any};
 ghost use Rattle.regex_pattern_front.specs.{Intervals.{interval_of}, TreeOf.{contents_of, flags_of}, Reads.{IsReadBy, IsReadOr}};
-ghost use Rattle.regex_pattern_front.specs.ClassReads.{base_class, escape_member, atom_member, escape_of, held, IsClosure, Adds, IsEndRead, IsMemberRead, AreRangesRead, AreSetsTold, IsRangeOf, is_operation, with_same_fold, closing};
+ghost use Rattle.regex_pattern_front.specs.ClassReads.{base_class, escape_member, atom_member, escape_of, held, IsClosure, Adds, IsEndRead};
+ghost use Rattle.regex_pattern_front.specs.ClassReads.{IsMemberRead, AreRangesRead, AreSetsTold, IsRangeOf, is_operation, with_same_fold, closing};
 
 use crate::codepointset::{CodePointSet, Interval};
 use crate::diagnosis::Cause;

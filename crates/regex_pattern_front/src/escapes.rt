@@ -1,7 +1,8 @@
 //! What stands behind a backslash, and names.
 
 ghost use Rattle.std.specs.Prelude.{◌≡◌, ◌≤◌, ◌∷◌, length, string_bytes, Bool, not, ◌&&◌, ◌==◌, IfSome, if◌then◌else◌};
-ghost use Rattle.regex_grammar.specs.Characters.{CharacterEscape, GroupName, control, begins_name, goes_on_name, Hex, UnicodeEscape, is_lead, is_trail};
+ghost use Rattle.regex_grammar.specs.Characters.{CharacterEscape, GroupName, control, begins_name, goes_on_name, Hex, UnicodeEscape, is_lead};
+ghost use Rattle.regex_grammar.specs.Characters.{is_trail};
 ghost use Rattle.regex_pattern_front.specs.Reads.{IsReadAs, IsReadOr, IsLetter, IsTrailRead, IsPaired, IsCodePoint};
 
 use crate::codepointset::CODE_POINT_MAX;

@@ -2,7 +2,8 @@
 
 ghost use Rattle.std.specs.Prelude.{◌≡◌, ◌<◌, ◌≤◌, ◌||◌, ℕ, Bool, Some, IfOk, [], ◌∷◌, ◌++◌, slice_get, encode_utf8, if◌then◌else◌, ◌==◌};
 ghost use Rattle.regex_meaning.specs.Lists.{contains};
-ghost use Rattle.regex_meaning.specs.Text.{fold_code_point, expand_code_point, all_with_fold, nonascii_with_fold, nonascii_folds_to_ascii_word_char, to_lowercase, to_uppercase};
+ghost use Rattle.regex_meaning.specs.Text.{fold_code_point, expand_code_point, all_with_fold, nonascii_with_fold, nonascii_folds_to_ascii_word_char};
+ghost use Rattle.regex_meaning.specs.Text.{to_lowercase, to_uppercase};
 ghost use Rattle.regex_meaning.specs.StartPredicate.{bytes_where, begun_by, meet};
 ghost use Rattle.regex_pattern_front.specs.{ByteSets.{byte_bitmap_bytes}, Intervals.{interval_of, as_list}};
 

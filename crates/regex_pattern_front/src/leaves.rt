@@ -5,7 +5,9 @@ ghost use Rattle.std.specs.BTreeMap.{get_by_text};
 ghost use Rattle.regex_meaning.specs.Tree.{bracket as bracket_of, back_ref};
 ghost use Rattle.regex_grammar.specs.{Reading.{Text}, Grammar.{character_node}};
 ghost use Rattle.regex_pattern_front.specs.{TreeOf.{node_of, flags_of, contents_of}, Parts.{IsLeaf}, Reads.{is_refused}};
-ghost use Rattle.regex_pattern_front.specs.LeafReads.{whole, AreGroups, IsLeafOf, IsLeafRead, IsAtomRead, IsPassed, IsSignOf, IsWrongAlone, divides, repeats, closes, begins_reference, sign_of, boundary_letter, IsReferenceRead, IsNamedRead, IsCounted, IsDecimalRead};
+ghost use Rattle.regex_pattern_front.specs.LeafReads.{whole, AreGroups, IsLeafOf, IsLeafRead, IsAtomRead, IsPassed, IsSignOf, IsWrongAlone, divides};
+ghost use Rattle.regex_pattern_front.specs.LeafReads.{repeats, closes, begins_reference, sign_of, boundary_letter, IsReferenceRead, IsNamedRead};
+ghost use Rattle.regex_pattern_front.specs.LeafReads.{IsCounted, IsDecimalRead};
 
 use crate::classes::{ClassEscape, class};
 use crate::diagnosis::Cause;

@@ -1,7 +1,8 @@
 //! What is read of a pattern and not closed yet: the level in hand, and the parentheses round it.
 
 ghost use Rattle.std.specs.Prelude.{◌≡◌, IfOk, OnOk, [], ◌∷◌, ◌++◌, map};
-ghost use Rattle.regex_pattern_front.specs.{TreeOf.{node_of}, Parts.{IsMadeOf, JoinsParts, KeepsParts}, Levels.{nodes_at}, Model.{level_of, join_all}};
+ghost use Rattle.regex_pattern_front.specs.{TreeOf.{node_of}, Parts.{IsMadeOf, JoinsParts, KeepsParts}, Levels.{nodes_at}};
+ghost use Rattle.regex_pattern_front.specs.Model.{level_of, join_all};
 ghost use Rattle.regex_grammar.specs.{Open.{nothing_read, push, end_arm, join}, Reading.{arm}};
 
 use crate::groups::Opening;

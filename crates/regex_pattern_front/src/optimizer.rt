@@ -2,7 +2,9 @@
 
 ghost use Rattle.std.specs.Prelude.{◌≡◌};
 ghost use Rattle.regex_pattern_front.specs.{TreeOf.{cat_of, node_of}, declared.ir.Node.TheVariants.{Alt}};
-ghost use Rattle.regex_pattern_front.specs.Optimized.{reads_one_character, optimized, narrowed, behind_first, with_first, turned_back, OptimizedIsWellFormed, OptimizedHasSameOutcomes, OptimizedHasSameAnswers, OptimizedHasSameGroups, OptimizedHasSameNames};
+ghost use Rattle.regex_pattern_front.specs.Optimized.{reads_one_character, optimized, narrowed, behind_first, with_first, turned_back};
+ghost use Rattle.regex_pattern_front.specs.Optimized.{OptimizedIsWellFormed, OptimizedHasSameOutcomes, OptimizedHasSameAnswers};
+ghost use Rattle.regex_pattern_front.specs.Optimized.{OptimizedHasSameGroups, OptimizedHasSameNames};
 ghost use Rattle.regex_meaning.specs.Tree.{alt};
 
 use crate::ir::{Node, Regex};

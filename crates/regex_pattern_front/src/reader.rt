@@ -4,7 +4,8 @@ ghost use Rattle.std.specs.Prelude.{◌≡◌, ◌<◌, ◌≤◌, ◌∷◌, �
 ghost use Rattle.std.specs.Option.{ForSome};
 ghost use Rattle.regex_meaning.specs.WellFormed.{is_in_order};
 ghost use Rattle.regex_grammar.specs.Characters.{IsQuantified};
-ghost use Rattle.regex_pattern_front.specs.Reads.{IsUnescapedRead, IsNext, peeked, IsEaten, IsDigitRead, IsNumberRead, IsHexRead, AreCountsRead, IsMostRead, IsBracesRead, IsPrefixRead, IsQuantifierRead};
+ghost use Rattle.regex_pattern_front.specs.Reads.{IsUnescapedRead, IsNext, peeked, IsEaten, IsDigitRead, IsNumberRead, IsHexRead, AreCountsRead};
+ghost use Rattle.regex_pattern_front.specs.Reads.{IsMostRead, IsBracesRead, IsPrefixRead, IsQuantifierRead};
 
 use crate::diagnosis::Cause;
 use crate::fault::Fault;

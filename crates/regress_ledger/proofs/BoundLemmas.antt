@@ -1,5 +1,6 @@
 -- What a ledger's prices come to, and how much work they pay for.
-use Rattle.std.proofs.Common.{◌≡◌, ◌≤◌, ◌<◌, ℕ, zero, suc, ◌+◌, ◌*◌, List, [], ◌∷◌, Bool, true, false, if◌then◌else◌, length, map, slice_get, take, Option, Some, None, refl, ap, sym, subst, ◌∙◌, arith, sum_by}
+use Rattle.std.proofs.Common.{◌≡◌, ◌≤◌, ◌<◌, ℕ, zero, suc, ◌+◌, ◌*◌, List, [], ◌∷◌, Bool, true, false, if◌then◌else◌, length, map, slice_get, take}
+use Rattle.std.proofs.Common.{Option, Some, None, refl, ap, sym, subst, ◌∙◌, arith, sum_by}
 use mathlib.Core.Logic.{inl, inr}
 use Rattle.std.proofs.lemmas.Bool.{cases_lt}
 use Rattle.std.proofs.lemmas.List.{length-map}
@@ -26,7 +27,8 @@ use Rattle.regress_ledger.specs.Ledger.{no_line, line_of, account_of, questions_
 use Rattle.regress_ledger.specs.Whole.{AreCoded}
 use Rattle.regress_ledger.specs.Checks.{unlimited}
 use Rattle.regress_ledger.specs.Steps.{HasInsns, step_in}
-use Rattle.regress_ledger.specs.Bound.{LookIsBounded, InsnIsBounded, StepIsBounded, price_of_line, price_of_all, work_for_each, first_row, LedgersBound}
+use Rattle.regress_ledger.specs.Bound.{LookIsBounded, InsnIsBounded, StepIsBounded, price_of_line, price_of_all, work_for_each, first_row}
+use Rattle.regress_ledger.specs.Bound.{LedgersBound}
 use Rattle.regress_ledger.proofs.WholeLemmas.{ledgers-serve}
 
 -- the prices of lines, by what each instruction costs

@@ -1,5 +1,6 @@
 -- Codes, row by row.
-use Rattle.std.proofs.Common.{◌≡◌, ◌<◌, ◌≤◌, ℕ, suc, ◌+◌, ◌*◌, min, Bool, true, false, List, [], ◌∷◌, Option, Some, None, refl, ap, ◌∙◌, sym, subst, arith, length, get_or, drop, slice_get, if◌then◌else◌}
+use Rattle.std.proofs.Common.{◌≡◌, ◌<◌, ◌≤◌, ℕ, suc, ◌+◌, ◌*◌, min, Bool, true, false, List, [], ◌∷◌, Option, Some, None, refl, ap, ◌∙◌, sym, subst}
+use Rattle.std.proofs.Common.{arith, length, get_or, drop, slice_get, if◌then◌else◌}
 use Rattle.std.specs.Prelude.{◌==◌, nat_lt, option_map, unwrap_or}
 use Rattle.std.proofs.Common.{add-one, drop-cons, drop_of_length-le}
 use Rattle.std.proofs.Math.Nat.{mul_assoc, mul-le-mul_left}

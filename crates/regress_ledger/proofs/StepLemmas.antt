@@ -1,7 +1,8 @@
 -- What is checked of a step is what the laws ask of its instruction.
 use Rattle.std.proofs.Common.{◌≡◌, ◌<◌, ◌^◌, ℕ, ◌+◌, true, false, List, Option, Some, None, ap, ◌∙◌, sym, subst, map, slice_get}
 use Rattle.std.proofs.lemmas.Bool.{le-leb, lt-leb}
-use Rattle.regex_meaning.specs.Layout.{Program, Insn, Goal, JustFail, Alt, EnterLoop, LoopAgain, ResetCaptureGroup, Loop1CharBody, BeginCaptureGroup, EndCaptureGroup, BackRef, Lookahead, Lookbehind}
+use Rattle.regex_meaning.specs.Layout.{Program, Insn, Goal, JustFail, Alt, EnterLoop, LoopAgain, ResetCaptureGroup, Loop1CharBody, BeginCaptureGroup}
+use Rattle.regex_meaning.specs.Layout.{EndCaptureGroup, BackRef, Lookahead, Lookbehind}
 use Rattle.regex_meaning.specs.Layout as layout
 use Rattle.regress_plan.specs.Insns.{insn_of}
 use Rattle.regress_plan.specs.declared.insn.Insn as declared

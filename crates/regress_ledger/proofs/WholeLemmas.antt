@@ -1,5 +1,6 @@
 -- What is checked at each instruction is what a whole ledger owes, and what that serves for.
-use Rattle.std.proofs.Common.{◌≡◌, ◌<◌, ◌≤◌, ℕ, zero, suc, ◌+◌, Bool, true, false, ◌&&◌, ◌||◌, List, [], ◌∷◌, ◌⊎◌, Option, Some, None, refl, ap, ◌∙◌, sym, subst, arith, length, map, slice_get, if◌then◌else◌, take}
+use Rattle.std.proofs.Common.{◌≡◌, ◌<◌, ◌≤◌, ℕ, zero, suc, ◌+◌, Bool, true, false, ◌&&◌, ◌||◌, List, [], ◌∷◌, ◌⊎◌, Option, Some, None, refl, ap, ◌∙◌}
+use Rattle.std.proofs.Common.{sym, subst, arith, length, map, slice_get, if◌then◌else◌, take}
 use Rattle.std.specs.Prelude.{◌==◌, nat_le, nat_lt, unwrap_or}
 use mathlib.Core.Logic.{inl, inr}
 use Rattle.std.proofs.lemmas.Bool.{cases_lt, eq-eqb, eqb-true, lt-ltb, and_parts}
@@ -18,7 +19,8 @@ use Rattle.regress_ledger.specs.declared.ledger.Row.{Row}
 use Rattle.regress_ledger.specs.declared.ledger.Line.{Line}
 use Rattle.regress_ledger.specs.declared.ledger.Ledger.{Ledger}
 use Rattle.regress_ledger.specs.declared.ledger.Said.TheVariants.{Inside, Empty}
-use Rattle.regress_ledger.specs.Ledger.{no_line, line_of, rows_in, rows_of, holds, count_of, account_of, with_count, questions_on, questions_of, recorded_from, recorded, way_of}
+use Rattle.regress_ledger.specs.Ledger.{no_line, line_of, rows_in, rows_of, holds, count_of, account_of, with_count, questions_on, questions_of}
+use Rattle.regress_ledger.specs.Ledger.{recorded_from, recorded, way_of}
 use Rattle.regress_ledger.specs.Steps.{HasInsns, step_in}
 use Rattle.regress_ledger.specs.Checks.{StepIsRight, StepHasEnough, IsPaidFor, IsWritten}
 use Rattle.regress_ledger.specs.Whole.{IsLedgerOf, StartsOutside, LedgersServe}

@@ -1,5 +1,6 @@
 -- What is checked of a ledger at each instruction.
-use Rattle.std.specs.Prelude.{◌≡◌, ◌≢◌, ◌≤◌, ◌<◌, ℕ, ◌+◌, ◌-◌, ◌*◌, ◌^◌, Bool, true, false, ◌==◌, if◌then◌else◌, [], Option, Some, None, nat_lt, slice_get}
+use Rattle.std.specs.Prelude.{◌≡◌, ◌≢◌, ◌≤◌, ◌<◌, ℕ, ◌+◌, ◌-◌, ◌*◌, ◌^◌, Bool, true, false, ◌==◌, if◌then◌else◌, [], Option, Some, None, nat_lt}
+use Rattle.std.specs.Prelude.{slice_get}
 use Rattle.regex_meaning.specs.Text.{rightwards, leftwards}
 use Rattle.regex_meaning.specs.Layout.{Program, Insn, EnterLoop}
 use Rattle.regex_meaning.specs.Layout as layout
@@ -15,7 +16,8 @@ use Rattle.regress_ledger.specs.declared.steps.Step.{Step}
 use Rattle.regress_ledger.specs.declared.steps.Step.TheVariants.{Ends, One, Two, Enter, Again, Run, Look, Same}
 use Rattle.regress_ledger.specs.declared.steps.Look as look
 use Rattle.regress_ledger.specs.declared.steps.Bounds as bounds
-use Rattle.regress_ledger.specs.Ledger.{line_of, rows_of, holds, is_told, count_of, account_of, questions_of, recorded, weights_of, price_of, way_of, silent_of, base_of, width_of}
+use Rattle.regress_ledger.specs.Ledger.{line_of, rows_of, holds, is_told, count_of, account_of, questions_of, recorded, weights_of, price_of, way_of}
+use Rattle.regress_ledger.specs.Ledger.{silent_of, base_of, width_of}
 
 -- the loop is the one that is entered, if one is
 abbrev pub is_entered : Option ℕ → (l : ℕ) → Bool

@@ -1,5 +1,6 @@
 -- What a ledger says, in the words of the laws.
-use Rattle.std.specs.Prelude.{ℕ, ◌+◌, ◌*◌, Bool, true, false, if◌then◌else◌, ◌&&◌, ◌||◌, ◌==◌, List, [], ◌∷◌, length, unwrap_or, slice_get, slice_range, nat_le, nat_lt}
+use Rattle.std.specs.Prelude.{ℕ, ◌+◌, ◌*◌, Bool, true, false, if◌then◌else◌, ◌&&◌, ◌||◌, ◌==◌, List, [], ◌∷◌, length, unwrap_or, slice_get}
+use Rattle.std.specs.Prelude.{slice_range, nat_le, nat_lt}
 use Rattle.regex_meaning.specs.Text.{Direction, rightwards, leftwards}
 use Rattle.regress_linear.specs.Account.{Account}
 use Rattle.regress_linear.specs.Codes.{Question, is_empty, how_many}

@@ -1,6 +1,8 @@
 -- What instructions lead to.
 use Rattle.std.specs.Prelude.{◌≡◌, ℕ, ◌+◌, Bool, true, false, List, Option, Some, None, length, map, nat_lt}
-use Rattle.regex_meaning.specs.Layout.{Program, Insn, Goal, JustFail, Char, CharSet, ByteSet, ByteSeq, AsciiBracket, Bracket, MatchAny, MatchAnyExceptLineTerminator, Alt, Jump, EnterLoop, LoopAgain, ResetCaptureGroup, Loop1CharBody, BeginCaptureGroup, EndCaptureGroup, BackRef, Lookahead, Lookbehind}
+use Rattle.regex_meaning.specs.Layout.{Program, Insn, Goal, JustFail, Char, CharSet, ByteSet, ByteSeq, AsciiBracket, Bracket, MatchAny}
+use Rattle.regex_meaning.specs.Layout.{MatchAnyExceptLineTerminator, Alt, Jump, EnterLoop, LoopAgain, ResetCaptureGroup, Loop1CharBody}
+use Rattle.regex_meaning.specs.Layout.{BeginCaptureGroup, EndCaptureGroup, BackRef, Lookahead, Lookbehind}
 use Rattle.regress_plan.specs.Insns.{insn_of}
 use Rattle.regress_plan.specs.declared.insn.Insn as declared
 use Rattle.regress_ledger.specs.declared.steps.Step.{Step}

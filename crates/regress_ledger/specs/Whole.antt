@@ -1,5 +1,6 @@
 -- A whole ledger, and what one is good for.
-use Rattle.std.specs.Prelude.{◌≡◌, ◌≤◌, ◌<◌, ℕ, ◌+◌, ◌*◌, ◌^◌, min, Bool, true, false, ◌==◌, if◌then◌else◌, List, [], Option, Some, None, slice_get, length}
+use Rattle.std.specs.Prelude.{◌≡◌, ◌≤◌, ◌<◌, ℕ, ◌+◌, ◌*◌, ◌^◌, min, Bool, true, false, ◌==◌, if◌then◌else◌, List, [], Option, Some, None, slice_get}
+use Rattle.std.specs.Prelude.{length}
 use Rattle.regex_meaning.specs.Laws.{Each}
 use Rattle.regex_meaning.specs.Text.{Text, Direction, rightwards}
 use Rattle.regex_meaning.specs.Offsets.{IsText, units}
@@ -15,7 +16,8 @@ use Rattle.regress_linear.specs.Turns.{Key}
 use Rattle.regress_ledger.specs.declared.ledger.Ledger.{Ledger}
 use Rattle.regress_ledger.specs.declared.codes.Round.{Round}
 use Rattle.regress_ledger.specs.declared.ledger.Row.{Row}
-use Rattle.regress_ledger.specs.Ledger.{line_of, rows_of, account_of, questions_of, recorded, weights_of, price_of, way_of, silent_of, base_of, width_of, bit_of}
+use Rattle.regress_ledger.specs.Ledger.{line_of, rows_of, account_of, questions_of, recorded, weights_of, price_of, way_of, silent_of, base_of}
+use Rattle.regress_ledger.specs.Ledger.{width_of, bit_of}
 use Rattle.regress_ledger.specs.Checks.{RunIsWritten, StepIsRight, most_codes}
 use Rattle.regress_ledger.specs.Steps.{step_in}
 

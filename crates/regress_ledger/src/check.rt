@@ -5,7 +5,8 @@ ghost use Rattle.regex_meaning.specs.Layout.{Program};
 ghost use Rattle.regress_plan.specs.Insns.{insn_of, loop_fields_of};
 ghost use Rattle.regress_linear.specs.Weights.{HasOne, HasTwo};
 ghost use Rattle.regress_ledger.specs.{Ledger.{rows_of, line_of, silent_of, weights_of, holds, is_told}, Steps.{HasInsns, step_in}};
-ghost use Rattle.regress_ledger.specs.Checks.{is_entered, RowLeads, RowsLead, LeadsOn, Begins, BeginsAgain, GoesRound, BeginsAgainAt, DecidesAnywhere, AreLeft, LooksOn, StepIsRight, StepHasEnough, IsPaidFor, RunIsWritten, IsWritten};
+ghost use Rattle.regress_ledger.specs.Checks.{is_entered, RowLeads, RowsLead, LeadsOn, Begins, BeginsAgain, GoesRound, BeginsAgainAt};
+ghost use Rattle.regress_ledger.specs.Checks.{DecidesAnywhere, AreLeft, LooksOn, StepIsRight, StepHasEnough, IsPaidFor, RunIsWritten, IsWritten};
 ghost use Rattle.regress_ledger.specs.Whole.{IsLedgerOf, AreCoded, StartsOutside};
 
 use crate::edges::{Edge, enters};

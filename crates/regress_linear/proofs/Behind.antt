@@ -1,12 +1,14 @@
 -- Rows at hand agree with those of the machine.
-use Rattle.std.proofs.Common.{◌≡◌, ◌≤◌, ℕ, ◌+◌, ◌*◌, min, List, [], ◌∷◌, Option, Some, None, Bool, true, false, not, ◌&&◌, refl, ap, ap₂, ◌∙◌, sym, subst, arith, slice_get, length}
+use Rattle.std.proofs.Common.{◌≡◌, ◌≤◌, ℕ, ◌+◌, ◌*◌, min, List, [], ◌∷◌, Option, Some, None, Bool, true, false, not, ◌&&◌, refl, ap, ap₂, ◌∙◌, sym}
+use Rattle.std.proofs.Common.{subst, arith, slice_get, length}
 use Rattle.std.specs.Prelude.{IsSome, ◌==◌, option_map, unwrap_or}
 use mathlib.Core.Logic.{inl, inr}
 use Rattle.regex_meaning.specs.Text.{Text, Direction, rightwards, leftwards}
 use Rattle.regex_meaning.specs.Offsets.{units}
 use Rattle.regex_meaning.specs.Layout.{Program, Insn, Lookahead, Lookbehind}
 use Rattle.regex_meaning.proofs.Options.{some-same}
-use Rattle.regress_machine.specs.Machine.{LoopData, State, Thread, running, waiting, asks, Found, resumed, at_ip, next_ip, act_on, act, search, Next, goes, scans, ends, stuck}
+use Rattle.regress_machine.specs.Machine.{LoopData, State, Thread, running, waiting, asks, Found, resumed, at_ip, next_ip, act_on, act, search, Next}
+use Rattle.regress_machine.specs.Machine.{goes, scans, ends, stuck}
 use Rattle.regress_machine.proofs.Search.{asked-inner}
 use Rattle.regress_simulation.specs.Simulates.{Simulates}
 use Rattle.regress_simulation.proofs.Simulates.{simulates-asks, simulates-fewer}

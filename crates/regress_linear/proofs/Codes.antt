@@ -1,5 +1,6 @@
 -- Equal codes are equal answers.
-use Rattle.std.proofs.Common.{◌≡◌, ◌<◌, ◌≤◌, ℕ, ◌+◌, ◌*◌, min, List, [], ◌∷◌, Option, Some, None, Bool, true, false, ◌&&◌, refl, ap, ◌∙◌, sym, subst, arith, slice_get, length}
+use Rattle.std.proofs.Common.{◌≡◌, ◌<◌, ◌≤◌, ℕ, ◌+◌, ◌*◌, min, List, [], ◌∷◌, Option, Some, None, Bool, true, false, ◌&&◌, refl, ap, ◌∙◌, sym, subst}
+use Rattle.std.proofs.Common.{arith, slice_get, length}
 use Rattle.std.specs.Prelude.{◌==◌, option_map, unwrap_or}
 use mathlib.Core.Logic.{inl, inr}
 use Rattle.std.proofs.Math.Nat.{mul-le-mul_left}
@@ -13,7 +14,8 @@ use Rattle.regress_linear.specs.Keys.{SamePlace}
 use Rattle.regress_linear.specs.Distinct.{IsIn}
 use Rattle.regress_linear.specs.Turns.{Key}
 use Rattle.regress_linear.specs.Weights.{Shape, is_way, stands_there, has_shape}
-use Rattle.regress_linear.specs.Codes.{Question, is_empty, how_many, answers, digit, answer, code_of, codes_of, plan_code, plan_codes, AsksAll, IsStateOf, key_of, own_row, ThreadHasKey, PlansTell}
+use Rattle.regress_linear.specs.Codes.{Question, is_empty, how_many, answers, digit, answer, code_of, codes_of, plan_code, plan_codes, AsksAll}
+use Rattle.regress_linear.specs.Codes.{IsStateOf, key_of, own_row, ThreadHasKey, PlansTell}
 use Rattle.regress_linear.proofs.Keys.{unasked-count}
 
 -- ---- Digits

@@ -9,8 +9,11 @@ use Rattle.regex_meaning.specs.Text.{Text, Direction, next_character, moved}
 use Rattle.regex_meaning.specs.Offsets.{offset, place_at}
 use Rattle.regex_meaning.specs.Outcomes.{is_some_and}
 use Rattle.regex_meaning.specs.Ticks.{nearest_first}
-use Rattle.regex_meaning.specs.Layout.{Program, LoopFields, Insn, Goal, JustFail, ByteSeq, StartOfLine, EndOfLine, WordBoundary, WordBoundaryUnicodeICase, Alt, Jump, EnterLoop, LoopAgain, ResetCaptureGroup, Loop1CharBody, BeginCaptureGroup, EndCaptureGroup, BackRef, Lookahead, Lookbehind}
-use Rattle.regress_machine.specs.Machine.{State, Thread, running, waiting, Next, goes, at_ip, with_some, go, go_if, span, test_of, on_to, moved_by, read_one, stay_if, read_group, run_states, scan, act_on, act}
+use Rattle.regex_meaning.specs.Layout.{Program, LoopFields, Insn, Goal, JustFail, ByteSeq, StartOfLine, EndOfLine, WordBoundary}
+use Rattle.regex_meaning.specs.Layout.{WordBoundaryUnicodeICase, Alt, Jump, EnterLoop, LoopAgain, ResetCaptureGroup, Loop1CharBody}
+use Rattle.regex_meaning.specs.Layout.{BeginCaptureGroup, EndCaptureGroup, BackRef, Lookahead, Lookbehind}
+use Rattle.regress_machine.specs.Machine.{State, Thread, running, waiting, Next, goes, at_ip, with_some, go, go_if, span, test_of, on_to, moved_by}
+use Rattle.regress_machine.specs.Machine.{read_one, stay_if, read_group, run_states, scan, act_on, act}
 use Rattle.regress_machine.proofs.Leaving.{IsOfThread, IsOfNext, of-in_turn, of-with_some, of-only_if, of-go_if, of-map, of-loop_turn, of-again_at}
 use Rattle.regress_linear.specs.Codes.{IsStateOf}
 use Rattle.regress_linear.specs.LaidOut.{state_of_thread, StatesStayLaidOut}

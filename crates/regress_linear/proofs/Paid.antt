@@ -14,7 +14,8 @@ use Rattle.regress_linear.specs.Weights.{Weights, weight_of}
 use Rattle.regress_linear.specs.Codes.{Question, key_of}
 use Rattle.regress_linear.specs.Runs.{passing, run_from, waits_from}
 use Rattle.regress_linear.specs.RunTurns.{key_behind}
-use Rattle.regress_linear.specs.Paid.{weight_by, IsPaid, ArePaid, RunIsPaid, LazyRunIsPaid, ThreadIsPaid, places_from, key_on, RunTurnsArePaid, TurnsArePaid}
+use Rattle.regress_linear.specs.Paid.{weight_by, IsPaid, ArePaid, RunIsPaid, LazyRunIsPaid, ThreadIsPaid, places_from, key_on, RunTurnsArePaid}
+use Rattle.regress_linear.specs.Paid.{TurnsArePaid}
 use Rattle.regress_linear.proofs.Turns.{keys-bare, keys-tries}
 use Rattle.regress_linear.proofs.Plans.{bare-tries}
 use Rattle.regress_linear.proofs.Weights.{turns-weighed, runs-pay}

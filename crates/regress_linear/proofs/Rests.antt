@@ -8,9 +8,11 @@ use Rattle.regress_machine.specs.Machine.{Thread, Found, search}
 use Rattle.regress_simulation.specs.Simulates.{Within, Simulates}
 use Rattle.regress_simulation.proofs.Simulates.{within-start, within-simulates, simulates-fewer, simulates-same}
 use Rattle.regress_linear.specs.Account.{Account, IsAccount}
-use Rattle.regress_linear.specs.Turns.{Key, Keys, Entry, tried, kept, noted, tries, threads_in, keys_in, IsBare, IsOf, AreKeys, Fails, Reaches, FindEnd, AreNoted, AreAnswered, AreOpened}
+use Rattle.regress_linear.specs.Turns.{Key, Keys, Entry, tried, kept, noted, tries, threads_in, keys_in, IsBare, IsOf, AreKeys, Fails, Reaches}
+use Rattle.regress_linear.specs.Turns.{FindEnd, AreNoted, AreAnswered, AreOpened}
 use Rattle.regress_linear.specs.Rests.{Rests, AreComing, Puts, RowsRest}
-use Rattle.regress_linear.proofs.Turns.{threads-tries, threads-joined, noted-stay, noted-below, noted-none, answered-joined, answered-below, answered-none, answers-first, fails-all}
+use Rattle.regress_linear.proofs.Turns.{threads-tries, threads-joined, noted-stay, noted-below, noted-none, answered-joined, answered-below}
+use Rattle.regress_linear.proofs.Turns.{answered-none, answers-first, fails-all}
 use Rattle.regress_linear.proofs.Looks.{begins-found, found-shared}
 use Rattle.regress_linear.proofs.Weights.{none-noted}
 

@@ -1,5 +1,6 @@
 -- The rows of runs have their keys.
-use Rattle.std.proofs.Common.{◌≡◌, ◌≤◌, ◌<◌, ℕ, suc, ◌+◌, ◌-◌, ◌*◌, ◌/◌, ◌%◌, List, [], ◌∷◌, ◌++◌, map, Option, Some, None, Bool, true, false, not, refl, ap, ap₂, ◌∙◌, sym, subst, arith, slice_get, add-one}
+use Rattle.std.proofs.Common.{◌≡◌, ◌≤◌, ◌<◌, ℕ, suc, ◌+◌, ◌-◌, ◌*◌, ◌/◌, ◌%◌, List, [], ◌∷◌, ◌++◌, map, Option, Some, None, Bool, true, false, not}
+use Rattle.std.proofs.Common.{refl, ap, ap₂, ◌∙◌, sym, subst, arith, slice_get, add-one}
 use Rattle.std.specs.Prelude.{if◌then◌else◌, ◌==◌, option_map, unwrap_or}
 use mathlib.Core.Logic.{inl, inr}
 use Rattle.std.proofs.lemmas.Bool.{eqb-true, eqb-false, lt-ltb, le-leb}
@@ -23,7 +24,8 @@ use Rattle.regress_linear.specs.Turns.{Key, Keys, AreSound}
 use Rattle.regress_linear.specs.Weights.{Shape, stands_there, has_shape}
 use Rattle.regress_linear.specs.Codes.{Question, is_empty, how_many, answers, digit, answer, code_of, codes_of, plan_code, plan_codes, IsStateOf}
 use Rattle.regress_linear.specs.Runs.{passing, run_from, waits_from}
-use Rattle.regress_linear.specs.RunKeys.{answer_on, code_on, first_runs, shape_on, run_row, run_at, insn_before, row_by, plan_rows, RunRecords, run_key, plan_keys, IsOfPlan, RunHasKeys, RunsHaveKeys}
+use Rattle.regress_linear.specs.RunKeys.{answer_on, code_on, first_runs, shape_on, run_row, run_at, insn_before, row_by, plan_rows, RunRecords}
+use Rattle.regress_linear.specs.RunKeys.{run_key, plan_keys, IsOfPlan, RunHasKeys, RunsHaveKeys}
 use Rattle.regress_linear.proofs.Agree.{moves-on, not-here}
 use Rattle.regress_linear.proofs.Keys.{sound-state}
 use Rattle.regress_linear.proofs.Runs.{passing-left}

@@ -7,7 +7,8 @@ use Rattle.regex_meaning.specs.Layout.{Program}
 use Rattle.regress_machine.specs.Machine.{Thread, Found, search}
 use Rattle.regress_simulation.specs.Simulates.{Within, Simulates}
 use Rattle.regress_linear.specs.Account.{Account, IsAccount}
-use Rattle.regress_linear.specs.Turns.{Key, Keys, Entry, tried, kept, noted, tries, threads_in, keys_in, IsBare, IsOf, AreKeys, Fails, Reaches, FindEnd, AreNoted, AreAnswered, Gives}
+use Rattle.regress_linear.specs.Turns.{Key, Keys, Entry, tried, kept, noted, tries, threads_in, keys_in, IsBare, IsOf, AreKeys, Fails, Reaches}
+use Rattle.regress_linear.specs.Turns.{FindEnd, AreNoted, AreAnswered, Gives}
 
 module _ (program : Program) (text : Text) (a : Account) (keys : Keys) (d : Direction) where
   -- what is in the row finds it, and its records are right

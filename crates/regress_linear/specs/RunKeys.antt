@@ -1,5 +1,6 @@
 -- Keys of runs without a maximum: the row that one leaves from a place on is told by the run, the place and a code.
-use Rattle.std.specs.Prelude.{◌≡◌, ◌≤◌, ℕ, zero, suc, ◌+◌, ◌*◌, ◌/◌, ◌%◌, Bool, true, false, if◌then◌else◌, ◌==◌, List, [], ◌∷◌, map, reverse, Option, Some, None, slice_get}
+use Rattle.std.specs.Prelude.{◌≡◌, ◌≤◌, ℕ, zero, suc, ◌+◌, ◌*◌, ◌/◌, ◌%◌, Bool, true, false, if◌then◌else◌, ◌==◌, List, [], ◌∷◌, map, reverse}
+use Rattle.std.specs.Prelude.{Option, Some, None, slice_get}
 use Rattle.regex_meaning.specs.Lists.{numbers_from}
 use Rattle.regex_meaning.specs.Text.{Text, Direction, last_place, moved}
 use Rattle.regex_meaning.specs.Offsets.{IsText, offset, place_at, units}

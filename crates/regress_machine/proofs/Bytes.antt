@@ -1,5 +1,6 @@
 -- What byte sequences and sets of bytes find.
-use Rattle.std.proofs.Common.{◌≡◌, ℕ, zero, suc, ◌+◌, ◌-◌, ◌<◌, ◌≤◌, List, [], ◌∷◌, ◌++◌, length, map, take, drop, Some, Bool, true, false, refl, ap, ap₂, ◌∙◌, sym, subst, arith, slice_get, reverse, length-drop}
+use Rattle.std.proofs.Common.{◌≡◌, ℕ, zero, suc, ◌+◌, ◌-◌, ◌<◌, ◌≤◌, List, [], ◌∷◌, ◌++◌, length, map, take, drop, Some, Bool, true, false, refl, ap}
+use Rattle.std.proofs.Common.{ap₂, ◌∙◌, sym, subst, arith, slice_get, reverse, length-drop}
 use Rattle.std.specs.Prelude.{if◌then◌else◌, ◌&&◌, nat_le, nat_lt, nat_eq, encode_utf8_all, chars}
 use Rattle.std.specs.Str.{is_utf8}
 use lib.Pointwise.{pointwise}
@@ -27,8 +28,10 @@ use Rattle.regress_machine.proofs.OneTests.{low_scalar, scalar_of, utf8_text_of}
 use Rattle.regress_machine.proofs.OneCharacter.{reached_behind}
 use Rattle.regress_machine.proofs.Stands.{stands, stands-length, in_reading_order, length-reading, beside-stands}
 use Rattle.regress_machine.proofs.Strings.{items_if, items_if-pair, tried_more, same_number}
-use Rattle.regress_machine.proofs.Chunks.{chunks_stand, chunks_stand-concat, total, in_code_order, chunks_read, chunks_read-cons, concat-chunks, total-chunks}
-use Rattle.regress_machine.proofs.Utf8.{starts-stands, scalars_of, bytes-stand, side, nearest-side, scalars-side, bytes, bytes_near, bytes_near-side, offset-inside, offset-moved}
+use Rattle.regress_machine.proofs.Chunks.{chunks_stand, chunks_stand-concat, total, in_code_order, chunks_read, chunks_read-cons, concat-chunks}
+use Rattle.regress_machine.proofs.Chunks.{total-chunks}
+use Rattle.regress_machine.proofs.Utf8.{starts-stands, scalars_of, bytes-stand, side, nearest-side, scalars-side, bytes, bytes_near, bytes_near-side}
+use Rattle.regress_machine.proofs.Utf8.{offset-inside, offset-moved}
 use Rattle.std.proofs.Math.Bool.{and-true}
 use Rattle.std.proofs.lemmas.Bool.{and_from, ltb-true}
 use Rattle.regex_meaning.proofs.Booleans.{and-left, and-right}

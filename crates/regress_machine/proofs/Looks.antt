@@ -1,5 +1,6 @@
 -- What lookarounds find.
-use Rattle.std.proofs.Common.{◌≡◌, ℕ, ◌+◌, ◌≤◌, List, [], ◌∷◌, ◌++◌, length, map, Option, Some, None, Bool, true, false, refl, ap, ◌∙◌, sym, arith, append-nil}
+use Rattle.std.proofs.Common.{◌≡◌, ℕ, ◌+◌, ◌≤◌, List, [], ◌∷◌, ◌++◌, length, map, Option, Some, None, Bool, true, false, refl, ap, ◌∙◌, sym, arith}
+use Rattle.std.proofs.Common.{append-nil}
 use Rattle.std.specs.Prelude.{if◌then◌else◌}
 use Rattle.regex_meaning.specs.Tree.{Lookaround, Node, lookaround, group_ids}
 use Rattle.regex_meaning.specs.Text.{Text, Direction, rightwards, leftwards}

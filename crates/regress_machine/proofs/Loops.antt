@@ -1,5 +1,7 @@
 -- What loops find.
-use Rattle.std.proofs.Common.{◌≡◌, ℕ, zero, suc, ◌+◌, ◌-◌, ◌<◌, ◌≤◌, List, [], ◌∷◌, ◌++◌, length, map, Option, Some, None, Bool, true, false, refl, ap, ◌∙◌, sym, subst, arith, append-nil, slice_get, slice_set, length-set, lt-ltb, nat_eq, nat_lt, nat_le, eq-eqb, ne_eqb, eqb-true, nltb→le}
+use Rattle.std.proofs.Common.{◌≡◌, ℕ, zero, suc, ◌+◌, ◌-◌, ◌<◌, ◌≤◌, List, [], ◌∷◌, ◌++◌, length, map, Option, Some, None, Bool, true, false, refl}
+use Rattle.std.proofs.Common.{ap, ◌∙◌, sym, subst, arith, append-nil, slice_get, slice_set, length-set, lt-ltb, nat_eq, nat_lt, nat_le, eq-eqb}
+use Rattle.std.proofs.Common.{ne_eqb, eqb-true, nltb→le}
 use Rattle.std.proofs.lemmas.List.{length-map}
 use Rattle.std.proofs.lemmas.Bool.{eqb-false}
 use Rattle.std.specs.Prelude.{option_map, not, if◌then◌else◌, ◌&&◌, ◌==◌}
@@ -12,10 +14,12 @@ use Rattle.regex_meaning.specs.Outcomes.{Groups, Outcome, cleared, most_of, Repe
 use Rattle.regex_meaning.specs.Ticks.{Item, tick, pair, ticks, and_then, ways, ticked_rounds, ticked}
 use Rattle.regex_meaning.specs.Layout.{Program, LoopFields, Insn, Mark, next, HasAll, IsCode, ResetCaptureGroup, EnterLoop, LoopAgain}
 use Rattle.regex_meaning.proofs.TextLemmas.{offset-injective}
-use Rattle.regress_machine.specs.Machine.{LoopData, State, Thread, running, waiting, goes, go, with_some, only_if, in_turn, preferring, loop_turn, again_with, again_at, act}
+use Rattle.regress_machine.specs.Machine.{LoopData, State, Thread, running, waiting, goes, go, with_some, only_if, in_turn, preferring, loop_turn}
+use Rattle.regress_machine.specs.Machine.{again_with, again_at, act}
 use Rattle.regress_machine.proofs.Yields.{Ending, Yields, yields_none, yields_append, yields_same, yields_turn, yields_wait}
 use Rattle.regress_machine.proofs.Frames.{Kept, kept_itself, kept_more, kept_both, inside_itself, slice_get-set_same, slice_get-set_other}
-use Rattle.regress_machine.proofs.Nodes.{over, state_at, RangeFits, Fit, Reached, GoesOn, Enters, here, reached_both, act_at, Finds, at_mark, Rising, and_then-append, and_then-and_then, and_then-ticks}
+use Rattle.regress_machine.proofs.Nodes.{over, state_at, RangeFits, Fit, Reached, GoesOn, Enters, here, reached_both, act_at, Finds, at_mark, Rising}
+use Rattle.regress_machine.proofs.Nodes.{and_then-append, and_then-and_then, and_then-ticks}
 use Rattle.regress_machine.proofs.Groups.{map-set}
 use Rattle.regex_meaning.proofs.Each.{Each-set}
 

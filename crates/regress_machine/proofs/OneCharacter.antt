@@ -1,12 +1,14 @@
 -- What a loop over one character finds.
-use Rattle.std.proofs.Common.{◌≡◌, ℕ, ◌+◌, ◌-◌, ◌<◌, ◌≤◌, min, List, [], ◌∷◌, ◌++◌, map, take, Bool, true, false, refl, ap, ◌∙◌, sym, subst, arith, append-nil, cond}
+use Rattle.std.proofs.Common.{◌≡◌, ℕ, ◌+◌, ◌-◌, ◌<◌, ◌≤◌, min, List, [], ◌∷◌, ◌++◌, map, take, Bool, true, false, refl, ap, ◌∙◌, sym, subst, arith}
+use Rattle.std.proofs.Common.{append-nil, cond}
 use Rattle.std.specs.Prelude.{if◌then◌else◌, nat_le, nat_eq, ◌&&◌, chars}
 use Rattle.std.specs.List.{prefix_len}
 use Rattle.std.proofs.lemmas.List.Sums.{prefix_len-le-length}
 use lib.Pointwise.{pointwise}
 use Rattle.regex_meaning.specs.Lists.{numbers_from}
 use Rattle.regex_meaning.specs.Laws.{Each, IsOnward}
-use Rattle.regex_meaning.specs.Tree.{Quantifier, Node, char, char_set, byte_set, byte_sequence, bracket, match_any, match_any_except_line_terminator, loop_1_char_body, group_ids}
+use Rattle.regex_meaning.specs.Tree.{Quantifier, Node, char, char_set, byte_set, byte_sequence, bracket, match_any, match_any_except_line_terminator}
+use Rattle.regex_meaning.specs.Tree.{loop_1_char_body, group_ids}
 use Rattle.regex_meaning.specs.Text.{Text, Direction, rightwards, leftwards, last_place, next_character, moved, characters_left, characters_beside}
 use Rattle.regex_meaning.specs.Offsets.{IsText, offset, place_at}
 use Rattle.regex_meaning.specs.Outcomes.{Groups, Outcome, accepts, is_some_and, most_of, repetition, repeat, one_character, spelled, outcomes}

@@ -1,5 +1,6 @@
 -- The instruction of a node of one character tests what the node accepts.
-use Rattle.std.proofs.Common.{◌≡◌, ℕ, zero, suc, ◌+◌, ◌<◌, ◌≤◌, List, [], ◌∷◌, ◌++◌, length, map, drop, Some, Bool, true, false, ◌&&◌, ◌||◌, refl, ap, ◌∙◌, sym, subst, arith, append-nil, slice_get, drop_of_length-le}
+use Rattle.std.proofs.Common.{◌≡◌, ℕ, zero, suc, ◌+◌, ◌<◌, ◌≤◌, List, [], ◌∷◌, ◌++◌, length, map, drop, Some, Bool, true, false, ◌&&◌, ◌||◌, refl}
+use Rattle.std.proofs.Common.{ap, ◌∙◌, sym, subst, arith, append-nil, slice_get, drop_of_length-le}
 use Rattle.std.specs.Prelude.{nat_le, nat_lt, nat_eq, ◌==◌, encode_utf8_all, chars, option_and_then, MatchBool}
 use Rattle.std.specs.List.{list_all}
 use Rattle.std.specs.Char.{encode_utf8 as encode, len_utf8}
@@ -12,12 +13,14 @@ use lib.Pointwise.{pointwise}
 use lib.Utf8.{scalar}
 use Rattle.regex_meaning.specs.Lists.{contains}
 use Rattle.regex_meaning.specs.Laws.{Each}
-use Rattle.regex_meaning.specs.Tree.{BracketContents, Node, char, char_set, byte_set, byte_sequence, bracket, match_any, match_any_except_line_terminator}
+use Rattle.regex_meaning.specs.Tree.{BracketContents, Node, char, char_set, byte_set, byte_sequence, bracket, match_any}
+use Rattle.regex_meaning.specs.Tree.{match_any_except_line_terminator}
 use Rattle.regex_meaning.specs.Text.{Text, is_scalar}
 use Rattle.regex_meaning.specs.Outcomes.{accepts, differ, in_intervals}
 use Rattle.regex_meaning.specs.StartPredicate.{bytes_where}
 use Rattle.regex_meaning.specs.WellFormed.{is_one_character, has_text_in_sequence, fits_instructions}
-use Rattle.regex_meaning.specs.Layout.{Program, Insn, Mark, HasAll, IsCode, JustFail, Char, CharSet, ByteSet, ByteSeq, AsciiBracket, Bracket, MatchAny, MatchAnyExceptLineTerminator, padded, ordered, is_ascii_set, chunks, chunks_of}
+use Rattle.regex_meaning.specs.Layout.{Program, Insn, Mark, HasAll, IsCode, JustFail, Char, CharSet, ByteSet, ByteSeq, AsciiBracket, Bracket}
+use Rattle.regex_meaning.specs.Layout.{MatchAny, MatchAnyExceptLineTerminator, padded, ordered, is_ascii_set, chunks, chunks_of}
 use Rattle.regex_meaning.proofs.FirstBytes.{true-in_range, encode-1}
 use Rattle.regress_machine.specs.Machine.{test_of}
 use Rattle.regress_machine.specs.Bytes.{ReadsBytes, reads_bytes}

@@ -1,14 +1,17 @@
 -- What a well-formed tree says of each node.
-use Rattle.std.proofs.Common.{◌≡◌, ℕ, zero, suc, ◌+◌, ◌-◌, ◌<◌, ◌≤◌, List, [], ◌∷◌, ◌++◌, length, Bool, true, false, cond, refl, ap, ◌∙◌, sym, subst, arith, nat_eq, nat_lt, nat_le, ltb→lt, nltb→le, eqb-true, eq-eqb}
+use Rattle.std.proofs.Common.{◌≡◌, ℕ, zero, suc, ◌+◌, ◌-◌, ◌<◌, ◌≤◌, List, [], ◌∷◌, ◌++◌, length, Bool, true, false, cond, refl, ap, ◌∙◌, sym, subst}
+use Rattle.std.proofs.Common.{arith, nat_eq, nat_lt, nat_le, ltb→lt, nltb→le, eqb-true, eq-eqb}
 use Rattle.std.proofs.lemmas.Bool.{eqb-false, le-ltb, or_left, or_right, leb-true}
 use Rattle.std.proofs.lemmas.List.Sums.{sum_by-cons, count_by-le-length}
 use Rattle.std.proofs.lemmas.List.Folds.{list_any-append}
 use Rattle.std.specs.Prelude.{count_by, ◌&&◌, ◌||◌, ◌==◌, if◌then◌else◌, IsTrue}
 use Rattle.std.specs.List.{list_all}
 use Rattle.regex_meaning.specs.Lists.{contains, numbers_from}
-use Rattle.regex_meaning.specs.Tree.{Node, char, char_set, byte_set, byte_sequence, cat, alt, bracket, match_any, match_any_except_line_terminator, capture_group, back_ref, lookaround, loop, loop_1_char_body, group_ids, every}
+use Rattle.regex_meaning.specs.Tree.{Node, char, char_set, byte_set, byte_sequence, cat, alt, bracket, match_any, match_any_except_line_terminator}
+use Rattle.regex_meaning.specs.Tree.{capture_group, back_ref, lookaround, loop, loop_1_char_body, group_ids, every}
 use Rattle.regex_meaning.specs.Text.{Text}
-use Rattle.regex_meaning.specs.WellFormed.{IsWellFormed, encloses, names_the_groups_inside, refers_to_a_group, is_one_character, has_one_character_body, has_text_in_sequence, fits_instructions}
+use Rattle.regex_meaning.specs.WellFormed.{IsWellFormed, encloses, names_the_groups_inside, refers_to_a_group, is_one_character}
+use Rattle.regex_meaning.specs.WellFormed.{has_one_character_body, has_text_in_sequence, fits_instructions}
 use Rattle.regex_meaning.proofs.WellFormedLemmas.{clauses}
 use Rattle.regress_machine.specs.Bytes.{ReadsBytes, reads_bytes}
 use Rattle.regress_machine.proofs.Loops.{AreBelow}

@@ -1,5 +1,6 @@
 -- What nodes of one character find.
-use Rattle.std.proofs.Common.{◌≡◌, ℕ, zero, suc, ◌+◌, ◌-◌, ◌<◌, ◌≤◌, List, [], ◌∷◌, length, map, filter, Option, Some, None, Bool, true, false, not, ◌||◌, refl, ap, ◌∙◌, sym, arith, slice_get}
+use Rattle.std.proofs.Common.{◌≡◌, ℕ, zero, suc, ◌+◌, ◌-◌, ◌<◌, ◌≤◌, List, [], ◌∷◌, length, map, filter, Option, Some, None, Bool, true, false, not}
+use Rattle.std.proofs.Common.{◌||◌, refl, ap, ◌∙◌, sym, arith, slice_get}
 use Rattle.std.specs.Prelude.{if◌then◌else◌, nat_eq, nat_lt, replicate, option_and_then, MatchBool}
 use Rattle.std.specs.List.{list_all}
 use Rattle.std.specs.Int.{is_in_range}
@@ -11,7 +12,8 @@ use Rattle.regex_meaning.specs.Offsets.{IsText}
 use Rattle.regex_meaning.specs.Outcomes.{Groups, Outcome, accepts, differ, in_intervals, is_some_and, one_character, outcomes}
 use Rattle.regex_meaning.specs.StartPredicate.{bytes_where}
 use Rattle.regex_meaning.specs.Ticks.{Item, tick, pair, and_then, ticked}
-use Rattle.regex_meaning.specs.Layout.{Program, Insn, Mark, next, HasAll, IsCode, JustFail, Char, CharSet, ByteSet, AsciiBracket, Bracket, MatchAny, MatchAnyExceptLineTerminator, padded, char_set_insn, byte_set_insn, is_ascii_set}
+use Rattle.regex_meaning.specs.Layout.{Program, Insn, Mark, next, HasAll, IsCode, JustFail, Char, CharSet, ByteSet, AsciiBracket, Bracket, MatchAny}
+use Rattle.regex_meaning.specs.Layout.{MatchAnyExceptLineTerminator, padded, char_set_insn, byte_set_insn, is_ascii_set}
 use Rattle.regex_meaning.proofs.FirstBytes.{true-in_range, contains-bytes_where}
 use Rattle.regress_machine.specs.Machine.{LoopData, State, running, with_some, read_one, act_on}
 use Rattle.regress_machine.proofs.Yields.{Ending, Yields, yields_none, yields_same, yields_turn}

@@ -1,5 +1,6 @@
 -- What sets of strings find.
-use Rattle.std.proofs.Common.{◌≡◌, ℕ, ◌+◌, ◌≤◌, List, [], ◌∷◌, ◌++◌, length, map, Some, Bool, true, false, refl, ap, ◌∙◌, sym, subst, arith, add-one, append-nil, slice_get}
+use Rattle.std.proofs.Common.{◌≡◌, ℕ, ◌+◌, ◌≤◌, List, [], ◌∷◌, ◌++◌, length, map, Some, Bool, true, false, refl, ap, ◌∙◌, sym, subst, arith, add-one}
+use Rattle.std.proofs.Common.{append-nil, slice_get}
 use Rattle.std.specs.Prelude.{if◌then◌else◌, nat_eq, ◌==◌, ◌&&◌}
 use Rattle.regex_meaning.specs.Lists.{contains}
 use Rattle.regex_meaning.specs.Laws.{IsOnward}
@@ -7,8 +8,10 @@ use Rattle.regex_meaning.specs.Tree.{string_set}
 use Rattle.regex_meaning.specs.Text.{Text, Direction, rightwards, leftwards, last_place, next_character, moved, characters_left, expand_code_point}
 use Rattle.regex_meaning.specs.Offsets.{IsText}
 use Rattle.regex_meaning.specs.Outcomes.{Groups, Outcome, is_some_and, spells, spelled}
-use Rattle.regex_meaning.specs.Ticks.{Item, tick, pair, ticks, tries, and_then, ticked_pairs, nearest_first, string_tries, ticked_string, ticked_strings, ticked}
-use Rattle.regex_meaning.specs.Layout.{Program, Insn, Mark, next, Has, HasAll, IsCode, IsStringCode, AreStringsCode, JustFail, Char, CharSet, Alt, Jump, padded, ordered, spelling_insn}
+use Rattle.regex_meaning.specs.Ticks.{Item, tick, pair, ticks, tries, and_then, ticked_pairs, nearest_first, string_tries, ticked_string}
+use Rattle.regex_meaning.specs.Ticks.{ticked_strings, ticked}
+use Rattle.regex_meaning.specs.Layout.{Program, Insn, Mark, next, Has, HasAll, IsCode, IsStringCode, AreStringsCode, JustFail, Char, CharSet, Alt}
+use Rattle.regex_meaning.specs.Layout.{Jump, padded, ordered, spelling_insn}
 use Rattle.regex_meaning.proofs.TextLemmas.{place_at-offset}
 use Rattle.regress_machine.specs.Machine.{LoopData, State, running, waiting, with_some, go_if, on_to, read_one, act_on, act}
 use Rattle.regress_machine.proofs.Yields.{Ending, Yields, yields_none, yields_append, yields_same, yields_turn, yields_wait}

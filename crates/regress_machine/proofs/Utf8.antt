@@ -1,5 +1,6 @@
 -- Characters on a side of a place, and their bytes.
-use Rattle.std.proofs.Common.{◌≡◌, ℕ, zero, suc, ◌+◌, ◌-◌, ◌≤◌, List, [], ◌∷◌, ◌++◌, length, map, take, drop, get_or, true, refl, ap, ◌∙◌, sym, arith, append_assoc, zero-add, reverse, length-append}
+use Rattle.std.proofs.Common.{◌≡◌, ℕ, zero, suc, ◌+◌, ◌-◌, ◌≤◌, List, [], ◌∷◌, ◌++◌, length, map, take, drop, get_or, true, refl, ap, ◌∙◌, sym}
+use Rattle.std.proofs.Common.{arith, append_assoc, zero-add, reverse, length-append}
 use Rattle.std.specs.Prelude.{◌&&◌, nat_eq, encode_utf8_all, chars}
 use Rattle.std.specs.Char.{encode_utf8 as encode, len_utf8}
 use Rattle.std.specs.Str.{IsCharBoundary}

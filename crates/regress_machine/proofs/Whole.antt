@@ -1,8 +1,11 @@
 -- What the code of a whole tree finds.
-use Rattle.std.proofs.Common.{◌≡◌, ℕ, ◌-◌, ◌<◌, ◌≤◌, List, [], ◌∷◌, length, replicate, Option, Some, None, Bool, true, false, refl, ap, ◌∙◌, sym, subst, arith, eqb-true}
+use Rattle.std.proofs.Common.{◌≡◌, ℕ, ◌-◌, ◌<◌, ◌≤◌, List, [], ◌∷◌, length, replicate, Option, Some, None, Bool, true, false, refl, ap, ◌∙◌, sym}
+use Rattle.std.proofs.Common.{subst, arith, eqb-true}
 use Rattle.std.proofs.lemmas.List.{length-replicate}
 use Rattle.std.specs.Prelude.{option_map, if◌then◌else◌, ◌==◌}
-use Rattle.regex_meaning.specs.Tree.{Node, empty, goal, char, char_set, byte_set, byte_sequence, cat, end_of_cat, alt, bracket, string_set, match_any, match_any_except_line_terminator, anchor, word_boundary, capture_group, back_ref, lookaround, loop, loop_1_char_body, group_ids, Flags, Tree}
+use Rattle.regex_meaning.specs.Tree.{Node, empty, goal, char, char_set, byte_set, byte_sequence, cat, end_of_cat, alt, bracket, string_set}
+use Rattle.regex_meaning.specs.Tree.{match_any, match_any_except_line_terminator, anchor, word_boundary, capture_group, back_ref, lookaround, loop}
+use Rattle.regex_meaning.specs.Tree.{loop_1_char_body, group_ids, Flags, Tree}
 use Rattle.regex_meaning.specs.Text.{Text, Direction, rightwards, last_place}
 use Rattle.regex_meaning.specs.Offsets.{IsText, offset}
 use Rattle.regex_meaning.specs.Outcomes.{Groups, Outcome, direction_of, outcomes}
@@ -15,7 +18,9 @@ use Rattle.regress_machine.specs.Finds.{initial, end_in_offsets, end_of, first_p
 use Rattle.regress_machine.proofs.Search.{search_enough}
 use Rattle.regress_machine.proofs.Yields.{Ending, EndIs, found_first, Yields, yields_same, yields_end}
 use Rattle.regress_machine.proofs.Nodes.{direction_at, state_at, RangeFits, Enters, act_at, Finds, Rising, nothing_finds, cat_finds, alt_finds}
-use Rattle.regress_machine.proofs.Sets.{char_finds, char_set_finds, match_any_finds, match_any_except_line_terminator_finds, bracket_finds, insns_rising, char_rising, char_set_rising, byte_set_rising, match_any_rising, match_any_except_line_terminator_rising, bracket_rising}
+use Rattle.regress_machine.proofs.Sets.{char_finds, char_set_finds, match_any_finds, match_any_except_line_terminator_finds, bracket_finds}
+use Rattle.regress_machine.proofs.Sets.{insns_rising, char_rising, char_set_rising, byte_set_rising, match_any_rising}
+use Rattle.regress_machine.proofs.Sets.{match_any_except_line_terminator_rising, bracket_rising}
 use Rattle.regress_machine.proofs.Groups.{anchor_finds, word_boundary_finds, back_ref_finds, capture_group_finds}
 use Rattle.regress_machine.proofs.Looks.{lookaround_finds}
 use Rattle.regress_machine.proofs.Loops.{loop_finds, loop_rising}

@@ -1,8 +1,10 @@
 -- What a memory knows, as a list of keys.
-use Rattle.std.proofs.Common.{◌≡◌, ◌<◌, ◌≤◌, ℕ, ◌+◌, Bool, true, false, not, ◌&&◌, ◌||◌, List, [], ◌∷◌, Some, None, length, slice_get, if◌then◌else◌, refl, sym, ap, ◌∙◌, subst, arith}
+use Rattle.std.proofs.Common.{◌≡◌, ◌<◌, ◌≤◌, ℕ, ◌+◌, Bool, true, false, not, ◌&&◌, ◌||◌, List, [], ◌∷◌, Some, None, length, slice_get, if◌then◌else◌}
+use Rattle.std.proofs.Common.{refl, sym, ap, ◌∙◌, subst, arith}
 use Rattle.std.specs.Prelude.{◌==◌, ◌*◌, min, nat_le, nat_lt, option_map, unwrap_or}
 use mathlib.Core.Logic.{inl, inr}
-use Rattle.std.proofs.lemmas.Bool.{both_ways, true≢false, true_from_ne_false, ltb-true, leb-true, or_cases, or_left, or_right, or_from, and_from, not-true, not_from_false}
+use Rattle.std.proofs.lemmas.Bool.{both_ways, true≢false, true_from_ne_false, ltb-true, leb-true, or_cases, or_left, or_right, or_from, and_from}
+use Rattle.std.proofs.lemmas.Bool.{not-true, not_from_false}
 use Rattle.std.proofs.Math.Bool.{or_assoc}
 use Rattle.regex_meaning.proofs.Booleans.{and-left, and-right}
 use Rattle.regex_meaning.specs.Laws.{Each}
@@ -14,7 +16,8 @@ use Rattle.regress_machine.proofs.Beside.{moved-zero}
 use Rattle.regress_simulation.specs.Runs.{behind}
 use Rattle.regress_linear.specs.Account.{Agree, outermost}
 use Rattle.regress_linear.specs.Distinct.{IsIn, IsNew, AreDistinct}
-use Rattle.regress_linear.specs.Codes.{Question, is_empty, how_many, answers, digit, answer, code_of, plan_code, plan_codes, key_of, own_row, IsStateOf}
+use Rattle.regress_linear.specs.Codes.{Question, is_empty, how_many, answers, digit, answer, code_of, plan_code, plan_codes, key_of, own_row}
+use Rattle.regress_linear.specs.Codes.{IsStateOf}
 use Rattle.regress_linear.specs.RunKeys.{row_by, plan_rows, run_at, insn_before, RunRecords, run_key}
 use Rattle.regress_linear.specs.Plans.{plan_taken}
 use Rattle.regress_linear.specs.Turns.{Key, IsOf, IsKnown, known_to_fail, known_to_reach}

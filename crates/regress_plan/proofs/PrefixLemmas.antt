@@ -1,5 +1,7 @@
 -- What must stand where a match begins, by the operations there.
-use Rattle.std.proofs.Common.{◌≡◌, ◌≢◌, ◌<◌, ◌≤◌, ℕ, zero, suc, ◌+◌, ◌-◌, ◌*◌, ◌/◌, ◌%◌, ◌^◌, min, max, Bool, true, false, not, ◌&&◌, ◌||◌, Option, Some, None, List, length, slice_get, slice_set, get_or, refl, sym, ap, ◌∙◌, subst, arith, bit_and, div-add-mod', pow_pos}
+use Rattle.std.proofs.Common.{◌≡◌, ◌≢◌, ◌<◌, ◌≤◌, ℕ, zero, suc, ◌+◌, ◌-◌, ◌*◌, ◌/◌, ◌%◌, ◌^◌, min, max, Bool, true, false, not, ◌&&◌, ◌||◌, Option}
+use Rattle.std.proofs.Common.{Some, None, List, length, slice_get, slice_set, get_or, refl, sym, ap, ◌∙◌, subst, arith, bit_and, div-add-mod'}
+use Rattle.std.proofs.Common.{pow_pos}
 use mathlib.Core.Logic.{◌⊎◌, inl, inr}
 use Rattle.std.specs.Prelude.{◌==◌, if◌then◌else◌, slice_index, slice_index_or}
 use Rattle.std.specs.Int.{bit_at}
@@ -10,7 +12,9 @@ use Rattle.std.proofs.lemmas.List.{get_or_past, get_or-set_other, length-set}
 use Rattle.std.proofs.lemmas.Option.{slice_get-get_or, slice_get_within}
 use Rattle.regex_meaning.specs.Text.{Text}
 use Rattle.regex_meaning.specs.Units.{Encoding, spelled_in}
-use Rattle.regex_meaning.specs.Layout.{Program, Insn, Char, CharSet, ByteSet, AsciiBracket, Bracket, MatchAny, MatchAnyExceptLineTerminator, StartOfLine, WordBoundary, WordBoundaryUnicodeICase, Jump, EnterLoop, Loop1CharBody, ResetCaptureGroup, BeginCaptureGroup, EndCaptureGroup, Lookahead, Lookbehind}
+use Rattle.regex_meaning.specs.Layout.{Program, Insn, Char, CharSet, ByteSet, AsciiBracket, Bracket, MatchAny, MatchAnyExceptLineTerminator}
+use Rattle.regex_meaning.specs.Layout.{StartOfLine, WordBoundary, WordBoundaryUnicodeICase, Jump, EnterLoop, Loop1CharBody, ResetCaptureGroup}
+use Rattle.regex_meaning.specs.Layout.{BeginCaptureGroup, EndCaptureGroup, Lookahead, Lookbehind}
 use Rattle.regex_meaning.proofs.Options.{some-same}
 use Rattle.regress_machine.specs.Machine.{test_of}
 use Rattle.regress_plan.specs.Insns.{insn_of}
@@ -34,7 +38,8 @@ use Rattle.regress_plan.specs.declared.plan.Plan.{Plan}
 use Rattle.regress_plan.specs.Keys.{key, is_wide, is_told, step_at, table_of}
 use Rattle.regress_plan.specs.Plans.{IsClass, reads_one, run_of, IsOpOf}
 use Rattle.regress_plan.specs.Prefixes.{allowed_of, PrefixAt, IsPrefixAt, StandsNone}
-use Rattle.regress_plan.specs.Leading.{joined_of, then_allowed, unit_of, units_of, leads_on, IsThen, IsOfEither, IsPath, AreOps, PrefixBehind, UnitsLead, Leads, LeadsFrom, LeadsFromRun}
+use Rattle.regress_plan.specs.Leading.{joined_of, then_allowed, unit_of, units_of, leads_on, IsThen, IsOfEither, IsPath, AreOps, PrefixBehind}
+use Rattle.regress_plan.specs.Leading.{UnitsLead, Leads, LeadsFrom, LeadsFromRun}
 use Rattle.regress_plan.proofs.KeyLemmas.{first-key-at, first-key-below, key_of_first}
 use Rattle.regress_plan.proofs.ClosingLemmas.{told-some}
 use Rattle.regress_plan.proofs.RowLemmas.{get-below, runs-of}

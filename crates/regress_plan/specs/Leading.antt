@@ -1,5 +1,6 @@
 -- What operations say of the units that must stand where they do.
-use Rattle.std.specs.Prelude.{◌≡◌, ◌==◌, ◌≤◌, ◌<◌, ℕ, ◌+◌, ◌-◌, ◌*◌, ◌%◌, ◌^◌, min, bit_and, bit_or, Bool, true, false, Option, Some, None, length, if◌then◌else◌, nat_lt, slice_get, ⊤}
+use Rattle.std.specs.Prelude.{◌≡◌, ◌==◌, ◌≤◌, ◌<◌, ℕ, ◌+◌, ◌-◌, ◌*◌, ◌%◌, ◌^◌, min, bit_and, bit_or, Bool, true, false, Option, Some, None, length}
+use Rattle.std.specs.Prelude.{if◌then◌else◌, nat_lt, slice_get, ⊤}
 use Rattle.regex_meaning.specs.Layout.{Program, Insn}
 use Rattle.regress_simulation.specs.Prefixes.{Allowed}
 use Rattle.regress_plan.specs.declared.first_set.FirstSet.{FirstSet}

@@ -1,5 +1,6 @@
 -- Which units may stand where a match begins, and what is looked for first.
-use Rattle.std.specs.Prelude.{◌≡◌, ◌<◌, ◌≤◌, ℕ, ◌==◌, ◌%◌, Bool, true, false, ◌&&◌, List, Some, bit_and, slice_get, slice_index, ◌+◌, zero, suc, IfSome}
+use Rattle.std.specs.Prelude.{◌≡◌, ◌<◌, ◌≤◌, ℕ, ◌==◌, ◌%◌, Bool, true, false, ◌&&◌, List, Some, bit_and, slice_get, slice_index, ◌+◌, zero, suc}
+use Rattle.std.specs.Prelude.{IfSome}
 use Rattle.std.specs.Int.{bit_at}
 use Rattle.regex_meaning.specs.Units.{Encoding}
 use Rattle.regex_meaning.specs.Layout.{Program}

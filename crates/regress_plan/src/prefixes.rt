@@ -7,7 +7,8 @@ ghost use Rattle.std.specs.Prelude.{Bool, ℕ, ◌≡◌, ◌==◌, ◌<◌, ◌
 ghost use Rattle.std.specs.Int.{bit_at};
 ghost use Rattle.regex_meaning.specs.Layout.{Program};
 ghost use Rattle.regress_plan.specs.{declared.ops.Op.TheVariants.{Unit, One, Enter}, Prefixes.{allowed_of, IsPrefixAt, IsInAsciiAt, StandsNone}};
-ghost use Rattle.regress_plan.specs.Leading.{unit_of, units_of, joined_of, leads_on as leads_on_op, IsThen, IsOfEither, AreOps, Leads, LeadsFrom, LeadsFromRun};
+ghost use Rattle.regress_plan.specs.Leading.{unit_of, units_of, joined_of, leads_on as leads_on_op, IsThen, IsOfEither, AreOps, Leads, LeadsFrom};
+ghost use Rattle.regress_plan.specs.Leading.{LeadsFromRun};
 
 use crate::first_set::FirstSet;
 use crate::keys::KEYS;

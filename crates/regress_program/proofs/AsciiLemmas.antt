@@ -1,5 +1,6 @@
 -- Sets of bytes below 128.
-use Rattle.std.proofs.Common.{◌≡◌, ℕ, ◌+◌, ◌<◌, ◌≤◌, min, Bool, true, false, List, [], ◌∷◌, map, length, take, get_or, inl, inr, ⊎_elim, refl, sym, ◌∙◌, arith}
+use Rattle.std.proofs.Common.{◌≡◌, ℕ, ◌+◌, ◌<◌, ◌≤◌, min, Bool, true, false, List, [], ◌∷◌, map, length, take, get_or, inl, inr, ⊎_elim, refl, sym}
+use Rattle.std.proofs.Common.{◌∙◌, arith}
 use Rattle.std.proofs.lemmas.Bool.{cases_lt, lt-ltb, le-ltb, lt-leb, or_cases}
 use borrow.Author.Tests.{ltb-true}
 use Rattle.std.specs.Prelude.{nat_lt, nat_le, ◌||◌, ◌&&◌}

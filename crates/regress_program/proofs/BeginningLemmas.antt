@@ -1,12 +1,15 @@
 -- What nodes begin with.
-use Rattle.std.proofs.Common.{◌≡◌, ℕ, ◌+◌, ◌<◌, ◌≤◌, Bool, true, false, not, ◌&&◌, ◌||◌, List, [], ◌∷◌, ◌++◌, length, take, drop, get_or, refl, sym, ap, ◌∙◌, arith, append-nil, drop-cons, Result, IfOk}
+use Rattle.std.proofs.Common.{◌≡◌, ℕ, ◌+◌, ◌<◌, ◌≤◌, Bool, true, false, not, ◌&&◌, ◌||◌, List, [], ◌∷◌, ◌++◌, length, take, drop, get_or, refl, sym}
+use Rattle.std.proofs.Common.{ap, ◌∙◌, arith, append-nil, drop-cons, Result, IfOk}
 use Rattle.std.specs.Prelude.{if◌then◌else◌, nat_lt, ◌==◌}
 use Rattle.std.proofs.lemmas.List.{drop_all}
 use Rattle.std.proofs.lemmas.Result.{IfOk-weaker}
 use Rattle.std.proofs.lemmas.Bool.{ne_eqb, or_parts, eqb-true}
 use Rattle.regex_meaning.specs.Tree.{Node, byte_sequence, cat, alt, capture_group, loop, loop_1_char_body, Tree}
 use Rattle.regex_meaning.specs.WellFormed.{IsWellFormed}
-use Rattle.regex_meaning.specs.StartPredicate.{Beginning, open_ended, arbitrary, sequence, one_of, then_of, join, beginning, sequence_or, shared_front, union, first_byte, is_anchored, StartPredicate, start_of, start_predicate, start_arbitrary, start_byte_set, start_anchored, IsSound}
+use Rattle.regex_meaning.specs.StartPredicate.{Beginning, open_ended, arbitrary, sequence, one_of, then_of, join, beginning, sequence_or}
+use Rattle.regex_meaning.specs.StartPredicate.{shared_front, union, first_byte, is_anchored, StartPredicate, start_of, start_predicate}
+use Rattle.regex_meaning.specs.StartPredicate.{start_arbitrary, start_byte_set, start_anchored, IsSound}
 use Rattle.regex_meaning.proofs.Clean.{predicate-sound}
 use Rattle.regress_program.proofs.LeafLemmas.{leaf-bare}
 use Rattle.regress_program.specs.declared.insn.predicates.StartPredicate as declared

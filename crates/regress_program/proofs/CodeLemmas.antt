@@ -1,11 +1,17 @@
 -- The code of a tree stands between its marks.
-use Rattle.std.proofs.Common.{◌≡◌, ℕ, ◌+◌, ◌-◌, Bool, true, false, List, [], ◌∷◌, ◌++◌, map, length, refl, sym, ap, subst, ◌∙◌, arith, append_assoc, append-nil, length-append, slice_get, Some, if◌then◌else◌}
+use Rattle.std.proofs.Common.{◌≡◌, ℕ, ◌+◌, ◌-◌, Bool, true, false, List, [], ◌∷◌, ◌++◌, map, length, refl, sym, ap, subst, ◌∙◌, arith, append_assoc}
+use Rattle.std.proofs.Common.{append-nil, length-append, slice_get, Some, if◌then◌else◌}
 use Rattle.std.specs.Prelude.{MatchBool}
-use Rattle.regex_meaning.specs.Tree.{Node, BracketContents, empty, goal, char, char_set, byte_set, byte_sequence, cat, end_of_cat, alt, bracket, string_set, match_any, match_any_except_line_terminator, anchor, word_boundary, capture_group, back_ref, lookaround, loop, loop_1_char_body, Tree}
+use Rattle.regex_meaning.specs.Tree.{Node, BracketContents, empty, goal, char, char_set, byte_set, byte_sequence, cat, end_of_cat, alt, bracket}
+use Rattle.regex_meaning.specs.Tree.{string_set, match_any, match_any_except_line_terminator, anchor, word_boundary, capture_group, back_ref}
+use Rattle.regex_meaning.specs.Tree.{lookaround, loop, loop_1_char_body, Tree}
 use Rattle.regex_meaning.specs.Outcomes.{most_of, in_intervals}
 use Rattle.regex_meaning.specs.StartPredicate.{bytes_where}
 use Rattle.regex_meaning.specs.WellFormed.{IsWellFormed}
-use Rattle.regex_meaning.specs.Layout.{Insn, JustFail, Char, MatchAny, MatchAnyExceptLineTerminator, BackRef, Alt, Jump, EnterLoop, LoopAgain, Goal, BeginCaptureGroup, EndCaptureGroup, Loop1CharBody, AsciiBracket, Bracket, ByteSeq, Mark, Program, HasAll, IsStringCode, AreStringsCode, IsCode, IsByteCodeOf, lookaround_insn, ordered, is_ascii_set, char_set_insn, byte_set_insn, anchor_insn, word_boundary_insn, chunks}
+use Rattle.regex_meaning.specs.Layout.{Insn, JustFail, Char, MatchAny, MatchAnyExceptLineTerminator, BackRef, Alt, Jump, EnterLoop, LoopAgain, Goal}
+use Rattle.regex_meaning.specs.Layout.{BeginCaptureGroup, EndCaptureGroup, Loop1CharBody, AsciiBracket, Bracket, ByteSeq, Mark, Program, HasAll}
+use Rattle.regex_meaning.specs.Layout.{IsStringCode, AreStringsCode, IsCode, IsByteCodeOf, lookaround_insn, ordered, is_ascii_set, char_set_insn}
+use Rattle.regex_meaning.specs.Layout.{byte_set_insn, anchor_insn, word_boundary_insn, chunks}
 use Rattle.regex_meaning.proofs.Clean.{predicate-sound}
 use Rattle.regress_program.specs.Code.{size, strings_size, loop_count, brackets_of, string_code, strings_code, resets, code_of, compiled}
 use Rattle.regress_program.proofs.EmitLemmas.{length-code_of, length-string_code, length-resets}

@@ -1,12 +1,16 @@
 -- What is emitted.
-use Rattle.std.proofs.Common.{◌≡◌, ℕ, ◌+◌, ◌-◌, ◌<◌, ◌^◌, Bool, true, false, List, [], ◌∷◌, ◌++◌, length, refl, sym, ap, ◌∙◌, arith, append_assoc, append-nil, length-append, slice_set}
+use Rattle.std.proofs.Common.{◌≡◌, ℕ, ◌+◌, ◌-◌, ◌<◌, ◌^◌, Bool, true, false, List, [], ◌∷◌, ◌++◌, length, refl, sym, ap, ◌∙◌, arith, append_assoc}
+use Rattle.std.proofs.Common.{append-nil, length-append, slice_set}
 use Rattle.std.proofs.Math.Seq.{set-append_seam}
 use Rattle.std.proofs.lemmas.List.{length-map, length-reverse}
 use Rattle.regex_meaning.specs.Lists.{numbers_from}
-use Rattle.regex_meaning.specs.Tree.{BracketContents, Quantifier, Lookaround, Node, empty, goal, char, char_set, byte_set, byte_sequence, cat, end_of_cat, alt, bracket, string_set, match_any, match_any_except_line_terminator, anchor, word_boundary, capture_group, back_ref, lookaround, loop, loop_1_char_body}
+use Rattle.regex_meaning.specs.Tree.{BracketContents, Quantifier, Lookaround, Node, empty, goal, char, char_set, byte_set, byte_sequence, cat}
+use Rattle.regex_meaning.specs.Tree.{end_of_cat, alt, bracket, string_set, match_any, match_any_except_line_terminator, anchor, word_boundary}
+use Rattle.regex_meaning.specs.Tree.{capture_group, back_ref, lookaround, loop, loop_1_char_body}
 use Rattle.regex_meaning.specs.Outcomes.{most_of, in_intervals}
 use Rattle.regex_meaning.specs.StartPredicate.{bytes_where}
-use Rattle.regex_meaning.specs.Layout.{Insn, AsciiBracket, Bracket, is_ascii_set, Alt, Jump, EnterLoop, LoopAgain, Loop1CharBody, Goal, BeginCaptureGroup, lookaround_insn, EndCaptureGroup, ByteSeq, ResetCaptureGroup, ordered, chunks}
+use Rattle.regex_meaning.specs.Layout.{Insn, AsciiBracket, Bracket, is_ascii_set, Alt, Jump, EnterLoop, LoopAgain, Loop1CharBody, Goal}
+use Rattle.regex_meaning.specs.Layout.{BeginCaptureGroup, lookaround_insn, EndCaptureGroup, ByteSeq, ResetCaptureGroup, ordered, chunks}
 use Rattle.regress_program.specs.Code.{size, strings_size, loop_count, brackets_of, string_code, strings_code, resets, code_of}
 use Rattle.regress_program.specs.Emitting.{State, HasRoom, with_code, with_insn, with_insns, with_insn_at, with_loop, with_bracket}
 use Rattle.regex_meaning.proofs.Lists.{length-numbers_from}

@@ -1,6 +1,7 @@
 -- The tree of a node with a list.
 pub use Rattle.regex_pattern_front.proofs.NodeLemmas.{node_of-Cat}
-use Rattle.std.proofs.Common.{◌≡◌, ℕ, ◌+◌, ◌<◌, ◌-◌, suc, true, false, List, [], ◌∷◌, length, slice_get, Some, None, get_or, drop, drop-cons, add-one, sym, ap, ◌∙◌, refl, arith}
+use Rattle.std.proofs.Common.{◌≡◌, ℕ, ◌+◌, ◌<◌, ◌-◌, suc, true, false, List, [], ◌∷◌, length, slice_get, Some, None, get_or, drop, drop-cons}
+use Rattle.std.proofs.Common.{add-one, sym, ap, ◌∙◌, refl, arith}
 use Rattle.regex_meaning.specs.Tree as tree
 use Rattle.regex_pattern_front.specs.TreeOf.{node_of}
 use Rattle.regex_pattern_front.specs.declared.ir.Node.{Node}

@@ -4,7 +4,8 @@ use Rattle.regex_meaning.specs.StartPredicate as predicate
 use Rattle.regex_pattern_front.specs.declared.ir.Regex.{Regex}
 use Rattle.regress_program.specs.Predicates.{IsCopy, IsStartOf}
 use Rattle.regress_program.specs.declared.insn.predicates.StartPredicate.{StartPredicate}
-use Rattle.regress_program.specs.declared.insn.predicates.StartPredicate.TheVariants.{Arbitrary, ByteSet1, ByteSet2, ByteSet3, ByteSeq, ByteBracket, StartAnchored}
+use Rattle.regress_program.specs.declared.insn.predicates.StartPredicate.TheVariants.{Arbitrary, ByteSet1, ByteSet2, ByteSet3, ByteSeq, ByteBracket}
+use Rattle.regress_program.specs.declared.insn.predicates.StartPredicate.TheVariants.{StartAnchored}
 
 again : (p copy : StartPredicate) (re : Regex) → copy ≡ p → IsStartOf p re → IsStartOf copy re
 again p copy re same is = let P : StartPredicate → Type 0 = λ s. IsStartOf s re in subst P (sym same) is

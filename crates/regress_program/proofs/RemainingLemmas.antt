@@ -1,5 +1,6 @@
 -- What is still to be put behind a program that is being made.
-use Rattle.std.proofs.Common.{◌≡◌, ℕ, ◌+◌, ◌*◌, ◌-◌, ◌<◌, ◌≤◌, ◌^◌, Bool, true, ◌&&◌, List, [], ◌∷◌, ◌++◌, length, refl, sym, ap, ◌∙◌, arith, length-append, length-set, le_refl}
+use Rattle.std.proofs.Common.{◌≡◌, ℕ, ◌+◌, ◌*◌, ◌-◌, ◌<◌, ◌≤◌, ◌^◌, Bool, true, ◌&&◌, List, [], ◌∷◌, ◌++◌, length, refl, sym, ap, ◌∙◌, arith}
+use Rattle.std.proofs.Common.{length-append, length-set, le_refl}
 use Rattle.std.specs.Prelude.{nat_lt}
 use Rattle.std.proofs.lemmas.Bool.{and_from, lt-ltb, ltb-true}
 use Rattle.regex_meaning.specs.Tree.{Quantifier, Lookaround, Node as TreeNode, alt, lookaround, loop, every}
@@ -13,10 +14,12 @@ use Rattle.regress_program.specs.Weights.{weight}
 use Rattle.regress_program.specs.Code.{resets}
 use Rattle.regress_program.specs.Emitting.{State, HasRoom, shaped, with_code, with_insn, with_insns, with_insn_at, with_loop}
 use Rattle.regress_program.specs.Nodes.{cat_of, is_leaf}
-use Rattle.regress_program.specs.Remaining.{Work, Fits, CanPut, HasBegun, with_arm_end, with_jump, with_others, with_lookaround_end, with_loop_end, with_left, with_all, is_ready, are_ready, load, load_of, load_of_all}
+use Rattle.regress_program.specs.Remaining.{Work, Fits, CanPut, HasBegun, with_arm_end, with_jump, with_others, with_lookaround_end, with_loop_end}
+use Rattle.regress_program.specs.Remaining.{with_left, with_all, is_ready, are_ready, load, load_of, load_of_all}
 use Rattle.regress_program.specs.declared.emit.nodes.Rest.{Rest}
 use Rattle.regress_program.specs.declared.emit.nodes.Rest.TheVariants.{Node, Row, Others, Jump as JumpLeft, GroupEnd, LookaroundEnd, LoopEnd}
-use Rattle.regress_program.proofs.EmitLemmas.{length-with_code, with_code-alt, with_code-loop, with_code-lookaround, with_code-cat, with_code-end_of_cat, room-first, room-rest}
+use Rattle.regress_program.proofs.EmitLemmas.{length-with_code, with_code-alt, with_code-loop, with_code-lookaround, with_code-cat}
+use Rattle.regress_program.proofs.EmitLemmas.{with_code-end_of_cat, room-first, room-rest}
 use Rattle.regress_program.proofs.ShapedLemmas.{shaped-leaf}
 use Rattle.regex_meaning.proofs.Booleans.{and-left, and-right}
 

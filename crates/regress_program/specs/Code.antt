@@ -1,12 +1,17 @@
 -- The program of a tree, as a function.
 use Rattle.std.specs.Prelude.{ℕ, ◌+◌, ◌-◌, Bool, false, List, [], ◌∷◌, ◌++◌, map, length, if◌then◌else◌}
 use Rattle.regex_meaning.specs.Lists.{numbers_from}
-use Rattle.regex_meaning.specs.Tree.{BracketContents, Node, empty, goal, char, char_set, byte_set, byte_sequence, cat, end_of_cat, alt, bracket, string_set, match_any, match_any_except_line_terminator, anchor, word_boundary, capture_group, back_ref, lookaround, loop, loop_1_char_body, Tree, group_ids}
+use Rattle.regex_meaning.specs.Tree.{BracketContents, Node, empty, goal, char, char_set, byte_set, byte_sequence, cat, end_of_cat, alt, bracket}
+use Rattle.regex_meaning.specs.Tree.{string_set, match_any, match_any_except_line_terminator, anchor, word_boundary, capture_group, back_ref}
+use Rattle.regex_meaning.specs.Tree.{lookaround, loop, loop_1_char_body, Tree, group_ids}
 use Rattle.regex_meaning.specs.Text.{expand_code_point}
 use Rattle.regex_meaning.specs.Outcomes.{most_of, in_intervals}
 use Rattle.regex_meaning.specs.StartPredicate.{start_predicate, bytes_where}
 use Rattle.regex_meaning.specs.Names.{names_by_id}
-use Rattle.regex_meaning.specs.Layout.{Insn, Goal, JustFail, Char, ByteSeq, AsciiBracket, Bracket, MatchAny, MatchAnyExceptLineTerminator, Alt, Jump, EnterLoop, LoopAgain, ResetCaptureGroup, Loop1CharBody, BeginCaptureGroup, EndCaptureGroup, BackRef, Program, char_set_insn, byte_set_insn, spelling_insn, anchor_insn, word_boundary_insn, lookaround_insn, ordered, is_ascii_set, chunks}
+use Rattle.regex_meaning.specs.Layout.{Insn, Goal, JustFail, Char, ByteSeq, AsciiBracket, Bracket, MatchAny, MatchAnyExceptLineTerminator, Alt, Jump}
+use Rattle.regex_meaning.specs.Layout.{EnterLoop, LoopAgain, ResetCaptureGroup, Loop1CharBody, BeginCaptureGroup, EndCaptureGroup, BackRef, Program}
+use Rattle.regex_meaning.specs.Layout.{char_set_insn, byte_set_insn, spelling_insn, anchor_insn, word_boundary_insn, lookaround_insn, ordered}
+use Rattle.regex_meaning.specs.Layout.{is_ascii_set, chunks}
 
 -- ---- Counts
 

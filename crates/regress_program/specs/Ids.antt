@@ -1,9 +1,11 @@
 -- The ids of groups, as a test of trees reads them.
-use Rattle.std.specs.Prelude.{◌≡◌, ℕ, ◌+◌, ◌-◌, ◌^◌, ◌/◌, ◌%◌, Bool, true, not, ◌&&◌, ◌||◌, List, [], ◌∷◌, length, min, max, ◌==◌, nat_le, slice_index}
+use Rattle.std.specs.Prelude.{◌≡◌, ℕ, ◌+◌, ◌-◌, ◌^◌, ◌/◌, ◌%◌, Bool, true, not, ◌&&◌, ◌||◌, List, [], ◌∷◌, length, min, max, ◌==◌, nat_le}
+use Rattle.std.specs.Prelude.{slice_index}
 use Rattle.std.specs.Int.{bit_at}
 use Rattle.regex_meaning.specs.Lists.{contains}
 use Rattle.regex_meaning.specs.Tree.{Node, group_ids, every}
-use Rattle.regex_meaning.specs.WellFormed.{names_the_groups_inside, encloses, refers_to_a_group, has_order_in_quantifier, has_one_character_body, has_text_in_sequence, fits_instructions}
+use Rattle.regex_meaning.specs.WellFormed.{names_the_groups_inside, encloses, refers_to_a_group, has_order_in_quantifier, has_one_character_body}
+use Rattle.regex_meaning.specs.WellFormed.{has_text_in_sequence, fits_instructions}
 
 -- it has no bit in so many words; 1,024 are for each id that there is
 abbrev pub is_past : (words : ℕ) → ℕ → Bool

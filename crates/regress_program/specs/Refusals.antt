@@ -5,7 +5,8 @@ use Rattle.regex_meaning.specs.WellFormed.{IsWellFormed}
 use Rattle.regex_meaning.specs.Layout.{reads_bytes}
 use Rattle.regress_program.specs.Code.{size, loop_count}
 use Rattle.regress_program.specs.declared.emit.EmitError.{EmitError}
-use Rattle.regress_program.specs.declared.emit.EmitError.TheVariants.{NotWellFormed, BytesInUnits, TooManyGroups, TooManyLoops, TooManyInstructions, Memory}
+use Rattle.regress_program.specs.declared.emit.EmitError.TheVariants.{NotWellFormed, BytesInUnits, TooManyGroups, TooManyLoops, TooManyInstructions}
+use Rattle.regress_program.specs.declared.emit.EmitError.TheVariants.{Memory}
 
 -- The tree has a program.
 pub record FitsLimits (tree : Tree) : Type 0 where

@@ -1,5 +1,6 @@
 -- Loops over one character with which each match begins.
-use Rattle.std.proofs.Common.{◌≡◌, ℕ, zero, suc, ◌+◌, ◌-◌, ◌<◌, ◌≤◌, min, List, [], ◌∷◌, ◌++◌, map, flat_map, drop, take, slice_range, Some, None, Bool, true, false, refl, ap, ◌∙◌, sym, subst, arith, append-nil, cond, reverse, slice_get, length}
+use Rattle.std.proofs.Common.{◌≡◌, ℕ, zero, suc, ◌+◌, ◌-◌, ◌<◌, ◌≤◌, min, List, [], ◌∷◌, ◌++◌, map, flat_map, drop, take, slice_range, Some, None}
+use Rattle.std.proofs.Common.{Bool, true, false, refl, ap, ◌∙◌, sym, subst, arith, append-nil, cond, reverse, slice_get, length}
 use Rattle.std.specs.Prelude.{if◌then◌else◌, nat_le, ◌&&◌, MatchBool}
 use Rattle.std.specs.List.{prefix_len}
 use Rattle.std.proofs.lemmas.Bool.{cases_lt, le-leb}
@@ -9,15 +10,20 @@ use Rattle.std.proofs.lemmas.List.{drop-drop, reverse-reverse}
 use lib.Pointwise.{pointwise}
 use Rattle.regex_meaning.specs.Lists.{numbers_from}
 use Rattle.regex_meaning.specs.Laws.{Each}
-use Rattle.regex_meaning.specs.Tree.{Quantifier, BracketContents, Lookaround, start_of_line, end_of_line, Node, empty, goal, char, char_set, byte_set, byte_sequence, cat, end_of_cat, alt, bracket, string_set, match_any, match_any_except_line_terminator, anchor, word_boundary, capture_group, back_ref, lookaround, loop, loop_1_char_body, Tree}
+use Rattle.regex_meaning.specs.Tree.{Quantifier, BracketContents, Lookaround, start_of_line, end_of_line, Node, empty, goal, char, char_set}
+use Rattle.regex_meaning.specs.Tree.{byte_set, byte_sequence, cat, end_of_cat, alt, bracket, string_set, match_any, match_any_except_line_terminator}
+use Rattle.regex_meaning.specs.Tree.{anchor, word_boundary, capture_group, back_ref, lookaround, loop, loop_1_char_body, Tree}
 use Rattle.regex_meaning.specs.Text.{Text, rightwards, last_place, expand_code_point}
 use Rattle.regex_meaning.specs.Outcomes.{Groups, Outcome, accepts, in_intervals, most_of, repetition, spelled, spells, outcomes}
 use Rattle.regex_meaning.specs.StartPredicate.{bytes_where}
 use Rattle.regex_meaning.specs.WellFormed.{is_one_character}
 use Rattle.regex_meaning.specs.Find.{match_at, first_of, no_groups}
 use Rattle.regex_meaning.specs.Ticks.{nearest_first}
-use Rattle.regex_meaning.specs.Layout.{Program, Insn, Mark, next, start, Has, HasAll, IsCode, IsStringCode, AreStringsCode, spelling_insn, char_set_insn, lookaround_insn, is_ascii_set}
-use Rattle.regex_meaning.specs.Layout.{Loop1CharBody, Goal, JustFail, Char, ByteSet, ByteSeq, AsciiBracket, Bracket, MatchAny, MatchAnyExceptLineTerminator, StartOfLine, EndOfLine, WordBoundary, WordBoundaryUnicodeICase, Alt, EnterLoop, BeginCaptureGroup, BackRef, Lookahead, Lookbehind}
+use Rattle.regex_meaning.specs.Layout.{Program, Insn, Mark, next, start, Has, HasAll, IsCode, IsStringCode, AreStringsCode, spelling_insn}
+use Rattle.regex_meaning.specs.Layout.{char_set_insn, lookaround_insn, is_ascii_set}
+use Rattle.regex_meaning.specs.Layout.{Loop1CharBody, Goal, JustFail, Char, ByteSet, ByteSeq, AsciiBracket, Bracket, MatchAny}
+use Rattle.regex_meaning.specs.Layout.{MatchAnyExceptLineTerminator, StartOfLine, EndOfLine, WordBoundary, WordBoundaryUnicodeICase, Alt, EnterLoop}
+use Rattle.regex_meaning.specs.Layout.{BeginCaptureGroup, BackRef, Lookahead, Lookbehind}
 use Rattle.regex_meaning.proofs.Each.{Each-map, Each-reverse, Each-image, Each-flat_map}
 use Rattle.regress_machine.specs.Machine.{test_of}
 use Rattle.regress_machine.proofs.Beside.{length-nearest}

@@ -1,5 +1,6 @@
 -- Runs with which matches begin.
-use Rattle.std.proofs.Common.{◌≡◌, ℕ, ◌+◌, ◌-◌, ◌<◌, ◌≤◌, [], Bool, true, Option, Some, None, length, refl, ap, sym, ◌∙◌, subst, arith, slice_get, unwrap_or, le_refl}
+use Rattle.std.proofs.Common.{◌≡◌, ℕ, ◌+◌, ◌-◌, ◌<◌, ◌≤◌, [], Bool, true, Option, Some, None, length, refl, ap, sym, ◌∙◌, subst, arith, slice_get}
+use Rattle.std.proofs.Common.{unwrap_or, le_refl}
 use Rattle.std.specs.Prelude.{IsSome, IsTrue, is_some, option_and_then}
 use Rattle.std.specs.List.{prefix_len}
 use Rattle.std.proofs.lemmas.Option.{slice_get_within}

@@ -2,11 +2,14 @@
 use Rattle.std.proofs.Common.{◌≡◌, ℕ, zero, suc, ◌+◌, ◌-◌, List, [], ◌∷◌, ◌++◌, length, map, Some, Bool, true, false, ◌||◌, refl, subst, slice_get}
 use Rattle.std.specs.Prelude.{if◌then◌else◌, IsTrue}
 use Rattle.regex_meaning.specs.Lists.{numbers_from}
-use Rattle.regex_meaning.specs.Tree.{Node, AnchorType, start_of_line, end_of_line, empty, goal, char, char_set, byte_set, byte_sequence, cat, end_of_cat, alt, bracket, string_set, match_any, match_any_except_line_terminator, anchor, word_boundary, capture_group, back_ref, lookaround, loop, loop_1_char_body, Tree}
+use Rattle.regex_meaning.specs.Tree.{Node, AnchorType, start_of_line, end_of_line, empty, goal, char, char_set, byte_set, byte_sequence, cat}
+use Rattle.regex_meaning.specs.Tree.{end_of_cat, alt, bracket, string_set, match_any, match_any_except_line_terminator, anchor, word_boundary}
+use Rattle.regex_meaning.specs.Tree.{capture_group, back_ref, lookaround, loop, loop_1_char_body, Tree}
 use Rattle.regex_meaning.specs.Text.{expand_code_point}
 use Rattle.regex_meaning.specs.Outcomes.{in_intervals}
 use Rattle.regex_meaning.specs.StartPredicate.{bytes_where}
-use Rattle.regex_meaning.specs.Layout.{Insn, Jump, ResetCaptureGroup, EndCaptureGroup, LoopAgain, Goal, AsciiBracket, Bracket, Lookahead, Lookbehind, char_set_insn, spelling_insn, anchor_insn, word_boundary_insn, ordered, is_ascii_set, reads_bytes}
+use Rattle.regex_meaning.specs.Layout.{Insn, Jump, ResetCaptureGroup, EndCaptureGroup, LoopAgain, Goal, AsciiBracket, Bracket, Lookahead, Lookbehind}
+use Rattle.regex_meaning.specs.Layout.{char_set_insn, spelling_insn, anchor_insn, word_boundary_insn, ordered, is_ascii_set, reads_bytes}
 use Rattle.regress_program.specs.Code.{size, strings_size, loop_count, brackets_of, string_code, strings_code, code_of, compiled}
 use Rattle.regress_machine.specs.Turns.{is_literal}
 use Rattle.regex_meaning.proofs.Booleans.{or-false-left, or-false-right}

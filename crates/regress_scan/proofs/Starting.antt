@@ -1,5 +1,6 @@
 -- Scans for the first place at which a table allows what stands next.
-use Rattle.std.proofs.Common.{map, ◌≡◌, ℕ, zero, suc, ◌+◌, ◌-◌, ◌<◌, ◌≤◌, Bool, true, false, not, List, [], ◌∷◌, length, drop, take, get_or, Option, Some, None, refl, ap, sym, ◌∙◌, subst, arith, slice_get, le_refl}
+use Rattle.std.proofs.Common.{map, ◌≡◌, ℕ, zero, suc, ◌+◌, ◌-◌, ◌<◌, ◌≤◌, Bool, true, false, not, List, [], ◌∷◌, length, drop, take, get_or, Option}
+use Rattle.std.proofs.Common.{Some, None, refl, ap, sym, ◌∙◌, subst, arith, slice_get, le_refl}
 use Rattle.std.specs.Prelude.{option_map, slice_index, nat_lt, nat_le, nat_eq, ◌&&◌, ◌||◌}
 use Rattle.std.proofs.lemmas.Bool.{cases_lt, lt-ltb, le-ltb, lt-leb, leb-true, eqb-true}
 use Rattle.std.proofs.lemmas.Option.{slice_get-get_or}

@@ -1,13 +1,16 @@
 -- What an executor does at each instruction simulates the machine's turn there. Where the machine would be stuck, as at an
 -- index out of range, anything simulates, so nothing of that is asked.
-use Rattle.std.proofs.Common.{◌≡◌, ◌<◌, ◌≤◌, ℕ, ◌+◌, ◌-◌, min, List, [], ◌∷◌, Some, None, Bool, true, false, refl, ap, ◌∙◌, sym, slice_get, slice_set, length}
+use Rattle.std.proofs.Common.{◌≡◌, ◌<◌, ◌≤◌, ℕ, ◌+◌, ◌-◌, min, List, [], ◌∷◌, Some, None, Bool, true, false, refl, ap, ◌∙◌, sym, slice_get}
+use Rattle.std.proofs.Common.{slice_set, length}
 use Rattle.std.specs.Prelude.{◌&&◌, if◌then◌else◌, nat_lt}
 use Rattle.std.specs.List.{prefix_len}
 use Rattle.regex_meaning.specs.Text.{Text, Direction}
 use Rattle.regex_meaning.specs.Offsets.{place_at}
 use Rattle.regex_meaning.specs.Ticks.{nearest_first}
-use Rattle.regex_meaning.specs.Layout.{Program, LoopFields, JustFail, Jump, Alt, EnterLoop, LoopAgain, ResetCaptureGroup, Loop1CharBody, BeginCaptureGroup, EndCaptureGroup}
-use Rattle.regress_machine.specs.Machine.{LoopData, State, Thread, running, waiting, goes, scans, at_ip, next_ip, go_if, with_some, only_if, in_turn, loop_turn, again_with, again_at, test_of, scan, act_on, act, span, go}
+use Rattle.regex_meaning.specs.Layout.{Program, LoopFields, JustFail, Jump, Alt, EnterLoop, LoopAgain, ResetCaptureGroup, Loop1CharBody}
+use Rattle.regex_meaning.specs.Layout.{BeginCaptureGroup, EndCaptureGroup}
+use Rattle.regress_machine.specs.Machine.{LoopData, State, Thread, running, waiting, goes, scans, at_ip, next_ip, go_if, with_some, only_if, in_turn}
+use Rattle.regress_machine.specs.Machine.{loop_turn, again_with, again_at, test_of, scan, act_on, act, span, go}
 use Rattle.regress_simulation.specs.Simulates.{Simulates, FindsNothing}
 use Rattle.regress_simulation.specs.Runs.{most_first, fewest_first}
 use Rattle.regress_simulation.proofs.Rows.{both-ways, first-way, second-way, no-way, only-way, only-way-excluded, dead-end}

@@ -1,10 +1,12 @@
 -- Threads that find nothing in searches of less than so many steps: what an induction on the steps needs.
-use Rattle.std.proofs.Common.{◌≡◌, ◌<◌, ℕ, suc, ◌+◌, map, List, [], ◌∷◌, ◌++◌, Option, Some, None, Bool, true, false, refl, ap, ◌∙◌, sym, arith, length, slice_set}
+use Rattle.std.proofs.Common.{◌≡◌, ◌<◌, ℕ, suc, ◌+◌, map, List, [], ◌∷◌, ◌++◌, Option, Some, None, Bool, true, false, refl, ap, ◌∙◌, sym, arith}
+use Rattle.std.proofs.Common.{length, slice_set}
 use Rattle.std.specs.Prelude.{if◌then◌else◌, nat_lt, nat_le}
 use Rattle.regex_meaning.specs.Text.{Text, Direction}
 use Rattle.regex_meaning.specs.Layout.{Program, LoopFields}
 use Rattle.regex_meaning.proofs.Each.{Each, Each-append, Each-when}
-use Rattle.regress_machine.specs.Machine.{State, Thread, running, waiting, Next, goes, scans, ends, asks, stuck, Found, nothing, at_ip, with_some, only_if, go, go_if, in_turn, preferring, loop_turn, act, resumed, search}
+use Rattle.regress_machine.specs.Machine.{State, Thread, running, waiting, Next, goes, scans, ends, asks, stuck, Found, nothing, at_ip, with_some}
+use Rattle.regress_machine.specs.Machine.{only_if, go, go_if, in_turn, preferring, loop_turn, act, resumed, search}
 use Rattle.regress_machine.proofs.Search.{Later, never_stuck, waits-later, goes-later, scans-later, asked-inner}
 use Rattle.regress_simulation.specs.Simulates.{Within, FindsNothing}
 

@@ -1,5 +1,6 @@
 -- The arms of alternatives that are left stand in place of them all.
-use Rattle.std.proofs.Common.{◌≡◌, ℕ, zero, suc, ◌+◌, List, [], ◌∷◌, ◌++◌, map, Bool, false, Option, Some, None, refl, ap, sym, ◌∙◌, subst, arith, slice_get}
+use Rattle.std.proofs.Common.{◌≡◌, ℕ, zero, suc, ◌+◌, List, [], ◌∷◌, ◌++◌, map, Bool, false, Option, Some, None, refl, ap, sym, ◌∙◌, subst, arith}
+use Rattle.std.proofs.Common.{slice_get}
 use mathlib.Core.Logic.{inl, inr}
 use Rattle.regex_meaning.specs.Text.{Text, Direction}
 use Rattle.regex_meaning.specs.Layout.{Program, Alt}
@@ -7,7 +8,8 @@ use Rattle.regress_machine.specs.Machine.{State, Thread, running, waiting, goes,
 use Rattle.regress_machine.proofs.Search.{search_more}
 use Rattle.regress_simulation.specs.Choices.{IsBefore, AreArms}
 use Rattle.regress_simulation.specs.Simulates.{Within, Simulates, FindsNothing}
-use Rattle.regress_simulation.proofs.Simulates.{simulates-same, simulates-then, simulates-fewer, simulates-goes, simulates-waits, simulates-behind, drops-prefix, nothing-waits}
+use Rattle.regress_simulation.proofs.Simulates.{simulates-same, simulates-then, simulates-fewer, simulates-goes, simulates-waits, simulates-behind}
+use Rattle.regress_simulation.proofs.Simulates.{drops-prefix, nothing-waits}
 
 module _ (program : Program) (text : Text) (d : Direction) where
   abbrev Standing : (spent : ℕ) (us ts : List Thread) → Type 0

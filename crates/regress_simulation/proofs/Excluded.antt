@@ -1,5 +1,6 @@
 -- What stands to the right of a state makes it find nothing.
-use Rattle.std.proofs.Common.{◌≡◌, ℕ, zero, suc, ◌+◌, ◌-◌, min, map, reverse, List, [], ◌∷◌, Option, Some, None, Bool, true, false, ◌&&◌, ◌||◌, refl, ap, ◌∙◌, sym, subst, arith, slice_get, slice_set, length, cond}
+use Rattle.std.proofs.Common.{◌≡◌, ℕ, zero, suc, ◌+◌, ◌-◌, min, map, reverse, List, [], ◌∷◌, Option, Some, None, Bool, true, false, ◌&&◌, ◌||◌, refl}
+use Rattle.std.proofs.Common.{ap, ◌∙◌, sym, subst, arith, slice_get, slice_set, length, cond}
 use Rattle.std.specs.Prelude.{if◌then◌else◌, nat_lt, ◌==◌, encode_utf8_all}
 use Rattle.std.specs.List.{prefix_len}
 use Rattle.std.proofs.lemmas.Bool.{ltb-false, leb-true, eq-eqb}
@@ -8,13 +9,19 @@ use Rattle.regex_meaning.specs.Text.{Text, rightwards, next_character, moved}
 use Rattle.regex_meaning.specs.Offsets.{IsText, offset, place_at}
 use Rattle.regex_meaning.specs.Outcomes.{is_some_and}
 use Rattle.regex_meaning.specs.Ticks.{nearest_first}
-use Rattle.regex_meaning.specs.Layout.{Program, Insn, Goal, JustFail, Char, CharSet, ByteSet, ByteSeq, AsciiBracket, Bracket, MatchAny, MatchAnyExceptLineTerminator, Alt, Jump, EnterLoop, LoopAgain, ResetCaptureGroup, Loop1CharBody, BeginCaptureGroup, EndCaptureGroup, BackRef, Lookahead, Lookbehind}
+use Rattle.regex_meaning.specs.Layout.{Program, Insn, Goal, JustFail, Char, CharSet, ByteSet, ByteSeq, AsciiBracket, Bracket, MatchAny}
+use Rattle.regex_meaning.specs.Layout.{MatchAnyExceptLineTerminator, Alt, Jump, EnterLoop, LoopAgain, ResetCaptureGroup, Loop1CharBody}
+use Rattle.regex_meaning.specs.Layout.{BeginCaptureGroup, EndCaptureGroup, BackRef, Lookahead, Lookbehind}
 use Rattle.regex_meaning.proofs.TextLemmas.{offset-place_at}
-use Rattle.regress_machine.specs.Machine.{LoopData, State, running, waiting, Next, goes, asks, at_ip, next_ip, with_some, go, go_if, loop_turn, again_with, again_at, test_of, has_bytes, on_to, read_one, read_bytes, stay_if, run_states, scan, act_on, act, resumed, span}
+use Rattle.regress_machine.specs.Machine.{LoopData, State, running, waiting, Next, goes, asks, at_ip, next_ip, with_some, go, go_if, loop_turn}
+use Rattle.regress_machine.specs.Machine.{again_with, again_at, test_of, has_bytes, on_to, read_one, read_bytes, stay_if, run_states, scan, act_on}
+use Rattle.regress_machine.specs.Machine.{act, resumed, span}
 use Rattle.regress_machine.proofs.Beside.{Beside, nothing_left, one_more, beside, moved-zero}
 use Rattle.regress_simulation.specs.Simulates.{FindsNothing}
 use Rattle.regress_simulation.specs.Excluded.{holds_there, accepted_there, may_repeat, may_at, IsClosed}
-use Rattle.regress_simulation.proofs.Below.{NothingBelow, Drops, DropAll, NothingNext, EachNothing, turn-nothing, nothing-here, nothing-more, nothing-one, nothing-waits, nothing-ends, nothing-goes, nothing-only, nothing-some, nothing-go, nothing-in_turn, nothing-loop, nothing-below-none, finds-nothing}
+use Rattle.regress_simulation.proofs.Below.{NothingBelow, Drops, DropAll, NothingNext, EachNothing, turn-nothing, nothing-here, nothing-more}
+use Rattle.regress_simulation.proofs.Below.{nothing-one, nothing-waits, nothing-ends, nothing-goes, nothing-only, nothing-some, nothing-go}
+use Rattle.regress_simulation.proofs.Below.{nothing-in_turn, nothing-loop, nothing-below-none, finds-nothing}
 use Rattle.regex_meaning.proofs.Booleans.{or-false-left, or-false-right}
 
 -- ---- Tests that fail

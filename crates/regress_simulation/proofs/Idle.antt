@@ -1,18 +1,21 @@
 -- Of the iterations that a loop has to make whose body reads nothing one is enough: what the second one does to groups the first one did.
-use Rattle.std.proofs.Common.{◌≡◌, ◌<◌, ◌≤◌, ℕ, zero, suc, ◌+◌, ◌-◌, List, [], ◌∷◌, Option, Some, None, Bool, true, false, refl, ap, ap₂, ◌∙◌, sym, subst, arith, length, slice_get, slice_set}
+use Rattle.std.proofs.Common.{◌≡◌, ◌<◌, ◌≤◌, ℕ, zero, suc, ◌+◌, ◌-◌, List, [], ◌∷◌, Option, Some, None, Bool, true, false, refl, ap, ap₂, ◌∙◌, sym}
+use Rattle.std.proofs.Common.{subst, arith, length, slice_get, slice_set}
 use Rattle.std.specs.Prelude.{◌⊎◌, ◌&&◌, ◌==◌, nat_lt, option_map, if◌then◌else◌}
 use Rattle.std.proofs.lemmas.Bool.{cases_lt, lt-ltb, ltb-true, eqb-true, eqb-false, and_from}
 use Rattle.std.proofs.lemmas.List.{length-set}
 use Rattle.std.proofs.lemmas.Option.{slice_get_within}
 use mathlib.Core.Logic.{inl, inr}
 use Rattle.regex_meaning.specs.Text.{Text, Direction}
-use Rattle.regex_meaning.specs.Layout.{Program, LoopFields, Insn, Jump, Alt, EnterLoop, LoopAgain, ResetCaptureGroup, BeginCaptureGroup, EndCaptureGroup}
+use Rattle.regex_meaning.specs.Layout.{Program, LoopFields, Insn, Jump, Alt, EnterLoop, LoopAgain, ResetCaptureGroup, BeginCaptureGroup}
+use Rattle.regex_meaning.specs.Layout.{EndCaptureGroup}
 use Rattle.regex_meaning.proofs.Booleans.{and-left, and-right}
 use Rattle.regress_machine.specs.Machine.{LoopData, State, Thread, running, waiting, at_ip, with_some, only_if, go, span, loop_turn, act_on, act}
 use Rattle.regress_machine.proofs.Frames.{slice_get-set_same, slice_get-set_other}
 use Rattle.regress_simulation.specs.Idle.{LeadsOn, ReadsNothing, LastIterationWillDo}
 use Rattle.regress_simulation.specs.Simulates.{Simulates}
-use Rattle.regress_simulation.proofs.Simulates.{simulates-same, simulates-then, simulates-fewer, simulates-goes, simulates-waits, simulates-both, simulates-twice}
+use Rattle.regress_simulation.proofs.Simulates.{simulates-same, simulates-then, simulates-fewer, simulates-goes, simulates-waits, simulates-both}
+use Rattle.regress_simulation.proofs.Simulates.{simulates-twice}
 use Rattle.regress_simulation.proofs.Loops.{again, again-counts, only-simulates, some-simulates}
 use Rattle.regress_simulation.proofs.Arms.{arm-again, loop-again}
 use Rattle.regress_simulation.proofs.Rounds.{set-twice}

@@ -1,5 +1,6 @@
 -- What must stand where a thread is to find something, by what must stand behind it.
-use Rattle.std.proofs.Common.{◌≡◌, ◌<◌, ◌≤◌, ℕ, zero, suc, ◌+◌, ◌-◌, min, List, [], ◌∷◌, Option, Some, None, Bool, true, false, not, ◌||◌, refl, ap, ◌∙◌, sym, subst, arith, slice_get, length, drop}
+use Rattle.std.proofs.Common.{◌≡◌, ◌<◌, ◌≤◌, ℕ, zero, suc, ◌+◌, ◌-◌, min, List, [], ◌∷◌, Option, Some, None, Bool, true, false, not, ◌||◌, refl, ap}
+use Rattle.std.proofs.Common.{◌∙◌, sym, subst, arith, slice_get, length, drop}
 use Rattle.std.specs.Prelude.{◌==◌}
 use Rattle.std.specs.List.{prefix_len}
 use Rattle.std.proofs.lemmas.Bool.{eq-eqb, eqb-true, cases_lt}
@@ -19,7 +20,8 @@ use Rattle.regress_simulation.specs.Excluded.{may_at}
 use Rattle.regress_simulation.specs.Tables.{is_character, HasUnits, first_key, key_at}
 use Rattle.regress_simulation.specs.Runs.{behind, NothingBehind}
 use Rattle.regress_simulation.specs.Prefixes.{Allowed, may_stand, IsPrefix, PrefixesExclude}
-use Rattle.regress_simulation.proofs.Below.{NothingBelow, NothingNext, EachNothing, turn-nothing, nothing-go, nothing-goes, nothing-in_turn, nothing-below-none, finds-nothing}
+use Rattle.regress_simulation.proofs.Below.{NothingBelow, NothingNext, EachNothing, turn-nothing, nothing-go, nothing-goes, nothing-in_turn}
+use Rattle.regress_simulation.proofs.Below.{nothing-below-none, finds-nothing}
 use Rattle.regress_simulation.proofs.Excluded.{insn-nothing}
 use Rattle.regress_simulation.proofs.Ends.{one-of-run, slice_get-behind, inside-of}
 use Rattle.regress_simulation.proofs.Rows.{EachFindsNothing}

@@ -4,7 +4,10 @@ use Rattle.regex_meaning.specs.Tree.{start_of_line, end_of_line}
 use Rattle.regex_meaning.specs.Text.{Text, rightwards, next_character}
 use Rattle.regex_meaning.specs.Offsets.{IsText, place_at}
 use Rattle.regex_meaning.specs.Outcomes.{is_some_and, differ, anchor_holds, is_at_word_boundary}
-use Rattle.regex_meaning.specs.Layout.{Program, Insn, Goal, Char, CharSet, ByteSet, ByteSeq, AsciiBracket, Bracket, MatchAny, MatchAnyExceptLineTerminator, StartOfLine, EndOfLine, WordBoundary, WordBoundaryUnicodeICase, Alt, Jump, EnterLoop, LoopAgain, ResetCaptureGroup, Loop1CharBody, BeginCaptureGroup, EndCaptureGroup, BackRef, Lookahead, Lookbehind}
+use Rattle.regex_meaning.specs.Layout.{Program, Insn, Goal, Char, CharSet, ByteSet, ByteSeq, AsciiBracket, Bracket, MatchAny}
+use Rattle.regex_meaning.specs.Layout.{MatchAnyExceptLineTerminator, StartOfLine, EndOfLine, WordBoundary, WordBoundaryUnicodeICase, Alt, Jump}
+use Rattle.regex_meaning.specs.Layout.{EnterLoop, LoopAgain, ResetCaptureGroup, Loop1CharBody, BeginCaptureGroup, EndCaptureGroup, BackRef}
+use Rattle.regex_meaning.specs.Layout.{Lookahead, Lookbehind}
 use Rattle.regress_machine.specs.Machine.{State, running, test_of, has_bytes}
 use Rattle.regress_simulation.specs.Simulates.{FindsNothing}
 

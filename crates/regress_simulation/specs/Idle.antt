@@ -1,7 +1,8 @@
 -- Loops whose body reads nothing.
 use Rattle.std.specs.Prelude.{◌≡◌, ◌<◌, ◌≤◌, ◌⊎◌, ℕ, ◌+◌, ◌-◌, Bool, true, false, [], ◌∷◌, Some, slice_get}
 use Rattle.regex_meaning.specs.Text.{Text, Direction}
-use Rattle.regex_meaning.specs.Layout.{Program, LoopFields, Insn, Jump, Alt, EnterLoop, LoopAgain, ResetCaptureGroup, BeginCaptureGroup, EndCaptureGroup}
+use Rattle.regex_meaning.specs.Layout.{Program, LoopFields, Insn, Jump, Alt, EnterLoop, LoopAgain, ResetCaptureGroup, BeginCaptureGroup}
+use Rattle.regex_meaning.specs.Layout.{EndCaptureGroup}
 use Rattle.regress_machine.specs.Machine.{State, running}
 use Rattle.regress_machine.specs.Turns.{entered_at}
 use Rattle.regress_simulation.specs.Simulates.{Simulates}

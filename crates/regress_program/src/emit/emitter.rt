@@ -6,7 +6,8 @@ ghost use Rattle.regex_meaning.specs.{Tree.{every}, WellFormed.{fits_instruction
 ghost use Rattle.regex_pattern_front.specs.{Optimized.{reads_one_character as is_one_character}, TreeOf.{contents_of, node_of}};
 ghost use Rattle.regress_plan.specs.Insns.{loop_fields_of};
 ghost use Rattle.regress_program.specs.{Insns.{insn_of}, Code.{resets}, Nodes.{is_leaf}};
-ghost use Rattle.regress_program.specs.Emitting.{HasRoom, state_of, with_insn, with_insns, with_insn_at, with_loop, nothing, IsEmitted, lookaround_of};
+ghost use Rattle.regress_program.specs.Emitting.{HasRoom, state_of, with_insn, with_insns, with_insn_at, with_loop, nothing, IsEmitted};
+ghost use Rattle.regress_program.specs.Emitting.{lookaround_of};
 
 use crate::emit::leaves::{anchor_insn, byte_set_insn, char_set_insn, word_boundary_insn};
 use crate::insn::Emitted;

@@ -5,7 +5,8 @@ ghost use Rattle.std.specs.Prelude.{◌≡◌, is_some, IfSome, ◌≤◌, ◌<�
 ghost use Rattle.regex_meaning.specs.{Tree.{alt, group_ids, every}, WellFormed.{names_the_groups_inside}};
 ghost use Rattle.regex_pattern_front.specs.TreeOf.{node_of};
 ghost use Rattle.regress_program.specs.Nodes.{cat_of};
-ghost use Rattle.regress_program.specs.Ids.{is_seen, are_fresh, ids_stand, ids_stand_within, span_of, AddsSeen, joined as joined_spans, Span as SpanOfIds};
+ghost use Rattle.regress_program.specs.Ids.{is_seen, are_fresh, ids_stand, ids_stand_within, span_of, AddsSeen, joined as joined_spans};
+ghost use Rattle.regress_program.specs.Ids.{Span as SpanOfIds};
 ghost use Rattle.regress_program.specs.Spans.{as_span, AddsSpan};
 
 use regex_pattern_front::ir::Node;

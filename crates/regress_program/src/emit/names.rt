@@ -5,7 +5,8 @@ ghost use Rattle.std.specs.Prelude.{◌≡◌, ◌+◌, ◌∷◌, ◌++◌, [],
 ghost use Rattle.std.proofs.Common.{refl};
 ghost use Rattle.regex_meaning.specs.{Tree.{group_ids}, WellFormed.{each_id_stands_once}, Names.{named_ids, names_by_id as names_of_tree}};
 ghost use Rattle.regex_pattern_front.specs.TreeOf.{node_of, name_of};
-ghost use Rattle.regress_program.specs.Filing.{AreFiled, Files, FilesBoth, FilesRow, is_nameless, is_unnamed as is_node_unnamed, load, load_in, named_in};
+ghost use Rattle.regress_program.specs.Filing.{AreFiled, Files, FilesBoth, FilesRow, is_nameless, is_unnamed as is_node_unnamed, load, load_in};
+ghost use Rattle.regress_program.specs.Filing.{named_in};
 ghost use Rattle.regress_program.specs.Walked.{passes};
 
 use crate::emit::nodes::holds_nodes;

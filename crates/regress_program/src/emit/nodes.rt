@@ -2,10 +2,12 @@
 #![tactic(auto, using(std::proofs::lemmas::Grind::common_steps), unfolding(regex_pattern_front::specs::TreeOf::node_of, crate::specs::Emitting::shaped))]
 
 ghost use Rattle.std.specs.Prelude.{◌≡◌, ◌+◌, ◌<◌, ◌^◌, [], length, not, OnOk, IsTrue};
-ghost use Rattle.regex_meaning.specs.{Tree.{alt, capture_group, lookaround, loop as loop_of, loop_1_char_body, every}, WellFormed.{fits_instructions}};
+ghost use Rattle.regex_meaning.specs.Tree.{alt, capture_group, lookaround, loop as loop_of, loop_1_char_body, every};
+ghost use Rattle.regex_meaning.specs.WellFormed.{fits_instructions};
 ghost use Rattle.regex_pattern_front.specs.TreeOf.{node_of, quantifier_of};
 ghost use Rattle.regress_program.specs.{Nodes.{cat_of, is_leaf}, Emitting.{HasRoom, shaped, shaped_in, state_of, IsEmitted, lookaround_of}};
-ghost use Rattle.regress_program.specs.Remaining.{CanPut, Fits, HasPut, Begins, BeginsOthers, BeginsRow, work, with_others, with_lookaround_end, with_loop_end};
+ghost use Rattle.regress_program.specs.Remaining.{CanPut, Fits, HasPut, Begins, BeginsOthers, BeginsRow, work, with_others, with_lookaround_end};
+ghost use Rattle.regress_program.specs.Remaining.{with_loop_end};
 
 use crate::emit::emitter::{Emitter, Lookaround, Mode, head_insn};
 use regex_pattern_front::ir::{Node, Quantifier};

@@ -7,7 +7,8 @@ ghost use Rattle.std.specs.List.{list_all};
 ghost use Rattle.std.specs.Str.{is_utf8, chars, continuation_len};
 ghost use Rattle.regex_pattern_front.specs.TreeOf.{node_of, quantifier_of};
 ghost use Rattle.regex_meaning.specs.Tree.{every};
-ghost use Rattle.regex_meaning.specs.WellFormed.{goal_count, ends_in_goal, goal_is_last, IsWellFormed, is_one_character as is_one_character_node, is_in_order as is_quantifier_in_order};
+ghost use Rattle.regex_meaning.specs.WellFormed.{goal_count, ends_in_goal, goal_is_last, IsWellFormed, is_one_character as is_one_character_node};
+ghost use Rattle.regex_meaning.specs.WellFormed.{is_in_order as is_quantifier_in_order};
 ghost use Rattle.regress_program.specs.{Ids.{is_sound_by_itself as is_node_sound}, Emitting.{code_points_of}, Walked.{passes}, Goals.{with_goals}};
 
 use crate::emit::ids::span_of_ids;

@@ -3,7 +3,8 @@
 ghost use Rattle.std.specs.Prelude.{◌≡◌, IfOk, true, false, map};
 ghost use Rattle.regex_pattern_front.specs.TreeOf.{tree_of};
 ghost use Rattle.regex_meaning.specs.Layout.{reads_bytes};
-ghost use Rattle.regress_program.specs.{Insns.{start_of, insn_of}, Predicates.{IsShort}, Code.{compiled}, Running.{tree_to_run}, Programs.{IsPlanFor}};
+ghost use Rattle.regress_program.specs.{Insns.{start_of, insn_of}, Predicates.{IsShort}, Code.{compiled}, Running.{tree_to_run}};
+ghost use Rattle.regress_program.specs.Programs.{IsPlanFor};
 
 use crate::insn::predicates::StartPredicate;
 use crate::insn::programs::Program;

@@ -4,7 +4,8 @@
 ghost use Rattle.std.specs.Prelude.{◌≡◌, not, true, false, IfOk, OnOk, IsOk};
 ghost use Rattle.regex_meaning.specs.StartPredicate.{beginning, join, sequence_of, sequence_or, union, first_byte, shared_front};
 ghost use Rattle.regex_pattern_front.specs.TreeOf.{node_of};
-ghost use Rattle.regress_program.specs.{Beginnings.{beginning_of, after, after_arm, joined_to}, Nodes.{cat_of, is_leaf}, Predicates.{is_open, may_grow}};
+ghost use Rattle.regress_program.specs.{Beginnings.{beginning_of, after, after_arm, joined_to}, Nodes.{cat_of, is_leaf}};
+ghost use Rattle.regress_program.specs.Predicates.{is_open, may_grow};
 
 use crate::startpredicate::bytesets::{
     add_all, add_first_byte, first_bytes_of_class, first_bytes_of_members, set_of,

@@ -2,7 +2,8 @@ use Rattle.std.proofs.Common.{[], ◌∷◌}
 use Rattle.std.proofs.lemmas.Bool.{ne_eqb}
 use Rattle.regex_grammar.proofs.Found.{past_leaf}
 use Rattle.regex_pattern_front.specs.LeafReads.{whole, NoTerm}
-use Rattle.regex_pattern_front.proofs.TermLemmas.{read-leaf, read-err, character-read, in-all, passed-of, alone, alone-none, bracket-none, bracket-read}
+use Rattle.regex_pattern_front.proofs.TermLemmas.{read-leaf, read-err, character-read, in-all, passed-of, alone, alone-none, bracket-none}
+use Rattle.regex_pattern_front.proofs.TermLemmas.{bracket-read}
 use Rattle.regex_pattern_front.proofs.leaves.LeafReader.leaf.Goals as goal
 
 pub returns-in_err-contents-clause-text : goal.returns-in_err-contents-clause-text

@@ -3,7 +3,8 @@ use Rattle.regex_meaning.specs.Tree.{group_ids}
 use Rattle.regex_meaning.proofs.WellFormedLemmas.{clauses}
 use Rattle.regex_pattern_front.specs.TreeOf.{node_of}
 use Rattle.regress_program.specs.Ids.{past, ids_stand}
-use Rattle.regress_program.proofs.IdLemmas.{sound_is_well_formed, well_formed_is_sound, well_formed_is_found, well_formed_has_room, few_ids, false_is_true}
+use Rattle.regress_program.proofs.IdLemmas.{sound_is_well_formed, well_formed_is_sound, well_formed_is_found, well_formed_has_room, few_ids}
+use Rattle.regress_program.proofs.IdLemmas.{false_is_true}
 use Rattle.regress_program.proofs.emit.wellformed.is_root_well_formed.Goals as goal
 
 pub returns-then-not-is_goal_last : goal.returns-then-not-is_goal_last

@@ -1,6 +1,7 @@
 use Rattle.regress_program.proofs.BeginningLemmas.{ends_left, ends_right, differ_here, front_ends}
 use Rattle.regress_program.proofs.startpredicate.beginnings.shared_front.Goals as goal
-use Rattle.regress_program.proofs.startpredicate.beginnings.shared_front.Goals.{then-loop-shared-test+then-shared-ys+else-xs-shared, then-loop-shared-test+else-shared-ys, else-loop-shared-test}
+use Rattle.regress_program.proofs.startpredicate.beginnings.shared_front.Goals.{then-loop-shared-test+then-shared-ys+else-xs-shared}
+use Rattle.regress_program.proofs.startpredicate.beginnings.shared_front.Goals.{then-loop-shared-test+else-shared-ys, else-loop-shared-test}
 
 pub returns : goal.returns
 returns c =

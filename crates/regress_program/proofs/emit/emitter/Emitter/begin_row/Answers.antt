@@ -4,7 +4,8 @@ use Rattle.regress_program.specs.Nodes.{cat_of, is_leaf}
 use Rattle.regress_program.specs.Weights.{weight}
 use Rattle.regress_program.specs.Emitting.{shaped, state_of, with_code}
 use Rattle.regress_program.specs.Remaining.{load_of, is_ready, with_left}
-use Rattle.regress_program.proofs.RemainingLemmas.{begun-whole, begun-two, grows-code, grows-then, put-row, row-code, row-ended, row-less, row-light, row-room-first, row-room-rest, row-sets}
+use Rattle.regress_program.proofs.RemainingLemmas.{begun-whole, begun-two, grows-code, grows-then, put-row, row-code, row-ended, row-less, row-light}
+use Rattle.regress_program.proofs.RemainingLemmas.{row-room-first, row-room-rest, row-sets}
 use Rattle.regress_program.proofs.emit.emitter.Emitter.begin_row.Goals as goal
 
 pub emit_leaf-requires-clause-room : goal.emit_leaf-requires-clause-room

@@ -9,7 +9,8 @@ use Rattle.regress_program.specs.Ids.{is_seen, ids_stand, span_of, joined}
 use Rattle.regress_program.specs.Spans.{as_span}
 use Rattle.regress_program.proofs.NodeLemmas.{node_of-Cat, cat_of-drop}
 use Rattle.regress_program.proofs.LeafLemmas.{leaf-left}
-use Rattle.regress_program.proofs.IdLemmas.{left-same, left-next, left-fails, left-leaf, left-found, left-span, left-seen, fills-encloses, joined-none, one_is_fresh, one_contained}
+use Rattle.regress_program.proofs.IdLemmas.{left-same, left-next, left-fails, left-leaf, left-found, left-span, left-seen, fills-encloses}
+use Rattle.regress_program.proofs.IdLemmas.{joined-none, one_is_fresh, one_contained}
 use Rattle.regress_program.proofs.Weights.{weight, weight-child}
 use Rattle.regress_program.proofs.emit.ids.Ids.+gather.Goals as goal
 

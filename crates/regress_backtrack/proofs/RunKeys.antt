@@ -1,5 +1,6 @@
 -- The keys of what runs leave, by a ledger.
-use Rattle.std.proofs.Common.{◌≡◌, ◌≤◌, ◌<◌, ℕ, ◌+◌, ◌-◌, Bool, true, false, List, [], ◌∷◌, map, Some, None, refl, ap, sym, ◌∙◌, subst, arith, if◌then◌else◌}
+use Rattle.std.proofs.Common.{◌≡◌, ◌≤◌, ◌<◌, ℕ, ◌+◌, ◌-◌, Bool, true, false, List, [], ◌∷◌, map, Some, None, refl, ap, sym, ◌∙◌, subst, arith}
+use Rattle.std.proofs.Common.{if◌then◌else◌}
 use Rattle.std.specs.Prelude.{◌==◌, ◌^◌, IfSome, Option}
 use Rattle.std.proofs.lemmas.Bool.{eqb-false, ne_eqb, true_from_ne_false, true≢false}
 use Rattle.regex_meaning.specs.Lists.{numbers_from}

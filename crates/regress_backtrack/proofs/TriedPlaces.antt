@@ -1,5 +1,6 @@
 -- The places that are tried where steps are counted: the first one from an offset on, and that no match begins between them.
-use Rattle.std.proofs.Common.{◌≡◌, ℕ, zero, suc, ◌+◌, ◌-◌, ◌<◌, ◌≤◌, List, [], ◌∷◌, Option, Some, None, Bool, true, false, refl, ap, sym, ◌∙◌, subst, arith, inl, inr, drop, slice_get}
+use Rattle.std.proofs.Common.{◌≡◌, ℕ, zero, suc, ◌+◌, ◌-◌, ◌<◌, ◌≤◌, List, [], ◌∷◌, Option, Some, None, Bool, true, false, refl, ap, sym, ◌∙◌, subst}
+use Rattle.std.proofs.Common.{arith, inl, inr, drop, slice_get}
 use Rattle.std.proofs.lemmas.Bool.{cases_lt, le-leb}
 use Rattle.std.specs.Prelude.{if◌then◌else◌, nat_eq, filter, option_map, option_and_then, unwrap_or, IfSome, IsTrue, encode_utf8_all}
 use Rattle.std.specs.List.{list_all, starts_with}
@@ -7,7 +8,8 @@ use Rattle.regex_meaning.specs.Lists.{contains, numbers_from}
 use Rattle.regex_meaning.specs.Tree.{Tree}
 use Rattle.regex_meaning.specs.Text.{Text, rightwards, last_place, is_scalar}
 use Rattle.regex_meaning.specs.Offsets.{IsText, IsBoundary, offset, read, units}
-use Rattle.regex_meaning.specs.StartPredicate.{StartPredicate, start_arbitrary, start_byte_set, start_byte_sequence, start_anchored, start_predicate, may_start, begins_with_one_of, bytes_from}
+use Rattle.regex_meaning.specs.StartPredicate.{StartPredicate, start_arbitrary, start_byte_set, start_byte_sequence, start_anchored, start_predicate}
+use Rattle.regex_meaning.specs.StartPredicate.{may_start, begins_with_one_of, bytes_from}
 use Rattle.regex_meaning.specs.Ticks.{tried_places}
 use Rattle.regex_meaning.specs.Units.{Encoding, utf8, utf16, ucs2, is_character}
 use Rattle.regex_meaning.specs.WellFormed.{is_well_formed}

@@ -24,5 +24,4 @@ pub mod Memos
 pub mod RunRecords
 pub mod GoingOver
 pub mod Leaving
-pub mod Ascii
 pub mod Acts

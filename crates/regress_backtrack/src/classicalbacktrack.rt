@@ -1,16 +1,16 @@
 //! The executor that keeps one state and undoes its changes.
 
-ghost use Rattle.std.specs.Prelude.{◌≡◌, ◌≤◌, IsAscii, IfOk, None, option_map, ⊤};
+ghost use Rattle.std.specs.Prelude.{◌≡◌, ◌≤◌, IsAscii, IfOk, option_map, ⊤};
 ghost use Rattle.std.proofs.Props.{props};
 ghost use Rattle.regex_meaning.specs.{Offsets.{IsBoundary}, Text.{ascii_text, utf8_text, utf16_text, ucs2_text}};
 ghost use Rattle.regex_pattern_front.specs.TreeOf.{tree_of};
-ghost use Rattle.regress_exec.specs.Attempts.{IsNextTry, IsVain};
+ghost use Rattle.regress_exec.specs.{Attempts.{IsNextTry, IsVain}, Executors.{ReadsAscii, StartsUnlimited, TakesAscii}};
 ghost use Rattle.regress_machine.specs.Finds.{CanSearch};
 ghost use Rattle.regress_plan.specs.Keys.{is_wide};
 ghost use Rattle.regress_scan.specs.Searching.{program_of};
 ghost use Rattle.regress_memo.specs.Memo.{has_failure};
 ghost use Rattle.regress_program.specs.Code.{compiled};
-ghost use Rattle.regress_backtrack.specs.{Ascii.{ReadsInBytes}, Memory.{state_of}, Memos.{terms_of}, Planning.{run_in}};
+ghost use Rattle.regress_backtrack.specs.{Memory.{state_of}, Memos.{terms_of}, Planning.{run_in}};
 ghost use Rattle.regress_backtrack.specs.Remembered.{IsRightOf, terms_in, failed_in};
 
 use crate::attempts::{attempt, attempt_again};
@@ -239,10 +239,8 @@ impl<'r, 't> BacktrackExecutor<'r, Utf16Input<'t>> {
     ///
     /// None so far: it takes no memory.
     pub fn new_utf16(re: &'r CompiledUnits, text: &'t [u16]) -> Result<Self, AllocError>
-        ensures tree { IfOk result (λ e. ⟦<BacktrackExecutor<'r, Utf16Input<'t>> as MatchProducer>⟧.tree e ≡ tree_of re.now) }
-        ensures text { IfOk result (λ e. ⟦<BacktrackExecutor<'r, Utf16Input<'t>> as MatchProducer>⟧.text e
-            ≡ utf16_text text.now (tree_of re.now).flags.unicode) }
-        ensures unlimited { IfOk result (λ e. ⟦<BacktrackExecutor<'r, Utf16Input<'t>> as MatchProducer>⟧.budget e ≡ None) }
+        ensures { let producer = ⟦<BacktrackExecutor<'r, Utf16Input<'t>> as MatchProducer>⟧ in
+            IfOk result (StartsUnlimited producer (tree_of re.now) (utf16_text text.now)) }
     {
         let program = PlannedProgram::for_units(re);
         Ok(BacktrackExecutor::over(program, Searched::in_utf16(re, text)))
@@ -256,10 +254,8 @@ impl<'r, 't> BacktrackExecutor<'r, Ucs2Input<'t>> {
     ///
     /// None so far: it takes no memory.
     pub fn new_ucs2(re: &'r CompiledUnits, text: &'t [u16]) -> Result<Self, AllocError>
-        ensures tree { IfOk result (λ e. ⟦<BacktrackExecutor<'r, Ucs2Input<'t>> as MatchProducer>⟧.tree e ≡ tree_of re.now) }
-        ensures text { IfOk result (λ e. ⟦<BacktrackExecutor<'r, Ucs2Input<'t>> as MatchProducer>⟧.text e
-            ≡ ucs2_text text.now (tree_of re.now).flags.unicode) }
-        ensures unlimited { IfOk result (λ e. ⟦<BacktrackExecutor<'r, Ucs2Input<'t>> as MatchProducer>⟧.budget e ≡ None) }
+        ensures { let producer = ⟦<BacktrackExecutor<'r, Ucs2Input<'t>> as MatchProducer>⟧ in
+            IfOk result (StartsUnlimited producer (tree_of re.now) (ucs2_text text.now)) }
     {
         let program = PlannedProgram::for_units(re);
         Ok(BacktrackExecutor::over(program, Searched::in_ucs2(re, text)))
@@ -312,10 +308,12 @@ type OfAscii = <OverAscii as Executor<'static, 'static>>::AsAscii;
 
 /// What `AsAscii` of the executor over UTF-8 names takes each text of ASCII, and reads each of its bytes as a character.
 pub fn ascii_is_read_in_bytes()
-    ensures { let ascii = ⟦<OfUtf8 as Searcher<'static>>⟧ in ReadsInBytes ascii.can_search ascii.text_of }
+    ensures takes { TakesAscii ⟦<OfUtf8 as Searcher<'static>>⟧.can_search }
+    ensures reads { ReadsAscii ⟦<OfUtf8 as Searcher<'static>>⟧.text_of }
 {}
 
 /// What `AsAscii` of the executor over ASCII names does so too.
 pub fn ascii_stays_in_bytes()
-    ensures { let ascii = ⟦<OfAscii as Searcher<'static>>⟧ in ReadsInBytes ascii.can_search ascii.text_of }
+    ensures takes { TakesAscii ⟦<OfAscii as Searcher<'static>>⟧.can_search }
+    ensures reads { ReadsAscii ⟦<OfAscii as Searcher<'static>>⟧.text_of }
 {}

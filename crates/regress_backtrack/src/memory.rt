@@ -1,7 +1,9 @@
 //! What a search remembers: a row of slots, a log of the values that they had, and the threads still to try.
 
 ghost use Rattle.std.specs.Prelude.{◌≡◌, ◌≢◌, ◌<◌, ◌≤◌, ◌+◌, ◌-◌, ◌^◌, ◌++◌, ℕ, [], ◌∷◌, length, take, map, slice_get, slice_set, Some, true, false, OnOk, OnErr, IfOk};
-ghost use Rattle.regress_backtrack.specs.Memory.{Held, undone, AreThere, first_slot as first_slot_at, seen, seen_change, AreFresh, change_of, since as noted_since, laid_out, state_of, loop_in, with_marks, IsUndone, IsSet, Becomes, with_open, without_range, with_range, with_iteration};
+ghost use Rattle.regress_backtrack.specs.Memory.{Held, undone, AreThere, first_slot as first_slot_at, seen, seen_change, AreFresh, change_of};
+ghost use Rattle.regress_backtrack.specs.Memory.{since as noted_since, laid_out, state_of, loop_in, with_marks, IsUndone, IsSet, Becomes, with_open};
+ghost use Rattle.regress_backtrack.specs.Memory.{without_range, with_range, with_iteration};
 ghost use Rattle.regress_backtrack.specs.Noted.{HasRoom, IsNotedAs};
 
 use crate::frames::Frame;

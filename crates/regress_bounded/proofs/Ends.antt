@@ -4,8 +4,11 @@ use Rattle.std.specs.Prelude.{nat_lt, if◌then◌else◌, ◌==◌}
 use Rattle.regex_meaning.specs.Text.{Text, Direction, next_character, moved}
 use Rattle.regex_meaning.specs.Offsets.{place_at}
 use Rattle.regex_meaning.specs.Outcomes.{is_some_and}
-use Rattle.regex_meaning.specs.Layout.{Program, Insn, LoopFields, Goal, JustFail, Char, CharSet, ByteSet, ByteSeq, AsciiBracket, Bracket, MatchAny, MatchAnyExceptLineTerminator, Alt, Jump, EnterLoop, LoopAgain, ResetCaptureGroup, Loop1CharBody, BeginCaptureGroup, EndCaptureGroup, BackRef, Lookahead, Lookbehind}
-use Rattle.regress_machine.specs.Machine.{State, Thread, LoopData, Next, goes, scans, ends, asks, with_some, only_if, go, go_if, loop_turn, again_with, again_at, test_of, on_to, read_one, stay_if, read_again, read_group, scan, act, act_on}
+use Rattle.regex_meaning.specs.Layout.{Program, Insn, LoopFields, Goal, JustFail, Char, CharSet, ByteSet, ByteSeq, AsciiBracket, Bracket, MatchAny}
+use Rattle.regex_meaning.specs.Layout.{MatchAnyExceptLineTerminator, Alt, Jump, EnterLoop, LoopAgain, ResetCaptureGroup, Loop1CharBody}
+use Rattle.regex_meaning.specs.Layout.{BeginCaptureGroup, EndCaptureGroup, BackRef, Lookahead, Lookbehind}
+use Rattle.regress_machine.specs.Machine.{State, Thread, LoopData, Next, goes, scans, ends, asks, with_some, only_if, go, go_if, loop_turn}
+use Rattle.regress_machine.specs.Machine.{again_with, again_at, test_of, on_to, read_one, stay_if, read_again, read_group, scan, act, act_on}
 use Rattle.regress_linear.specs.Behind.{look_at}
 
 -- an end is the state's own, nothing is asked where there is no lookaround, and nothing gone over where there is no run

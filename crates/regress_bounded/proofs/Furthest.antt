@@ -1,5 +1,6 @@
 -- Places of a greedy run without a maximum, one after another, each with the record of its key.
-use Rattle.std.proofs.Common.{◌≡◌, ◌≤◌, ◌<◌, ℕ, suc, ◌+◌, ◌-◌, Bool, true, false, List, [], ◌∷◌, ◌++◌, Option, Some, None, refl, sym, ap, ◌∙◌, subst, arith, inl, inr}
+use Rattle.std.proofs.Common.{◌≡◌, ◌≤◌, ◌<◌, ℕ, suc, ◌+◌, ◌-◌, Bool, true, false, List, [], ◌∷◌, ◌++◌, Option, Some, None, refl, sym, ap, ◌∙◌, subst}
+use Rattle.std.proofs.Common.{arith, inl, inr}
 use Rattle.std.specs.Prelude.{option_map, IsSome}
 use Rattle.std.proofs.lemmas.Bool.{cases_lt}
 use Rattle.std.proofs.Math.Logic.{∥∥₁_elim}
@@ -24,7 +25,7 @@ use Rattle.regress_memo.specs.Memo.{as_key, key_at, has_failure}
 use Rattle.regress_memo.specs.Room.{Known}
 use Rattle.regress_scan.proofs.Reach.{some-of}
 use Rattle.regress_scan.proofs.StopSets.{places-few}
-use Rattle.regress_bounded.specs.declared.places.Endless.{Endless}
+use Rattle.regress_bounded.specs.declared.row.Endless.{Endless}
 use Rattle.regress_bounded.specs.declared.row.Waiting.{Waiting}
 use Rattle.regress_bounded.specs.declared.row.Waiting.TheVariants.{Thread as AsThread, Record as AsRecord}
 use Rattle.regress_pikevm.specs.declared.pikevm.states.State.{State}

@@ -10,7 +10,7 @@ use Rattle.regress_linear.specs.Runs.{passing}
 use Rattle.regress_linear.specs.Turns.{Entry, tried, noted}
 use Rattle.regress_memo.specs.Memo.{has_failure}
 use Rattle.regress_bounded.specs.declared.course.Course.{Course}
-use Rattle.regress_bounded.specs.declared.places.Endless.{Endless}
+use Rattle.regress_bounded.specs.declared.row.Endless.{Endless}
 use Rattle.regress_bounded.specs.declared.row.Waiting.{Waiting}
 use Rattle.regress_pikevm.specs.declared.pikevm.states.State.{State}
 use Rattle.regress_bounded.specs.Courses.{Begin, IsRow, IsRunHere, HasMetPlaces, IsPast, Stands, IsOver, front_of}

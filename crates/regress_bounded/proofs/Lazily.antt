@@ -1,5 +1,6 @@
 -- Runs without a maximum: what they read, the turn of a lazy one, and the way back to it.
-use Rattle.std.proofs.Common.{◌≡◌, ◌≤◌, ◌<◌, ◌^◌, ℕ, ◌+◌, Bool, true, false, List, [], ◌∷◌, ◌++◌, Option, Some, None, refl, sym, ap, ◌∙◌, subst, arith}
+use Rattle.std.proofs.Common.{◌≡◌, ◌≤◌, ◌<◌, ◌^◌, ℕ, ◌+◌, Bool, true, false, List, [], ◌∷◌, ◌++◌, Option, Some, None, refl, sym, ap, ◌∙◌, subst}
+use Rattle.std.proofs.Common.{arith}
 use Rattle.std.specs.Prelude.{IsSome, is_some, option_map, slice_get}
 use Rattle.std.proofs.Math.Logic.{∥∥₁_elim}
 use Rattle.std.proofs.Props.{props}
@@ -21,7 +22,7 @@ use Rattle.regress_memo.specs.declared.memo.Key.{Key as Stored}
 use Rattle.regress_memo.specs.Memo.{as_key, key_at, has_failure}
 use Rattle.regress_memo.specs.Search.{HasCome}
 use Rattle.regress_bounded.specs.declared.course.Course.{Course}
-use Rattle.regress_bounded.specs.declared.places.Endless.{Endless}
+use Rattle.regress_bounded.specs.declared.row.Endless.{Endless}
 use Rattle.regress_bounded.specs.declared.row.Waiting.{Waiting}
 use Rattle.regress_bounded.specs.declared.row.Waiting.TheVariants.{Run as AsRun, Record as AsRecord}
 use Rattle.regress_pikevm.specs.declared.pikevm.states.State.{State}

@@ -31,7 +31,8 @@ use Rattle.regress_bounded.specs.declared.row.Waiting.TheVariants.{Thread as AsT
 use Rattle.regress_pikevm.specs.declared.pikevm.states.State.{State}
 use Rattle.std.proofs.Math.Logic.{∥∥₁_map, ∥∥₁_elim}
 use Rattle.std.proofs.Props.{props}
-use Rattle.regress_bounded.specs.Courses.{IsPaid, IsRight, KnowsRightly, IsStanding, Begin, HasKeyHere, IsRecordOf, StandsFor, AreFor, IsRow, Stands, IsOver, front_of}
+use Rattle.regress_bounded.specs.Courses.{IsPaid, IsRight, KnowsRightly, IsStanding, Begin, HasKeyHere, IsRecordOf, StandsFor, AreFor, IsRow, Stands}
+use Rattle.regress_bounded.specs.Courses.{IsOver, front_of}
 use Rattle.regress_bounded.specs.Spending.{HasSpent, IsSpent}
 use Rattle.regress_pikevm.specs.States.{state_of}
 

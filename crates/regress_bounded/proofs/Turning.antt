@@ -1,5 +1,6 @@
 -- One turn of a search in so much work: what it can do, and what becomes of what it leaves.
-use Rattle.std.proofs.Common.{◌≡◌, ◌≤◌, ◌<◌, ℕ, ◌+◌, Bool, true, false, min, List, [], ◌∷◌, ◌++◌, map, length, Option, Some, None, refl, sym, ap, ◌∙◌, subst, arith, inl, inr, append_assoc, append-nil, slice_get}
+use Rattle.std.proofs.Common.{◌≡◌, ◌≤◌, ◌<◌, ℕ, ◌+◌, Bool, true, false, min, List, [], ◌∷◌, ◌++◌, map, length, Option, Some, None, refl, sym, ap}
+use Rattle.std.proofs.Common.{◌∙◌, subst, arith, inl, inr, append_assoc, append-nil, slice_get}
 use Rattle.std.specs.Prelude.{◌==◌, ⊤, if◌then◌else◌, is_some, option_map, get_or, Result, Ok, Err, IsErrAnd}
 use Rattle.std.proofs.Math.Logic.{∥∥₁_elim}
 use Rattle.std.proofs.Props.{props}
@@ -35,7 +36,8 @@ use Rattle.regress_bounded.specs.declared.turns.Came.{Came}
 use Rattle.regress_pikevm.specs.declared.pikevm.states.State.{State}
 use Rattle.regress_pikevm.specs.declared.pikevm.states.Turn.{Turn}
 use Rattle.regress_pikevm.specs.declared.pikevm.states.Turn.TheVariants.{Ask}
-use Rattle.regress_bounded.specs.Courses.{Begin, HasKeyHere, IsLimited, IsStanding, IsRow, Stands, Turns, IsOver, IsTurn, Leaves, HasTaken, IsRunHere, front_of, known_of, endless_of}
+use Rattle.regress_bounded.specs.Courses.{Begin, HasKeyHere, IsLimited, IsStanding, IsRow, Stands, Turns, IsOver, IsTurn, Leaves, HasTaken}
+use Rattle.regress_bounded.specs.Courses.{IsRunHere, front_of, known_of, endless_of}
 use Rattle.regress_bounded.specs.Spending.{HasSpent, IsSpent}
 use Rattle.regress_pikevm.specs.States.{state_of, preferred_last, next_of, waiting_of}
 use Rattle.regress_pikevm.proofs.Fetching.{insn-here}

@@ -1,5 +1,6 @@
 -- What a search in so much work has in hand, as a row of the laws: threads, what waits of lazy runs, and records.
-use Rattle.std.specs.Prelude.{◌≡◌, ◌≤◌, ◌<◌, ◌^◌, ◌+◌, ◌-◌, ℕ, Bool, true, false, List, [], ◌∷◌, ◌++◌, map, reverse, Option, Some, None, option_map, Result, Ok, Err, IfSome, ◌⊎◌, ◌==◌, if◌then◌else◌, ⊤, slice_get}
+use Rattle.std.specs.Prelude.{◌≡◌, ◌≤◌, ◌<◌, ◌^◌, ◌+◌, ◌-◌, ℕ, Bool, true, false, List, [], ◌∷◌, ◌++◌, map, reverse, Option, Some, None, option_map}
+use Rattle.std.specs.Prelude.{Result, Ok, Err, IfSome, ◌⊎◌, ◌==◌, if◌then◌else◌, ⊤, slice_get}
 use Rattle.regex_meaning.specs.Text.{Text, rightwards, moved, last_place}
 use Rattle.regex_meaning.specs.Offsets.{IsText, offset as text_offset, place_at, units}
 use Rattle.regex_meaning.specs.Layout.{Program, Insn, Loop1CharBody}
@@ -28,7 +29,7 @@ use Rattle.regress_memo.specs.Search.{HasCome}
 use Rattle.regress_bounded.specs.declared.course.Course.{Course}
 use Rattle.regress_bounded.specs.declared.course.Refusal.{Refusal}
 use Rattle.regress_bounded.specs.declared.course.Refusal.TheVariants.{Memory, Work}
-use Rattle.regress_bounded.specs.declared.places.Endless.{Endless}
+use Rattle.regress_bounded.specs.declared.row.Endless.{Endless}
 use Rattle.regress_bounded.specs.declared.row.Waiting.{Waiting}
 use Rattle.regress_bounded.specs.declared.row.Waiting.TheVariants.{Thread as AsThread, Run as AsRun, Record as AsRecord}
 use Rattle.regress_bounded.specs.declared.turns.Came.{Came}

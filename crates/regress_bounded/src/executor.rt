@@ -15,7 +15,7 @@ use crate::course::{Course, Refusal};
 use crate::row::Waiting;
 use crate::turns::{Came, back_to, turn};
 use regress_exec::exec::{MatchProducer, SearchError, Worker};
-use regress_exec::places::Attempts;
+use regress_exec::places::{Attempts, group_at};
 use regress_exec::searched::Searched;
 use regress_input::indexing::{AsciiInput, InputIndexer, Ucs2Input, Utf8Input, Utf16Input};
 use regress_input::position::PositionType;
@@ -157,7 +157,7 @@ impl<'r, Input: InputIndexer> Attempts for BoundedExecutor<'r, Input> {
     }
 
     fn group(&self, id: usize) -> Option<(Input::Position, Input::Position)> {
-        *self.groups.get(id)?
+        group_at(&self.groups, id)
     }
 
     fn place_from(&self, pos: Input::Position) -> Option<Input::Position> {

@@ -13,7 +13,7 @@ ghost use Rattle.regress_bounded.specs.declared.row.Waiting.TheVariants.{Run as 
 ghost use Rattle.regress_pikevm.specs.States.{state_of};
 
 use crate::course::{Course, Refusal};
-use crate::row::{Waiting, wait};
+use crate::row::{Endless, Waiting, wait};
 use regress_exec::searched::Searched;
 use regress_input::cursor::Forward;
 use regress_input::indexing::InputIndexer;
@@ -24,14 +24,6 @@ use regress_pikevm::pikevm::runs::behind;
 use regress_pikevm::pikevm::states::State;
 use regress_program::insn::Insn;
 use std::alloc::AllocError;
-
-/// A run without a maximum: what it reads, how many characters at least, and whether it is greedy.
-#[derive(Clone, Copy)]
-pub(crate) struct Endless {
-    pub(crate) body: Insn,
-    pub(crate) least: usize,
-    pub(crate) greedy: bool,
-}
 
 // Over the characters that a run needs. So many there were.
 fn pass<Input: InputIndexer>(

@@ -8,6 +8,7 @@ use regress_input::position::PositionType;
 use regress_ledger::codes::{HoldsRounds, Round};
 use regress_memo::memo::Key;
 use regress_pikevm::pikevm::states::State;
+use regress_program::insn::Insn;
 use std::alloc::AllocError;
 
 /// One that waits.
@@ -18,6 +19,14 @@ pub(crate) enum Waiting<P> {
     Run(State<P>),
     /// Once it is reached, what stood above it has failed.
     Record(Key),
+}
+
+/// A run without a maximum: what it reads, how many characters at least, and whether it is greedy.
+#[derive(Clone, Copy)]
+pub(crate) struct Endless {
+    pub(crate) body: Insn,
+    pub(crate) least: usize,
+    pub(crate) greedy: bool,
 }
 
 /// One more waits, before the others.

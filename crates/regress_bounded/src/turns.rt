@@ -12,8 +12,8 @@ ghost use Rattle.regress_bounded.specs.Courses.{Begin, KnowsOf, HasKeyHere, IsLi
 ghost use Rattle.regress_pikevm.specs.States.{state_of, running_of};
 
 use crate::course::{Course, Refusal};
-use crate::places::{Endless, back_to_run, meet_run};
-use crate::row::{Waiting, wait};
+use crate::places::{back_to_run, meet_run};
+use crate::row::{Endless, Waiting, wait};
 use regress_exec::searched::Searched;
 use regress_input::cursor::Forward;
 use regress_input::indexing::InputIndexer;

@@ -9,7 +9,8 @@ use Rattle.regex_meaning.specs.Text.{Text, rightwards, last_place, is_scalar}
 use Rattle.regex_meaning.specs.Offsets.{IsText, IsBoundary, place_at, offset, read, units}
 use Rattle.regex_meaning.specs.Outcomes.{Outcome, outcomes}
 use Rattle.regex_meaning.specs.Find.{first_of, match_at, no_groups}
-use Rattle.regex_meaning.specs.StartPredicate.{StartPredicate, start_arbitrary, start_byte_set, start_byte_sequence, start_anchored, start_predicate, may_start}
+use Rattle.regex_meaning.specs.StartPredicate.{StartPredicate, start_arbitrary, start_byte_set, start_byte_sequence, start_anchored, start_predicate}
+use Rattle.regex_meaning.specs.StartPredicate.{may_start}
 use Rattle.regex_meaning.specs.WellFormed.{is_well_formed}
 use Rattle.regex_meaning.proofs.TextLemmas.{IsBoundary-place, offset-IsBoundary, offset-less, offset-le, place-less}
 use Rattle.regex_meaning.proofs.Sound.{predicate-holds}

@@ -1,5 +1,6 @@
 -- Work that is done in turn, from one call to the next.
-use Rattle.std.proofs.Common.{◌≡◌, ◌+◌, ◌≤◌, ℕ, Bool, true, false, Option, Some, None, Result, Ok, Err, ap, refl, subst, sym, ◌∙◌, arith, if◌then◌else◌, nat_le, nat_lt, option_map}
+use Rattle.std.proofs.Common.{◌≡◌, ◌+◌, ◌≤◌, ℕ, Bool, true, false, Option, Some, None, Result, Ok, Err, ap, refl, subst, sym, ◌∙◌, arith}
+use Rattle.std.proofs.Common.{if◌then◌else◌, nat_le, nat_lt, option_map}
 use Rattle.std.proofs.lemmas.Bool.{and_from, and_parts, le-leb, leb-true}
 use Rattle.regex_meaning.specs.Tree.{Tree}
 use Rattle.regex_meaning.specs.Text.{Text, rightwards}

@@ -6,8 +6,8 @@ use Rattle.regex_meaning.specs.Tree.{Tree}
 use Rattle.regress_exec.specs.declared.exec.MatchProducer.{Ghosts}
 
 -- at its start: it searches a tree in a text, which it reads by the tree's flags, without a limit of steps
-abbrev pub IsUnlimited : {E P : Type 0} → Ghosts E P → Tree → (text_of : (unicode : Bool) → Text) → E → Type 0
-IsUnlimited ghosts tree text_of e =
+abbrev pub StartsUnlimited : {E P : Type 0} → Ghosts E P → Tree → (text_of : (unicode : Bool) → Text) → E → Type 0
+StartsUnlimited ghosts tree text_of e =
     (ghosts.tree e ≡ tree) × (ghosts.text e ≡ text_of tree.flags.unicode) × (ghosts.budget e ≡ None)
 
 -- it takes each text of ASCII

@@ -1,5 +1,6 @@
 -- Work that is done in turn, and what an iterator over matches in so much work has still to yield.
-use Rattle.std.specs.Prelude.{◌≡◌, ◌+◌, ◌≤◌, ◌&&◌, ℕ, Bool, true, false, [], ◌∷◌, Option, Some, None, Result, Ok, Err, IfOk, ◌==◌, nat_le, nat_lt, option_map, if◌then◌else◌}
+use Rattle.std.specs.Prelude.{◌≡◌, ◌+◌, ◌≤◌, ◌&&◌, ℕ, Bool, true, false, [], ◌∷◌, Option, Some, None, Result, Ok, Err, IfOk, ◌==◌, nat_le, nat_lt}
+use Rattle.std.specs.Prelude.{option_map, if◌then◌else◌}
 use Rattle.regress_exec.specs.declared.exec.Match.{Match}
 use Rattle.regress_exec.specs.declared.exec.worked.WorkError.{WorkError}
 use Rattle.regress_exec.specs.declared.exec.worked.WorkError.TheVariants.{Memory, WorkLimit}

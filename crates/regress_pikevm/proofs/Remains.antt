@@ -1,5 +1,6 @@
 -- What is left of a search after each turn.
-use Rattle.std.proofs.Common.{◌≡◌, inl, inr, ℕ, ◌<◌, ◌≤◌, List, [], ◌∷◌, ◌++◌, Option, Some, None, Bool, refl, ap, sym, ◌∙◌, subst, arith, map, reverse, append-nil, replicate, take, ◌-◌}
+use Rattle.std.proofs.Common.{◌≡◌, inl, inr, ℕ, ◌<◌, ◌≤◌, List, [], ◌∷◌, ◌++◌, Option, Some, None, Bool, refl, ap, sym, ◌∙◌, subst, arith, map}
+use Rattle.std.proofs.Common.{reverse, append-nil, replicate, take, ◌-◌}
 use Rattle.std.proofs.lemmas.List.{map-append, reverse-append}
 use Rattle.std.proofs.lemmas.Simd.{map-map}
 use Rattle.regex_meaning.proofs.Lists.{map-replicate}
@@ -16,7 +17,8 @@ use Rattle.regress_machine.specs.Bytes.{ReadsBytes, reads_bytes}
 use Rattle.regress_machine.specs.Machine as machine
 use Rattle.regress_machine.specs.Machine.{Thread, running, waiting, in_turn, Next, goes, scans, ends, asks, resumed, act, search}
 use Rattle.regress_machine.specs.Finds.{initial, end_of}
-use Rattle.regress_machine.proofs.Remains.{steps_of, steps_left, Remains, Left, left-waits, remains-can, remains-inside, remains-ends, remains-none, left-goes, left-scans, left-asks}
+use Rattle.regress_machine.proofs.Remains.{steps_of, steps_left, Remains, Left, left-waits, remains-can, remains-inside, remains-ends, remains-none}
+use Rattle.regress_machine.proofs.Remains.{left-goes, left-scans, left-asks}
 use Rattle.regress_pikevm.specs.declared.pikevm.states.State.{State}
 use Rattle.regress_pikevm.specs.declared.pikevm.states.Turn.{Turn}
 use Rattle.regress_pikevm.specs.declared.pikevm.states.Turn.TheVariants.{Dead, Go, Fork, Ask}

@@ -5,7 +5,7 @@ ghost use Rattle.regex_meaning.specs.{Text.{ascii_text, ucs2_text, utf16_text, u
 ghost use Rattle.regex_pattern_front.specs.TreeOf.{tree_of};
 ghost use Rattle.regress_program.specs.{Code.{compiled}, Insns.{insn_of}};
 ghost use Rattle.regress_machine.specs.{Machine.{in_turn}, Turns.{CanTake}};
-ghost use Rattle.regress_exec.specs.{Attempts.{end_from}, Executors.{IsUnlimited, ReadsAscii, TakesAscii}};
+ghost use Rattle.regress_exec.specs.{Attempts.{end_from}, Executors.{StartsUnlimited, ReadsAscii, TakesAscii}};
 ghost use Rattle.regress_pikevm.specs.Acting.{end_with, search_at, turn_at, HasRun};
 ghost use Rattle.regress_pikevm.specs.States.{groups_of, next_of, waiting_of, to_try, preferred_last, TakesUp};
 
@@ -244,7 +244,7 @@ impl<'r, 't> PikeVMExecutor<'r, Utf16Input<'t>> {
     /// None so far: it takes no memory.
     pub fn new_utf16(re: &'r CompiledUnits, text: &'t [u16]) -> Result<Self, AllocError>
         ensures { IfOk result
-            (IsUnlimited ⟦<PikeVMExecutor<'r, Utf16Input<'t>> as MatchProducer>⟧ (tree_of re.now) (utf16_text text.now)) }
+            (StartsUnlimited ⟦<PikeVMExecutor<'r, Utf16Input<'t>> as MatchProducer>⟧ (tree_of re.now) (utf16_text text.now)) }
     {
         Ok(PikeVMExecutor::over(Searched::in_utf16(re, text)))
     }
@@ -258,7 +258,7 @@ impl<'r, 't> PikeVMExecutor<'r, Ucs2Input<'t>> {
     /// None so far: it takes no memory.
     pub fn new_ucs2(re: &'r CompiledUnits, text: &'t [u16]) -> Result<Self, AllocError>
         ensures { IfOk result
-            (IsUnlimited ⟦<PikeVMExecutor<'r, Ucs2Input<'t>> as MatchProducer>⟧ (tree_of re.now) (ucs2_text text.now)) }
+            (StartsUnlimited ⟦<PikeVMExecutor<'r, Ucs2Input<'t>> as MatchProducer>⟧ (tree_of re.now) (ucs2_text text.now)) }
     {
         Ok(PikeVMExecutor::over(Searched::in_ucs2(re, text)))
     }

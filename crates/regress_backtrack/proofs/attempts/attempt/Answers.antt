@@ -15,7 +15,8 @@ use Rattle.regress_backtrack.specs.Searches.{searched_from, NeedAtLeast}
 use Rattle.regress_backtrack.specs.Steps.{limit_of}
 use Rattle.regress_machine.specs.Finds.{initial}
 use Rattle.regress_machine.specs.Machine.{running}
-use Rattle.regress_backtrack.proofs.Attempting.{Begins, first-state, begins, attempt-ends, attempt-spends, attempt-stops, found-with, spends-none, stopped-takes, takes-none, tells-memory}
+use Rattle.regress_backtrack.proofs.Attempting.{Begins, first-state, begins, attempt-ends, attempt-spends, attempt-stops, found-with, spends-none}
+use Rattle.regress_backtrack.proofs.Attempting.{stopped-takes, takes-none, tells-memory}
 use Rattle.regress_backtrack.proofs.Marked.{sound-same}
 use Rattle.regress_backtrack.proofs.attempts.attempt.Given.{Over}
 use Rattle.regress_backtrack.proofs.attempts.attempt.Goals.{In_ok-begin}

@@ -6,7 +6,8 @@ use Rattle.regress_program.specs.Code.{compiled}
 use Rattle.regress_program.specs.Insns.{insn_of}
 use Rattle.regress_ledger.specs.Whole.{HasBit}
 use Rattle.regress_memo.specs.Memo.{as_key}
-use Rattle.regress_bounded.proofs.Lazily.{rest-of, back-known-over, back-known-goes, back-over, back-goes, back-place, back-boundary, back-tested, back-keyed}
+use Rattle.regress_bounded.proofs.Lazily.{rest-of, back-known-over, back-known-goes, back-over, back-goes, back-place, back-boundary, back-tested}
+use Rattle.regress_bounded.proofs.Lazily.{back-keyed}
 use Rattle.regress_bounded.proofs.Bodies.{body-insn, body-below, body-fits, body-spelled}
 use Rattle.regress_bounded.proofs.Stopping.{went-on, goes-over}
 use Rattle.regress_bounded.proofs.places.back_to_run.Given.{Over}

@@ -1,4 +1,4 @@
-//! The cases that another engine judged (`crates/regress_vectors/data`): all matches with their groups, in UTF-8, in UTF-16, and with
+//! The cases that another engine judged (`crates/regress_trials/data`): all matches with their groups, in UTF-8, in UTF-16, and with
 //! ample steps.
 
 use regress_match::{Match, Regex};
@@ -7,7 +7,7 @@ use std::fs;
 
 const CASES: &str = concat!(
     env!("CARGO_MANIFEST_DIR"),
-    "/../crates/regress_vectors/data/v8.jsonl"
+    "/../crates/regress_trials/data/v8.jsonl"
 );
 
 /// The text of a field, or its number.

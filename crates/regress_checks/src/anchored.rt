@@ -1,11 +1,11 @@
 //! Which patterns have programs that are tried at the left end alone.
 
+use crate::rows::{Row, compare};
 use regex_pattern_front::flags::Flags;
 use regex_pattern_front::ir::Regex;
 use regex_pattern_front::parse::try_parse;
 use regress_program::emit::emit;
 use regress_program::insn::StartPredicate;
-use regress_rows::rows::{Row, compare};
 use std::alloc::{AllocError, Global};
 
 // Rows of three fields: a pattern, `m` or nothing for its flags, and whether its program is tried there alone.

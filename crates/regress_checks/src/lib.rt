@@ -1,4 +1,5 @@
-//! Tests of searches, by every call and executor. It has no code that others use.
+//! Tests of searches, by every call and executor, of what is made of matches, and of the program. It has no code that
+//! others use.
 #![tactic(auto)]
 
 #[cfg(test)]
@@ -8,15 +9,35 @@ mod backends;
 #[cfg(test)]
 mod calls;
 #[cfg(test)]
+mod closures;
+#[cfg(test)]
+mod constructors;
+#[cfg(test)]
+mod deep;
+#[cfg(test)]
+mod errors;
+#[cfg(test)]
+mod face;
+#[cfg(test)]
+mod flags;
+#[cfg(test)]
+mod groups;
+#[cfg(test)]
 mod limits;
 #[cfg(test)]
 mod lines;
+#[cfg(test)]
+mod patterns;
 #[cfg(test)]
 mod placed;
 #[cfg(test)]
 mod profile;
 #[cfg(test)]
 mod remembered;
+#[cfg(test)]
+mod replace;
+#[cfg(test)]
+mod rows;
 #[cfg(test)]
 mod searches;
 #[cfg(test)]
@@ -25,6 +46,8 @@ mod starts;
 mod table;
 #[cfg(test)]
 mod tests;
+#[cfg(test)]
+mod tool;
 #[cfg(test)]
 mod units;
 #[cfg(test)]

@@ -3,12 +3,12 @@
 ghost use Rattle.regress_match.specs.Programs.{IsStart};
 
 use crate::lines::{write_limited, write_one};
+use crate::rows::{Row, compare};
 use crate::starts::is_start;
 use regress_match::backends::{LimitedExecutor, emit};
 use regress_match::{Flags, Match, Regex, SearchError};
 use regress_pikevm::exec::{MatchProducer, Matches};
 use regress_program::insn::CompiledRegex;
-use regress_rows::rows::{Row, compare};
 use regress_trees::tree_of;
 use std::alloc::Global;
 

@@ -2,11 +2,11 @@
 //! way than over short ones.
 
 use crate::calls::Asked;
+use crate::patterns::{refusal, regex_of};
+use crate::rows::{Row, compare};
 use crate::searches::{Search, check_ways, push_text};
 use crate::ways::SCANNING;
 use regress_match::{Regex, SearchError};
-use regress_rows::patterns::{refusal, regex_of};
-use regress_rows::rows::{Row, compare};
 use std::alloc::{AllocError, Global};
 
 // Rows of five fields: a pattern, the letters of its flags, what fills the text, two pieces, and all matches. Before one

@@ -1,13 +1,13 @@
 //! Searches that end in time alone because what failed is remembered, or because iterations that read nothing are made once.
 
 use crate::lines::write_utf8;
+use crate::rows::{Row, compare};
 use regex_pattern_front::flags::Flags;
 use regex_pattern_front::parse::try_parse;
 use regress_match::SearchError;
 use regress_match::backends::{DefaultExecutor, emit};
 use regress_pikevm::exec::{Matches, Searcher};
 use regress_program::insn::CompiledRegex;
-use regress_rows::rows::{Row, compare};
 use std::alloc::Global;
 
 // Rows of three fields: a pattern, a text, and its matches. By what the patterns mean alone, each of these searches has more

@@ -1,10 +1,10 @@
 //! Patterns, texts and what the searches find.
 
 use crate::calls::Asked;
+use crate::patterns::{refusal, regex_of};
+use crate::rows::{Row, compare};
 use crate::ways::{WAYS, Way, write_found};
 use regress_match::{Regex, SearchError};
-use regress_rows::patterns::{refusal, regex_of};
-use regress_rows::rows::{Row, compare};
 use std::alloc::{AllocError, Global};
 
 // What is searched for, and how.

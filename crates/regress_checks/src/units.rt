@@ -2,9 +2,9 @@
 
 use crate::calls::Asked;
 use crate::lines::{write_one, write_ucs2, write_utf16};
+use crate::patterns::{refusal, regex_of};
+use crate::rows::{Row, compare};
 use regress_match::{Regex, SearchError, is_unit_boundary};
-use regress_rows::patterns::{refusal, regex_of};
-use regress_rows::rows::{Row, compare};
 use std::alloc::{AllocError, Global};
 
 // Rows of six fields: a pattern, the letters of its flags, or `tree` where the pattern is a tree in words, the units in

@@ -3,10 +3,10 @@
 ghost use Rattle.std.specs.Prelude.{IsAscii};
 
 use crate::lines::write_found;
+use crate::rows::{Row, compare};
 use crate::starts::is_start;
 use regress_match::{BoundedRegex, Regex, WorkError, is_unit_boundary};
 use regress_pikevm::exec::{SearchError, WorkMatches, Worker};
-use regress_rows::rows::{Row, compare};
 use std::alloc::Global;
 
 // Rows of six fields: a pattern, `bytes` or `units` for the texts that are searched, a text of ASCII, a start, how much work may be

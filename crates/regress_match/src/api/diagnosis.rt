@@ -20,7 +20,7 @@ pub(super) fn code_points(alloc: Global, text: &str) -> Result<Vec<u32>, AllocEr
 impl Regex {
     /// What is wrong with a pattern that `with_flags` refuses as `Parse(Syntax)`, and where; none where it is a pattern. It is
     /// shown like `unclosed group at 3`, and by `below_text` in a line below the pattern. The place is told in code points, and by
-    /// `offset_in` in bytes: those of `é(a|b` are 1 and 2 (a row of `regress_face_checks`).
+    /// `offset_in` in bytes: those of `é(a|b` are 1 and 2 (a row of `regress_checks`).
     ///
     /// # Errors
     ///

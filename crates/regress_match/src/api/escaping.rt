@@ -6,7 +6,7 @@ ghost use Rattle.regex_meaning.specs.{Flags.{escape as escaped_text, special}, L
 use std::alloc::{AllocError, Global};
 
 /// The text with a backslash before each of its syntax characters, `\ ^ $ . | ? * + ( ) [ ] { }`, so that it can
-/// stand in a pattern for itself. All other characters stay. `a.b*c` becomes `a\.b\*c` (a row of `regress_face_checks`).
+/// stand in a pattern for itself. All other characters stay. `a.b*c` becomes `a\.b\*c` (a row of `regress_checks`).
 ///
 /// # Errors
 ///

@@ -16,7 +16,7 @@ use std::alloc::{AllocError, Global};
 
 impl Regex {
     /// The text with the replacement in place of the first match; without a match it is the text. `$2/$3/$1` for
-    /// `(\d{4})-(\d{2})-(\d{2})` makes `12/25/2023` of `2023-12-25` (a row of `regress_face_checks`).
+    /// `(\d{4})-(\d{2})-(\d{2})` makes `12/25/2023` of `2023-12-25` (a row of `regress_checks`).
     ///
     /// In a replacement `$$` stands for `$`, `$` and digits for a group by number, `${name}` for one by name, and `$0`
     /// for the whole match. A group that is not there, or did not match, gives nothing. Digits are read until the
@@ -34,7 +34,7 @@ impl Regex {
     }
 
     /// The text with the replacement in place of each match, as `replace` reads it. `$1.$2` for `\b(\w)(\w+)` makes
-    /// `h.ello w.orld` of `hello world` (a row of `regress_face_checks`).
+    /// `h.ello w.orld` of `hello world` (a row of `regress_checks`).
     ///
     /// # Errors
     ///

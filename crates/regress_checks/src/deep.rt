@@ -1,0 +1,82 @@
+//! Wide and deep patterns are searched, on texts with a match and without one, or refused.
+
+use crate::rows::{Row, compare};
+use regress_match::Regex;
+use std::alloc::{AllocError, Global};
+
+// Rows of four fields: a count, so many openings and as many closings round what is inside, a text, and whether there is a
+// match, or why the pattern is refused. A loop over one character counts as a loop where it is not optimized, as in the
+// program for 16-bit units. Two rows have more ways through than anybody could walk, each of them.
+pub const NESTS: &str = "\
+100000~a|…b…~xb~found
+100000~a|…b…~xc~none
+100000~(?=b)…b…~xb~found
+100000~a…b…~xab~none
+5000~(…a…)~xa~found
+5000~(…a…)~xb~none
+5000~a|(…b…)~xb~found
+5000~a|(…b…)~xc~none
+5000~(…a…|b)~xb~found
+5000~(…a…|b)~xc~none
+5000~(?:…a…)+?~xa~found
+5000~(?:…a…)+?~xb~none
+5000~(?=…a…)~xa~found
+5000~(?=…a…)~xb~none
+5000~(?!…a…)~xa~found
+5000~(?!…a…)~xb~none
+5000~(?<=…a…)~xa~found
+5000~(?<=…a…)~xb~none
+5000~(?<!…a…)~xa~found
+5000~(?<!…a…)~xb~none
+65535~a*……~xa~found
+65536~a*……~xa~Emit(TooManyLoops)
+65536~(……~xa~Parse(Syntax)
+40~(?:\\b|^|\\B)…a…~a~found
+40~(?:a|b|\\b)…c…~abc~found";
+
+// Adds a piece of a pattern so many times.
+fn add(pattern: &mut String, piece: &str, count: usize) -> Result<(), AllocError> {
+    for _ in 0..count {
+        pattern.push_str(piece)?;
+    }
+    Ok(())
+}
+
+// The pattern of a nest, which has `…` before and behind what is inside.
+fn pattern_of(alloc: Global, nest: &str, count: usize) -> Result<String, AllocError> {
+    let mut pattern = String::new(alloc);
+    let (opening, rest) = nest.split_once('…').unwrap_or((nest, ""));
+    let (inside, closing) = rest.split_once('…').unwrap_or((rest, ""));
+    add(&mut pattern, opening, count)?;
+    pattern.push_str(inside)?;
+    add(&mut pattern, closing, count)?;
+    Ok(pattern)
+}
+
+// What comes of a search.
+fn found(alloc: Global, re: &Regex, text: &str) -> Result<String, AllocError> {
+    let found = match re.find(text) {
+        Ok(Some(_)) => "found",
+        Ok(None) => "none",
+        Err(_) => "refused",
+    };
+    String::from_str(alloc, found)
+}
+
+// What comes of a search, or of the pattern where it is refused.
+fn outcome(alloc: Global, pattern: &str, text: &str) -> Result<String, AllocError> {
+    match Regex::new(alloc, pattern) {
+        Ok(re) => found(alloc, &re, text),
+        Err(refused) => format!(in alloc; "{refused:?}"),
+    }
+}
+
+pub fn check_nest(alloc: Global, differing: &mut String, row: Row<'_>) -> Result<(), AllocError> {
+    let fields: Vec<&str> = row.asked.split('~').collect(alloc)?;
+    let [count, nest, text] = *fields.as_slice() else {
+        return compare(differing, row, "other than four fields", "");
+    };
+    let pattern = pattern_of(alloc, nest, count.parse::<usize>().unwrap_or(0))?;
+    let outcome = outcome(alloc, &pattern, text)?;
+    compare(differing, row, outcome.as_str(), "")
+}

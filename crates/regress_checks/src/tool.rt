@@ -1,0 +1,109 @@
+//! What the program prints and answers.
+
+use crate::rows::{Row, compare};
+use regress_match::program::run;
+use std::alloc::{AllocError, Global};
+use std::io;
+use std::io::Write;
+
+// How many writes of output and of errors are good, the words that the program is given, each a field, and what it then
+// answers, prints and tells. `-` stands for any number of writes, `␀` for a word that is not UTF-8.
+pub const RUNS: &str = r#"-- a|ab~~abc~0 "0..1\n" ""
+-- ab|a~~aab~0 "0..1\n1..3\n" ""
+-- ~~ab~0 "0..0\n1..1\n2..2\n" ""
+-- ~~~0 "0..0\n" ""
+-- é~~aé~0 "1..3\n" ""
+-- z~~abc~1 "" ""
+-- a*~~a~0 "0..1\n1..1\n" ""
+-- (a)|b~~ab~0 "0..1 0..1\n1..2 -\n" ""
+-- (~~~2 "" "pattern refused\n"
+-- a~2 "" "usage: regress-tool PATTERN FLAGS TEXT\n"
+-- a~~a~a~2 "" "usage: regress-tool PATTERN FLAGS TEXT\n"
+-- a~~␀~2 "" "usage: regress-tool PATTERN FLAGS TEXT\n"
+0- a~~aaa~2 "cut" ""
+1- a~~aaa~2 "cut" ""
+2- a~~aaa~2 "cut" ""
+5- a~~aaa~2 "cut" ""
+-0 (~~~2 "" "cut"
+"#;
+
+// Takes so many writes, fails the next one, and counts all that are tried.
+#[derive(Drop)]
+struct Taker {
+    taken: Vec<u8>,
+    good: usize,
+    tried: usize,
+}
+
+impl Taker {
+    fn new(alloc: Global, good: u8) -> Taker {
+        Taker {
+            taken: Vec::new(alloc),
+            good: match good {
+                b'0'..=b'9' => usize::from(good - b'0'),
+                _ => usize::MAX,
+            },
+            tried: 0,
+        }
+    }
+
+    // The text, which a failed write cuts off.
+    fn text(&self) -> &str {
+        if self.tried <= self.good {
+            return str::from_utf8(&self.taken).unwrap_or("no UTF-8");
+        }
+        if self.tried - self.good == 1 && b"0..1\n1..2\n2..3\n".starts_with(&self.taken) {
+            "cut"
+        } else {
+            "more behind a failed write"
+        }
+    }
+}
+
+impl Write for Taker {
+    fn write(&mut self, buf: &[u8]) -> io::Result<usize> {
+        self.tried = self.tried.saturating_add(1);
+        if self.good < self.tried {
+            return Err(io::Error::from(io::ErrorKind::BrokenPipe));
+        }
+        self.taken.extend_from_slice(buf)?;
+        Ok(buf.len())
+    }
+
+    fn flush(&mut self) -> io::Result<()> {
+        Ok(())
+    }
+}
+
+// The words as the program is given them.
+fn words_of(alloc: Global, texts: &str) -> Result<Vec<Option<String>>, AllocError> {
+    let mut words = Vec::new(alloc);
+    for text in texts.split('~') {
+        let word = if text == "␀" {
+            None
+        } else {
+            Some(String::from_str(alloc, text)?)
+        };
+        words.push(word)?;
+    }
+    Ok(words)
+}
+
+// What the program answers, prints and tells.
+fn ran(alloc: Global, goods: &str, words: &str) -> Result<String, AllocError> {
+    let [good_out, good_err] = *goods.as_bytes() else {
+        return String::from_str(alloc, "not two numbers");
+    };
+    let mut out = Taker::new(alloc, good_out);
+    let mut err = Taker::new(alloc, good_err);
+    let status = run(alloc, &words_of(alloc, words)?, &mut out, &mut err);
+    let printed = out.text();
+    let told = err.text();
+    format!(in alloc; "{status} {printed:?} {told:?}")
+}
+
+pub fn check_run(alloc: Global, differing: &mut String, row: Row<'_>) -> Result<(), AllocError> {
+    let (goods, words) = row.asked.split_once(' ').unwrap_or((row.asked, ""));
+    let found = ran(alloc, goods, words)?;
+    compare(differing, row, &found, "")
+}

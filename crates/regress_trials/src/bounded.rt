@@ -1,0 +1,153 @@
+//! Searches in as much work as their bound says.
+
+use crate::fault::Fault;
+use crate::lists::{are_same, are_same_places};
+use regress_match::{BoundedRegex, Match, Regex, WorkError};
+use regress_pikevm::exec::{WorkMatches, Worker};
+use std::alloc::{AllocError, Global};
+
+/// So much work for each unit of a text, and one.
+pub fn enough(bounded: &BoundedRegex<'_>, units: usize) -> u64 {
+    let places = (units as u64).saturating_add(1);
+    bounded.work_per_unit().saturating_mul(places)
+}
+
+// A text, and its matches, which were found without a bound.
+#[derive(Clone, Copy)]
+struct Known<'a> {
+    text: &'a str,
+    list: &'a [Match],
+}
+
+// What a search in so much work came to.
+#[derive(Drop)]
+struct Worked {
+    list: Vec<Match>,
+    // how much work is left
+    left: u64,
+    // whether more would have had to be done
+    is_out: bool,
+}
+
+impl Worked {
+    // Whether it found these.
+    fn has_all(&self, list: &[Match]) -> bool {
+        !self.is_out && are_same(list, &self.list)
+    }
+
+    // Whether it found these from the first on, and then no work was left.
+    fn is_cut(&self, list: &[Match]) -> bool {
+        let Some(first) = list.get(..self.list.len()) else {
+            return false;
+        };
+        self.is_out && self.left == 0 && are_same(first, &self.list)
+    }
+}
+
+// All that is to come. No call gives back work that was done.
+fn all<P: Worker + Drop>(alloc: Global, mut matches: WorkMatches<P>) -> Result<Worked, Fault> {
+    let mut list = Vec::new(alloc);
+    let mut is_out = false;
+    let mut left = matches.work_left();
+    for _ in 0..u64::MAX {
+        let item = matches.next();
+        let before = left;
+        left = matches.work_left();
+        if before < left {
+            return Err(Fault::Bounded);
+        }
+        match item {
+            Some(Ok(found)) => list.push(found).map_err(AllocError::from)?,
+            Some(Err(WorkError::WorkLimit)) => is_out = true,
+            Some(Err(WorkError::Memory)) => return Err(Fault::Refused),
+            None => break,
+        }
+    }
+    Ok(Worked { list, left, is_out })
+}
+
+// What a search in bytes comes to.
+fn all_in_bytes(
+    alloc: Global,
+    bounded: &BoundedRegex<'_>,
+    text: &str,
+    work: u64,
+) -> Result<Worked, Fault> {
+    all(alloc, bounded.find_from(text, 0, work)?)
+}
+
+// Whether these matches take so much work: none of it is left, and one less is too little.
+fn is_taken(
+    alloc: Global,
+    bounded: &BoundedRegex<'_>,
+    known: Known<'_>,
+    work: u64,
+) -> Result<bool, Fault> {
+    let whole = all_in_bytes(alloc, bounded, known.text, work)?;
+    if !whole.has_all(known.list) || whole.left != 0 {
+        return Ok(false);
+    }
+    match work.checked_sub(1) {
+        Some(less) => Ok(all_in_bytes(alloc, bounded, known.text, less)?.is_cut(known.list)),
+        None => Ok(true),
+    }
+}
+
+// Whether all matches in bytes are found, in as much work as is counted.
+fn is_found(alloc: Global, bounded: &BoundedRegex<'_>, known: Known<'_>) -> Result<bool, Fault> {
+    let text = known.text;
+    let work = enough(bounded, text.len());
+    let found = all_in_bytes(alloc, bounded, text, work)?;
+    let taken = work.saturating_sub(found.left);
+    if !found.has_all(known.list) || !is_taken(alloc, bounded, known, taken)? {
+        return Ok(false);
+    }
+    if !text.is_ascii() {
+        return Ok(true);
+    }
+    let others = all(alloc, bounded.find_from_ascii(text, 0, work)?)?;
+    Ok(others.has_all(known.list) && others.left == found.left)
+}
+
+// So they are in UTF-16.
+fn is_found_in_utf16(
+    alloc: Global,
+    bounded: &BoundedRegex<'_>,
+    known: Known<'_>,
+) -> Result<bool, Fault> {
+    let units: Vec<u16> = known.text.encode_utf16().collect(alloc)?;
+    let work = enough(bounded, units.len());
+    let found = all(alloc, bounded.find_from_utf16(&units, 0, work)?)?;
+    Ok(!found.is_out && are_same_places(known.text, known.list, &found.list))
+}
+
+// Whether the same is found in UCS-2 as without a bound.
+fn is_same_in_ucs2(
+    alloc: Global,
+    re: &Regex,
+    bounded: &BoundedRegex<'_>,
+    text: &str,
+) -> Result<bool, Fault> {
+    let units: Vec<u16> = text.encode_utf16().collect(alloc)?;
+    let work = enough(bounded, units.len());
+    let list = crate::lists::all(alloc, re.find_from_ucs2(&units, 0)?)?;
+    let found = all(alloc, bounded.find_from_ucs2(&units, 0, work)?)?;
+    Ok(found.has_all(&list))
+}
+
+/// Whether the same is found in as much work as the bound says is enough; none where no bound is known.
+pub fn is_bounded(
+    alloc: Global,
+    re: &Regex,
+    text: &str,
+    list: &[Match],
+) -> Result<Option<bool>, Fault> {
+    let Some(bounded) = re.bounded()? else {
+        return Ok(None);
+    };
+    let known = Known { text, list };
+    let holds = is_found(alloc, &bounded, known)?
+        && is_found_in_utf16(alloc, &bounded, known)?
+        && is_same_in_ucs2(alloc, re, &bounded, text)?;
+    Ok(Some(holds))
+}

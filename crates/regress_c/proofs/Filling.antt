@@ -1,5 +1,6 @@
 -- A buffer that is filled with matches, one behind another.
-use Rattle.std.proofs.Common.{◌≡◌, ℕ, ◌+◌, ◌-◌, ◌*◌, ◌<◌, le_refl, inr, List, [], ◌∷◌, ◌++◌, append_assoc, length, take, drop, Option, Some, None, refl, sym, ap, ap₂, ◌∙◌, subst, arith}
+use Rattle.std.proofs.Common.{◌≡◌, ℕ, ◌+◌, ◌-◌, ◌*◌, ◌<◌, le_refl, inr, List, [], ◌∷◌, ◌++◌, append_assoc, length, take, drop, Option, Some, None}
+use Rattle.std.proofs.Common.{refl, sym, ap, ap₂, ◌∙◌, subst, arith}
 use native.Mathlib.Nat.{zero-mul}
 use Rattle.std.proofs.Math.Seq.{drop-drop, drop_at, take_at}
 use Rattle.std.proofs.lemmas.Bool.{lt-leb}

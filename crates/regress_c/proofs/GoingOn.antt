@@ -3,7 +3,8 @@ use Rattle.std.proofs.Common.{◌≡◌, ℕ, ◌<◌, List, Option, Some, None,
 use Rattle.regress_match.specs.Programs.{as_utf16, unit_tree}
 use Rattle.regress_match.specs.declared.api.regex.Regex.{Regex}
 use Rattle.regress_c.specs.Codes.{code_of}
-use Rattle.regress_c.specs.Going.{FillsFrom, FillsIn, Goes, GoesBy, GoesIn, HasSameText, RefusesSearch, RepliesNext, Went, code_of_stop, ran, ranges_of, refused, short, tree_by}
+use Rattle.regress_c.specs.Going.{FillsFrom, FillsIn, Goes, GoesBy, GoesIn, HasSameText, RefusesSearch, RepliesNext, Went, code_of_stop, ran}
+use Rattle.regress_c.specs.Going.{ranges_of, refused, short, tree_by}
 use Rattle.regress_c.specs.Opening.{encoding_of}
 use Rattle.regress_c.specs.Searching.{can_start_utf16}
 use Rattle.regress_c.specs.declared.going.Filled.{Filled}

@@ -9,7 +9,9 @@ use Rattle.regress_exec.specs.declared.exec.worked.WorkError.TheVariants as work
 use Rattle.regress_match.specs.declared.api.error.Error.{Error}
 use Rattle.regress_match.specs.declared.api.error.Error.TheVariants as error
 use Rattle.regress_c.specs.declared.refusal.Refusal.{Refusal}
-use Rattle.regress_c.specs.declared.refusal.Refusal.TheVariants.{Empty, Full, NotUtf8, NotBoundary, ShortBuffer, Memory, StepLimit, Syntax, TooManyGroups, TooManyLoops, TooManyInstructions, UnknownFlag, TooLong, TooDeep, NoGroup, NotOpen, NotCounted, NoBound, WorkLimit}
+use Rattle.regress_c.specs.declared.refusal.Refusal.TheVariants.{Empty, Full, NotUtf8, NotBoundary, ShortBuffer, Memory, StepLimit, Syntax}
+use Rattle.regress_c.specs.declared.refusal.Refusal.TheVariants.{TooManyGroups, TooManyLoops, TooManyInstructions, UnknownFlag, TooLong, TooDeep}
+use Rattle.regress_c.specs.declared.refusal.Refusal.TheVariants.{NoGroup, NotOpen, NotCounted, NoBound, WorkLimit}
 
 -- a call did what it was called for
 abbrev pub done : ℕ

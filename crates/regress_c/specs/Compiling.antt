@@ -12,7 +12,8 @@ use Rattle.regress_c.specs.Codes.{code_of, done}
 use Rattle.regress_c.specs.Reading.{AreFlags}
 use Rattle.regress_c.specs.declared.compiling.Bounds.{Bounds}
 use Rattle.regress_c.specs.declared.refusal.Refusal.{Refusal}
-use Rattle.regress_c.specs.declared.refusal.Refusal.TheVariants.{Empty, Full, NotUtf8, Memory, Syntax, TooManyGroups, TooManyLoops, TooManyInstructions, UnknownFlag, TooLong, TooDeep}
+use Rattle.regress_c.specs.declared.refusal.Refusal.TheVariants.{Empty, Full, NotUtf8, Memory, Syntax, TooManyGroups, TooManyLoops}
+use Rattle.regress_c.specs.declared.refusal.Refusal.TheVariants.{TooManyInstructions, UnknownFlag, TooLong, TooDeep}
 
 -- a pattern as it is given: whether it is a text, its characters, and the letters of its flags
 pub record Given : Type 1 where

@@ -1,5 +1,6 @@
 -- Texts that are written into a caller's buffer.
-use Rattle.std.specs.Prelude.{◌≡◌, ◌≤◌, ◌+◌, ◌-◌, ℕ, List, [], Option, Some, None, Result, Ok, Err, IsUtf8, get_or, length, string_bytes, take, nat_le, if◌then◌else◌}
+use Rattle.std.specs.Prelude.{◌≡◌, ◌≤◌, ◌+◌, ◌-◌, ℕ, List, [], Option, Some, None, Result, Ok, Err, IsUtf8, get_or, length, string_bytes, take}
+use Rattle.std.specs.Prelude.{nat_le, if◌then◌else◌}
 use Rattle.std.specs.List.{sum_by}
 use Rattle.regex_meaning.specs.Flags.{escape}
 use Rattle.regex_meaning.specs.Names.{Answer, names_by_id}

@@ -1,7 +1,8 @@
 -- What callers of searches need: where matches stand, and what a loop over them knows.
 use Rattle.std.proofs.Common.{◌≡◌, ℕ, zero, suc, ◌+◌, ◌≤◌, List, [], ◌∷◌, max, sym, ◌∙◌, ap, subst, arith, IsCharBoundary}
 use Rattle.std.proofs.lemmas.Str.{IsCharBoundary-start}
-use Rattle.std.specs.Prelude.{Bool, true, false, nat_le, if◌then◌else◌, IsAscii, Result, Ok, Option, Some, None, IsUtf8, IfSome, map, option_map, slice_get, unwrap_or}
+use Rattle.std.specs.Prelude.{Bool, true, false, nat_le, if◌then◌else◌, IsAscii, Result, Ok, Option, Some, None, IsUtf8, IfSome, map, option_map}
+use Rattle.std.specs.Prelude.{slice_get, unwrap_or}
 use Rattle.std.specs.Option.{option_or}
 use Rattle.regex_meaning.specs.Tree.{Node}
 use Rattle.regex_meaning.specs.Text.{utf8_text}

@@ -1,5 +1,6 @@
 -- What a replacement says, read part by part.
-use Rattle.std.proofs.Common.{◌≡◌, ℕ, zero, suc, ◌+◌, ◌*◌, ◌≤◌, ◌<◌, Bool, true, false, ◌&&◌, List, [], ◌∷◌, ◌++◌, length, map, drop, take, refl, sym, ap, ◌∙◌, arith, append_assoc, nat_le, not, cond, ◌-◌, ◌||◌, IsUtf8, IsCharBoundary, length-drop, append-nil, lit<}
+use Rattle.std.proofs.Common.{◌≡◌, ℕ, zero, suc, ◌+◌, ◌*◌, ◌≤◌, ◌<◌, Bool, true, false, ◌&&◌, List, [], ◌∷◌, ◌++◌, length, map, drop, take, refl}
+use Rattle.std.proofs.Common.{sym, ap, ◌∙◌, arith, append_assoc, nat_le, not, cond, ◌-◌, ◌||◌, IsUtf8, IsCharBoundary, length-drop, append-nil, lit<}
 use Rattle.std.specs.Prelude.{if◌then◌else◌, ◌==◌, Option, Some, None, IfSome, slice_get, Result, Ok, Err, is_ok, IfOk}
 use Rattle.std.specs.List.{before_first, after_first, position_or_len, list_any}
 use Rattle.std.specs.Option.{option_or}
@@ -9,7 +10,8 @@ use Rattle.std.proofs.lemmas.Str.{IsCharBoundary-after_ascii, encode_ascii}
 use Rattle.regex_meaning.specs.Laws.{Each}
 use Rattle.regex_meaning.specs.Outcomes.{group_range}
 use Rattle.regex_meaning.specs.Names.{Answer, group, named_group, first_range, ids_named}
-use Rattle.regex_meaning.specs.Replace.{Part, literal, group_part, named_part, Begun, part_then, numbered, braced, behind_dollar, parts_of, text_of, text_of_part, text_of_parts, expansion, max_capture_groups}
+use Rattle.regex_meaning.specs.Replace.{Part, literal, group_part, named_part, Begun, part_then, numbered, braced, behind_dollar, parts_of, text_of}
+use Rattle.regex_meaning.specs.Replace.{text_of_part, text_of_parts, expansion, max_capture_groups}
 use Rattle.regress_match.specs.Replacements.{IsSlice, FitsText}
 
 -- ---- What is left of a replacement

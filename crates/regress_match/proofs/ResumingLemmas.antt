@@ -1,5 +1,6 @@
 -- A search that is gone on with from a number.
-use Rattle.std.proofs.Common.{◌≡◌, ℕ, ◌-◌, ◌^◌, ◌<◌, ◌⊎◌, inl, inr, le_refl, [], ◌∷◌, List, length, Option, Some, None, Result, Ok, Err, Bool, true, false, refl, sym, ap, ◌∙◌, subst, arith, IsTrue}
+use Rattle.std.proofs.Common.{◌≡◌, ℕ, ◌-◌, ◌^◌, ◌<◌, ◌⊎◌, inl, inr, le_refl, [], ◌∷◌, List, length, Option, Some, None, Result, Ok, Err, Bool, true}
+use Rattle.std.proofs.Common.{false, refl, sym, ap, ◌∙◌, subst, arith, IsTrue}
 use Rattle.std.proofs.lemmas.Bool.{lt-leb}
 use Rattle.std.specs.Prelude.{nat_le, if◌then◌else◌, option_map, unwrap_or}
 use Rattle.std.specs.Result.{IsErrAnd}

@@ -1,5 +1,6 @@
 -- Where searches start.
-use Rattle.std.proofs.Common.{◌≡◌, ℕ, ◌<◌, ◌⊎◌, inl, inr, ◌≤◌, List, length, nat_le, Bool, true, false, IsUtf8, IsCharBoundary, IsTrue, sym, ◌∙◌, ap, subst, arith}
+use Rattle.std.proofs.Common.{◌≡◌, ℕ, ◌<◌, ◌⊎◌, inl, inr, ◌≤◌, List, length, nat_le, Bool, true, false, IsUtf8, IsCharBoundary, IsTrue, sym, ◌∙◌, ap}
+use Rattle.std.proofs.Common.{subst, arith}
 use Rattle.std.proofs.lemmas.Bool.Decides.{leb_tells}
 use Rattle.regex_meaning.specs.Text.{Text, utf8_text, ascii_text, utf16_text, ucs2_text, fold_ascii, fold_code_point, one_unit, is_unit_boundary}
 use Rattle.regex_meaning.specs.Offsets.{IsBoundary, units}

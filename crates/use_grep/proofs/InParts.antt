@@ -1,5 +1,7 @@
 -- What a local tree finds in a part of a text it finds in the text.
-use Rattle.std.proofs.Common.{◌≡◌, ◌⊎◌, ℕ, zero, suc, ◌+◌, ◌-◌, ◌<◌, ◌≤◌, Bool, true, false, not, ◌&&◌, List, [], ◌∷◌, ◌++◌, length, map, Option, Some, None, refl, ap, sym, ◌∙◌, filter, flat_map, arith, subst, option_map, option_and_then, append-nil, append_assoc, get_or, lit<}
+use Rattle.std.proofs.Common.{◌≡◌, ◌⊎◌, ℕ, zero, suc, ◌+◌, ◌-◌, ◌<◌, ◌≤◌, Bool, true, false, not, ◌&&◌, List, [], ◌∷◌, ◌++◌, length, map, Option}
+use Rattle.std.proofs.Common.{Some, None, refl, ap, sym, ◌∙◌, filter, flat_map, arith, subst, option_map, option_and_then, append-nil, append_assoc}
+use Rattle.std.proofs.Common.{get_or, lit<}
 use Rattle.std.specs.Str.{chars}
 use Rattle.std.specs.Prelude.{if◌then◌else◌, nat_le, nat_lt, ◌==◌, slice_get, is_some, IsUtf8, eqb}
 use Rattle.std.specs.List.{join_with_byte, slice_split, position_or_len, before_first, after_first}
@@ -11,7 +13,9 @@ use Rattle.std.proofs.lemmas.Str.{chars-append, IsUtf8-from_ascii, IsUtf8-take, 
 use Rattle.std.proofs.lemmas.Str.Ascii.{IsAscii-cons, IsAscii-nil}
 use Rattle.std.proofs.lemmas.List.Splits.{join_with_byte-slice_split, slice_split_first, slice_split_none}
 use Rattle.std.proofs.lemmas.List.Sums.{passes_at_first, fails_before_first}
-use Rattle.regex_meaning.specs.Tree.{Quantifier, Node, empty, goal, char, char_set, byte_set, byte_sequence, cat, end_of_cat, alt, bracket, string_set, match_any, match_any_except_line_terminator, anchor, word_boundary, capture_group, back_ref, lookaround, loop, loop_1_char_body}
+use Rattle.regex_meaning.specs.Tree.{Quantifier, Node, empty, goal, char, char_set, byte_set, byte_sequence, cat, end_of_cat, alt, bracket}
+use Rattle.regex_meaning.specs.Tree.{string_set, match_any, match_any_except_line_terminator, anchor, word_boundary, capture_group, back_ref}
+use Rattle.regex_meaning.specs.Tree.{lookaround, loop, loop_1_char_body}
 use Rattle.regex_meaning.specs.Text.{Text, character_after, character_before, is_word_char, rightwards, utf8_text}
 use Rattle.regex_meaning.specs.Offsets.{IsText, place_at}
 use Rattle.regex_meaning.specs.Find.{Found, no_groups, first_of, match_at, first_match, first_match_among}
@@ -19,7 +23,8 @@ use Rattle.regex_meaning.specs.Names.{Answer, answer, answers_from}
 use Rattle.regex_meaning.specs.Answers.{first_answer, next_start, answer_then_list}
 use Rattle.regex_meaning.proofs.AnswerLemmas.{answers-go_on}
 use Rattle.regex_meaning.proofs.TextLemmas.{place_at-offset, utf8_text-IsText}
-use Rattle.regex_meaning.specs.Outcomes.{Groups, Outcome, Repetition, repetition, rounds, outcomes, captured, cleared, counts, differ, preferred, most_of, one_character, is_at_word_boundary, is_some_and}
+use Rattle.regex_meaning.specs.Outcomes.{Groups, Outcome, Repetition, repetition, rounds, outcomes, captured, cleared, counts, differ, preferred}
+use Rattle.regex_meaning.specs.Outcomes.{most_of, one_character, is_at_word_boundary, is_some_and}
 use Rattle.regex_meaning.proofs.Each.{Each, Each-append, Each-map, Each-when, Each-flat_map, Each-image}
 use Rattle.regex_meaning.proofs.Booleans.{and-left, and-right}
 use Rattle.use_grep.specs.Local.{is_local}

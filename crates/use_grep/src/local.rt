@@ -56,12 +56,12 @@ fn is_local_node(node: &Node) -> bool
             }
             Node::CaptureGroup { contents, .. } => rest = contents,
             Node::Loop { loopee, .. } | Node::Loop1CharBody { loopee, .. } => rest = loopee,
-            Node::Empty
-            | Node::Goal
+            Node::Bracket(_)
+            | Node::ByteSet(_)
             | Node::Char { .. }
             | Node::CharSet(_)
-            | Node::ByteSet(_)
-            | Node::Bracket(_)
+            | Node::Empty
+            | Node::Goal
             | Node::MatchAny
             | Node::MatchAnyExceptLineTerminator => return true,
             Node::WordBoundary { invert, .. } => return !*invert,

@@ -77,11 +77,12 @@ pub fn command<'a>(alloc: Global) -> Result<Command<'a>, Error> {
         .after_help(
             "Status: 0 where a line was selected, 1 where none was, 2 where something was wrong.",
         );
-    with_values(alloc, with_flags(alloc, command)?)
+    let command = with_output(alloc, with_selection(alloc, command)?)?;
+    with_values(alloc, command)
 }
 
-// What is switched on.
-fn with_flags<'a>(alloc: Global, command: Command<'a>) -> Result<Command<'a>, Error> {
+// Which lines are selected.
+fn with_selection<'a>(alloc: Global, command: Command<'a>) -> Result<Command<'a>, Error> {
     Ok(
         command
             .arg(flag(
@@ -108,6 +109,19 @@ fn with_flags<'a>(alloc: Global, command: Command<'a>) -> Result<Command<'a>, Er
                 "invert-match",
                 "Select the lines without a match",
             ))?
+            .arg(flag(
+                alloc,
+                'a',
+                "text",
+                "Search lines that are no UTF-8, too, with U+FFFD for what is none",
+            ))?,
+    )
+}
+
+// What is shown of them.
+fn with_output<'a>(alloc: Global, command: Command<'a>) -> Result<Command<'a>, Error> {
+    Ok(
+        command
             .arg(flag(alloc, 'n', "line-number", "Show the number of each line"))?
             .arg(flag(
                 alloc,
@@ -120,12 +134,6 @@ fn with_flags<'a>(alloc: Global, command: Command<'a>) -> Result<Command<'a>, Er
                 'c',
                 "count",
                 "Show only how many lines of each file are selected",
-            ))?
-            .arg(flag(
-                alloc,
-                'a',
-                "text",
-                "Search lines that are no UTF-8, too, with U+FFFD for what is none",
             ))?,
     )
 }

@@ -1,5 +1,6 @@
 -- Separators one after the other, and the pieces between them.
-use Rattle.std.proofs.Common.{◌≡◌, ℕ, ◌+◌, ◌-◌, ◌<◌, ◌≤◌, ◌⊎◌, inl, inr, Bool, true, false, List, [], ◌∷◌, ◌++◌, length, map, take, nat_eq, nat_lt, refl, sym, subst, ap, ◌∙◌, arith, append_assoc, append-nil, length-append}
+use Rattle.std.proofs.Common.{◌≡◌, ℕ, ◌+◌, ◌-◌, ◌<◌, ◌≤◌, ◌⊎◌, inl, inr, Bool, true, false, List, [], ◌∷◌, ◌++◌, length, map, take, nat_eq, nat_lt}
+use Rattle.std.proofs.Common.{refl, sym, subst, ap, ◌∙◌, arith, append_assoc, append-nil, length-append}
 use Rattle.std.specs.Bool.{MatchBool}
 use Rattle.std.specs.Prelude.{Option, Some, None, IfSome, option_map, if◌then◌else◌}
 use Rattle.std.proofs.lemmas.List.{length-map}
@@ -10,7 +11,8 @@ use Rattle.regex_meaning.proofs.UnitLemmas.{AreUnits}
 use Rattle.regress_exec.specs.Answers.{answer_of}
 use Rattle.regress_exec.specs.declared.exec.Match.{Match}
 use Rattle.use_regexp.specs.Exec.{StandsFrom, first_match}
-use Rattle.use_regexp.specs.Split.{ArePieces, AreSeparators, CutsNone, IsSeparator, IsSplit, before_end, chosen, ends_at, pieces, pieces_of_none, separator}
+use Rattle.use_regexp.specs.Split.{ArePieces, AreSeparators, CutsNone, IsSeparator, IsSplit, before_end, chosen, ends_at, pieces, pieces_of_none}
+use Rattle.use_regexp.specs.Split.{separator}
 use Rattle.use_regexp.specs.Units.{advanced}
 use Rattle.use_regexp.specs.declared.pattern.Pattern.{Pattern}
 use Rattle.use_regexp.proofs.FoundStands.{first-stands}

@@ -1,5 +1,6 @@
 -- Texts that are cut where a pattern matches (21.2.5.12, RegExp.prototype[@@split]).
-use Rattle.std.specs.Prelude.{◌≡◌, ◌⊎◌, ◌<◌, ◌≤◌, ℕ, ◌+◌, ◌-◌, Bool, false, IsTrue, List, [], ◌∷◌, ◌++◌, length, take, Option, Some, None, is_some, option_and_then, if◌then◌else◌, nat_lt, ◌==◌}
+use Rattle.std.specs.Prelude.{◌≡◌, ◌⊎◌, ◌<◌, ◌≤◌, ℕ, ◌+◌, ◌-◌, Bool, false, IsTrue, List, [], ◌∷◌, ◌++◌, length, take, Option, Some, None, is_some}
+use Rattle.std.specs.Prelude.{option_and_then, if◌then◌else◌, nat_lt, ◌==◌}
 use Rattle.std.specs.Bool.{MatchBool}
 use Rattle.std.specs.Option.{option_map_or}
 use Rattle.regex_meaning.specs.Laws.{is_within_pair}

@@ -6,7 +6,8 @@ ghost use Rattle.std.specs.List.{list_all};
 ghost use Rattle.regex_meaning.specs.{Names.{Answer}, Replace.{text_of}};
 ghost use Rattle.regress_exec.specs.Answers.{answer_of, range_of};
 ghost use Rattle.regress_match.specs.Replacements.{FitsUnits, IsWithin};
-ghost use Rattle.use_regexp.specs.Template.{IsWritten, behind_dollar, is_ascii, is_greater, is_group as is_group_of, name_end as name_end_of, named, named_text, numbered, plain, said, substitution, two_digits as two_digits_of};
+ghost use Rattle.use_regexp.specs.Template.{IsWritten, behind_dollar, is_ascii, is_greater, is_group as is_group_of, name_end as name_end_of, named};
+ghost use Rattle.use_regexp.specs.Template.{named_text, numbered, plain, said, substitution, two_digits as two_digits_of};
 
 use regress_match::{Match, Range};
 use std::alloc::{AllocError, Global};

@@ -48,17 +48,9 @@ fn is_body<W: Planned>(planned: &W, ip: usize) -> bool
     }
     planned.is_of_program();
     match planned.op_at(ip - 1) {
-        Some(op) => is_run(op),
+        Some(op) => op.run().is_some(),
         None => false,
     }
-}
-
-// Whether an operation is a run.
-#[inline(always)]
-fn is_run(op: &Op) -> bool
-    ensures { result ≡ is_some (run_of op.now) }
-{
-    op.run().is_some()
 }
 
 // Whether there are as many groups and loops as the program has.

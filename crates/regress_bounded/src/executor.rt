@@ -230,6 +230,27 @@ fn is_enough(per_unit: u64, places: usize, work: u64) -> bool
     }
 }
 
+impl<'r, 't> BoundedExecutor<'r, Ucs2Input<'t>> {
+    /// Searches a text in UCS-2 with the program `re`, in at most so much work.
+    ///
+    /// # Errors
+    ///
+    /// `Memory` where there is no memory to remember what fails.
+    pub fn new_ucs2(
+        re: &'r CompiledUnits,
+        bound: &WorkBound,
+        text: &'t [u16],
+        work: u64,
+    ) -> Result<Self, SearchError>
+        requires bound { IsBoundOf (tree_of re.now) bound.now }
+        ensures start { let e = ⟦<BoundedExecutor<'r, Ucs2Input<'t>> as MatchProducer>⟧ in
+            IfOk result (StartsBy e (tree_of re.now) (ucs2_text text.now) bound.now work) }
+        ensures refused { IfErr result (λ e. e ≡ Memory) }
+    {
+        BoundedExecutor::over(Searched::in_ucs2(re, text), bound, work)
+    }
+}
+
 impl<'r, 't> BoundedExecutor<'r, Utf8Input<'t>> {
     /// Searches a text in UTF-8 with the program `re`, in at most so much work.
     ///
@@ -291,26 +312,5 @@ impl<'r, 't> BoundedExecutor<'r, Utf16Input<'t>> {
         ensures refused { IfErr result (λ e. e ≡ Memory) }
     {
         BoundedExecutor::over(Searched::in_utf16(re, text), bound, work)
-    }
-}
-
-impl<'r, 't> BoundedExecutor<'r, Ucs2Input<'t>> {
-    /// Searches a text in UCS-2 with the program `re`, in at most so much work.
-    ///
-    /// # Errors
-    ///
-    /// `Memory` where there is no memory to remember what fails.
-    pub fn new_ucs2(
-        re: &'r CompiledUnits,
-        bound: &WorkBound,
-        text: &'t [u16],
-        work: u64,
-    ) -> Result<Self, SearchError>
-        requires bound { IsBoundOf (tree_of re.now) bound.now }
-        ensures start { let e = ⟦<BoundedExecutor<'r, Ucs2Input<'t>> as MatchProducer>⟧ in
-            IfOk result (StartsBy e (tree_of re.now) (ucs2_text text.now) bound.now work) }
-        ensures refused { IfErr result (λ e. e ≡ Memory) }
-    {
-        BoundedExecutor::over(Searched::in_ucs2(re, text), bound, work)
     }
 }

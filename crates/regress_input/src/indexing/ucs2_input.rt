@@ -30,20 +30,6 @@ impl ElementType for u32 {
     }
 }
 
-/// The properties of characters of a text of 16-bit units.
-pub struct Utf16CharProperties {}
-
-impl CharProperties for Utf16CharProperties {
-    type Element = u32;
-
-    ghost folded = { fold_code_point };
-
-    #[inline(always)]
-    fn fold(c: u32, unicode: bool) -> u32 {
-        fold_code_point(c, unicode)
-    }
-}
-
 /// A text of 16-bit units, each of which is a character.
 #[derive(Clone, Copy, Debug)]
 pub struct Ucs2Input<'a> {
@@ -61,6 +47,20 @@ impl<'a> Ucs2Input<'a> {
         ensures { ⟦<Ucs2Input<'a> as InputIndexer>⟧.text result ≡ ucs2_text input.now unicode }
     {
         Ucs2Input { input, unicode }
+    }
+}
+
+/// The properties of characters of a text of 16-bit units.
+pub struct Utf16CharProperties {}
+
+impl CharProperties for Utf16CharProperties {
+    type Element = u32;
+
+    ghost folded = { fold_code_point };
+
+    #[inline(always)]
+    fn fold(c: u32, unicode: bool) -> u32 {
+        fold_code_point(c, unicode)
     }
 }
 

@@ -1,4 +1,4 @@
-use Rattle.std.proofs.Common.{◌-◌, ◌∙◌, sym}
+use Rattle.std.proofs.Common.{◌-◌, ◌∙◌, ap, is_some, sym}
 use Rattle.regress_scan.specs.Searching.{program_of}
 use Rattle.regress_backtrack.proofs.MemoKeys.{no-run, no-run-before}
 use Rattle.regress_backtrack.proofs.memos.is_body.Goals as goal
@@ -8,4 +8,4 @@ returns-in-Some g c = λ h.
     let w = g.W.Planned.searching c.args.planned.now in
     no-run-before (program_of w) c.args.ip
     (λ insn is. no-run (program_of w) w.plan (c.args.ip - 1) insn _ (c.is_of_program.ensures.each (c.args.ip - 1) _ insn (sym c.in-Some.ensures) is)
-    (sym c.is_run.ensures ∙ h))
+    (ap is_some (sym c.run.ensures) ∙ sym c.is_some.ensures ∙ h))

@@ -19,17 +19,23 @@ impl Model for Carried {
     ghost also_owns = { λ _. ftrue };
 }
 
-impl Carried {
-    /// This tree.
-    pub(crate) fn of(_tree: &ir::Regex) -> Carried
-        ensures { result.value ≡ _tree.now }
-    {
-        Carried {}
-    }
+/// What a tree can be read from, for contracts.
+pub(crate) trait HasTree {
+    ghost tree: { Self → Regex };
+}
 
-    /// The same tree.
-    pub(crate) fn again(&self) -> Carried
-        ensures { result.value ≡ self.now.value }
+impl HasTree for ir::Regex {
+    ghost tree = { λ it. it };
+}
+
+impl HasTree for Carried {
+    ghost tree = { λ it. it.value };
+}
+
+impl Carried {
+    /// The tree of this pattern, or the one that another value carries.
+    pub(crate) fn of<T: HasTree>(_tree: &T) -> Carried
+        ensures { result.value ≡ T.tree _tree.now }
     {
         Carried {}
     }

@@ -161,7 +161,7 @@ impl Program {
             groups: self.groups,
             group_names: self.group_names.clone()?,
             flags: self.flags,
-            tree: self.tree.again(),
+            tree: Carried::of(&self.tree),
         })
     }
 

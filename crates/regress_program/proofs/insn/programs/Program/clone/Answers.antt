@@ -6,7 +6,7 @@ use Rattle.regress_program.proofs.insn.programs.Program.clone.Goals as goal
 pub invariant_of-result : goal.invariant_of-result
 invariant_of-result c =
     let held = c.self.invariant in
-    let tree = c.again.ensures in
+    let tree = c.of.ensures in
     record {
       code = rw tree (subst (IsCodeIn _) (sym c.in_ok-clone.ensures.cases) held.code);
       groups = rw tree held.groups;

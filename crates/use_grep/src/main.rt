@@ -12,14 +12,12 @@ mod pattern;
 mod search;
 mod select;
 
-use crate::options::{Options, command};
+use crate::options::{LINE, Options};
 use crate::pattern::{compile, say_refused};
 use crate::search::{Search, Tally};
 use anyhow::Result;
-use clap::{ArgMatches, Command, Error};
-use std::alloc::Global;
 use std::process::ExitCode;
-use use_support::{Program, TROUBLE, run};
+use use_support::{CommandLine, Given, Program, TROUBLE, run};
 
 // The status that tells what came of a search.
 fn status(tally: &Tally) -> u8
@@ -34,12 +32,12 @@ fn status(tally: &Tally) -> u8
 struct Grep;
 
 impl Program for Grep {
-    fn command<'a>(alloc: Global) -> Result<Command<'a>, Error> {
-        command(alloc)
+    fn line() -> &'static CommandLine {
+        &LINE
     }
 
-    fn run(rt: &HostRuntime, matches: &ArgMatches<'_>) -> Result<u8> {
-        let options = Options::of(rt, matches)?;
+    fn run(rt: &HostRuntime, given: &Given<'_>) -> Result<u8> {
+        let options = Options::of(rt, given)?;
         match compile(rt.alloc(), &options) {
             Ok(query) => Ok(status(&Search::new(rt, &query, &options)?.all()?)),
             Err(why) => {
@@ -51,5 +49,5 @@ impl Program for Grep {
 }
 
 fn main(rt: HostRuntime) -> ExitCode {
-    run::<Grep>(&rt, "use_grep")
+    run::<Grep>(&rt)
 }

@@ -1,11 +1,9 @@
 //! What is asked for on the command line.
 
-use clap::{Arg, ArgAction, ArgMatches, Command, Error, value_parser};
-use std::alloc::{AllocError, Global};
+use std::alloc::AllocError;
 use std::io::IsTerminal;
-use use_support::{text_of, texts_of};
-
-static COLORS: [&str; 3] = ["never", "always", "auto"];
+use use_support::Form::{Choice, Number, Switch, Word, WordsOr};
+use use_support::{Argument, CommandLine, Given};
 
 /// What is looked for, where, and what is shown of it.
 #[derive(Drop)]
@@ -37,153 +35,103 @@ impl<'a> Options<'a> {
     /// # Errors
     ///
     /// Where there is no memory for the names of the files.
-    pub fn of(rt: &HostRuntime, matches: &ArgMatches<'a>) -> Result<Options<'a>, AllocError> {
+    pub fn of(rt: &HostRuntime, given: &Given<'a>) -> Result<Options<'a>, AllocError> {
         Ok(Options {
-            pattern: text_of(matches, "pattern"),
-            files: texts_of(rt.alloc(), matches, "file")?,
-            ignore_case: matches.get_flag("ignore-case"),
-            words: matches.get_flag("word-regexp"),
-            whole_lines: matches.get_flag("line-regexp"),
-            invert: matches.get_flag("invert-match"),
-            numbers: matches.get_flag("line-number"),
-            only_matches: matches.get_flag("only-matching"),
-            count: matches.get_flag("count"),
-            color: is_colored(rt, text_of(matches, "color")),
+            pattern: given.text("pattern"),
+            files: given.texts(rt.alloc(), "file")?,
+            ignore_case: given.has("ignore-case"),
+            words: given.has("word-regexp"),
+            whole_lines: given.has("line-regexp"),
+            invert: given.has("invert-match"),
+            numbers: given.has("line-number"),
+            only_matches: given.has("only-matching"),
+            count: given.has("count"),
+            color: is_colored(rt, given.text("color")),
             tells: rt.stderr().is_terminal() && !rt.stdout().is_terminal(),
-            lossy: matches.get_flag("text"),
-            most: matches.get_one("max-count").unwrap_or(u64::MAX),
-            longest: matches.get_one("max-line").unwrap_or(u64::MAX),
+            lossy: given.has("text"),
+            most: given.number("max-count").unwrap_or(u64::MAX),
+            longest: given.number("max-line").unwrap_or(u64::MAX),
         })
     }
 }
 
 // Whether matches are shown in colour: by itself on a terminal.
 fn is_colored(rt: &HostRuntime, when: &str) -> bool {
-    match when {
-        "always" => true,
-        "auto" => rt.stdout().is_terminal(),
-        _ => false,
-    }
+    when == ALWAYS || when == AUTO && rt.stdout().is_terminal()
 }
+
+const NEVER: &str = "never";
+
+const ALWAYS: &str = "always";
+
+const AUTO: &str = "auto";
 
 /// The command line.
-///
-/// # Errors
-///
-/// Where there is no memory for it.
-pub fn command<'a>(alloc: Global) -> Result<Command<'a>, Error> {
-    let command = Command::new(alloc, "use_grep")
-        .about("Prints the lines in which a pattern of ECMAScript has a match.")
-        .after_help(
-            "Status: 0 where a line was selected, 1 where none was, 2 where something was wrong.",
-        );
-    let command = with_output(alloc, with_selection(alloc, command)?)?;
-    with_values(alloc, command)
-}
-
-// Which lines are selected.
-fn with_selection<'a>(alloc: Global, command: Command<'a>) -> Result<Command<'a>, Error> {
-    Ok(
-        command
-            .arg(flag(
-                alloc,
-                'i',
-                "ignore-case",
-                "Take letters of either case for the same",
-            ))?
-            .arg(flag(
-                alloc,
-                'w',
-                "word-regexp",
-                "Only matches with no letter, digit or _ beside them",
-            ))?
-            .arg(flag(
-                alloc,
-                'x',
-                "line-regexp",
-                "Only matches that are whole lines",
-            ))?
-            .arg(flag(
-                alloc,
-                'v',
-                "invert-match",
-                "Select the lines without a match",
-            ))?
-            .arg(flag(
-                alloc,
-                'a',
-                "text",
-                "Search lines that are no UTF-8, too, with U+FFFD for what is none",
-            ))?,
-    )
-}
-
-// What is shown of them.
-fn with_output<'a>(alloc: Global, command: Command<'a>) -> Result<Command<'a>, Error> {
-    Ok(
-        command
-            .arg(flag(alloc, 'n', "line-number", "Show the number of each line"))?
-            .arg(flag(
-                alloc,
-                'o',
-                "only-matching",
-                "Show each match on a line of its own, and no more",
-            ))?
-            .arg(flag(
-                alloc,
-                'c',
-                "count",
-                "Show only how many lines of each file are selected",
-            ))?,
-    )
-}
-
-fn flag<'a>(alloc: Global, short: char, long: &'a str, help: &'a str) -> Arg<'a> {
-    Arg::new(alloc, long)
-        .short(short)
-        .long(long)
-        .action(ArgAction::SetTrue)
-        .help(help)
-}
-
-// What has a value.
-fn with_values<'a>(alloc: Global, command: Command<'a>) -> Result<Command<'a>, Error> {
-    let most = Arg::new(alloc, "max-count")
-        .short('m')
-        .long("max-count")
-        .value_name("N")
-        .value_parser(value_parser!(u64))
-        .help("Stop after N selected lines of a file");
-    let color = Arg::new(alloc, "color")
-        .long("color")
-        .value_name("WHEN")
-        .num_args(0..=1)
-        .require_equals(true)
-        .default_value("never")
-        .default_missing_value("auto")
-        .value_parser(COLORS.as_slice())
-        .help("Show matches in colour; auto is on a terminal alone");
-    let longest = Arg::new(alloc, "max-line")
-        .long("max-line")
-        .value_name("BYTES")
-        .value_parser(value_parser!(u64))
-        .default_value("100000000")
-        .help("Refuse a line with more bytes");
-    let pattern = Arg::new(alloc, "pattern")
-        .value_name("PATTERN")
-        .required(true)
-        .help("What is looked for: docs/PROFILE.md");
-    let files = Arg::new(alloc, "file")
-        .value_name("FILE")
-        .num_args(0..)
-        .default_value("-")
-        .help("Where; - is standard input");
-    Ok(
-        command
-            .arg(most)?
-            .arg(color)?
-            .arg(longest)?
-            .arg(pattern)?
-            .arg(files)?,
-    )
-}
+pub static LINE: CommandLine = CommandLine {
+    name: "use_grep",
+    about: "Prints the lines in which a pattern of ECMAScript has a match.",
+    after: "Status: 0 where a line was selected, 1 where none was, 2 where something was wrong.",
+    arguments: &[
+        Argument(
+            "ignore-case",
+            Switch(Some('i')),
+            "Take letters of either case for the same",
+        ),
+        Argument(
+            "word-regexp",
+            Switch(Some('w')),
+            "Only matches with no letter, digit or _ beside them",
+        ),
+        Argument(
+            "line-regexp",
+            Switch(Some('x')),
+            "Only matches that are whole lines",
+        ),
+        Argument(
+            "max-line",
+            Number(None, "BYTES", Some("100000000")),
+            "Refuse a line with more bytes",
+        ),
+        Argument(
+            "invert-match",
+            Switch(Some('v')),
+            "Select the lines without a match",
+        ),
+        Argument(
+            "text",
+            Switch(Some('a')),
+            "Search lines that are no UTF-8, too, with U+FFFD for what is none",
+        ),
+        Argument(
+            "max-count",
+            Number(Some('m'), "N", None),
+            "Stop after N selected lines of a file",
+        ),
+        Argument(
+            "line-number",
+            Switch(Some('n')),
+            "Show the number of each line",
+        ),
+        Argument(
+            "only-matching",
+            Switch(Some('o')),
+            "Show each match on a line of its own, and no more",
+        ),
+        Argument(
+            "count",
+            Switch(Some('c')),
+            "Show only how many lines of each file are selected",
+        ),
+        Argument(
+            "color",
+            Choice("WHEN", &[NEVER, ALWAYS, AUTO], NEVER, AUTO),
+            "Show matches in colour; auto is on a terminal alone",
+        ),
+        Argument(
+            "pattern",
+            Word("PATTERN"),
+            "What is looked for: docs/PROFILE.md",
+        ),
+        Argument("file", WordsOr("FILE", "-"), "Where; - is standard input"),
+    ],
+};

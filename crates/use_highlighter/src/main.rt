@@ -8,17 +8,15 @@ mod pieces;
 mod show;
 mod tokens;
 
-use crate::options::{Options, command};
+use crate::options::{LINE, Options};
 use crate::pieces::cut;
 use crate::show::show;
 use crate::tokens::{compile, tokens};
 use anyhow::{Context, Result};
-use clap::{ArgMatches, Command, Error};
-use std::alloc::Global;
 use std::io::IsTerminal;
 use std::process::ExitCode;
 use std::{fs, io};
-use use_support::{Program, run};
+use use_support::{CommandLine, Given, Program, run};
 
 const MB: usize = 1_000_000;
 
@@ -65,16 +63,16 @@ fn print(rt: &HostRuntime, options: &Options<'_>) -> Result<()> {
 struct Highlighter;
 
 impl Program for Highlighter {
-    fn command<'a>(alloc: Global) -> Result<Command<'a>, Error> {
-        command(alloc)
+    fn line() -> &'static CommandLine {
+        &LINE
     }
 
-    fn run(rt: &HostRuntime, matches: &ArgMatches<'_>) -> Result<u8> {
-        print(rt, &Options::of(rt.alloc(), matches)?)?;
+    fn run(rt: &HostRuntime, given: &Given<'_>) -> Result<u8> {
+        print(rt, &Options::of(rt.alloc(), given)?)?;
         Ok(0)
     }
 }
 
 fn main(rt: HostRuntime) -> ExitCode {
-    run::<Highlighter>(&rt, "use_highlighter")
+    run::<Highlighter>(&rt)
 }

@@ -1,9 +1,9 @@
 //! What is asked for on the command line.
 
 use crate::show::Style;
-use clap::{Arg, ArgAction, ArgMatches, Command, Error};
 use std::alloc::{AllocError, Global};
-use use_support::{text_of, texts_of};
+use use_support::Form::{Each, Switch, WordOr};
+use use_support::{Argument, CommandLine, Given};
 
 /// What tokens there are, what is shown, and how.
 #[derive(Debug, Drop)]
@@ -20,15 +20,15 @@ impl<'a> Options<'a> {
     /// # Errors
     ///
     /// Where there is no memory for the words of the tokens.
-    pub fn of(alloc: Global, matches: &ArgMatches<'a>) -> Result<Options<'a>, AllocError> {
-        let style = if matches.get_flag("html") {
+    pub fn of(alloc: Global, given: &Given<'a>) -> Result<Options<'a>, AllocError> {
+        let style = if given.has("html") {
             Style::Html
         } else {
             Style::Ansi
         };
         Ok(Options {
-            tokens: texts_of(alloc, matches, "token")?,
-            file: text_of(matches, "file"),
+            tokens: given.texts(alloc, "token")?,
+            file: given.text("file"),
             style,
         })
     }
@@ -39,32 +39,25 @@ const AFTER: &str =
 For example: use_highlighter -t 'comment=//.*' -t 'string="[^"]*"' -t 'number=\b\d+\b' FILE"#;
 
 /// The command line.
-///
-/// # Errors
-///
-/// Where there is no memory for it.
-pub fn command<'a>(alloc: Global) -> Result<Command<'a>, Error> {
-    let html = Arg::new(alloc, "html")
-        .long("html")
-        .action(ArgAction::SetTrue)
-        .help("Write HTML, in which each token is a span of its name's class");
-    let token = Arg::new(alloc, "token")
-        .short('t')
-        .long("token")
-        .value_name("NAME=PATTERN")
-        .required(true)
-        .action(ArgAction::Append)
-        .help("A token; where several match, the one that is given first");
-    let file = Arg::new(alloc, "file")
-        .value_name("FILE")
-        .default_value("-")
-        .help("What is shown; - is standard input");
-    Ok(
-        Command::new(alloc, "use_highlighter")
-            .about("Colours the tokens of a text.")
-            .after_help(AFTER)
-            .arg(html)?
-            .arg(token)?
-            .arg(file)?,
-    )
-}
+pub static LINE: CommandLine = CommandLine {
+    name: "use_highlighter",
+    about: "Colours the tokens of a text.",
+    after: AFTER,
+    arguments: &[
+        Argument(
+            "html",
+            Switch(None),
+            "Write HTML, in which each token is a span of its name's class",
+        ),
+        Argument(
+            "token",
+            Each('t', "NAME=PATTERN"),
+            "A token; where several match, the one that is given first",
+        ),
+        Argument(
+            "file",
+            WordOr("FILE", "-"),
+            "What is shown; - is standard input",
+        ),
+    ],
+};

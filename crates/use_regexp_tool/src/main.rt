@@ -8,10 +8,8 @@ mod script;
 
 use crate::calls::answer;
 use anyhow::{Context, Result};
-use clap::{ArgMatches, Command, Error};
-use std::alloc::Global;
 use std::process::ExitCode;
-use use_support::{Program, run};
+use use_support::{CommandLine, Given, Program, run};
 
 const ABOUT: &str =
     "Answers calls of a script's regular expressions, a line of them at a time from standard input, in JSON.";
@@ -20,6 +18,13 @@ const AFTER: &str =
     r#"A line is /PATTERN/FLAGS, or two strings of JSON, perhaps @lastIndex, and calls: exec TEXT, test TEXT, search TEXT,
 match TEXT, matchAll TEXT, replace TEXT TEMPLATE, replaceWith TEXT, split TEXT [LIMIT], toString, source, flags and
 lastIndex. For example: /(?<y>\d{4})/y @3 exec "on 2018" lastIndex"#;
+
+static LINE: CommandLine = CommandLine {
+    name: "use_regexp_tool",
+    about: ABOUT,
+    after: AFTER,
+    arguments: &[],
+};
 
 // Answers each line of standard input.
 fn answer_lines(rt: &HostRuntime) -> Result<()> {
@@ -35,20 +40,16 @@ fn answer_lines(rt: &HostRuntime) -> Result<()> {
 struct Tool;
 
 impl Program for Tool {
-    fn command<'a>(alloc: Global) -> Result<Command<'a>, Error> {
-        Ok(
-            Command::new(alloc, "use_regexp_tool")
-                .about(ABOUT)
-                .after_help(AFTER),
-        )
+    fn line() -> &'static CommandLine {
+        &LINE
     }
 
-    fn run(rt: &HostRuntime, _: &ArgMatches<'_>) -> Result<u8> {
+    fn run(rt: &HostRuntime, _: &Given<'_>) -> Result<u8> {
         answer_lines(rt)?;
         Ok(0)
     }
 }
 
 fn main(rt: HostRuntime) -> ExitCode {
-    run::<Tool>(&rt, "use_regexp_tool")
+    run::<Tool>(&rt)
 }

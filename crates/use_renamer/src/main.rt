@@ -11,18 +11,16 @@ mod names;
 mod plan;
 mod rows;
 
-use crate::command::{Options, command};
+use crate::command::{LINE, Options};
 use crate::folder::{apply, list};
 use crate::groups::parts;
 use crate::plan::{Refusal, Rename, plan};
 use crate::rows::answer_rows;
 use anyhow::{Result, bail};
-use clap::{ArgMatches, Command};
 use regress_match::{Error, Flags, Regex};
-use std::alloc::Global;
 use std::io;
 use std::process::ExitCode;
-use use_support::{Program, run};
+use use_support::{CommandLine, Given, Program, run};
 
 // The pattern as a program. What is wrong with one that is none stands in the error, with the place below it.
 fn compile(rt: &HostRuntime, pattern: &str, flags: Flags) -> Result<Regex> {
@@ -87,12 +85,12 @@ fn rename(rt: &HostRuntime, options: &Options<'_>) -> Result<bool> {
 struct Renamer;
 
 impl Program for Renamer {
-    fn command<'a>(alloc: Global) -> Result<Command<'a>, clap::Error> {
-        Ok(command(alloc)?)
+    fn line() -> &'static CommandLine {
+        &LINE
     }
 
-    fn run(rt: &HostRuntime, matches: &ArgMatches<'_>) -> Result<u8> {
-        let options = Options::of(matches);
+    fn run(rt: &HostRuntime, given: &Given<'_>) -> Result<u8> {
+        let options = Options::of(given);
         let is_renamed = rename(rt, &options)?;
         if options.rows {
             answer_rows(rt)?;
@@ -102,5 +100,5 @@ impl Program for Renamer {
 }
 
 fn main(rt: HostRuntime) -> ExitCode {
-    run::<Renamer>(&rt, "use_renamer")
+    run::<Renamer>(&rt)
 }

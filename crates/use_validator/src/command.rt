@@ -1,8 +1,7 @@
 //! The command line.
 
-use clap::{Arg, ArgAction, ArgMatches, Command, value_parser};
-use std::alloc::{AllocError, Global};
-use use_support::text_of;
+use use_support::Form::{Number, Switch, Word, WordOr};
+use use_support::{Argument, CommandLine, Given};
 
 /// What is asked for.
 #[derive(Drop)]
@@ -25,46 +24,37 @@ const STEPS: &str = "100000";
 
 impl<'a> Options<'a> {
     /// What the words of a command line ask for.
-    pub fn of(matches: &ArgMatches<'a>) -> Self {
+    pub fn of(given: &Given<'a>) -> Self {
         Options {
-            schema: text_of(matches, "schema"),
-            document: text_of(matches, "document"),
-            steps: matches.get_one::<u64>("steps").unwrap_or(0),
-            rows: matches.get_flag("rows"),
+            schema: given.text("schema"),
+            document: given.text("document"),
+            steps: given.number("steps").unwrap_or(0),
+            rows: given.has("rows"),
         }
     }
 }
 
-/// The command, with its options.
-///
-/// # Errors
-///
-/// Where there is no memory for it.
-pub fn command<'a>(alloc: Global) -> Result<Command<'a>, AllocError> {
-    let schema = Arg::new(alloc, "schema")
-        .value_name("SCHEMA")
-        .help("A file with a JSON Schema")
-        .required(true);
-    let document = Arg::new(alloc, "document")
-        .value_name("DOCUMENT")
-        .help("A file with a JSON document; - is standard input")
-        .default_value("-");
-    let steps = Arg::new(alloc, "steps")
-        .long("steps")
-        .value_name("N")
-        .help(
+/// The command line.
+pub static LINE: CommandLine = CommandLine {
+    name: "use_validator",
+    about: ABOUT,
+    after: "",
+    arguments: &[
+        Argument("schema", Word("SCHEMA"), "A file with a JSON Schema"),
+        Argument(
+            "document",
+            WordOr("DOCUMENT", "-"),
+            "A file with a JSON document; - is standard input",
+        ),
+        Argument(
+            "steps",
+            Number(None, "N", Some(STEPS)),
             "How many steps each search may take; one that takes more, where no bound is known, refuses the string",
-        )
-        .value_parser(value_parser!(u64))
-        .default_value(STEPS);
-    let rows = Arg::new(alloc, "rows")
-        .long("rows")
-        .action(ArgAction::SetTrue)
-        .help("Also answer rows of standard input: SCHEMA | DOCUMENT | N");
-    Command::new(alloc, "use_validator")
-        .about(ABOUT)
-        .arg(schema)?
-        .arg(document)?
-        .arg(steps)?
-        .arg(rows)
-}
+        ),
+        Argument(
+            "rows",
+            Switch(None),
+            "Also answer rows of standard input: SCHEMA | DOCUMENT | N",
+        ),
+    ],
+};

@@ -10,17 +10,15 @@ mod rows;
 mod schema;
 mod walk;
 
-use crate::command::{Options, command};
+use crate::command::{LINE, Options};
 use crate::rows::answer_rows;
 use crate::schema::Patterns;
 use crate::walk::findings;
 use anyhow::{Result, bail};
-use clap::{ArgMatches, Command};
 use serde_json::Value;
-use std::alloc::Global;
 use std::process::ExitCode;
 use std::{fs, io};
-use use_support::{Program, run};
+use use_support::{CommandLine, Given, Program, run};
 
 // A file's text; that of `-` is standard input.
 fn read(rt: &HostRuntime, path: &str) -> io::Result<String> {
@@ -61,16 +59,16 @@ fn validate(rt: &HostRuntime, options: &Options<'_>) -> Result<bool> {
 struct Validator;
 
 impl Program for Validator {
-    fn command<'a>(alloc: Global) -> Result<Command<'a>, clap::Error> {
-        Ok(command(alloc)?)
+    fn line() -> &'static CommandLine {
+        &LINE
     }
 
-    fn run(rt: &HostRuntime, matches: &ArgMatches<'_>) -> Result<u8> {
-        let are_valid = validate(rt, &Options::of(matches))?;
+    fn run(rt: &HostRuntime, given: &Given<'_>) -> Result<u8> {
+        let are_valid = validate(rt, &Options::of(given))?;
         Ok(if are_valid { 0 } else { 1 })
     }
 }
 
 fn main(rt: HostRuntime) -> ExitCode {
-    run::<Validator>(&rt, "use_validator")
+    run::<Validator>(&rt)
 }

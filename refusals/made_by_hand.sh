@@ -21,7 +21,7 @@ errors='(AllocError|Stop|([A-Za-z]*Error|Failure|Fault)::Memory)'
 values="(Err\\(|ok_or\\(|[|] |=> |return |^ *)$errors( *[,;)}]|\$)"
 
 made=$(find crates -path '*/src/*.rt' | sort |
-    grep -vE '^crates/(regex|regress)_[a-z_]*(rows|checks)/|^crates/regress_(trees|hostile|fuzz|sweep|vectors)/' |
+    grep -vE '^crates/(regex|regress)_[a-z_]*(rows|checks)/|^crates/regress_(trees|trials)/' |
     grep -vxF "$allowed" |
     while read -r file; do
         awk -v file="$file" -v values="$values" '

@@ -1,20 +1,21 @@
 #!/bin/sh
-# Refuses each request for memory of `regress_hostile` in turn, the first, the second and so on until a run meets no refusal,
-# and compares what is printed with what is printed with ample memory. It needs `rt`, and a C compiler and the GNU C library
-# for what refuses.
+# Refuses each request for memory of `regress_trials hostile` in turn, the first, the second and so on until a run meets no
+# refusal, and compares what is printed with what is printed with ample memory. It needs `rt`, and a C compiler and the GNU C
+# library for what refuses.
 set -e
 top=$(cd "$(dirname "$0")/.." && pwd)
-crate=$top/crates/regress_hostile
-program=${1:-$crate/out/regress_hostile} # another build of it may be named
+crate=$top/crates/regress_trials
+program=${1:-$crate/out/regress_trials} # another build of it may be named
 room=$(mktemp -d)
 trap 'rm -rf "$room"' EXIT
 ${CC:-cc} -shared -fPIC -O2 -o "$room/refuse.so" "$top/refusals/refuse.c"
 [ $# -gt 0 ] || (cd "$crate" && rt run >"$room/log" 2>&1) || { cat "$room/log"; exit 1; }
+sed -n '/^searches: /,$p' "$crate/stdout" >"$room/wanted" # what the odd rows print stands last
 number=1
 while :; do
     status=0
-    REFUSED=$number LD_PRELOAD=$room/refuse.so "$program" >"$room/printed" 2>"$room/told" || status=$?
-    if [ $status -ne 0 ] || ! cmp -s "$room/printed" "$crate/stdout"; then
+    REFUSED=$number LD_PRELOAD=$room/refuse.so "$program" hostile >"$room/printed" 2>"$room/told" || status=$?
+    if [ $status -ne 0 ] || ! cmp -s "$room/printed" "$room/wanted"; then
         echo "request $number is refused: status $status"
         cat "$room/printed" "$room/told"
         exit 1

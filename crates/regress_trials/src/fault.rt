@@ -1,10 +1,11 @@
 //! What may not hold of a case.
 
 use regress_match::{Error, SearchError, WorkError};
+use regress_program::emit::EmitError;
 use std::alloc::AllocError;
 
 /// What does not hold of a case.
-#[derive(Clone, Copy, Debug)]
+#[derive(Clone, Copy, Debug, PartialEq, Eq)]
 pub enum Fault {
     /// That the pattern is one.
     Pattern,
@@ -32,6 +33,8 @@ pub enum Fault {
     Unbounded,
     /// That `$0` in place of matches gives the text back.
     GivenBack,
+    /// That nothing is refused but what has to be, and that all is as it has to be behind it.
+    Wrong,
 }
 
 impl From<AllocError> for Fault {
@@ -41,14 +44,30 @@ impl From<AllocError> for Fault {
 }
 
 impl From<SearchError> for Fault {
-    fn from(_: SearchError) -> Fault {
-        Fault::Refused
+    fn from(error: SearchError) -> Fault {
+        match error {
+            SearchError::Memory => Fault::Refused,
+            SearchError::StepLimit => Fault::Wrong,
+        }
     }
 }
 
 impl From<Error> for Fault {
-    fn from(_: Error) -> Fault {
-        Fault::Pattern
+    fn from(error: Error) -> Fault {
+        match error {
+            Error::Memory => Fault::Refused,
+            Error::Parse(_) => Fault::Pattern,
+            Error::Emit(_) => Fault::Wrong,
+        }
+    }
+}
+
+impl From<EmitError> for Fault {
+    fn from(error: EmitError) -> Fault {
+        match error {
+            EmitError::Memory => Fault::Refused,
+            _ => Fault::Wrong,
+        }
     }
 }
 

@@ -1,0 +1,48 @@
+//! The engine where patterns, trees, texts and starts are odd, by every call.
+//!
+//! A call to which memory is refused is made once more. So, whichever request for memory is refused, what is printed is the
+//! same (`refusals/run.sh` at the top refuses each in turn).
+
+mod bytes;
+mod calls;
+mod executors;
+mod fields;
+mod limits;
+mod lists;
+mod patterns;
+mod replacements;
+mod searches;
+mod section;
+mod table;
+mod tool;
+mod units;
+mod wanted;
+mod wide;
+
+use crate::hostile::section::{SECTIONS, Section};
+use std::io;
+
+fn try_section(rt: &HostRuntime, section: Section) -> io::Result<()> {
+    let name = section.name();
+    let mut agree = 0u32;
+    for line in section.rows().lines() {
+        if section.agrees(rt.alloc(), line) {
+            agree = agree.saturating_add(1);
+        } else {
+            println!(rt; "{name}: differs at {line}")?;
+        }
+    }
+    println!(rt; "{name}: {agree} rows agree")
+}
+
+/// Tells of each section of rows how many agree.
+///
+/// # Errors
+///
+/// Where it cannot be printed.
+pub fn tell_all(rt: &HostRuntime) -> io::Result<()> {
+    for section in SECTIONS {
+        try_section(rt, section)?;
+    }
+    Ok(())
+}

@@ -1,0 +1,145 @@
+//! Searches of texts in UTF-8 and of ASCII, by each call.
+
+ghost use Rattle.std.specs.Prelude.{◌<◌, ◌⊎◌, IsAscii, IsCharBoundary, IsTrue, length};
+
+use crate::hostile::executors::finds;
+use crate::fault::Fault;
+use crate::hostile::lists::{are_found, is_first};
+use crate::hostile::patterns::Compiled;
+use regress_input::indexing::{AsciiInput, Utf8Input};
+use regress_match::Regex;
+use regress_match::backends::{
+    DefaultAsciiExecutor, DefaultExecutor, PikeVMExecutor, find, find_ascii,
+};
+use regress_pikevm::exec::Searcher;
+use regress_program::insn::CompiledRegex;
+
+/// A way to search.
+#[derive(Clone, Copy)]
+pub enum Way {
+    /// The first match, which is looked for from the left end alone.
+    First,
+    /// All matches.
+    All,
+    /// All matches, in more steps than are taken.
+    Limited,
+    /// The first match, of an executor that is asked itself.
+    Asked,
+    /// All matches, by the copying executor.
+    CopyingAll,
+    /// The first match, of that executor itself.
+    CopyingAsked,
+}
+
+/// Whether an offset is a boundary of the text's characters, or past the end.
+pub fn is_start(text: &str, offset: usize) -> bool
+    ensures { IsTrue result → IsCharBoundary text.now offset ⊎ (length text.now < offset) }
+{
+    text.is_char_boundary(offset) || text.len() < offset
+}
+
+fn all(re: &Regex, text: &str, start: usize, wanted: &str) -> Result<bool, Fault>
+    requires { IsCharBoundary text.now start ⊎ (length text.now < start) }
+{
+    are_found(re.find_from(text, start)?, wanted)
+}
+
+fn limited(re: &Regex, text: &str, start: usize, wanted: &str) -> Result<bool, Fault>
+    requires { IsCharBoundary text.now start ⊎ (length text.now < start) }
+{
+    are_found(re.find_from_limited(text, start, u64::MAX)?, wanted)
+}
+
+fn asked(re: &CompiledRegex, text: &str, start: usize, wanted: &str) -> Result<bool, Fault>
+    requires { IsCharBoundary text.now start ⊎ (length text.now < start) }
+{
+    let mut executor = DefaultExecutor::new(re, text)?;
+    finds(&mut executor, start, wanted)
+}
+
+fn copying_all(re: &Regex, text: &str, start: usize, wanted: &str) -> Result<bool, Fault>
+    requires { IsCharBoundary text.now start ⊎ (length text.now < start) }
+{
+    let matches = find::<PikeVMExecutor<Utf8Input>>(re, text, start)?;
+    are_found(matches, wanted)
+}
+
+fn copying_asked(re: &CompiledRegex, text: &str, start: usize, wanted: &str) -> Result<bool, Fault>
+    requires { IsCharBoundary text.now start ⊎ (length text.now < start) }
+{
+    let mut executor = PikeVMExecutor::<Utf8Input>::new(re, text)?;
+    finds(&mut executor, start, wanted)
+}
+
+/// Whether a search of a text in UTF-8 finds what is wanted.
+pub fn in_utf8(
+    re: &Compiled,
+    text: &str,
+    start: usize,
+    wanted: &str,
+    way: Way,
+) -> Result<bool, Fault>
+    requires { IsCharBoundary text.now start ⊎ (length text.now < start) }
+{
+    match way {
+        Way::First if start != 0 => Ok(true),
+        Way::First => is_first(re.regex.find(text)?, wanted),
+        Way::All => all(&re.regex, text, start, wanted),
+        Way::Limited => limited(&re.regex, text, start, wanted),
+        Way::Asked => asked(&re.bytes, text, start, wanted),
+        Way::CopyingAll => copying_all(&re.regex, text, start, wanted),
+        Way::CopyingAsked => copying_asked(&re.bytes, text, start, wanted),
+    }
+}
+
+fn all_in_ascii(re: &Regex, text: &str, start: usize, wanted: &str) -> Result<bool, Fault>
+    requires { IsAscii text.now }
+{
+    are_found(re.find_from_ascii(text, start)?, wanted)
+}
+
+fn asked_in_ascii(re: &CompiledRegex, text: &str, start: usize, wanted: &str) -> Result<bool, Fault>
+    requires { IsAscii text.now }
+{
+    let mut executor = DefaultAsciiExecutor::new(re, text)?;
+    finds(&mut executor, start, wanted)
+}
+
+fn copying_all_in_ascii(re: &Regex, text: &str, start: usize, wanted: &str) -> Result<bool, Fault>
+    requires { IsAscii text.now }
+{
+    let matches = find_ascii::<PikeVMExecutor<Utf8Input>>(re, text, start)?;
+    are_found(matches, wanted)
+}
+
+fn copying_asked_in_ascii(
+    re: &CompiledRegex,
+    text: &str,
+    start: usize,
+    wanted: &str,
+) -> Result<bool, Fault>
+    requires { IsAscii text.now }
+{
+    let mut executor = PikeVMExecutor::<AsciiInput>::new(re, text)?;
+    finds(&mut executor, start, wanted)
+}
+
+/// The same of a text of ASCII.
+pub fn in_ascii(
+    re: &Compiled,
+    text: &str,
+    start: usize,
+    wanted: &str,
+    way: Way,
+) -> Result<bool, Fault>
+    requires { IsAscii text.now }
+{
+    match way {
+        Way::First if start == 0 => is_first(re.regex.find_ascii(text)?, wanted),
+        Way::First | Way::Limited => Ok(true),
+        Way::All => all_in_ascii(&re.regex, text, start, wanted),
+        Way::Asked => asked_in_ascii(&re.bytes, text, start, wanted),
+        Way::CopyingAll => copying_all_in_ascii(&re.regex, text, start, wanted),
+        Way::CopyingAsked => copying_asked_in_ascii(&re.bytes, text, start, wanted),
+    }
+}

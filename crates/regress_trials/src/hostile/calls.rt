@@ -1,0 +1,71 @@
+//! Constructors of patterns, and escaped texts.
+
+use crate::fault::Fault;
+use crate::hostile::fields::Fields;
+use crate::hostile::lists::is_first;
+use regress_match::{Error, Flags, Regex, escape};
+use std::alloc::Global;
+
+/// A constructor.
+#[derive(Clone, Copy)]
+enum Constructor {
+    New,
+    FromStr,
+    WithFlags { no_opt: bool },
+    FromUnicode { no_opt: bool },
+}
+
+/// Each of them.
+const CONSTRUCTORS: [Constructor; 6] = [
+    Constructor::New,
+    Constructor::FromStr,
+    Constructor::WithFlags { no_opt: false },
+    Constructor::WithFlags { no_opt: true },
+    Constructor::FromUnicode { no_opt: false },
+    Constructor::FromUnicode { no_opt: true },
+];
+
+fn construct(alloc: Global, pattern: &str, flags: Flags, by: Constructor) -> Result<Regex, Error> {
+    match by {
+        Constructor::New if flags == Flags::default() => Regex::new(alloc, pattern),
+        Constructor::FromStr if flags == Flags::default() => Regex::from_str(alloc, pattern),
+        Constructor::FromUnicode { no_opt } => {
+            let code_points: Vec<u32> = pattern.chars().map(u32::from).collect(alloc)?;
+            Regex::from_unicode(alloc, &code_points, Flags { no_opt, ..flags })
+        }
+        Constructor::WithFlags { no_opt } => {
+            Regex::with_flags(alloc, pattern, Flags { no_opt, ..flags })
+        }
+        _ => Regex::with_flags(alloc, pattern, flags),
+    }
+}
+
+// Whether a clone of the pattern finds a match that is wanted.
+fn is_cloned(re: &Regex, text: &str, wanted: &str) -> Result<bool, Fault> {
+    let re = re.clone()?;
+    is_first(re.find(text)?, wanted)
+}
+
+/// Whether each constructor answers a pattern whose first match in a text is the one that is wanted, or, for `Syntax`, that
+/// it is no pattern.
+pub fn are_constructed(alloc: Global, line: &str) -> Result<bool, Fault> {
+    let mut fields = Fields::of(line);
+    let (pattern, flags) = (fields.next(), Flags::from(fields.next()));
+    let (text, wanted) = (fields.next(), fields.next());
+    let mut agree = true;
+    for by in CONSTRUCTORS {
+        agree &= match construct(alloc, pattern, flags, by) {
+            Ok(re) => is_cloned(&re, text, wanted)?,
+            Err(Error::Parse(_)) => wanted == "Syntax",
+            Err(error) => return Err(Fault::from(error)),
+        };
+    }
+    Ok(agree)
+}
+
+/// Whether a text is escaped as it has to be.
+pub fn is_escaped(alloc: Global, line: &str) -> Result<bool, Fault> {
+    let mut fields = Fields::of(line);
+    let text = fields.next();
+    Ok(escape(alloc, text)?.as_str() == fields.next())
+}

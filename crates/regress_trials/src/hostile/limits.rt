@@ -1,0 +1,194 @@
+//! Searches that end where their steps do.
+
+ghost use Rattle.std.specs.Prelude.{◌<◌, ◌⊎◌, IsCharBoundary, length};
+ghost use Rattle.regress_match.specs.Programs.{IsStart};
+
+use crate::hostile::bytes::is_start;
+use crate::fault::Fault;
+use crate::hostile::fields::Fields;
+use crate::hostile::lists::{are_found, is_first};
+use crate::hostile::patterns::{Compiled, compile};
+use crate::hostile::wanted::LIMIT;
+use regress_match::backends::LimitedExecutor;
+use regress_match::{Match, Regex, SearchError};
+use regress_pikevm::exec::MatchProducer;
+use regress_program::insn::CompiledRegex;
+use std::alloc::Global;
+
+// The steps that a search may take and those that its first match needs, and what is wanted.
+#[derive(Clone, Copy)]
+struct Row<'a> {
+    steps: u64,
+    need: u64,
+    wanted: &'a str,
+}
+
+// Whether an executor with so many steps answers the first match that is wanted, and takes what it needs; or the limit, and
+// has none left.
+fn is_answered(
+    row: Row<'_>,
+    before: u64,
+    after: u64,
+    answer: Result<Option<Match>, SearchError>,
+) -> Result<bool, Fault> {
+    match answer {
+        Ok(found) => {
+            let spent = before.checked_sub(row.need) == Some(after);
+            Ok(spent && row.wanted != LIMIT && is_first(found, row.wanted)?)
+        }
+        Err(SearchError::StepLimit) => Ok(before < row.need && after == 0),
+        Err(SearchError::Memory) => Err(Fault::Refused),
+    }
+}
+
+/// An executor that counts its steps.
+trait Counting: MatchProducer {
+    /// How many it may still take.
+    fn left(&self) -> u64;
+}
+
+impl<'r, 't> Counting for LimitedExecutor<'r, 't> {
+    fn left(&self) -> u64 {
+        self.steps_left()
+    }
+}
+
+// Whether an executor answers by its steps. One to which memory is refused leaves where the list goes on, has no more steps
+// than before, and answers by those when it is asked again.
+fn answers<P: Counting>(executor: &mut P, start: usize, row: Row<'_>) -> Result<bool, Fault>
+    requires { IsStart (P.text executor.old) start }
+{
+    let Some(pos) = executor.initial_position(start) else {
+        return Ok(executor.left() == row.steps);
+    };
+    let mut next = Some(pos);
+    let first = executor.next_match(pos, &mut next);
+    let left = executor.left();
+    if !matches!(first, Err(SearchError::Memory)) {
+        return is_answered(row, row.steps, left, first);
+    }
+    let unchanged = left <= row.steps && next == Some(pos);
+    let second = executor.next_match(pos, &mut next);
+    if unchanged && is_answered(row, left, executor.left(), second)? {
+        Err(Fault::Refused)
+    } else {
+        Err(Fault::Wrong)
+    }
+}
+
+fn is_asked(re: &CompiledRegex, text: &str, start: usize, row: Row<'_>) -> Result<bool, Fault>
+    requires { IsCharBoundary text.now start ⊎ (length text.now < start) }
+{
+    let mut executor = LimitedExecutor::new(re, text, row.steps)?;
+    answers(&mut executor, start, row)
+}
+
+fn are_all(re: &Regex, text: &str, start: usize, row: Row<'_>) -> Result<bool, Fault>
+    requires { IsCharBoundary text.now start ⊎ (length text.now < start) }
+{
+    are_found(re.find_from_limited(text, start, row.steps)?, row.wanted)
+}
+
+fn agrees(
+    re: &Compiled,
+    text: &str,
+    start: usize,
+    row: Row<'_>,
+    asked: bool,
+) -> Result<bool, Fault> {
+    if !is_start(text, start) {
+        Ok(false)
+    } else if asked {
+        is_asked(&re.bytes, text, start, row)
+    } else {
+        are_all(&re.regex, text, start, row)
+    }
+}
+
+/// Whether the searches of a row agree. One to which memory is refused is made once more, with the same pattern.
+pub fn agree(alloc: Global, line: &str) -> Result<bool, Fault> {
+    let mut fields = Fields::of(line);
+    let re = compile(alloc, fields.next(), fields.next(), false)?;
+    let text = fields.next();
+    let start = fields.next().parse::<usize>().unwrap_or(0);
+    let row = Row {
+        steps: fields.next().parse::<u64>().unwrap_or(0),
+        need: fields.next().parse::<u64>().unwrap_or(0),
+        wanted: fields.next(),
+    };
+    let mut agree = true;
+    for asked in [false, true] {
+        let mut tried = agrees(&re, text, start, row, asked);
+        if matches!(tried, Err(Fault::Refused)) {
+            tried = agrees(&re, text, start, row, asked);
+        }
+        agree &= matches!(tried, Ok(true));
+    }
+    Ok(agree)
+}
+
+// Whether an executor finds two matches in turn, the second one behind this place. One to which memory is refused at the
+// second has taken so many steps for it by then, at least: what the first one took serves until then.
+fn finds_both<P: Counting>(
+    executor: &mut P,
+    behind: usize,
+    first: &str,
+    second: &str,
+    taken: u64,
+) -> Result<bool, Fault>
+    requires first { IsStart (P.text executor.old) 0 }
+    requires second { IsStart (P.text executor.old) behind }
+{
+    let (Some(pos), Some(behind)) = (
+        executor.initial_position(0),
+        executor.initial_position(behind),
+    ) else {
+        return Ok(false);
+    };
+    let mut next = Some(pos);
+    let is_found = is_first(executor.next_match(pos, &mut next)?, first)?;
+    let goes_on = next == Some(behind);
+    if !is_found || !goes_on {
+        return Ok(false);
+    }
+    let before = executor.left();
+    match executor.next_match(behind, &mut next) {
+        Ok(found) => is_first(found, second),
+        Err(_) if before.saturating_sub(executor.left()) < taken => Err(Fault::Wrong),
+        Err(error) => Err(Fault::from(error)),
+    }
+}
+
+fn is_taken(
+    re: &CompiledRegex,
+    text: &str,
+    behind: usize,
+    first: &str,
+    second: &str,
+    taken: u64,
+) -> Result<bool, Fault>
+    requires first { IsCharBoundary text.now 0 ⊎ (length text.now < 0) }
+    requires second { IsCharBoundary text.now behind ⊎ (length text.now < behind) }
+{
+    let mut executor = LimitedExecutor::new(re, text, u64::MAX)?;
+    finds_both(&mut executor, behind, first, second, taken)
+}
+
+/// Whether steps stay taken that were taken before memory was refused, of a row with a pattern, the letters of its flags, a text,
+/// its first two matches, how many steps the second takes at least before it asks for memory, and where it is looked for.
+pub fn stay_taken(alloc: Global, line: &str) -> Result<bool, Fault> {
+    let mut fields = Fields::of(line);
+    let re = compile(alloc, fields.next(), fields.next(), false)?;
+    let text = fields.next();
+    let first = fields.next();
+    let second = fields.next();
+    let taken = fields.next().parse::<u64>().unwrap_or(0);
+    let behind = fields.next().parse::<usize>().unwrap_or(0);
+    if !is_start(text, 0) {
+        return Ok(false);
+    }
+    if !is_start(text, behind) {
+        return Ok(false);
+    }
+    is_taken(&re.bytes, text, behind, first, second, taken)
+}

@@ -1,0 +1,52 @@
+//! First matches, and lists of matches that may be refused.
+
+use crate::fault::Fault;
+use crate::hostile::wanted::{LIMIT, NONE, is_match, is_none, split_first};
+use regress_match::{Match, SearchError};
+use regress_pikevm::exec::{MatchProducer, Matches};
+
+/// Whether a clone of this is the first match that is wanted, or none is.
+pub fn is_first(found: Option<Match>, words: &str) -> Result<bool, Fault> {
+    match found {
+        Some(found) => Ok(is_match(&found.clone()?, split_first(words).0)),
+        None => Ok(is_none(words)),
+    }
+}
+
+/// Whether these are the matches that are wanted. A refused item comes behind a beginning of them, and steps end where they
+/// have to; behind either, as behind the end, there is none for good.
+pub fn are_found<P: MatchProducer + Drop>(
+    mut matches: Matches<P>,
+    words: &str,
+) -> Result<bool, Fault> {
+    let mut words = words;
+    let mut agrees = true;
+    let mut over = false;
+    let mut refused = false;
+    for item in &mut matches {
+        agrees &= !over;
+        match item {
+            Ok(found) => {
+                let (first, rest) = split_first(words);
+                words = rest;
+                agrees &= is_match(&found, first);
+            }
+            Err(SearchError::Memory) => {
+                over = true;
+                refused = true;
+            }
+            Err(SearchError::StepLimit) => {
+                over = true;
+                agrees &= words == LIMIT;
+                words = NONE;
+            }
+        }
+    }
+    if !agrees || matches.next().is_some() {
+        return Err(Fault::Wrong);
+    }
+    if refused {
+        return Err(Fault::Refused);
+    }
+    Ok(is_none(words))
+}

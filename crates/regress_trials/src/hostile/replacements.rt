@@ -1,0 +1,110 @@
+//! Texts with other text in place of matches.
+
+use crate::fault::Fault;
+use crate::hostile::fields::Fields;
+use regress_match::{Flags, Match, Regex, ReplaceError};
+use std::alloc::{AllocError, Global};
+use std::cell::Cell;
+
+/// How a closure goes wrong.
+#[derive(Clone, Copy, PartialEq, Eq)]
+enum Failure {
+    /// Memory was refused to it.
+    Memory,
+    /// It takes no number as great as this.
+    TooGreat(u32),
+}
+
+impl From<AllocError> for Failure {
+    fn from(_: AllocError) -> Failure {
+        Failure::Memory
+    }
+}
+
+// What a closure answers for a match, which is a number.
+fn answer_to(alloc: Global, text: &str, found: &Match, how: &str) -> Result<String, Failure> {
+    let word = text.get(found.range()).unwrap_or("");
+    let number = word.parse::<u32>().unwrap_or(0);
+    match how {
+        "doubled" => Ok(format!(in alloc; "{}", number.wrapping_mul(2))?),
+        "tenfold" => Ok(format!(in alloc; "[{}]", number.wrapping_mul(10))?),
+        _ if number < 10 => Ok(String::from_str(alloc, "x")?),
+        _ => Err(Failure::TooGreat(number)),
+    }
+}
+
+// Whether these are the words of the number that a closure refused, and how often it was called until then.
+fn is_refusal(number: u32, count: u8, wanted: &str) -> bool {
+    match wanted
+        .strip_prefix("refused ")
+        .and_then(|words| words.split_once(" called "))
+    {
+        Some((refused, called)) => {
+            refused.parse::<u32>() == Ok(number) && called.parse::<u8>() == Ok(count)
+        }
+        None => false,
+    }
+}
+
+// A text that closures make, or what a closure refused; it says whether memory was refused to it, and then the refusal is
+// its own.
+fn is_made(
+    made: Result<String, ReplaceError<Failure>>,
+    calls: &Cell<(u8, bool)>,
+    wanted: &str,
+) -> Result<bool, Fault> {
+    let (count, refused) = calls.get();
+    match made {
+        Ok(made) => Ok(!refused && made.as_str() == wanted),
+        Err(ReplaceError::Search(error)) if !refused => Err(Fault::from(error)),
+        Err(ReplaceError::Closure(Failure::Memory)) if refused => Err(Fault::Refused),
+        Err(ReplaceError::Closure(Failure::TooGreat(number))) => {
+            Ok(is_refusal(number, count, wanted))
+        }
+        Err(_) => Err(Fault::Wrong),
+    }
+}
+
+// Replaces by a closure, the first match or each.
+fn is_made_by(
+    alloc: Global,
+    re: &Regex,
+    text: &str,
+    how: &str,
+    wanted: &str,
+) -> Result<bool, Fault> {
+    let calls = Cell::new((0u8, false));
+    let answer = |found: &Match| {
+        let made = answer_to(alloc, text, found, how);
+        let refused = matches!(made, Err(Failure::Memory));
+        calls.set((calls.get().0.saturating_add(1), refused));
+        made
+    };
+    let made = match how {
+        "doubled" => re.replace_with(text, answer),
+        _ => re.replace_all_with(text, answer),
+    };
+    is_made(made, &calls, wanted)
+}
+
+/// Whether a replacement of a row makes what it has to, which is a text of its own and no part of one: by the pattern as it is
+/// written and by the optimized one.
+pub fn is_replaced(alloc: Global, line: &str) -> Result<bool, Fault> {
+    let mut fields = Fields::of(line);
+    let pattern = fields.next();
+    let (text, how, by, wanted) = (fields.next(), fields.next(), fields.next(), fields.next());
+    let mut agrees = true;
+    for no_opt in [false, true] {
+        let flags = Flags {
+            no_opt,
+            ..Flags::default()
+        };
+        let re = Regex::with_flags(alloc, pattern, flags)?;
+        agrees &= match how {
+            "first" => re.replace(text, by)?.as_str() == wanted,
+            "all" => re.replace_all(text, by)?.as_str() == wanted,
+            _ => is_made_by(alloc, &re, text, how, wanted)?,
+        };
+    }
+    Ok(agrees)
+}

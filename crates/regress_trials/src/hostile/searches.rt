@@ -1,0 +1,148 @@
+//! Rows of searches, each by all calls and over each input that can hold its text.
+
+use crate::hostile::bytes::{Way, in_ascii, in_utf8, is_start};
+use crate::fault::Fault;
+use crate::hostile::fields::Fields;
+use crate::hostile::patterns::{Compiled, compile};
+use crate::hostile::units::Units;
+use crate::hostile::wide::{all_in_ucs2, all_in_utf16, asked_in_ucs2, asked_in_utf16, is_unit_start};
+use std::alloc::Global;
+
+/// What stands for matches in an encoding that cannot hold the text or the tree.
+const APART: &str = "apart";
+
+/// What stands for matches where a search may not start.
+const NO_START: &str = "no start";
+
+/// How a text is held and searched.
+#[derive(Clone, Copy)]
+enum Search {
+    Utf8(Way),
+    Ascii(Way),
+    Utf16,
+    Utf16Asked,
+    Ucs2,
+    Ucs2Asked,
+}
+
+/// All there is.
+const SEARCHES: [Search; 15] = [
+    Search::Utf8(Way::First),
+    Search::Utf8(Way::All),
+    Search::Utf8(Way::Limited),
+    Search::Utf8(Way::Asked),
+    Search::Utf8(Way::CopyingAll),
+    Search::Utf8(Way::CopyingAsked),
+    Search::Ascii(Way::First),
+    Search::Ascii(Way::All),
+    Search::Ascii(Way::Asked),
+    Search::Ascii(Way::CopyingAll),
+    Search::Ascii(Way::CopyingAsked),
+    Search::Utf16,
+    Search::Utf16Asked,
+    Search::Ucs2,
+    Search::Ucs2Asked,
+];
+
+// A text, where its search starts, and what is wanted in each encoding.
+#[derive(Clone, Copy)]
+struct Row<'a> {
+    text: &'a str,
+    start: usize,
+    bytes: &'a str,
+    utf16: &'a str,
+    ucs2: &'a str,
+}
+
+// Whether a search of a text of bytes agrees.
+fn agrees_in_bytes(re: &Compiled, row: Row<'_>, way: Way, ascii: bool) -> Result<bool, Fault> {
+    let Row {
+        text,
+        start,
+        bytes,
+        ..
+    } = row;
+    if bytes == APART {
+        Ok(true)
+    } else if ascii {
+        if text.is_ascii() {
+            in_ascii(re, text, start, bytes, way)
+        } else {
+            Ok(true)
+        }
+    } else if is_start(text, start) {
+        in_utf8(re, text, start, bytes, way)
+    } else {
+        Ok(bytes == NO_START)
+    }
+}
+
+// Whether a search in UTF-16 agrees.
+fn agrees_in_utf16(re: &Compiled, row: Row<'_>, asked: bool) -> Result<bool, Fault> {
+    let made = Units::of(row.text);
+    let units = made.as_slice();
+    if row.utf16 == APART {
+        Ok(true)
+    } else if !is_unit_start(units, row.start) {
+        Ok(row.utf16 == NO_START)
+    } else if asked {
+        asked_in_utf16(&re.units, units, row.start, row.utf16)
+    } else {
+        all_in_utf16(&re.regex, units, row.start, row.utf16)
+    }
+}
+
+// Whether a search in UCS-2 agrees.
+fn agrees_in_ucs2(re: &Compiled, row: Row<'_>, asked: bool) -> Result<bool, Fault> {
+    let made = Units::of(row.text);
+    let units = made.as_slice();
+    if row.ucs2 == APART {
+        Ok(true)
+    } else if asked {
+        asked_in_ucs2(&re.units, units, row.start, row.ucs2)
+    } else {
+        all_in_ucs2(&re.regex, units, row.start, row.ucs2)
+    }
+}
+
+fn agrees(re: &Compiled, row: Row<'_>, search: Search) -> Result<bool, Fault> {
+    match search {
+        Search::Utf8(way) => agrees_in_bytes(re, row, way, false),
+        Search::Ascii(way) => agrees_in_bytes(re, row, way, true),
+        Search::Utf16 => agrees_in_utf16(re, row, false),
+        Search::Utf16Asked => agrees_in_utf16(re, row, true),
+        Search::Ucs2 => agrees_in_ucs2(re, row, false),
+        Search::Ucs2Asked => agrees_in_ucs2(re, row, true),
+    }
+}
+
+// Whether all searches agree. One to which memory is refused is made once more, with the same pattern.
+fn all_agree(re: &Compiled, row: Row<'_>) -> bool {
+    let mut agree = true;
+    for search in SEARCHES {
+        let mut tried = agrees(re, row, search);
+        if matches!(tried, Err(Fault::Refused)) {
+            tried = agrees(re, row, search);
+        }
+        agree &= matches!(tried, Ok(true));
+    }
+    agree
+}
+
+/// Whether the searches of a row agree, of the pattern as it is written and of the optimized one.
+pub fn agree(alloc: Global, line: &str) -> Result<bool, Fault> {
+    let mut fields = Fields::of(line);
+    let (pattern, flags) = (fields.next(), fields.next());
+    let row = Row {
+        text: fields.next(),
+        start: fields.next().parse::<usize>().unwrap_or(0),
+        bytes: fields.next(),
+        utf16: fields.next(),
+        ucs2: fields.next(),
+    };
+    let mut agree = true;
+    for no_opt in [false, true] {
+        agree &= all_agree(&compile(alloc, pattern, flags, no_opt)?, row);
+    }
+    Ok(agree)
+}

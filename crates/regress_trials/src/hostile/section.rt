@@ -1,0 +1,82 @@
+//! The sections.
+
+use crate::hostile::calls::{are_constructed, is_escaped};
+use crate::fault::Fault;
+use crate::hostile::replacements::is_replaced;
+use crate::hostile::tool::is_run;
+use crate::hostile::{limits, searches, table};
+use std::alloc::Global;
+
+/// Rows, and what is tried with each.
+#[derive(Clone, Copy)]
+pub enum Section {
+    Searches,
+    Odd,
+    Limits,
+    Taken,
+    Constructors,
+    Replacements,
+    Escapes,
+    Tool,
+}
+
+/// Each of them.
+pub const SECTIONS: [Section; 8] = [
+    Section::Searches,
+    Section::Odd,
+    Section::Limits,
+    Section::Taken,
+    Section::Constructors,
+    Section::Replacements,
+    Section::Escapes,
+    Section::Tool,
+];
+
+impl Section {
+    pub fn name(self) -> &'static str {
+        match self {
+            Section::Searches => "searches",
+            Section::Odd => "odd",
+            Section::Limits => "limits",
+            Section::Taken => "taken steps",
+            Section::Constructors => "constructors",
+            Section::Replacements => "replacements",
+            Section::Escapes => "escapes",
+            Section::Tool => "tool",
+        }
+    }
+
+    pub fn rows(self) -> &'static str {
+        match self {
+            Section::Searches => table::SEARCHES,
+            Section::Odd => table::ODD,
+            Section::Limits => table::LIMITS,
+            Section::Taken => table::TAKEN,
+            Section::Constructors => table::CONSTRUCTORS,
+            Section::Replacements => table::REPLACEMENTS,
+            Section::Escapes => table::ESCAPES,
+            Section::Tool => table::TOOL,
+        }
+    }
+
+    fn try_row(self, alloc: Global, line: &str) -> Result<bool, Fault> {
+        match self {
+            Section::Searches | Section::Odd => searches::agree(alloc, line),
+            Section::Limits => limits::agree(alloc, line),
+            Section::Taken => limits::stay_taken(alloc, line),
+            Section::Constructors => are_constructed(alloc, line),
+            Section::Replacements => is_replaced(alloc, line),
+            Section::Escapes => is_escaped(alloc, line),
+            Section::Tool => is_run(alloc, line),
+        }
+    }
+
+    /// Whether a row agrees, which is tried once more where memory is refused.
+    pub fn agrees(self, alloc: Global, line: &str) -> bool {
+        let mut tried = self.try_row(alloc, line);
+        if matches!(tried, Err(Fault::Refused)) {
+            tried = self.try_row(alloc, line);
+        }
+        matches!(tried, Ok(true))
+    }
+}

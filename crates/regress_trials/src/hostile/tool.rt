@@ -1,0 +1,89 @@
+//! The body of `regress-tool`, with pages that take no memory to write to.
+
+use crate::fault::Fault;
+use crate::hostile::fields::Fields;
+use regress_match::program;
+use std::alloc::{AllocError, Global};
+use std::io;
+use std::io::Write;
+
+/// How many bytes fit on a page.
+const MOST: usize = 128;
+
+// What was written, as far as it fits; `;` stands for a line feed.
+#[derive(Drop)]
+struct Page {
+    bytes: [u8; MOST],
+    len: usize,
+}
+
+impl Page {
+    fn new() -> Self {
+        Page {
+            bytes: [0; MOST],
+            len: 0,
+        }
+    }
+
+    fn written(&self) -> &[u8] {
+        self.bytes.get(..self.len).unwrap_or(&[])
+    }
+
+    // One byte more.
+    fn put(&mut self, byte: u8) -> io::Result<()> {
+        let place = self
+            .bytes
+            .get_mut(self.len)
+            .ok_or(io::Error::from(io::ErrorKind::WriteZero))?;
+        *place = if byte == b'\n' { b';' } else { byte };
+        self.len = self.len.saturating_add(1);
+        Ok(())
+    }
+}
+
+impl Write for Page {
+    fn write(&mut self, buf: &[u8]) -> io::Result<usize> {
+        for byte in buf {
+            self.put(*byte)?;
+        }
+        Ok(buf.len())
+    }
+
+    fn flush(&mut self) -> io::Result<()> {
+        Ok(())
+    }
+}
+
+fn words_of(alloc: Global, texts: [&str; 3]) -> Result<Vec<Option<String>>, AllocError> {
+    let mut words = Vec::new(alloc);
+    for text in texts {
+        words.push(Some(String::from_str(alloc, text)?))?;
+    }
+    Ok(words)
+}
+
+// Whether these are whole lines, and a beginning of what is wanted.
+fn is_beginning(printed: &[u8], wanted: &str) -> bool {
+    let whole = printed.is_empty() || printed.ends_with(b";");
+    whole && wanted.as_bytes().starts_with(printed)
+}
+
+/// Whether the program answers, prints and tells what it has to. Where memory is refused it says so, and the lines before
+/// stand.
+pub fn is_run(alloc: Global, line: &str) -> Result<bool, Fault> {
+    let mut fields = Fields::of(line);
+    let words = words_of(alloc, [fields.next(), fields.next(), fields.next()])?;
+    let (status, printed, told) = (fields.next(), fields.next(), fields.next());
+    let mut out = Page::new();
+    let mut err = Page::new();
+    let got = program::run(alloc, &words, &mut out, &mut err);
+    if err.written() == b"out of memory;".as_slice() {
+        return Err(if got == 2 && is_beginning(out.written(), printed) {
+            Fault::Refused
+        } else {
+            Fault::Wrong
+        });
+    }
+    let answered = status.parse::<u8>() == Ok(got);
+    Ok(answered && out.written() == printed.as_bytes() && err.written() == told.as_bytes())
+}

@@ -2,8 +2,8 @@
 
 ghost use Rattle.std.specs.Prelude.{◌<◌, ◌⊎◌, IsAscii, IsCharBoundary, IsTrue, length};
 
-use crate::hostile::executors::finds;
 use crate::fault::Fault;
+use crate::hostile::executors::finds;
 use crate::hostile::lists::{are_found, is_first};
 use crate::hostile::patterns::Compiled;
 use regress_input::indexing::{AsciiInput, Utf8Input};

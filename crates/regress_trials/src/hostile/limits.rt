@@ -3,8 +3,8 @@
 ghost use Rattle.std.specs.Prelude.{◌<◌, ◌⊎◌, IsCharBoundary, length};
 ghost use Rattle.regress_match.specs.Programs.{IsStart};
 
-use crate::hostile::bytes::is_start;
 use crate::fault::Fault;
+use crate::hostile::bytes::is_start;
 use crate::hostile::fields::Fields;
 use crate::hostile::lists::{are_found, is_first};
 use crate::hostile::patterns::{Compiled, compile};

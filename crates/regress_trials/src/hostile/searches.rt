@@ -1,11 +1,13 @@
 //! Rows of searches, each by all calls and over each input that can hold its text.
 
-use crate::hostile::bytes::{Way, in_ascii, in_utf8, is_start};
 use crate::fault::Fault;
+use crate::hostile::bytes::{Way, in_ascii, in_utf8, is_start};
 use crate::hostile::fields::Fields;
 use crate::hostile::patterns::{Compiled, compile};
 use crate::hostile::units::Units;
-use crate::hostile::wide::{all_in_ucs2, all_in_utf16, asked_in_ucs2, asked_in_utf16, is_unit_start};
+use crate::hostile::wide::{
+    all_in_ucs2, all_in_utf16, asked_in_ucs2, asked_in_utf16, is_unit_start,
+};
 use std::alloc::Global;
 
 /// What stands for matches in an encoding that cannot hold the text or the tree.

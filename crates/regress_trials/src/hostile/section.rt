@@ -1,7 +1,7 @@
 //! The sections.
 
-use crate::hostile::calls::{are_constructed, is_escaped};
 use crate::fault::Fault;
+use crate::hostile::calls::{are_constructed, is_escaped};
 use crate::hostile::replacements::is_replaced;
 use crate::hostile::tool::is_run;
 use crate::hostile::{limits, searches, table};

@@ -3,8 +3,8 @@
 ghost use Rattle.std.specs.Prelude.{◌<◌, ◌⊎◌, IsTrue, length};
 ghost use Rattle.regex_meaning.specs.Text.{is_unit_boundary as is_boundary_of};
 
-use crate::hostile::executors::finds;
 use crate::fault::Fault;
+use crate::hostile::executors::finds;
 use crate::hostile::lists::are_found;
 use regress_match::backends::{DefaultUcs2Executor, DefaultUtf16Executor};
 use regress_match::{Regex, is_unit_boundary};

@@ -11,8 +11,15 @@ cd "$(dirname "$0")/.."
 # A search stopped, and no steps were refused: then memory was.
 # A search has too few steps left, which its counter notes.
 # A search was refused memory, which is handed on as an error of another type.
+# What goes on behind a search in a search stopped, which is handed on.
+# A bounded search was refused: whether for want of work is kept beside, since this error is of memory alone; or it would need
+# more memory than there can be.
+# A bounded search was refused, and not for want of work: then memory was.
 allowed='crates/regress_tool/src/main.rt
 crates/regress_backtrack/src/attempts.rt
+crates/regress_backtrack/src/run.rt
+crates/regress_bounded/src/executor.rt
+crates/regress_exec/src/exec/worked.rt
 crates/regress_backtrack/src/steps.rt
 crates/use_validator/src/judge.rt'
 

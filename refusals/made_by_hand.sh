@@ -17,10 +17,10 @@ cd "$(dirname "$0")/.."
 # A bounded search was refused, and not for want of work: then memory was.
 allowed='crates/regress_tool/src/main.rt
 crates/regress_backtrack/src/attempts.rt
-crates/regress_backtrack/src/run.rt
+crates/regress_backtrack/src/interpreter.rt
 crates/regress_bounded/src/executor.rt
-crates/regress_exec/src/exec/worked.rt
-crates/regress_backtrack/src/steps.rt
+crates/regress_exec/src/exec/work_matches.rt
+crates/regress_backtrack/src/step_and_work_budgets.rt
 crates/use_validator/src/judge.rt'
 
 # The errors, and where one stands as a value.

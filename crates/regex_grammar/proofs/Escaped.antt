@@ -3,61 +3,61 @@ use Rattle.std.proofs.Common.{◌≡◌, ℕ, Bool, true, false, not, [], ◌∷
 use Rattle.std.specs.Prelude.{codes}
 use Rattle.std.specs.Char.{is_ascii_alphanumeric}
 use Rattle.std.proofs.lemmas.Bool.{false_from_ne_true}
-use Rattle.regex_meaning.specs.Lists.{contains}
-use Rattle.regex_meaning.specs.Flags.{special, escaped, escape}
-use Rattle.regex_grammar.specs.Reading.{Text, Whole, ◌∈◌}
-use Rattle.regex_grammar.specs.Characters.{identity_escape, IsQuantified}
-use Rattle.regex_grammar.specs.Grammar.{character_node, Leaf, pattern_character, character_escape, Alternative, no_terms, terms, atom, leaf}
+use Rattle.regex_meaning.specs.NumberListHelpers.{contains}
+use Rattle.regex_meaning.specs.FlagLettersAndEscaping.{syntax_characters, with_backslash_if_syntax, escape}
+use Rattle.regex_grammar.specs.ReadingStatesAndDigits.{RemainingPattern, PatternContext, ◌∈◌}
+use Rattle.regex_grammar.specs.EscapesNamesQuantifiers.{identity_escape, BeginsQuantifier}
+use Rattle.regex_grammar.specs.Grammar.{character_node, SimpleAtom, pattern_character, character_escape, Alternative, no_terms, terms, atom, leaf}
 use Rattle.regex_grammar.specs.Grammar.{last_alternative, pattern_is}
 use Rattle.regex_grammar.specs.Laws.{EscapedTextsAreRead}
 use Rattle.regex_grammar.proofs.Leaves.{inside}
 use Rattle.regex_grammar.proofs.Quantifiers.{head, not_quantified}
 
 -- what is escaped among these is special
-none-of : (word : Text) (c : ℕ) → contains special c ≡ false → ((d : ℕ) → contains word d ≡ true → contains special d ≡ true) → contains word c ≡ false
+none-of : (word : RemainingPattern) (c : ℕ) → contains syntax_characters c ≡ false → ((d : ℕ) → contains word d ≡ true → contains syntax_characters d ≡ true) → contains word c ≡ false
 none-of word c f h = false_from_ne_true (contains word c) (λ k. true≢false (sym (h c k) ∙ f))
 
 not_true : (b : Bool) → not b ≡ true → b ≡ false
 not_true false h = refl
 not_true true h = absurd (true≢false (sym h))
 
-escaped-more : (c : ℕ) (cs : Text) → escape (c ∷ cs) ≡ escaped c ++ escape cs
+escaped-more : (c : ℕ) (cs : RemainingPattern) → escape (c ∷ cs) ≡ with_backslash_if_syntax c ++ escape cs
 unfolding escape
 escaped-more c cs = refl
 
-escaped-special : (c : ℕ) → contains special c ≡ true → escaped c ≡ 92 ∷ c ∷ []
+escaped-special : (c : ℕ) → contains syntax_characters c ≡ true → with_backslash_if_syntax c ≡ 92 ∷ c ∷ []
 escaped-special c e = rw e refl
 
-escaped-other : (c : ℕ) → contains special c ≡ false → escaped c ≡ c ∷ []
+escaped-other : (c : ℕ) → contains syntax_characters c ≡ false → with_backslash_if_syntax c ≡ c ∷ []
 escaped-other c e = rw e refl
 
-module _ (c : ℕ) (cs : Text) where
-  behind-slash : contains special c ≡ true → escape (c ∷ cs) ≡ 92 ∷ c ∷ escape cs
+module _ (c : ℕ) (cs : RemainingPattern) where
+  behind-slash : contains syntax_characters c ≡ true → escape (c ∷ cs) ≡ 92 ∷ c ∷ escape cs
   behind-slash e = escaped-more c cs ∙ ap (λ x. x ++ escape cs) (escaped-special c e)
 
-  itself : contains special c ≡ false → escape (c ∷ cs) ≡ c ∷ escape cs
+  itself : contains syntax_characters c ≡ false → escape (c ∷ cs) ≡ c ∷ escape cs
   itself e = escaped-more c cs ∙ ap (λ x. x ++ escape cs) (escaped-other c e)
 
-  first-read : (w : Whole) → Leaf w (escape (c ∷ cs)) (escape cs) (character_node w.flags c)
-  first-read w = by (contains special c) refl
+  first-read : (w : PatternContext) → SimpleAtom w (escape (c ∷ cs)) (escape cs) (character_node w.flags c)
+  first-read w = by (contains syntax_characters c) refl
     where
-      by : (b : Bool) → contains special c ≡ b → Leaf w (escape (c ∷ cs)) (escape cs) (character_node w.flags c)
-      by true e = character_escape (behind-slash e) (identity_escape refl (not_true _ (inside (λ d. not (is_ascii_alphanumeric d)) special c refl e)))
-      by false e = pattern_character (itself e) (none-of (codes "^$\\.*+?()[]{}|") c e (λ d k. inside (contains special) (codes "^$\\.*+?()[]{}|") d refl k))
+      by : (b : Bool) → contains syntax_characters c ≡ b → SimpleAtom w (escape (c ∷ cs)) (escape cs) (character_node w.flags c)
+      by true e = character_escape (behind-slash e) (identity_escape refl (not_true _ (inside (λ d. not (is_ascii_alphanumeric d)) syntax_characters c refl e)))
+      by false e = pattern_character (itself e) (none-of (codes "^$\\.*+?()[]{}|") c e (λ d k. inside (contains syntax_characters) (codes "^$\\.*+?()[]{}|") d refl k))
 
-begins : (cs : Text) → head (escape cs) ∈ "*+?{" ≡ false
+begins : (cs : RemainingPattern) → head (escape cs) ∈ "*+?{" ≡ false
 unfolding escape
 begins [] = refl
-begins (c ∷ cs) = by (contains special c) refl
+begins (c ∷ cs) = by (contains syntax_characters c) refl
   where
-    by : (b : Bool) → contains special c ≡ b → head (escape (c ∷ cs)) ∈ "*+?{" ≡ false
+    by : (b : Bool) → contains syntax_characters c ≡ b → head (escape (c ∷ cs)) ∈ "*+?{" ≡ false
     by true e = ap (λ x. head x ∈ "*+?{") (behind-slash c cs e)
-    by false e = ap (λ x. head x ∈ "*+?{") (itself c cs e) ∙ none-of (codes "*+?{") c e (λ d k. inside (contains special) (codes "*+?{") d refl k)
+    by false e = ap (λ x. head x ∈ "*+?{") (itself c cs e) ∙ none-of (codes "*+?{") c e (λ d k. inside (contains syntax_characters) (codes "*+?{") d refl k)
 
-none-follows : (cs : Text) → ¬ (IsQuantified (escape cs))
+none-follows : (cs : RemainingPattern) → ¬ (BeginsQuantifier (escape cs))
 none-follows cs = not_quantified (escape cs) (begins cs)
 
-all-read : (w : Whole) (text : Text) → Alternative w false (record { text = escape text; opened = [] }) (record { text = []; opened = [] }) (map (character_node w.flags) text)
+all-read : (w : PatternContext) (text : RemainingPattern) → Alternative w false (record { text = escape text; opened = [] }) (record { text = []; opened = [] }) (map (character_node w.flags) text)
 unfolding escape
 all-read w [] = no_terms
 all-read w (c ∷ cs) = terms (atom (leaf (first-read c cs w)) (none-follows cs)) (all-read w cs)

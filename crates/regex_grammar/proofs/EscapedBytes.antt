@@ -10,11 +10,11 @@ use Rattle.std.proofs.lemmas.Grind.{flat_map-append}
 use Rattle.std.proofs.lemmas.Str.{encode_ascii, encodes-append, encodes-chars, chars-encodes, scalars-chars, IsUtf8-from_is_utf8}
 use Rattle.std.proofs.lemmas.Bool.{cases_Bool, ne_eqb, ltb-true, and_from}
 use Rattle.std.proofs.lemmas.Bool.Decides.{leb_tells}
-use Rattle.regex_meaning.specs.Lists.{contains}
-use Rattle.regex_meaning.specs.Flags.{special, escaped, escape}
+use Rattle.regex_meaning.specs.NumberListHelpers.{contains}
+use Rattle.regex_meaning.specs.FlagLettersAndEscaping.{syntax_characters, with_backslash_if_syntax, escape}
 use Rattle.regex_meaning.proofs.Booleans.{and-left, and-right}
 use Rattle.regex_grammar.specs.Grammar.{Parses}
-use Rattle.regex_grammar.specs.Laws.{row_of, EscapedBytesAreRead}
+use Rattle.regex_grammar.specs.Laws.{literal_tree, EscapedBytesAreRead}
 use Rattle.regex_grammar.proofs.Beyond.{encode-stays}
 use Rattle.regex_grammar.proofs.Escaped.{escaped_texts_are_read}
 
@@ -27,16 +27,16 @@ contains-beyond limit n (x ∷ xs) le all =
     ap₂ (λ a b. a || b) other (contains-beyond limit n xs le (and-right _ _ all))
 
 -- a byte that is no character of ASCII stays
-escaped-beyond : (byte : ℕ) → 128 ≤ byte → escaped byte ≡ byte ∷ []
-escaped-beyond byte le = rw (contains-beyond 128 byte special le refl)
+escaped-beyond : (byte : ℕ) → 128 ≤ byte → with_backslash_if_syntax byte ≡ byte ∷ []
+escaped-beyond byte le = rw (contains-beyond 128 byte syntax_characters le refl)
 
 -- what stands before a character in an escaped text
 abbrev pub mark : ℕ → List ℕ
-mark c = if contains special c then 92 ∷ [] else []
+mark c = if contains syntax_characters c then 92 ∷ [] else []
 
 -- an escaped character is itself behind its mark
-escaped-marked : (c : ℕ) → escaped c ≡ mark c ++ c ∷ []
-escaped-marked c = elim (cases_Bool (contains special c)) [
+escaped-marked : (c : ℕ) → with_backslash_if_syntax c ≡ mark c ++ c ∷ []
+escaped-marked c = elim (cases_Bool (contains syntax_characters c)) [
   | inl e ↦ rw e refl
   | inr e ↦ rw e refl
 ]
@@ -44,19 +44,19 @@ escaped-marked c = elim (cases_Bool (contains special c)) [
 escape-encode : (c : ℕ) → escape (encode_utf8 c) ≡ mark c ++ encode_utf8 c
 unfolding escape
 escape-encode c = elim (leb_tells 128 c) [
-  | inl (e, high) ↦ rw (contains-beyond 128 c special high refl) (encode-stays escaped escaped-beyond c high)
+  | inl (e, high) ↦ rw (contains-beyond 128 c syntax_characters high refl) (encode-stays with_backslash_if_syntax escaped-beyond c high)
   | inr (e, low) ↦ rw (encode_ascii c low, append-nil) (escaped-marked c)
 ]
 
 pub escape-next : (text rest : List ℕ) (c : ℕ) → text ≡ encode_utf8 c ++ rest → escape text ≡ (mark c ++ encode_utf8 c) ++ escape rest
 unfolding escape
-escape-next text rest c e = ap (λ t. escape t) e ∙ flat_map-append escaped (encode_utf8 c) rest ∙ ap (λ (t : List ℕ). t ++ flat_map escaped rest) (escape-encode c)
+escape-next text rest c e = ap (λ t. escape t) e ∙ flat_map-append with_backslash_if_syntax (encode_utf8 c) rest ∙ ap (λ (t : List ℕ). t ++ flat_map with_backslash_if_syntax rest) (escape-encode c)
 
 -- ---- The characters of an escaped text
 
 -- the bytes of an escaped character
-escaped-encodes : (c : ℕ) → encodes (escaped c) ≡ mark c ++ encode_utf8 c
-escaped-encodes c = elim (cases_Bool (contains special c)) [
+escaped-encodes : (c : ℕ) → encodes (with_backslash_if_syntax c) ≡ mark c ++ encode_utf8 c
+escaped-encodes c = elim (cases_Bool (contains syntax_characters c)) [
   | inl e ↦ rw e (encodes-append (92 ∷ []) (c ∷ []) ∙ ap₂ (λ a b. a ++ b) (one 92 ∙ encode_ascii 92 (lit< tt)) (one c))
   | inr e ↦ rw e (one c)
 ]
@@ -69,12 +69,12 @@ unfolding escape
 escape-encodes [] = refl
 escape-encodes (c ∷ cs) =
     escape-next (encodes (c ∷ cs)) (encodes cs) c refl ∙ ap₂ (λ a b. a ++ b) (sym (escaped-encodes c)) (escape-encodes cs)
-    ∙ sym (encodes-append (escaped c) (escape cs))
+    ∙ sym (encodes-append (with_backslash_if_syntax c) (escape cs))
 
 escape-scalars : (cs : List ℕ) → scalars cs ≡ true → scalars (escape cs) ≡ true
 unfolding escape
 escape-scalars [] h = refl
-escape-scalars (c ∷ cs) h = by (contains special c) (escape-scalars cs (and-right _ (scalars cs) h))
+escape-scalars (c ∷ cs) h = by (contains syntax_characters c) (escape-scalars cs (and-right _ (scalars cs) h))
   where
     by : (b : Bool) → scalars (escape cs) ≡ true → scalars ((if b then 92 ∷ c ∷ [] else c ∷ []) ++ escape cs) ≡ true
     by true f = and_from _ _ refl (and_from _ _ (and-left _ (scalars cs) h) f)
@@ -87,4 +87,4 @@ escape-chars bytes h =
 
 pub escaped_bytes_are_read : EscapedBytesAreRead
 escaped_bytes_are_read flags bytes h =
-    subst (λ text. Parses flags text (row_of flags (chars bytes))) (sym (escape-chars bytes h)) (escaped_texts_are_read flags (chars bytes))
+    subst (λ text. Parses flags text (literal_tree flags (chars bytes))) (sym (escape-chars bytes h)) (escaped_texts_are_read flags (chars bytes))

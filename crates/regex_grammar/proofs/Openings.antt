@@ -2,12 +2,12 @@
 use Rattle.std.proofs.Common.{◌≡◌, ℕ, Bool, true, false, List, [], ◌∷◌, nat_eq, true≢false, refl, sym, ap, ap₂, subst, ◌∙◌, ◌↔◌}
 use Rattle.regex_meaning.specs.Tree.{Node, Lookaround, lookaround, capture_group}
 use Rattle.std.proofs.lemmas.Bool.{and_parts}
-use Rattle.regex_grammar.specs.Reading.{Text, Place, Whole, groups_at, ◌▸◌, at, opening, begins}
-use Rattle.regex_grammar.specs.Characters.{GroupName, group_name, begins_name}
-use Rattle.regex_grammar.specs.Grammar.{Disjunction, Term, Assertion, Atom, opener, assertion, atom, quantified, start, end, boundary, look, leaf}
+use Rattle.regex_grammar.specs.ReadingStatesAndDigits.{RemainingPattern, ParseState, PatternContext, groups_at, ◌▸◌, state_with_text_left, with_opened_group, begins_with_characters}
+use Rattle.regex_grammar.specs.EscapesNamesQuantifiers.{GroupName, group_name, is_identifier_start}
+use Rattle.regex_grammar.specs.Grammar.{Disjunction, Term, Assertion, Atom, lookaround_opener, assertion, atom, quantified, start, end, boundary, look, leaf}
 use Rattle.regex_grammar.specs.Grammar.{group, named_group, plain_group}
-use Rattle.regex_grammar.specs.Open.{Level, nothing_read, Open, Opened, captures, plain, looks, IsTerm, once, repeated, Closes, looked, captured}
-use Rattle.regex_grammar.specs.Open.{enclosed, CompletesAll}
+use Rattle.regex_grammar.specs.ParseStack.{PartialDisjunction, empty_disjunction, OpenGroup, OpenGroupKind, captures, plain, looks, IsTerm, once, repeated, ClosesGroup, looked, captured}
+use Rattle.regex_grammar.specs.ParseStack.{enclosed, CompletesAll}
 use Rattle.regex_grammar.proofs.OneTree.{ends_here, behind_word, places_differ, unlike, first, third, rest_of, leaf_begins, name_from, of_look}
 use Rattle.regex_grammar.proofs.OneTree.{look_word, meant}
 use Rattle.regex_grammar.proofs.Leaves.{one_name}
@@ -15,31 +15,31 @@ use Rattle.regex_grammar.proofs.Members.{leaf_apart}
 use Rattle.regex_grammar.proofs.Stack.{begin}
 use Rattle.regex_grammar.proofs.Parentheses.{next_term, pushed_all, unpushed_all, make_term}
 
-abbrev pub opens_here : Level → Opened → Place → Open
+abbrev pub opens_here : PartialDisjunction → OpenGroupKind → ParseState → OpenGroup
 opens_here l o p = record { outer = l; opened = o; start = groups_at p }
 
 -- Where a parenthesis opens, a level begins: it is enough that its contents make a term, and that each term is made of them.
-module _ (w : Whole) (gs : List Text) (l : Level) (around : List Open) (t : Node) {p inner : Place} (b : Bool) (o : Opened) (more : ends_here p.text ≡ false)
-    (make : (x r s : Place) (c n : Node) → Disjunction w b inner x c → x ≡ ")" ▸ r → Closes (opens_here l o p) c r s n → Term w l.behind p s n)
-    (found : (s : Place) (m : Node) → Term w l.behind p s m → (x y : Place) × (c : Node) × Disjunction w b inner x c × (x ≡ ")" ▸ y) × Closes (opens_here l o p) c y s m)
+module _ (w : PatternContext) (gs : List RemainingPattern) (l : PartialDisjunction) (around : List OpenGroup) (t : Node) {p inner : ParseState} (b : Bool) (o : OpenGroupKind) (more : ends_here p.text ≡ false)
+    (make : (x r s : ParseState) (c n : Node) → Disjunction w b inner x c → x ≡ ")" ▸ r → ClosesGroup (opens_here l o p) c r s n → Term w l.behind p s n)
+    (found : (s : ParseState) (m : Node) → Term w l.behind p s m → (x y : ParseState) × (c : Node) × Disjunction w b inner x c × (x ≡ ")" ▸ y) × ClosesGroup (opens_here l o p) c y s m)
   where
-    from : CompletesAll w gs (opens_here l o p ∷ around) (nothing_read b) inner t → CompletesAll w gs around l p t
+    from : CompletesAll w gs (opens_here l o p ∷ around) (empty_disjunction b) inner t → CompletesAll w gs around l p t
     from h = pushed_all w gs around l t (make h.0 h.1 h.2 h.3 h.4 ((begin w b inner h.0 h.3).1 h.5) h.6 h.7) h.8
 
-    to : CompletesAll w gs around l p t → CompletesAll w gs (opens_here l o p ∷ around) (nothing_read b) inner t
+    to : CompletesAll w gs around l p t → CompletesAll w gs (opens_here l o p ∷ around) (empty_disjunction b) inner t
     to h =
         let u = next_term w more gs around l t h in
         let f = found u.0 u.1 u.2 in
         (f.0, f.1, u.0, f.2, u.1, (begin w b inner f.0 f.2).0 f.3, f.4, f.5, unpushed_all w gs around l t u.2 h)
 
-    pub enter_by : CompletesAll w gs (opens_here l o p ∷ around) (nothing_read b) inner t ↔ CompletesAll w gs around l p t
+    pub enter_by : CompletesAll w gs (opens_here l o p ∷ around) (empty_disjunction b) inner t ↔ CompletesAll w gs around l p t
     enter_by = (from, to)
 
 -- where a parenthesis opens, an assertion is a lookaround; and where the third character is that of none that looks ahead, it looks behind
-abbrev IsBehind : Place → Type 0
-IsBehind p = (third p.text ≡ 60) × (sign : ℕ) × (begins_name sign ≡ false) × (rest : Text) × (rest_of (rest_of (rest_of p.text)) ≡ sign ∷ rest)
+abbrev IsBehind : ParseState → Type 0
+IsBehind p = (third p.text ≡ 60) × (sign : ℕ) × (is_identifier_start sign ≡ false) × (rest : RemainingPattern) × (rest_of (rest_of (rest_of p.text)) ≡ sign ∷ rest)
 
-looks_behind : {w : Whole} {p s : Place} {m : Node} → first p.text ≡ 40 → nat_eq (third p.text) 61 ≡ false → nat_eq (third p.text) 33 ≡ false → Assertion w p s m → IsBehind p
+looks_behind : {w : PatternContext} {p s : ParseState} {m : Node} → first p.text ≡ 40 → nat_eq (third p.text) 61 ≡ false → nat_eq (third p.text) 33 ≡ false → Assertion w p s m → IsBehind p
 looks_behind f g h (start e) = absurd (unlike 94 40 refl (sym (ap (λ x. first x.text) e) ∙ f))
 looks_behind f g h (end e) = absurd (unlike 36 40 refl (sym (ap (λ x. first x.text) e) ∙ f))
 looks_behind f g h (boundary false e) = absurd (unlike 92 40 refl (sym (ap (λ x. first x.text) e) ∙ f))
@@ -49,67 +49,67 @@ looks_behind {p = p} f g h (look true false e d k) = absurd (unlike (third p.tex
 looks_behind f g h (look false true e d k) = (ap (λ x. third x.text) e, 61, refl, _, ap (λ x. rest_of (rest_of (rest_of x.text))) e)
 looks_behind f g h (look true true e d k) = (ap (λ x. third x.text) e, 33, refl, _, ap (λ x. rest_of (rest_of (rest_of x.text))) e)
 
-is_plain : Opened → Bool
+is_plain : OpenGroupKind → Bool
 is_plain plain = true
 is_plain (captures id name) = false
 is_plain (looks x y z) = false
 
-no_question : {q rest : Text} → begins "?" q ≡ false → q ≡ 63 ∷ rest → ⊥
-no_question o e = true≢false (subst (λ x. begins "?" x ≡ false) e o)
+no_question : {q rest : RemainingPattern} → begins_with_characters "?" q ≡ false → q ≡ 63 ∷ rest → ⊥
+no_question o e = true≢false (subst (λ x. begins_with_characters "?" x ≡ false) e o)
 
 -- `(?:`
-module _ (w : Whole) (gs : List Text) (l : Level) (around : List Open) (t : Node) {p q : Place} (e : p ≡ "(?:" ▸ q) where
-  make : {x r s : Place} {c n : Node} → Disjunction w l.behind q x c → x ≡ ")" ▸ r → Closes (opens_here l plain p) c r s n → Term w l.behind p s n
+module _ (w : PatternContext) (gs : List RemainingPattern) (l : PartialDisjunction) (around : List OpenGroup) (t : Node) {p q : ParseState} (e : p ≡ "(?:" ▸ q) where
+  make : {x r s : ParseState} {c n : Node} → Disjunction w l.behind q x c → x ≡ ")" ▸ r → ClosesGroup (opens_here l plain p) c r s n → Term w l.behind p s n
   unfolding is_plain
   make d close (looked x y z f) = absurd (true≢false (ap is_plain f))
   make d close (captured f k) = absurd (true≢false (ap is_plain f))
   make d close (enclosed f k) = make_term (plain_group e d close) k
 
-  abbrev Found : (s : Place) → Node → Type 0
-  Found s m = (x y : Place) × (c : Node) × Disjunction w l.behind q x c × (x ≡ ")" ▸ y) × Closes (opens_here l plain p) c y s m
+  abbrev Found : (s : ParseState) → Node → Type 0
+  Found s m = (x y : ParseState) × (c : Node) × Disjunction w l.behind q x c × (x ≡ ")" ▸ y) × ClosesGroup (opens_here l plain p) c y s m
 
-  in_atom : {s x : Place} {n m : Node} → Atom w l.behind p x n → IsTerm (groups_at p) n x s m → Found s m
+  in_atom : {s x : ParseState} {n m : Node} → Atom w l.behind p x n → IsTerm (groups_at p) n x s m → Found s m
   in_atom (leaf a) k = absurd (true≢false (sym (leaf_apart w _ _ _ a) ∙ ap (λ x. leaf_begins x.text) e))
   in_atom (group f g d close) k = absurd (no_question g (ap (λ x. rest_of x.text) (sym f ∙ e)))
   in_atom (named_group f g d close) k = absurd (places_differ third e f refl)
   in_atom (plain_group {r = x} {s = y} {n = c} f d close) k = (x, y, c, subst (λ a. Disjunction w l.behind a x c) (behind_word "(?:" f e) d, close, enclosed refl k)
 
-  found : {s : Place} {m : Node} → Term w l.behind p s m → Found s m
+  found : {s : ParseState} {m : Node} → Term w l.behind p s m → Found s m
   found (assertion a) =
       let b = looks_behind (ap (λ x. first x.text) e) (subst (λ x. nat_eq (third x.text) 61 ≡ false) (sym e) refl) (subst (λ x. nat_eq (third x.text) 33 ≡ false) (sym e) refl) a in
       absurd (unlike 58 60 refl (sym (ap (λ x. third x.text) e) ∙ b.0))
   found (atom a k) = in_atom a (once k)
   found (quantified a k) = in_atom a (repeated k)
 
-  pub enter_plain : CompletesAll w gs (opens_here l plain p ∷ around) (nothing_read l.behind) q t ↔ CompletesAll w gs around l p t
+  pub enter_plain : CompletesAll w gs (opens_here l plain p ∷ around) (empty_disjunction l.behind) q t ↔ CompletesAll w gs around l p t
   enter_plain = enter_by w gs l around t l.behind plain (ap (λ x. ends_here x.text) e) (λ x r s c n. make) (λ s m. found)
 
 -- no name begins with what a lookbehind has there
-no_sign : {here there name rest : Text} (c : ℕ) → begins_name c ≡ false → GroupName here there name → here ≡ c ∷ rest → ⊥
+no_sign : {here there name rest : RemainingPattern} (c : ℕ) → is_identifier_start c ≡ false → GroupName here there name → here ≡ c ∷ rest → ⊥
 no_sign c f (group_name {name = []} e g) h = true≢false (sym g)
-no_sign c f (group_name {name = d ∷ ds} e g) h = true≢false (sym (and_parts (begins_name d) _ g).0 ∙ ap begins_name (ap first (sym e ∙ h)) ∙ f)
+no_sign c f (group_name {name = d ∷ ds} e g) h = true≢false (sym (and_parts (is_identifier_start d) _ g).0 ∙ ap is_identifier_start (ap first (sym e ∙ h)) ∙ f)
 
-id_of : Opened → ℕ
+id_of : OpenGroupKind → ℕ
 id_of (captures id name) = id
 id_of plain = 0
 id_of (looks x y z) = 0
 
-name_of : Opened → Text
+name_of : OpenGroupKind → RemainingPattern
 name_of (captures id name) = name
 name_of plain = []
 name_of (looks x y z) = []
 
-is_capture : Opened → Bool
+is_capture : OpenGroupKind → Bool
 is_capture (captures id name) = true
 is_capture plain = false
 is_capture (looks x y z) = false
 
 -- `(?<name>`
-module _ (w : Whole) (gs : List Text) (l : Level) (around : List Open) (t : Node) {p q : Place} {after name : Text} (e : p ≡ "(?<" ▸ q) (is : GroupName q.text after name) where
-  abbrev pub this : Opened
+module _ (w : PatternContext) (gs : List RemainingPattern) (l : PartialDisjunction) (around : List OpenGroup) (t : Node) {p q : ParseState} {after name : RemainingPattern} (e : p ≡ "(?<" ▸ q) (is : GroupName q.text after name) where
+  abbrev pub this : OpenGroupKind
   this = captures (groups_at p) name
 
-  make_named : {x r s : Place} {c n : Node} → Disjunction w l.behind (opening name (at after q)) x c → x ≡ ")" ▸ r → Closes (opens_here l this p) c r s n → Term w l.behind p s n
+  make_named : {x r s : ParseState} {c n : Node} → Disjunction w l.behind (with_opened_group name (state_with_text_left after q)) x c → x ≡ ")" ▸ r → ClosesGroup (opens_here l this p) c r s n → Term w l.behind p s n
   unfolding is_capture id_of name_of
   make_named d close (looked x y z f) = absurd (true≢false (ap is_capture f))
   make_named d close (enclosed f k) = absurd (true≢false (ap is_capture f))
@@ -117,17 +117,17 @@ module _ (w : Whole) (gs : List Text) (l : Level) (around : List Open) (t : Node
       let same : capture_group i x c ≡ capture_group (groups_at p) name c = ap₂ (λ a b. capture_group a b c) (sym (ap id_of f)) (sym (ap name_of f)) in
       make_term (named_group e is d close) (subst (λ a. IsTerm (groups_at p) a r s n) same k)
 
-  abbrev Found_named : (s : Place) → Node → Type 0
-  Found_named s m = (x y : Place) × (c : Node) × Disjunction w l.behind (opening name (at after q)) x c × (x ≡ ")" ▸ y) × Closes (opens_here l this p) c y s m
+  abbrev Found_named : (s : ParseState) → Node → Type 0
+  Found_named s m = (x y : ParseState) × (c : Node) × Disjunction w l.behind (with_opened_group name (state_with_text_left after q)) x c × (x ≡ ")" ▸ y) × ClosesGroup (opens_here l this p) c y s m
 
-  in_named : {s x : Place} {n m : Node} → Atom w l.behind p x n → IsTerm (groups_at p) n x s m → Found_named s m
+  in_named : {s x : ParseState} {n m : Node} → Atom w l.behind p x n → IsTerm (groups_at p) n x s m → Found_named s m
   in_named (leaf a) k = absurd (true≢false (sym (leaf_apart w _ _ _ a) ∙ ap (λ x. leaf_begins x.text) e))
   in_named (group f g d close) k = absurd (no_question g (ap (λ x. rest_of x.text) (sym f ∙ e)))
   in_named (plain_group f d close) k = absurd (places_differ third e f refl)
   in_named {s} {m = m} (named_group {q = q'} {r = x} {s = y} {there = there} {name = other} {n = c} f g d close) k =
       let here : q ≡ q' = behind_word "(?<" e f in
       let same = one_name q.text after there name other is (name_from here g) in
-      let inside : opening other (at there q') ≡ opening name (at after q) = rw (here, same.0, same.1) refl in (
+      let inside : with_opened_group other (state_with_text_left there q') ≡ with_opened_group name (state_with_text_left after q) = rw (here, same.0, same.1) refl in (
         x,
         y,
         c,
@@ -136,28 +136,28 @@ module _ (w : Whole) (gs : List Text) (l : Level) (around : List Open) (t : Node
         captured refl (subst (λ a. IsTerm (groups_at p) (capture_group (groups_at p) a c) y s m) (sym same.1) k),
       )
 
-  found_named : {s : Place} {m : Node} → Term w l.behind p s m → Found_named s m
+  found_named : {s : ParseState} {m : Node} → Term w l.behind p s m → Found_named s m
   found_named (assertion a) =
       let b = looks_behind (ap (λ x. first x.text) e) (subst (λ x. nat_eq (third x.text) 61 ≡ false) (sym e) refl) (subst (λ x. nat_eq (third x.text) 33 ≡ false) (sym e) refl) a in
       absurd (no_sign b.1 b.2 is (sym (ap (λ x. rest_of (rest_of (rest_of x.text))) e) ∙ b.4))
   found_named (atom a k) = in_named a (once k)
   found_named (quantified a k) = in_named a (repeated k)
 
-  pub enter_named : CompletesAll w gs (opens_here l this p ∷ around) (nothing_read l.behind) (opening name (at after q)) t ↔ CompletesAll w gs around l p t
+  pub enter_named : CompletesAll w gs (opens_here l this p ∷ around) (empty_disjunction l.behind) (with_opened_group name (state_with_text_left after q)) t ↔ CompletesAll w gs around l p t
   enter_named = enter_by w gs l around t l.behind this (ap (λ x. ends_here x.text) e) (λ x r s c n. make_named) (λ s m. found_named)
 
 -- lookarounds
-look_of : Place → Opened → Lookaround
+look_of : ParseState → OpenGroupKind → Lookaround
 look_of r (looks n b s) = record { negate = n; backwards = b; start_group = s; end_group = groups_at r }
 look_of r plain = record { negate = false; backwards = false; start_group = 0; end_group = 0 }
 look_of r (captures id name) = record { negate = false; backwards = false; start_group = 0; end_group = 0 }
 
-is_look : Opened → Bool
+is_look : OpenGroupKind → Bool
 is_look (looks x y z) = true
 is_look plain = false
 is_look (captures id name) = false
 
-no_other : (negate backwards : Bool) (q : Place) {p x : Place} {w : Whole} {behind : Bool} {n : Node} → p ≡ opener negate backwards ▸ q → Atom w behind p x n → ⊥
+no_other : (negate backwards : Bool) (q : ParseState) {p x : ParseState} {w : PatternContext} {behind : Bool} {n : Node} → p ≡ lookaround_opener negate backwards ▸ q → Atom w behind p x n → ⊥
 no_other false false q {w = w} e (leaf a) = true≢false (sym (leaf_apart w _ _ _ a) ∙ ap (λ x. leaf_begins x.text) e)
 no_other false false q e (group f g d close) = no_question g (ap (λ x. rest_of x.text) (sym f ∙ e))
 no_other false false q e (plain_group f d close) = places_differ third e f refl
@@ -175,35 +175,35 @@ no_other true true q e (group f g d close) = no_question g (ap (λ x. rest_of x.
 no_other true true q e (plain_group f d close) = places_differ third e f refl
 no_other true true q e (named_group f g d close) = no_sign 33 refl g (ap (λ x. rest_of (rest_of (rest_of x.text))) (sym f ∙ e))
 
-abbrev pub LookFound : (w : Whole) (l : Level) (negate backwards : Bool) (p q s : Place) → Node → Type 0
+abbrev pub LookFound : (w : PatternContext) (l : PartialDisjunction) (negate backwards : Bool) (p q s : ParseState) → Node → Type 0
 LookFound w l negate backwards p q s m =
-    (x y : Place) × (c : Node) × Disjunction w backwards q x c × (x ≡ ")" ▸ y) × Closes (opens_here l (looks negate backwards (groups_at p)) p) c y s m
+    (x y : ParseState) × (c : Node) × Disjunction w backwards q x c × (x ≡ ")" ▸ y) × ClosesGroup (opens_here l (looks negate backwards (groups_at p)) p) c y s m
 
-look_found : (w : Whole) (l : Level) (negate backwards : Bool) {p q s : Place} {m : Node} → p ≡ opener negate backwards ▸ q → Term w l.behind p s m → LookFound w l negate backwards p q s m
+look_found : (w : PatternContext) (l : PartialDisjunction) (negate backwards : Bool) {p q s : ParseState} {m : Node} → p ≡ lookaround_opener negate backwards ▸ q → Term w l.behind p s m → LookFound w l negate backwards p q s m
 look_found w l negate backwards {p = p} {s = s} e (assertion a) =
     let m = meant (of_look negate backwards) (look_word negate backwards _ e) a in (
       m.1,
       s,
       m.2,
-      subst (λ x. Disjunction w backwards x m.1 m.2) (behind_word (opener negate backwards) m.3 e) m.4,
+      subst (λ x. Disjunction w backwards x m.1 m.2) (behind_word (lookaround_opener negate backwards) m.3 e) m.4,
       m.5,
-      subst (λ n. Closes (opens_here l (looks negate backwards (groups_at p)) p) m.2 s s n) (sym m.6) (looked negate backwards (groups_at p) refl),
+      subst (λ n. ClosesGroup (opens_here l (looks negate backwards (groups_at p)) p) m.2 s s n) (sym m.6) (looked negate backwards (groups_at p) refl),
     )
 look_found w l negate backwards e (atom a k) = absurd (no_other negate backwards _ e a)
 look_found w l negate backwards e (quantified a k) = absurd (no_other negate backwards _ e a)
 
-opener_goes_on : (negate backwards : Bool) (q : Place) {p : Place} → p ≡ opener negate backwards ▸ q → ends_here p.text ≡ false
+opener_goes_on : (negate backwards : Bool) (q : ParseState) {p : ParseState} → p ≡ lookaround_opener negate backwards ▸ q → ends_here p.text ≡ false
 opener_goes_on false false q e = ap (λ x. ends_here x.text) e
 opener_goes_on true false q e = ap (λ x. ends_here x.text) e
 opener_goes_on false true q e = ap (λ x. ends_here x.text) e
 opener_goes_on true true q e = ap (λ x. ends_here x.text) e
 
-module _ (w : Whole) (gs : List Text) (l : Level) (around : List Open) (t : Node) (negate backwards : Bool) {p q : Place} (e : p ≡ opener negate backwards ▸ q) where
-  make_look : {x r s : Place} {c n : Node} → Disjunction w backwards q x c → x ≡ ")" ▸ r → Closes (opens_here l (looks negate backwards (groups_at p)) p) c r s n → Term w l.behind p s n
+module _ (w : PatternContext) (gs : List RemainingPattern) (l : PartialDisjunction) (around : List OpenGroup) (t : Node) (negate backwards : Bool) {p q : ParseState} (e : p ≡ lookaround_opener negate backwards ▸ q) where
+  make_look : {x r s : ParseState} {c n : Node} → Disjunction w backwards q x c → x ≡ ")" ▸ r → ClosesGroup (opens_here l (looks negate backwards (groups_at p)) p) c r s n → Term w l.behind p s n
   unfolding is_look look_of
   make_look d close (captured f k) = absurd (true≢false (ap is_look f))
   make_look d close (enclosed f k) = absurd (true≢false (ap is_look f))
   make_look {r = r} {c = c} d close (looked x y z f) = subst (λ n. Term w l.behind p r n) (ap (λ u. lookaround (look_of r u) c) f) (assertion (look negate backwards e d close))
 
-  pub enter_look : CompletesAll w gs (opens_here l (looks negate backwards (groups_at p)) p ∷ around) (nothing_read backwards) q t ↔ CompletesAll w gs around l p t
+  pub enter_look : CompletesAll w gs (opens_here l (looks negate backwards (groups_at p)) p ∷ around) (empty_disjunction backwards) q t ↔ CompletesAll w gs around l p t
   enter_look = enter_by w gs l around t backwards (looks negate backwards (groups_at p)) (opener_goes_on negate backwards q e) (λ x r s c n. make_look) (λ s m. look_found w l negate backwards e)

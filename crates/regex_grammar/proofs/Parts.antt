@@ -4,34 +4,34 @@ use Rattle.std.proofs.Common.{refl, ap, ◌∙◌, arith, inl, inr, length-appen
 use Rattle.std.specs.Prelude.{if◌then◌else◌, IsTrue, nat_eq, nat_le, ◌==◌}
 use Rattle.std.proofs.lemmas.Bool.{cases_lt, cases_eq, lt-ltb, le-ltb, lt-leb, le-leb, leb-true, eq-eqb, ne_eqb, and_parts, and_from}
 use Rattle.std.proofs.lemmas.List.Sums.{sum_by-append}
-use Rattle.regex_meaning.specs.Lists.{contains, numbers_from}
-use Rattle.regex_meaning.specs.Tree.{Node, group_ids, every, empty, goal, char, char_set, byte_set, byte_sequence, cat, end_of_cat, alt, bracket}
+use Rattle.regex_meaning.specs.NumberListHelpers.{contains, numbers_from}
+use Rattle.regex_meaning.specs.Tree.{Node, group_ids, every_node_passes, empty, goal, char, char_set, byte_set, byte_sequence, cat, end_of_cat, alt, bracket}
 use Rattle.regex_meaning.specs.Tree.{string_set, match_any, match_any_except_line_terminator, anchor, word_boundary, capture_group, back_ref}
 use Rattle.regex_meaning.specs.Tree.{lookaround, loop, loop_1_char_body, Quantifier}
-use Rattle.regex_meaning.specs.WellFormed.{goal_count, encloses, is_in_order, names_the_groups_inside, refers_to_a_group, has_order_in_quantifier}
-use Rattle.regex_meaning.specs.WellFormed.{has_one_character_body, has_text_in_sequence, fits_instructions, is_well_formed}
-use Rattle.regex_meaning.specs.Layout.{reads_bytes}
+use Rattle.regex_meaning.specs.WellFormedTrees.{number_of_goals, encloses, is_in_order, names_the_groups_inside, refers_to_a_group, has_order_in_quantifier}
+use Rattle.regex_meaning.specs.WellFormedTrees.{has_one_character_body, has_text_in_sequence, fits_instructions, is_well_formed}
+use Rattle.regex_meaning.specs.CompilationRelation.{reads_bytes}
 use Rattle.regex_meaning.proofs.WellFormedLemmas.{by_clauses}
 use Rattle.regex_meaning.proofs.Booleans.{and-left, and-right}
 use Rattle.regex_meaning.proofs.Lists.{list_all-members}
-use Rattle.regex_grammar.specs.Parts.{is_of_pattern, is_sound, times, once_within, IsPart, IsLeaf}
-use Rattle.regex_grammar.specs.Loops.{is_plain, has_plain_loops}
+use Rattle.regex_grammar.specs.SubtreeInvariants.{is_of_pattern, is_sound, occurrences_of_id, once_within, IsSoundSubtree, IsSoundLeaf}
+use Rattle.regex_grammar.specs.TreesWithoutCharLoops.{is_not_char_loop, has_no_char_loops}
 
 -- ---- Tests
 
 -- a test that follows from another
 module _ (test other : Node → Bool) (weaker : (n : Node) → test n ≡ true → other n ≡ true) where
-  pub every-weaker : (n : Node) → every test n ≡ true → every other n ≡ true
+  pub every-weaker : (n : Node) → every_node_passes test n ≡ true → every_node_passes other n ≡ true
   every-weaker (cat first rest) h =
-      and_from _ _ (and_from _ _ (weaker _ (and-left (test (cat first rest)) _ (and-left _ (every test rest) h))) (every-weaker first (and-right (test (cat first rest)) _ (and-left _ (every test rest) h))))
-      (every-weaker rest (and-right _ (every test rest) h))
+      and_from _ _ (and_from _ _ (weaker _ (and-left (test (cat first rest)) _ (and-left _ (every_node_passes test rest) h))) (every-weaker first (and-right (test (cat first rest)) _ (and-left _ (every_node_passes test rest) h))))
+      (every-weaker rest (and-right _ (every_node_passes test rest) h))
   every-weaker (alt first rest) h =
-      and_from _ _ (and_from _ _ (weaker _ (and-left (test (alt first rest)) _ (and-left _ (every test rest) h))) (every-weaker first (and-right (test (alt first rest)) _ (and-left _ (every test rest) h))))
-      (every-weaker rest (and-right _ (every test rest) h))
-  every-weaker (capture_group id name contents) h = and_from _ _ (weaker _ (and-left _ (every test contents) h)) (every-weaker contents (and-right _ (every test contents) h))
-  every-weaker (lookaround l contents) h = and_from _ _ (weaker _ (and-left _ (every test contents) h)) (every-weaker contents (and-right _ (every test contents) h))
-  every-weaker (loop q s e loopee) h = and_from _ _ (weaker _ (and-left _ (every test loopee) h)) (every-weaker loopee (and-right _ (every test loopee) h))
-  every-weaker (loop_1_char_body q loopee) h = and_from _ _ (weaker _ (and-left _ (every test loopee) h)) (every-weaker loopee (and-right _ (every test loopee) h))
+      and_from _ _ (and_from _ _ (weaker _ (and-left (test (alt first rest)) _ (and-left _ (every_node_passes test rest) h))) (every-weaker first (and-right (test (alt first rest)) _ (and-left _ (every_node_passes test rest) h))))
+      (every-weaker rest (and-right _ (every_node_passes test rest) h))
+  every-weaker (capture_group id name contents) h = and_from _ _ (weaker _ (and-left _ (every_node_passes test contents) h)) (every-weaker contents (and-right _ (every_node_passes test contents) h))
+  every-weaker (lookaround l contents) h = and_from _ _ (weaker _ (and-left _ (every_node_passes test contents) h)) (every-weaker contents (and-right _ (every_node_passes test contents) h))
+  every-weaker (loop q s e loopee) h = and_from _ _ (weaker _ (and-left _ (every_node_passes test loopee) h)) (every-weaker loopee (and-right _ (every_node_passes test loopee) h))
+  every-weaker (loop_1_char_body q loopee) h = and_from _ _ (weaker _ (and-left _ (every_node_passes test loopee) h)) (every-weaker loopee (and-right _ (every_node_passes test loopee) h))
   every-weaker empty h = weaker _ h
   every-weaker goal h = weaker _ h
   every-weaker (char c) h = weaker _ h
@@ -85,7 +85,7 @@ sound-more greatest more n h k =
     let s = Sound-from greatest n k in
     sound-from more n (record { names = s.names; refers = refers-more greatest more n h s.refers; order = s.order; body = s.body; characters = s.characters; fits = s.fits })
 
-pub every-more : (greatest more : ℕ) (n : Node) → greatest ≤ more → every (is_sound greatest) n ≡ true → every (is_sound more) n ≡ true
+pub every-more : (greatest more : ℕ) (n : Node) → greatest ≤ more → every_node_passes (is_sound greatest) n ≡ true → every_node_passes (is_sound more) n ≡ true
 every-more greatest more n h k = every-weaker (is_sound greatest) (is_sound more) (λ m. sound-more greatest more m h) n k
 
 -- ---- Ids
@@ -132,7 +132,7 @@ count_by-append p xs ys = sum_by-append (λ y. if p y then 1 else 0) xs ys
 
 -- ---- Leaves
 
-pub part-leaf : (first greatest : ℕ) (n : Node) → IsLeaf greatest n → IsPart first first greatest n
+pub part-leaf : (first greatest : ℕ) (n : Node) → IsSoundLeaf greatest n → IsSoundSubtree first first greatest n
 part-leaf first greatest n l = record {
   goals = l.goals;
   count = rw l.ids (omega arith);
@@ -144,12 +144,12 @@ part-leaf first greatest n l = record {
 
 -- a node that has what two nodes have together
 pub record IsJoined (n x y : Node) : Type 0 where
-  pub goals : goal_count n ≡ goal_count x + goal_count y
+  pub goals : number_of_goals n ≡ number_of_goals x + number_of_goals y
   pub count : length (group_ids n) ≡ length (group_ids x) + length (group_ids y)
-  pub ids : (id : ℕ) → times id n ≡ times id x + times id y
-  pub sound : (greatest : ℕ) → IsTrue (every (is_sound greatest) x) → IsTrue (every (is_sound greatest) y) → IsTrue (every (is_sound greatest) n)
+  pub ids : (id : ℕ) → occurrences_of_id id n ≡ occurrences_of_id id x + occurrences_of_id id y
+  pub sound : (greatest : ℕ) → IsTrue (every_node_passes (is_sound greatest) x) → IsTrue (every_node_passes (is_sound greatest) y) → IsTrue (every_node_passes (is_sound greatest) n)
 
-pub part-joined : (first middle end greatest : ℕ) (n x y : Node) → IsJoined n x y → IsPart first middle greatest x → IsPart middle end greatest y → IsPart first end greatest n
+pub part-joined : (first middle end greatest : ℕ) (n x y : Node) → IsJoined n x y → IsSoundSubtree first middle greatest x → IsSoundSubtree middle end greatest y → IsSoundSubtree first end greatest n
 part-joined first middle end greatest n x y j p q = record {
   goals = j.goals ∙ omega (arith, p.goals, q.goals);
   count = rw j.count (omega (arith, p.count, q.count));
@@ -160,8 +160,8 @@ part-joined first middle end greatest n x y j p q = record {
   sound = j.sound greatest p.sound q.sound;
 }
 
-joined-by : (n x y : Node) → goal_count n ≡ goal_count x + goal_count y → group_ids n ≡ group_ids x ++ group_ids y
-    → ((greatest : ℕ) → IsTrue (every (is_sound greatest) x) → IsTrue (every (is_sound greatest) y) → IsTrue (every (is_sound greatest) n))
+joined-by : (n x y : Node) → number_of_goals n ≡ number_of_goals x + number_of_goals y → group_ids n ≡ group_ids x ++ group_ids y
+    → ((greatest : ℕ) → IsTrue (every_node_passes (is_sound greatest) x) → IsTrue (every_node_passes (is_sound greatest) y) → IsTrue (every_node_passes (is_sound greatest) n))
     → IsJoined n x y
 joined-by n x y goals ids sound = record {
   goals = goals;
@@ -178,7 +178,7 @@ joined-alt x y = joined-by (alt x y) x y (omega arith) refl (λ greatest h k. an
 
 -- ---- Nodes round parts
 
-pub part-group : (first end greatest : ℕ) (name : List ℕ) (n : Node) → IsPart (first + 1) end greatest n → IsPart first end greatest (capture_group first name n)
+pub part-group : (first end greatest : ℕ) (name : List ℕ) (n : Node) → IsSoundSubtree (first + 1) end greatest n → IsSoundSubtree first end greatest (capture_group first name n)
 part-group first end greatest name n p = record {
   goals = omega (arith, p.goals);
   count = let g = p.count in omega arith;
@@ -234,7 +234,7 @@ inside-once first end id h =
           ]
     ]
 
-part-encloses : (first end greatest : ℕ) (n : Node) → IsPart first end greatest n → encloses first end n ≡ true
+part-encloses : (first end greatest : ℕ) (n : Node) → IsSoundSubtree first end greatest n → encloses first end n ≡ true
 part-encloses first end greatest n p =
     let length_is : first + (end - first) ≡ end = omega (arith, p.count) in
     and_from _ _ (and_from _ _ (le-leb first end (omega (arith, p.count)))
@@ -247,8 +247,8 @@ part-encloses first end greatest n p =
     let o = once-inside first end id r.0 (omega arith) in
     contains-counted (group_ids n) id (rw (p.ids id, o) (omega arith))))
 
-pub part-lookaround : (first end greatest : ℕ) (negate backwards : Bool) (n : Node) → IsPart first end greatest n
-    → IsPart first end greatest (lookaround (record { negate = negate; backwards = backwards; start_group = first; end_group = end }) n)
+pub part-lookaround : (first end greatest : ℕ) (negate backwards : Bool) (n : Node) → IsSoundSubtree first end greatest n
+    → IsSoundSubtree first end greatest (lookaround (record { negate = negate; backwards = backwards; start_group = first; end_group = end }) n)
 part-lookaround first end greatest negate backwards n p = record {
   goals = omega (arith, p.goals);
   count = p.count;
@@ -256,8 +256,8 @@ part-lookaround first end greatest negate backwards n p = record {
   sound = and_from _ _ (sound-from greatest (lookaround (record { negate = negate; backwards = backwards; start_group = first; end_group = end }) n) (record { names = part-encloses first end greatest n p; refers = refl; order = refl; body = refl; characters = refl; fits = refl })) p.sound;
 }
 
-pub part-loop : (first end greatest : ℕ) (q : Quantifier) (n : Node) → is_in_order q ≡ true → IsPart first end greatest n
-    → IsPart first end greatest (loop q first end n)
+pub part-loop : (first end greatest : ℕ) (q : Quantifier) (n : Node) → is_in_order q ≡ true → IsSoundSubtree first end greatest n
+    → IsSoundSubtree first end greatest (loop q first end n)
 part-loop first end greatest q n order p = record {
   goals = omega (arith, p.goals);
   count = p.count;
@@ -274,11 +274,11 @@ text-from _ h = refl
 neither : (a b : Bool) → a ≡ false → b ≡ false → (a || b) ≡ false
 neither a b h k = rw (h, k) refl
 
-reads-none : (n : Node) → every is_of_pattern n ≡ true → reads_bytes n ≡ false
+reads-none : (n : Node) → every_node_passes is_of_pattern n ≡ true → reads_bytes n ≡ false
 reads-none (byte_set members) h = grind arith
 reads-none (byte_sequence bytes) h = grind arith
-reads-none (cat first rest) h = neither _ _ (reads-none first (and-left _ (every is_of_pattern rest) h)) (reads-none rest (and-right (every is_of_pattern first) _ h))
-reads-none (alt first rest) h = neither _ _ (reads-none first (and-left _ (every is_of_pattern rest) h)) (reads-none rest (and-right (every is_of_pattern first) _ h))
+reads-none (cat first rest) h = neither _ _ (reads-none first (and-left _ (every_node_passes is_of_pattern rest) h)) (reads-none rest (and-right (every_node_passes is_of_pattern first) _ h))
+reads-none (alt first rest) h = neither _ _ (reads-none first (and-left _ (every_node_passes is_of_pattern rest) h)) (reads-none rest (and-right (every_node_passes is_of_pattern first) _ h))
 reads-none (capture_group id name contents) h = reads-none contents h
 reads-none (lookaround l contents) h = reads-none contents h
 reads-none (loop q s e loopee) h = reads-none loopee h
@@ -287,25 +287,25 @@ reads-none _ h = refl
 
 -- ---- The whole pattern
 
-whole-goals : (n : Node) → goal_count n ≡ 0 → (goal_count (cat n (cat goal end_of_cat)) == 1) ≡ true
+whole-goals : (n : Node) → number_of_goals n ≡ 0 → (number_of_goals (cat n (cat goal end_of_cat)) == 1) ≡ true
 whole-goals n h = rw h
 
 whole-every : (greatest : ℕ) (n : Node) (test : Node → Bool) → ((m : Node) → is_sound greatest m ≡ true → test m ≡ true)
-    → every (is_sound greatest) n ≡ true → every test (cat n (cat goal end_of_cat)) ≡ true
+    → every_node_passes (is_sound greatest) n ≡ true → every_node_passes test (cat n (cat goal end_of_cat)) ≡ true
 whole-every greatest n test weaker h =
     every-weaker (is_sound greatest) test weaker (cat n (cat goal end_of_cat)) (and_from _ _ (and_from _ _ refl h) refl)
 
-pub whole-reads_none : (greatest : ℕ) (n : Node) → every (is_sound greatest) n ≡ true → reads_bytes (cat n (cat goal end_of_cat)) ≡ false
+pub whole-reads_none : (greatest : ℕ) (n : Node) → every_node_passes (is_sound greatest) n ≡ true → reads_bytes (cat n (cat goal end_of_cat)) ≡ false
 whole-reads_none greatest n h = reads-none (cat n (cat goal end_of_cat)) (whole-every greatest n is_of_pattern (λ m k. (Sound-from greatest m k).characters) h)
 
-plain-node : (n : Node) → is_of_pattern n ≡ true → is_plain n ≡ true
+plain-node : (n : Node) → is_of_pattern n ≡ true → is_not_char_loop n ≡ true
 plain-node (loop_1_char_body q loopee) h = h
 plain-node _ h = refl
 
-pub whole-plain : (greatest : ℕ) (n : Node) → every (is_sound greatest) n ≡ true → IsTrue (has_plain_loops (cat n (cat goal end_of_cat)))
-whole-plain greatest n h = whole-every greatest n is_plain (λ m k. plain-node m (Sound-from greatest m k).characters) h
+pub whole-plain : (greatest : ℕ) (n : Node) → every_node_passes (is_sound greatest) n ≡ true → IsTrue (has_no_char_loops (cat n (cat goal end_of_cat)))
+whole-plain greatest n h = whole-every greatest n is_not_char_loop (λ m k. plain-node m (Sound-from greatest m k).characters) h
 
-pub whole : (groups greatest : ℕ) (n : Node) → greatest ≤ groups → IsPart 0 groups greatest n → IsTrue (is_well_formed (cat n (cat goal end_of_cat)))
+pub whole : (groups greatest : ℕ) (n : Node) → greatest ≤ groups → IsSoundSubtree 0 groups greatest n → IsTrue (is_well_formed (cat n (cat goal end_of_cat)))
 whole groups greatest n within p =
     let ids_are : group_ids (cat n (cat goal end_of_cat)) ≡ group_ids n = append-nil (group_ids n) in
     let count_is : length (group_ids n) ≡ groups = omega (arith, p.count) in

@@ -1,39 +1,39 @@
 -- A reader with a stack, from the beginning of the pattern to its end.
 use Rattle.std.proofs.Common.{◌≡◌, ◌≤◌, Bool, true, false, List, [], ◌∷◌, ◌++◌, length, true≢false, refl, sym, ap, subst, ◌∙◌, append-nil, ◌↔◌}
 use Rattle.regex_meaning.specs.Tree.{Node, Tree, Flags, goal, cat, end_of_cat}
-use Rattle.regex_grammar.specs.Reading.{Text, Place, Whole, ◌▸◌, arm}
+use Rattle.regex_grammar.specs.ReadingStatesAndDigits.{RemainingPattern, ParseState, PatternContext, ◌▸◌, arm}
 use Rattle.regex_grammar.specs.Grammar.{Alternative, Parses, pattern_is, AreDistinct, no_terms, terms}
-use Rattle.regex_grammar.specs.Open.{Level, nothing_read, end_arm, join, Completes, last_arm, further_arms, Open, CompletesAll}
+use Rattle.regex_grammar.specs.ParseStack.{PartialDisjunction, empty_disjunction, end_alternative, join, Completes, last_arm, further_arms, OpenGroup, CompletesAll}
 use Rattle.regex_grammar.proofs.OneTree.{closes, no_close}
 use Rattle.regex_grammar.proofs.Stack.{begin, no_term, barred, unbarred}
 
-abbrev pub whole : Flags → List Text → Whole
+abbrev pub whole : Flags → List RemainingPattern → PatternContext
 whole flags groups = record { flags = flags; groups = groups }
 
 -- at the beginning
-pub begin_all : (flags : Flags) (pattern : Text) (t : Tree)
-    → Parses flags pattern t ↔ ((groups : List Text) × (n : Node) × CompletesAll (whole flags groups) groups [] (nothing_read false) (record { text = pattern; opened = [] }) n
+pub begin_all : (flags : Flags) (pattern : RemainingPattern) (t : Tree)
+    → Parses flags pattern t ↔ ((groups : List RemainingPattern) × (n : Node) × CompletesAll (whole flags groups) groups [] (empty_disjunction false) (record { text = pattern; opened = [] }) n
     × AreDistinct groups × (length groups ≤ 65535) × (t ≡ record { root = cat n (cat goal end_of_cat); flags = flags }))
 begin_all flags pattern t = (to, λ h. subst (Parses flags pattern) (sym h.5) (pattern_is h.0 ((begin (whole flags h.0) false _ _ h.1).1 h.2) h.3 h.4))
   where
     to : {t : Tree} → Parses flags pattern t
-        → (groups : List Text) × (n : Node) × CompletesAll (whole flags groups) groups [] (nothing_read false) (record { text = pattern; opened = [] }) n
+        → (groups : List RemainingPattern) × (n : Node) × CompletesAll (whole flags groups) groups [] (empty_disjunction false) (record { text = pattern; opened = [] }) n
         × AreDistinct groups × (length groups ≤ 65535) × (t ≡ record { root = cat n (cat goal end_of_cat); flags = flags })
     to (pattern_is {n = n} groups d distinct few) = (groups, n, (begin (whole flags groups) false _ _ n).0 d, distinct, few, refl)
 
 -- behind a bar
-pub bar_all : (w : Whole) (gs : List Text) (around : List Open) (l : Level) (t : Node) {p r : Place} → p ≡ "|" ▸ r → CompletesAll w gs around (end_arm l) r t ↔ CompletesAll w gs around l p t
+pub bar_all : (w : PatternContext) (gs : List RemainingPattern) (around : List OpenGroup) (l : PartialDisjunction) (t : Node) {p r : ParseState} → p ≡ "|" ▸ r → CompletesAll w gs around (end_alternative l) r t ↔ CompletesAll w gs around l p t
 bar_all w gs [] l t bar = (λ h. barred w l bar h, λ h. unbarred w l bar refl h)
 bar_all w gs (o ∷ around) l t bar =
     (λ h. (h.0, h.1, h.2, h.3, h.4, barred w l bar h.5, h.6, h.7, h.8), λ h. (h.0, h.1, h.2, h.3, h.4, unbarred w l bar (closes h.6) h.5, h.6, h.7, h.8))
 
-abbrev is_empty : Text → Bool
+abbrev is_empty : RemainingPattern → Bool
 is_empty [] = true
 is_empty (c ∷ cs) = false
 
 -- at the end, where nothing is open
-module _ (w : Whole) (gs : List Text) (l : Level) {p : Place} (over : p.text ≡ []) where
-  nothing_more : {q : Place} {ns : List Node} → Alternative w l.behind p q ns → (p ≡ q) × (ns ≡ [])
+module _ (w : PatternContext) (gs : List RemainingPattern) (l : PartialDisjunction) {p : ParseState} (over : p.text ≡ []) where
+  nothing_more : {q : ParseState} {ns : List Node} → Alternative w l.behind p q ns → (p ≡ q) × (ns ≡ [])
   nothing_more no_terms = (refl, refl)
   nothing_more (terms t a) = absurd (no_term w t (rw over refl))
 
@@ -44,9 +44,9 @@ module _ (w : Whole) (gs : List Text) (l : Level) {p : Place} (over : p.text ≡
   end_all t (further_arms a bar d) = absurd (no_close ((nothing_more a).0 ∙ bar) (rw over refl))
 
   -- and nothing completes a parenthesis that is open
-  pub none_open : (o : Open) (around : List Open) (t : Node) → CompletesAll w gs (o ∷ around) l p t → ⊥
+  pub none_open : (o : OpenGroup) (around : List OpenGroup) (t : Node) → CompletesAll w gs (o ∷ around) l p t → ⊥
   none_open o around t h = open_still h.5 h.6
     where
-      open_still : {q r : Place} {n : Node} → Completes w l p q n → q ≡ ")" ▸ r → ⊥
+      open_still : {q r : ParseState} {n : Node} → Completes w l p q n → q ≡ ")" ▸ r → ⊥
       open_still (last_arm a) e = true≢false (ap is_empty (sym over ∙ ap (λ x. x.text) ((nothing_more a).0 ∙ e)))
       open_still (further_arms a bar d) e = no_close ((nothing_more a).0 ∙ bar) (rw over refl)

@@ -4,18 +4,18 @@ use Rattle.std.proofs.Common.{arith, length-append, append-nil, reverse}
 use Rattle.std.specs.Prelude.{if◌then◌else◌, nat_le, nat_lt, nat_eq, ◌==◌, IsTrue}
 use Rattle.std.proofs.lemmas.Bool.{le-leb}
 use Rattle.std.proofs.lemmas.List.{reverse-append}
-use Rattle.regex_meaning.specs.Tree.{Node, Flags, Quantifier, group_ids, every, char, char_set, cat, end_of_cat, back_ref, match_any}
+use Rattle.regex_meaning.specs.Tree.{Node, Flags, Quantifier, group_ids, every_node_passes, char, char_set, cat, end_of_cat, back_ref, match_any}
 use Rattle.regex_meaning.specs.Tree.{match_any_except_line_terminator, capture_group}
 use Rattle.regex_meaning.specs.Text.{expand_code_point, fold_code_point, all_with_fold, to_uppercase, to_lowercase}
-use Rattle.regex_meaning.specs.WellFormed.{is_in_order, goal_count}
-use Rattle.regex_grammar.specs.Reading.{Text, Place, Whole, groups_at, arm, cat_of}
-use Rattle.regex_grammar.specs.Characters.{Quantified, greedy, lazy}
-use Rattle.regex_grammar.specs.Grammar.{character_node, Leaf, pattern_character, extended_character, any_character, decimal_escape, named_reference}
+use Rattle.regex_meaning.specs.WellFormedTrees.{is_in_order, number_of_goals}
+use Rattle.regex_grammar.specs.ReadingStatesAndDigits.{RemainingPattern, ParseState, PatternContext, groups_at, arm, sequence_node}
+use Rattle.regex_grammar.specs.EscapesNamesQuantifiers.{ValidQuantifier, greedy, lazy}
+use Rattle.regex_grammar.specs.Grammar.{character_node, SimpleAtom, pattern_character, extended_character, any_character, decimal_escape, named_reference}
 use Rattle.regex_grammar.specs.Grammar.{character_escape, character_class_escape, character_class, Disjunction, Alternative, Term, Assertion, Atom}
 use Rattle.regex_grammar.specs.Grammar.{last_alternative, alternatives, no_terms, terms, assertion, atom, quantified, start, end, boundary, look}
 use Rattle.regex_grammar.specs.Grammar.{leaf, group, named_group, plain_group, pattern_is}
-use Rattle.regex_grammar.specs.Parts.{is_sound, times, once_within, IsPart, IsLeaf}
-use Rattle.regex_grammar.specs.Ahead.{names_ahead}
+use Rattle.regex_grammar.specs.SubtreeInvariants.{is_sound, occurrences_of_id, once_within, IsSoundSubtree, IsSoundLeaf}
+use Rattle.regex_grammar.specs.GroupNameScan.{scanned_group_names}
 use Rattle.regex_meaning.proofs.Booleans.{and-left, and-right}
 use Rattle.regex_grammar.proofs.Found.{groups_are_found}
 use Rattle.regex_grammar.specs.Laws.{GroupsAreCounted, TreesAreWellFormed}
@@ -25,7 +25,7 @@ use Rattle.regex_grammar.proofs.References.{number-positive, number_of-bounds}
 
 -- ---- Atoms without groups
 
-leaf-if : (greatest : ℕ) (b : Bool) (x y : Node) → IsLeaf greatest x → IsLeaf greatest y → IsLeaf greatest (if b then x else y)
+leaf-if : (greatest : ℕ) (b : Bool) (x y : Node) → IsSoundLeaf greatest x → IsSoundLeaf greatest y → IsSoundLeaf greatest (if b then x else y)
 leaf-if greatest true x y h k = h
 leaf-if greatest false x y h k = k
 
@@ -53,14 +53,14 @@ few_members c true unicode = few_with_fold unicode (fold_code_point unicode c)
         cases (to_uppercase folded == to_lowercase folded) (folded == 115) (folded == 107) folded (to_uppercase folded) (to_lowercase folded) 0x017F 0x212A
 
 module _ (greatest : ℕ) where
-  leaf-character : (flags : Flags) (c : ℕ) → IsLeaf greatest (character_node flags c)
+  leaf-character : (flags : Flags) (c : ℕ) → IsSoundLeaf greatest (character_node flags c)
   leaf-character flags c =
       let members = expand_code_point c flags.icase flags.unicode in
       leaf-if greatest (nat_lt 1 (length members)) (char_set members) (char c)
       (record { goals = refl; ids = refl; sound = le-leb (length members) 4 (few_members c flags.icase flags.unicode) })
       (record { goals = refl; ids = refl; sound = refl })
 
-  pub leaf-reference : (id : ℕ) (icase : Bool) → 0 < id → id ≤ greatest → IsLeaf greatest (back_ref id icase)
+  pub leaf-reference : (id : ℕ) (icase : Bool) → 0 < id → id ≤ greatest → IsSoundLeaf greatest (back_ref id icase)
   leaf-reference id icase h k = record {
     goals = refl;
     ids = refl;
@@ -72,10 +72,10 @@ module _ (greatest : ℕ) where
       sound true false h k = k
       sound false b h k = grind arith
 
-abbrev groups_in : Whole → ℕ
+abbrev groups_in : PatternContext → ℕ
 groups_in w = length w.groups
 
-leaf-is : (w : Whole) {here there : Text} {n : Node} → Leaf w here there n → IsLeaf (groups_in w) n
+leaf-is : (w : PatternContext) {here there : RemainingPattern} {n : Node} → SimpleAtom w here there n → IsSoundLeaf (groups_in w) n
 leaf-is w (pattern_character {c = c} e f) = leaf-character (groups_in w) w.flags c
 leaf-is w (extended_character {c = c} e f k l) = leaf-character (groups_in w) w.flags c
 leaf-is w (any_character e) =
@@ -89,87 +89,87 @@ leaf-is w (character_class e d) = record { goals = refl; ids = refl; sound = ref
 
 -- ---- Terms one after the other
 
-snoc-goals : (xs : List Node) (y : Node) → goal_count (cat_of (xs ++ y ∷ [])) ≡ goal_count y + goal_count (cat_of xs)
+snoc-goals : (xs : List Node) (y : Node) → number_of_goals (sequence_node (xs ++ y ∷ [])) ≡ number_of_goals y + number_of_goals (sequence_node xs)
 snoc-goals [] y = omega arith
 snoc-goals (x ∷ xs) y = omega (arith, snoc-goals xs y)
 
-snoc-count : (xs : List Node) (y : Node) → length (group_ids (cat_of (xs ++ y ∷ []))) ≡ length (group_ids y) + length (group_ids (cat_of xs))
+snoc-count : (xs : List Node) (y : Node) → length (group_ids (sequence_node (xs ++ y ∷ []))) ≡ length (group_ids y) + length (group_ids (sequence_node xs))
 snoc-count [] y = length-append (group_ids y) []
 snoc-count (x ∷ xs) y =
-    length-append (group_ids x) (group_ids (cat_of (xs ++ y ∷ [])))
-    ∙ (let h = snoc-count xs y in let k = length-append (group_ids x) (group_ids (cat_of xs)) in omega (arith, h, k))
+    length-append (group_ids x) (group_ids (sequence_node (xs ++ y ∷ [])))
+    ∙ (let h = snoc-count xs y in let k = length-append (group_ids x) (group_ids (sequence_node xs)) in omega (arith, h, k))
 
-snoc-ids : (id : ℕ) (xs : List Node) (y : Node) → times id (cat_of (xs ++ y ∷ [])) ≡ times id y + times id (cat_of xs)
+snoc-ids : (id : ℕ) (xs : List Node) (y : Node) → occurrences_of_id id (sequence_node (xs ++ y ∷ [])) ≡ occurrences_of_id id y + occurrences_of_id id (sequence_node xs)
 snoc-ids id [] y = count_by-append (nat_eq id) (group_ids y) []
 snoc-ids id (x ∷ xs) y =
-    count_by-append (nat_eq id) (group_ids x) (group_ids (cat_of (xs ++ y ∷ [])))
-    ∙ (let h = snoc-ids id xs y in let k = count_by-append (nat_eq id) (group_ids x) (group_ids (cat_of xs)) in omega (arith, h, k))
+    count_by-append (nat_eq id) (group_ids x) (group_ids (sequence_node (xs ++ y ∷ [])))
+    ∙ (let h = snoc-ids id xs y in let k = count_by-append (nat_eq id) (group_ids x) (group_ids (sequence_node xs)) in omega (arith, h, k))
 
-snoc-sound : (greatest : ℕ) (xs : List Node) (y : Node) → IsTrue (every (is_sound greatest) y) → IsTrue (every (is_sound greatest) (cat_of xs)) → IsTrue (every (is_sound greatest) (cat_of (xs ++ y ∷ [])))
+snoc-sound : (greatest : ℕ) (xs : List Node) (y : Node) → IsTrue (every_node_passes (is_sound greatest) y) → IsTrue (every_node_passes (is_sound greatest) (sequence_node xs)) → IsTrue (every_node_passes (is_sound greatest) (sequence_node (xs ++ y ∷ [])))
 snoc-sound greatest [] y h k = (joined-cat y end_of_cat).sound greatest h k
 snoc-sound greatest (x ∷ xs) y h k =
-    (joined-cat x (cat_of (xs ++ y ∷ []))).sound greatest (and-right (is_sound greatest (cat x (cat_of xs))) _ (and-left _ (every (is_sound greatest) (cat_of xs)) k)) (snoc-sound greatest xs y h (and-right _ (every (is_sound greatest) (cat_of xs)) k))
+    (joined-cat x (sequence_node (xs ++ y ∷ []))).sound greatest (and-right (is_sound greatest (cat x (sequence_node xs))) _ (and-left _ (every_node_passes (is_sound greatest) (sequence_node xs)) k)) (snoc-sound greatest xs y h (and-right _ (every_node_passes (is_sound greatest) (sequence_node xs)) k))
 
-joined-snoc : (xs : List Node) (y : Node) → IsJoined (cat_of (xs ++ y ∷ [])) y (cat_of xs)
+joined-snoc : (xs : List Node) (y : Node) → IsJoined (sequence_node (xs ++ y ∷ [])) y (sequence_node xs)
 joined-snoc xs y = record { goals = snoc-goals xs y; count = snoc-count xs y; ids = λ id. snoc-ids id xs y; sound = λ greatest. snoc-sound greatest xs y }
 
-arm-none : (behind : Bool) (first greatest : ℕ) → IsPart first first greatest (arm behind [])
+arm-none : (behind : Bool) (first greatest : ℕ) → IsSoundSubtree first first greatest (arm behind [])
 arm-none true first greatest = part-leaf first greatest end_of_cat (record { goals = refl; ids = refl; sound = refl })
 arm-none false first greatest = part-leaf first greatest end_of_cat (record { goals = refl; ids = refl; sound = refl })
 
-arm-more : (behind : Bool) (first middle last greatest : ℕ) (n : Node) (ns : List Node) → IsPart first middle greatest n → IsPart middle last greatest (arm behind ns)
-    → IsPart first last greatest (arm behind (n ∷ ns))
-arm-more false first middle last greatest n ns h k = part-joined first middle last greatest (cat n (cat_of ns)) n (cat_of ns) (joined-cat n (cat_of ns)) h k
+arm-more : (behind : Bool) (first middle last greatest : ℕ) (n : Node) (ns : List Node) → IsSoundSubtree first middle greatest n → IsSoundSubtree middle last greatest (arm behind ns)
+    → IsSoundSubtree first last greatest (arm behind (n ∷ ns))
+arm-more false first middle last greatest n ns h k = part-joined first middle last greatest (cat n (sequence_node ns)) n (sequence_node ns) (joined-cat n (sequence_node ns)) h k
 arm-more true first middle last greatest n ns h k =
-    subst (λ x. IsPart first last greatest (cat_of x)) (sym (reverse-append (n ∷ []) ns))
-    (part-joined first middle last greatest (cat_of (reverse ns ++ n ∷ [])) n (cat_of (reverse ns)) (joined-snoc (reverse ns) n) h k)
+    subst (λ x. IsSoundSubtree first last greatest (sequence_node x)) (sym (reverse-append (n ∷ []) ns))
+    (part-joined first middle last greatest (sequence_node (reverse ns ++ n ∷ [])) n (sequence_node (reverse ns)) (joined-snoc (reverse ns) n) h k)
 
 -- ---- From one place to another
 
-in-order : {here there : Text} {q : Quantifier} → Quantified here there q → is_in_order q ≡ true
+in-order : {here there : RemainingPattern} {q : Quantifier} → ValidQuantifier here there q → is_in_order q ≡ true
 in-order (greedy h e o) = o
 in-order (lazy h e o) = o
 
 -- the part of a tree that is read from one place to another
-abbrev pub Reads : Whole → Place → Place → Node → Type 0
-Reads w p q n = IsPart (groups_at p) (groups_at q) (groups_in w) n
+abbrev pub Reads : PatternContext → ParseState → ParseState → Node → Type 0
+Reads w p q n = IsSoundSubtree (groups_at p) (groups_at q) (groups_in w) n
 
-between : (greatest : ℕ) {a b c d : ℕ} {n : Node} → a ≡ b → c ≡ d → IsPart b c greatest n → IsPart a d greatest n
-between greatest {b = b} {d = d} {n = n} e f h = subst (λ x. IsPart x d greatest n) (sym e) (subst (λ x. IsPart b x greatest n) f h)
+between : (greatest : ℕ) {a b c d : ℕ} {n : Node} → a ≡ b → c ≡ d → IsSoundSubtree b c greatest n → IsSoundSubtree a d greatest n
+between greatest {b = b} {d = d} {n = n} e f h = subst (λ x. IsSoundSubtree x d greatest n) (sym e) (subst (λ x. IsSoundSubtree b x greatest n) f h)
 
-leaf-between : (greatest : ℕ) {a b : ℕ} {n : Node} → a ≡ b → IsLeaf greatest n → IsPart a b greatest n
+leaf-between : (greatest : ℕ) {a b : ℕ} {n : Node} → a ≡ b → IsSoundLeaf greatest n → IsSoundSubtree a b greatest n
 leaf-between greatest {a = a} {n = n} e h = between greatest refl e (part-leaf a greatest n h)
 
-group-between : (greatest : ℕ) (before : List Text) {a b c : ℕ} {n : Node} (name : Text) → a ≡ length before → b ≡ c → IsPart (length (before ++ name ∷ [])) b greatest n
-    → IsPart a c greatest (capture_group a name n)
+group-between : (greatest : ℕ) (before : List RemainingPattern) {a b c : ℕ} {n : Node} (name : RemainingPattern) → a ≡ length before → b ≡ c → IsSoundSubtree (length (before ++ name ∷ [])) b greatest n
+    → IsSoundSubtree a c greatest (capture_group a name n)
 group-between greatest before {a = a} {c = c} {n = n} name e f h =
     part-group a c greatest name n (between greatest (ap (λ x. x + 1) e ∙ sym (length-append before (name ∷ []))) f h)
 
 mutual
-  pub part-disjunction : {w : Whole} {behind : Bool} {p q : Place} {n : Node} → Disjunction w behind p q n → Reads w p q n
+  pub part-disjunction : {w : PatternContext} {behind : Bool} {p q : ParseState} {n : Node} → Disjunction w behind p q n → Reads w p q n
   part-disjunction (last_alternative a) = part-alternative a
   part-disjunction {w} (alternatives {p = p} {q = q} {r = r} {s = s} a bar d) =
       part-joined (groups_at p) (groups_at q) (groups_at s) (groups_in w) _ _ _ (joined-alt _ _) (part-alternative a) (between (groups_in w) (ap groups_at bar) refl (part-disjunction d))
 
-  part-alternative : {w : Whole} {behind : Bool} {p q : Place} {ns : List Node} → Alternative w behind p q ns → Reads w p q (arm behind ns)
+  part-alternative : {w : PatternContext} {behind : Bool} {p q : ParseState} {ns : List Node} → Alternative w behind p q ns → Reads w p q (arm behind ns)
   part-alternative {w} (no_terms {behind = behind} {p = p}) = arm-none behind (groups_at p) (groups_in w)
   part-alternative {w} (terms {behind = behind} {p = p} {q = q} {r = r} {n = n} {ns = ns} t a) =
       arm-more behind (groups_at p) (groups_at q) (groups_at r) (groups_in w) n ns (part-term t) (part-alternative a)
 
-  part-term : {w : Whole} {behind : Bool} {p q : Place} {n : Node} → Term w behind p q n → Reads w p q n
+  part-term : {w : PatternContext} {behind : Bool} {p q : ParseState} {n : Node} → Term w behind p q n → Reads w p q n
   part-term (assertion a) = part-assertion a
   part-term (atom a k) = part-atom a
   part-term {w} (quantified {p = p} {q = q} {n = n} {quantifier = quantifier} a k) =
       part-loop (groups_at p) (groups_at q) (groups_in w) quantifier n (in-order k) (part-atom a)
 
-  part-assertion : {w : Whole} {p q : Place} {n : Node} → Assertion w p q n → Reads w p q n
+  part-assertion : {w : PatternContext} {p q : ParseState} {n : Node} → Assertion w p q n → Reads w p q n
   part-assertion {w} (start e) = leaf-between (groups_in w) (ap groups_at e) (record { goals = refl; ids = refl; sound = refl })
   part-assertion {w} (end e) = leaf-between (groups_in w) (ap groups_at e) (record { goals = refl; ids = refl; sound = refl })
   part-assertion {w} (boundary invert e) = leaf-between (groups_in w) (ap groups_at e) (record { goals = refl; ids = refl; sound = refl })
   part-assertion {w} (look {p = p} {s = s} {n = n} negate backwards e d f) =
       part-lookaround (groups_at p) (groups_at s) (groups_in w) negate backwards n (between (groups_in w) (ap groups_at e) (ap groups_at f) (part-disjunction d))
 
-  part-atom : {w : Whole} {behind : Bool} {p q : Place} {n : Node} → Atom w behind p q n → Reads w p q n
+  part-atom : {w : PatternContext} {behind : Bool} {p q : ParseState} {n : Node} → Atom w behind p q n → Reads w p q n
   part-atom {w} (leaf {p = p} {n = n} a) = part-leaf (groups_at p) (groups_in w) n (leaf-is w a)
   part-atom {w} (group {q = q} e o d f) = group-between (groups_in w) q.opened [] (ap groups_at e) (ap groups_at f) (part-disjunction d)
   part-atom {w} (named_group {q = q} {name = name} e g d f) = group-between (groups_in w) q.opened name (ap groups_at e) (ap groups_at f) (part-disjunction d)
@@ -183,7 +183,7 @@ ids-within id groups = rw (le-leb 0 id (omega arith)) refl
 pub groups_are_counted : GroupsAreCounted
 groups_are_counted flags pattern t (pattern_is {n = n} groups d distinct few) =
     let p = part-disjunction d in
-    let found : length groups ≡ length (names_ahead false pattern) = ap length (groups_are_found (record { flags = flags; groups = groups }) pattern groups n d) in
+    let found : length groups ≡ length (scanned_group_names false pattern) = ap length (groups_are_found (record { flags = flags; groups = groups }) pattern groups n d) in
     let ids : group_ids t.root ≡ group_ids n = append-nil (group_ids n) in (
       ap length ids ∙ omega (arith, p.count, found),
       omega (arith, few, found),

@@ -1,28 +1,29 @@
--- Laws of the grammar.
+-- Laws of the grammar; `src/lib.rt` proves each.
 use Rattle.std.specs.Prelude.{◌≡◌, List, [], false, codes}
 use Rattle.regex_meaning.specs.Tree.{Node, Tree, Flags, goal, char, cat, end_of_cat, alt}
-use Rattle.regex_grammar.specs.Reading.{Text, Whole}
+use Rattle.regex_grammar.specs.ReadingStatesAndDigits.{RemainingPattern, PatternContext}
 use Rattle.regex_grammar.specs.Grammar.{Disjunction, Parses}
-use Rattle.regex_grammar.specs.Ahead.{names_ahead}
+use Rattle.regex_grammar.specs.GroupNameScan.{scanned_group_names}
 use Rattle.std.specs.Prelude.{ℕ, ◌≤◌, ◌==◌, IsTrue, length, map, chars, count_by, nat_eq, nat_lt, if◌then◌else◌}
 use Rattle.std.specs.List.{list_all}
 use Rattle.std.specs.Str.{is_utf8}
 use Rattle.regex_meaning.specs.Tree.{group_ids}
-use Rattle.regex_meaning.specs.Flags.{escape}
-use Rattle.regex_meaning.specs.Names.{names_by_id}
-use Rattle.regex_meaning.specs.WellFormed.{IsWellFormed}
-use Rattle.regex_meaning.specs.Layout.{reads_bytes}
-use Rattle.regex_grammar.specs.Reading.{cat_of}
+use Rattle.regex_meaning.specs.FlagLettersAndEscaping.{escape}
+use Rattle.regex_meaning.specs.Captures.{group_names_by_id}
+use Rattle.regex_meaning.specs.WellFormedTrees.{IsWellFormed}
+use Rattle.regex_meaning.specs.CompilationRelation.{reads_bytes}
+use Rattle.regex_grammar.specs.ReadingStatesAndDigits.{sequence_node}
 use Rattle.regex_grammar.specs.Grammar.{character_node}
-use Rattle.regex_grammar.specs.Loops.{has_plain_loops}
+use Rattle.regex_grammar.specs.TreesWithoutCharLoops.{has_no_char_loops}
 
+-- no flag is set
 abbrev pub no_flags : Flags
 no_flags =
     record { icase = false; multiline = false; dot_all = false; no_opt = false; unicode = false; unicode_sets = false }
 
--- `a|ab` has its tree
-abbrev pub RowIsParsed : Type 0
-RowIsParsed =
+-- the tree of `a|ab`
+abbrev pub ExampleIsParsed : Type 0
+ExampleIsParsed =
     Parses no_flags (codes "a|ab") (record {
       root = cat (alt (cat (char 97) end_of_cat) (cat (char 97) (cat (char 98) end_of_cat))) (cat goal end_of_cat);
       flags = no_flags;
@@ -31,46 +32,50 @@ RowIsParsed =
 -- a pattern has at most one tree
 abbrev pub OneTree : Type 0
 OneTree =
-    (flags : Flags) (pattern : Text) (t u : Tree) → Parses flags pattern t → Parses flags pattern u → t ≡ u
+    (flags : Flags) (pattern : RemainingPattern) (t u : Tree) → Parses flags pattern t → Parses flags pattern u → t ≡ u
 
--- the groups that have opened at the end of a pattern are those that are found ahead
+-- the names of the groups that have opened at the end of a pattern are those that the scan finds
 abbrev pub GroupsAreFound : Type 0
 GroupsAreFound =
-    (w : Whole) (pattern : Text) (groups : List Text) (n : Node)
+    (w : PatternContext) (pattern : RemainingPattern) (groups : List RemainingPattern) (n : Node)
     → Disjunction w false (record { text = pattern; opened = [] }) (record { text = []; opened = groups }) n
-    → groups ≡ names_ahead false pattern
+    → groups ≡ scanned_group_names false pattern
 
--- a pattern has as many groups as are found ahead, at most 65,535, and each number below theirs is the id of exactly one
+-- a tree has as many groups as the scan finds, at most 65,535, and each number below that is the id
+-- of exactly one
 abbrev pub GroupsAreCounted : Type 0
 GroupsAreCounted =
-    (flags : Flags) (pattern : Text) (t : Tree) → Parses flags pattern t →
-    let groups = length (names_ahead false pattern) in
+    (flags : Flags) (pattern : RemainingPattern) (t : Tree) → Parses flags pattern t →
+    let groups = length (scanned_group_names false pattern) in
     (length (group_ids t.root) ≡ groups) × (groups ≤ 65535)
     × ((id : ℕ) → count_by (nat_eq id) (group_ids t.root) ≡ (if nat_lt id groups then 1 else 0))
 
--- the tree of a pattern is well formed, reads no bytes, and has no loop over one character
+-- the tree of a pattern has its flags, is well formed, reads no bytes, and has no loop over one
+-- character
 abbrev pub TreesAreWellFormed : Type 0
 TreesAreWellFormed =
-    (flags : Flags) (pattern : Text) (t : Tree) → Parses flags pattern t
-    → (t.flags ≡ flags) × IsWellFormed t.root × (reads_bytes t.root ≡ false) × IsTrue (has_plain_loops t.root)
+    (flags : Flags) (pattern : RemainingPattern) (t : Tree) → Parses flags pattern t
+    → (t.flags ≡ flags) × IsWellFormed t.root × (reads_bytes t.root ≡ false) × IsTrue (has_no_char_loops t.root)
 
--- the tree of characters one after the other
-abbrev pub row_of : Flags → Text → Tree
-row_of flags text = record { root = cat (cat_of (map (character_node flags) text)) (cat goal end_of_cat); flags = flags }
+-- the tree of a sequence of characters
+abbrev pub literal_tree : Flags → RemainingPattern → Tree
+literal_tree flags text = record { root = cat (sequence_node (map (character_node flags) text)) (cat goal end_of_cat); flags = flags }
 
--- an escaped text is a pattern with every flag, and its tree has the characters of the text one after the other
+-- with every flag, an escaped text is a pattern whose tree is the sequence of its characters
 abbrev pub EscapedTextsAreRead : Type 0
-EscapedTextsAreRead = (flags : Flags) (text : Text) → Parses flags (escape text) (row_of flags text)
+EscapedTextsAreRead = (flags : Flags) (text : RemainingPattern) → Parses flags (escape text) (literal_tree flags text)
 
--- so is a text whose bytes were escaped
+-- with every flag, a UTF-8 text whose bytes were escaped is a pattern whose tree is the sequence of
+-- its characters
 abbrev pub EscapedBytesAreRead : Type 0
 EscapedBytesAreRead =
     (flags : Flags) (bytes : List ℕ) → IsTrue (is_utf8 bytes)
-    → Parses flags (chars (escape bytes)) (row_of flags (chars bytes))
+    → Parses flags (chars (escape bytes)) (literal_tree flags (chars bytes))
 
--- the names by id of a tree's groups are those found ahead; there is no list if no group has a name
+-- the names by id of a tree's groups are those that the scan finds; the list is empty if no group
+-- has a name
 abbrev pub NamesAreFound : Type 0
 NamesAreFound =
-    (flags : Flags) (pattern : Text) (t : Tree) → Parses flags pattern t →
-    let names = names_ahead false pattern in
-    names_by_id t.root ≡ (if list_all (λ name. length name == 0) names then [] else names)
+    (flags : Flags) (pattern : RemainingPattern) (t : Tree) → Parses flags pattern t →
+    let names = scanned_group_names false pattern in
+    group_names_by_id t.root ≡ (if list_all (λ name. length name == 0) names then [] else names)

@@ -2,10 +2,10 @@
 use Rattle.std.proofs.Common.{◌≡◌, ℕ, ◌<◌, ◌≤◌, List, ◌∷◌, map, Option, Some, None, refl, ap, ◌∙◌, arith, option_map, option_and_then}
 use Rattle.regex_meaning.specs.Tree.{Node}
 use Rattle.regex_meaning.specs.Text.{Text, last_place}
-use Rattle.regex_meaning.specs.Offsets.{IsText, offset, place_at, IsBoundary}
-use Rattle.regex_meaning.specs.Find.{Found, first_match, place_behind, match_list}
-use Rattle.regex_meaning.specs.Names.{Answer, answer, answers_from}
-use Rattle.regex_meaning.specs.Answers.{first_answer, next_start, answers_on, answer_then_list}
+use Rattle.regex_meaning.specs.CodeUnitOffsets.{IsText, offset, place_at, IsBoundary}
+use Rattle.regex_meaning.specs.FirstAndAllMatches.{Found, first_match, place_behind, match_list}
+use Rattle.regex_meaning.specs.Captures.{Answer, answer, answers_from}
+use Rattle.regex_meaning.specs.SearchAnswers.{first_answer, next_start, answers_on, answer_then_list}
 use Rattle.regex_meaning.specs.Laws.{list_from, match_then_list, IsRange}
 use Rattle.regex_meaning.proofs.Matches.{StandsFrom, stands-first, match_list-unfolds, GoesOnInside, goes-inside}
 use Rattle.regex_meaning.proofs.TextLemmas.{offset-less, offset-le, place_at-offset, offset-place_at, offset-IsBoundary}

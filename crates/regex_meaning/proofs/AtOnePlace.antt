@@ -5,11 +5,11 @@ use Rattle.std.specs.Option.{option_or}
 use Rattle.std.proofs.lemmas.Bool.{ne_eqb}
 use Rattle.regex_meaning.specs.Tree.{Node}
 use Rattle.regex_meaning.specs.Text.{Text, rightwards}
-use Rattle.regex_meaning.specs.Offsets.{IsText, offset, place_at}
+use Rattle.regex_meaning.specs.CodeUnitOffsets.{IsText, offset, place_at}
 use Rattle.regex_meaning.specs.Outcomes.{Outcome, outcomes}
-use Rattle.regex_meaning.specs.Find.{Found, first_of, first_match, match_at, no_groups}
-use Rattle.regex_meaning.specs.Names.{Answer, answer}
-use Rattle.regex_meaning.specs.Laws.{MatchesAtAreFirst}
+use Rattle.regex_meaning.specs.FirstAndAllMatches.{Found, first_outcome, first_match, match_at, no_groups}
+use Rattle.regex_meaning.specs.Captures.{Answer, answer}
+use Rattle.regex_meaning.specs.Laws.{MatchAtOffsetIsFirstAnswer}
 use Rattle.regex_meaning.proofs.Matches.{StandsFrom, first-unfolds, stands-first}
 use Rattle.regex_meaning.proofs.TextLemmas.{offset-less, offset-place_at}
 
@@ -33,7 +33,7 @@ module _ (root : Node) (text : Text) (is : IsText text) where
 
   -- of the outcomes at a place, before what begins later
   of-outcomes : (at p : ℕ) (os : List Outcome) (later : Option Found) → offset text p ≡ at → StandsFrom root text (p + 1) later
-      → option_map (answer root text) (first_of p os) ≡ option_and_then (beginning_at at) (option_map (answer root text) (option_or (first_of p os) later))
+      → option_map (answer root text) (first_outcome p os) ≡ option_and_then (beginning_at at) (option_map (answer root text) (option_or (first_outcome p os) later))
   of-outcomes at p [] later here stands = later-start at p later here stands
   of-outcomes at p (o ∷ os) later here stands = sym (same-start at p _ here refl)
 
@@ -46,5 +46,5 @@ module _ (root : Node) (text : Text) (is : IsText text) where
       of-outcomes at p (outcomes text root rightwards p (no_groups root)) (first_match root text (p + 1)) here.0 (stands-first root text (p + 1))
       ∙ ap (λ m. option_and_then (beginning_at at) (option_map (answer root text) m)) (sym (first-unfolds root text p here.1))
 
-pub matches_at-first : MatchesAtAreFirst
+pub matches_at-first : MatchAtOffsetIsFirstAnswer
 matches_at-first root text is at = at-place root text is at (place_at text at) refl

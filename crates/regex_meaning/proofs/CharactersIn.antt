@@ -5,8 +5,8 @@ use Rattle.std.specs.List.{list_all}
 use Rattle.std.proofs.lemmas.Bool.{and_from, lt-ltb}
 use Rattle.std.proofs.lemmas.Str.{chars_from_encodes, IsUtf8-had}
 use lib.Utf8.{scalar, scalars}
-use Rattle.regex_meaning.specs.Text.{is_scalar, is_high_surrogate, is_low_surrogate, character_of_pair, utf16_characters}
-use Rattle.regex_meaning.specs.Units.{Encoding, utf8, utf16, ucs2, is_character}
+use Rattle.regex_meaning.specs.Text.{is_scalar, is_high_surrogate, is_low_surrogate, decode_surrogate_pair, utf16_characters}
+use Rattle.regex_meaning.specs.CodeUnits.{Encoding, utf8, utf16, ucs2, is_character}
 use Rattle.regex_meaning.proofs.Booleans.{and-left, and-right}
 use Rattle.regex_meaning.proofs.Clean.{is_scalar-of}
 use Rattle.regex_meaning.proofs.Encodings.{small-scalar}
@@ -39,8 +39,8 @@ ucs2-characters (u ∷ units) h =
 unit-character : (u : ℕ) → u < 0x1_0000 → is_character utf16 u ≡ true
 unit-character u less = lt-ltb u 0x11_0000 (omega (arith, less))
 
-pair-character : (u v : ℕ) → is_character utf16 (character_of_pair u v) ≡ true
-pair-character u v = lt-ltb (character_of_pair u v) 0x11_0000 (omega arith)
+pair-character : (u v : ℕ) → is_character utf16 (decode_surrogate_pair u v) ≡ true
+pair-character u v = lt-ltb (decode_surrogate_pair u v) 0x11_0000 (omega arith)
 
 pub utf16-characters : (units : List ℕ) → AreUnits units → AreCharacters utf16 (utf16_characters units)
 utf16-characters [] h = refl
@@ -51,6 +51,6 @@ utf16-characters (u ∷ v ∷ units) h =
     (utf16-characters (v ∷ units) (λ k less. h (suc k) (omega (arith, less))))
   where
     by : (pair : Bool) → AreCharacters utf16 (utf16_characters units) → AreCharacters utf16 (utf16_characters (v ∷ units))
-        → AreCharacters utf16 (if pair then character_of_pair u v ∷ utf16_characters units else u ∷ utf16_characters (v ∷ units))
-    by true behind next = one-more utf16 (character_of_pair u v) (utf16_characters units) (pair-character u v) behind
+        → AreCharacters utf16 (if pair then decode_surrogate_pair u v ∷ utf16_characters units else u ∷ utf16_characters (v ∷ units))
+    by true behind next = one-more utf16 (decode_surrogate_pair u v) (utf16_characters units) (pair-character u v) behind
     by false behind next = one-more utf16 u (utf16_characters (v ∷ units)) (unit-character u (h 0 (omega arith))) next

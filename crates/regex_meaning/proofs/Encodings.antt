@@ -10,9 +10,9 @@ use mathlib.Core.Logic.{inl, inr}
 use Rattle.regex_meaning.specs.Tree.{Node}
 use Rattle.regex_meaning.specs.Text.{Text, is_scalar, is_lowercase, is_uppercase, to_lowercase, to_uppercase, fold_code_point, fold_char, fold_ascii}
 use Rattle.regex_meaning.specs.Text.{offsets_from, one_unit, utf16_width, utf16_characters, utf8_text, ascii_text, utf16_text}
-use Rattle.regex_meaning.specs.Offsets.{place_at}
-use Rattle.regex_meaning.specs.Find.{match_list}
-use Rattle.regex_meaning.specs.Names.{answer, answers_from}
+use Rattle.regex_meaning.specs.CodeUnitOffsets.{place_at}
+use Rattle.regex_meaning.specs.FirstAndAllMatches.{match_list}
+use Rattle.regex_meaning.specs.Captures.{answer, answers_from}
 use Rattle.regex_meaning.proofs.Each.{Each, Each-all}
 use Rattle.regex_meaning.proofs.SameTexts.{match_list-same}
 

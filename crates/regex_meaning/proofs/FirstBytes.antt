@@ -6,11 +6,11 @@ use Rattle.std.specs.Prelude.{if◌then◌else◌, nat_le, ◌==◌}
 use Rattle.std.specs.Char.{encode_utf8 as encode}
 use Rattle.std.specs.List.{list_any}
 use Rattle.std.specs.Int.{is_in_range}
-use Rattle.regex_meaning.specs.Lists.{contains, numbers_from}
+use Rattle.regex_meaning.specs.NumberListHelpers.{contains, numbers_from}
 use Rattle.regex_meaning.specs.Tree.{Intervals}
 use Rattle.regex_meaning.specs.Text.{is_scalar}
 use Rattle.regex_meaning.specs.Outcomes.{in_intervals}
-use Rattle.regex_meaning.specs.StartPredicate.{bytes_where, begun_by, meet}
+use Rattle.regex_meaning.specs.StartPredicate.{bytes_that_pass, chars_with_first_byte, intersects}
 use Rattle.regex_meaning.proofs.Booleans.{and-left, and-right}
 use Rattle.std.proofs.lemmas.Bool.{cases_lt, and_from, or_left, or_right, lt-ltb, le-leb, leb-true, le-ltb, lt-leb, ne_eqb, eqb-true}
 
@@ -61,8 +61,8 @@ contains-filter test b first (suc count) h k t =
     go true e next = let same = eqb-true first b e in hit (test first) first b rest (rw same t) same
     go false e next = miss (test first) first b rest (next (λ same. cc (eq-eqb first b same, e)))
 
-pub contains-bytes_where : (test : ℕ → Bool) (b : ℕ) → b < 256 → test b ≡ true → contains (bytes_where test) b ≡ true
-unfolding bytes_where
+pub contains-bytes_where : (test : ℕ → Bool) (b : ℕ) → b < 256 → test b ≡ true → contains (bytes_that_pass test) b ≡ true
+unfolding bytes_that_pass
 contains-bytes_where test b h t = contains-filter test b 0 256 (omega arith) (omega arith) t
 
 -- ---- The first byte of a character
@@ -86,23 +86,23 @@ meets-any lo hi c (y ∷ ys) h k t = go (is_in_range y.0 y.1 c) refl (λ rest. m
         or_left _ _ (and_from _ _ (and_from _ _ (and_from _ _ (le-leb lo hi fourth) (le-leb y.0 y.1 third)) (le-leb lo y.1 first)) (le-leb y.0 hi second))
     go false e next = or_right _ _ (next (rw e at t))
 
-meet-one : (lo hi c : ℕ) (ivs : Intervals) → lo ≤ c → c ≤ hi → in_intervals ivs c ≡ true → meet ((lo, hi) ∷ []) ivs ≡ true
+meet-one : (lo hi c : ℕ) (ivs : Intervals) → lo ≤ c → c ≤ hi → in_intervals ivs c ≡ true → intersects ((lo, hi) ∷ []) ivs ≡ true
 meet-one lo hi c ivs h k t = or_left _ _ (meets-any lo hi c ivs h k t)
 
 -- what is known of the first byte of a character
 pub record Lead (c b : ℕ) : Type 0 where
   pub is_byte : b < 256
   pub begins : is_in_range 0x80 0xBF b ≡ false
-  pub meets : (ivs : Intervals) → in_intervals ivs c ≡ true → meet (begun_by b) ivs ≡ true
+  pub meets : (ivs : Intervals) → in_intervals ivs c ≡ true → intersects (chars_with_first_byte b) ivs ≡ true
 
-begun_by-2 : (b : ℕ) → 0xC2 ≤ b → b ≤ 0xDF → begun_by b ≡ ((b - 0xC0) * 0x40, (b - 0xC0) * 0x40 + 0x3F) ∷ []
+begun_by-2 : (b : ℕ) → 0xC2 ≤ b → b ≤ 0xDF → chars_with_first_byte b ≡ ((b - 0xC0) * 0x40, (b - 0xC0) * 0x40 + 0x3F) ∷ []
 begun_by-2 b h k = rw (le-ltb b 0x80 (omega arith), in_range-true 0xC2 0xDF b h k)
 
-begun_by-3 : (b : ℕ) → 0xE1 ≤ b → b ≤ 0xEF → begun_by b ≡ ((b - 0xE0) * 0x1000, (b - 0xE0) * 0x1000 + 0xFFF) ∷ []
+begun_by-3 : (b : ℕ) → 0xE1 ≤ b → b ≤ 0xEF → chars_with_first_byte b ≡ ((b - 0xE0) * 0x1000, (b - 0xE0) * 0x1000 + 0xFFF) ∷ []
 begun_by-3 b h k =
     rw (le-ltb b 0x80 (omega arith), in_range-above 0xC2 0xDF b (omega arith) (omega arith), ne_eqb b 0xE0 (omega arith), in_range-true 0xE1 0xEF b h k)
 
-begun_by-4 : (b : ℕ) → 0xF1 ≤ b → b ≤ 0xF3 → begun_by b ≡ ((b - 0xF0) * 0x4_0000, (b - 0xF0) * 0x4_0000 + 0x3_FFFF) ∷ []
+begun_by-4 : (b : ℕ) → 0xF1 ≤ b → b ≤ 0xF3 → chars_with_first_byte b ≡ ((b - 0xF0) * 0x4_0000, (b - 0xF0) * 0x4_0000 + 0x3_FFFF) ∷ []
 begun_by-4 b h k =
     rw (
       le-ltb b 0x80 (omega arith),
@@ -113,7 +113,7 @@ begun_by-4 b h k =
       in_range-true 0xF1 0xF3 b h k,
     )
 
-begun_by-1 : (b : ℕ) → b < 0x80 → begun_by b ≡ (b, b) ∷ []
+begun_by-1 : (b : ℕ) → b < 0x80 → chars_with_first_byte b ≡ (b, b) ∷ []
 begun_by-1 b h = rw (lt-ltb b 0x80 h)
 
 -- the first byte, and what is known of it
@@ -143,7 +143,7 @@ unfolding encode rest-of
 encode-4 c h = rw (le-ltb c 128 (omega arith), le-ltb c 2048 (omega arith), le-ltb c 65536 h)
 
 -- a byte begins the characters of one interval, and the character is of these
-lead-by : (c b low high : ℕ) → b < 256 → is_in_range 0x80 0xBF b ≡ false → begun_by b ≡ (low, high) ∷ [] → low ≤ c → c ≤ high → Lead c b
+lead-by : (c b low high : ℕ) → b < 256 → is_in_range 0x80 0xBF b ≡ false → chars_with_first_byte b ≡ (low, high) ∷ [] → low ≤ c → c ≤ high → Lead c b
 lead-by c b low high is begins only h k = record {
   is_byte = is;
   begins = begins;
@@ -151,13 +151,13 @@ lead-by c b low high is begins only h k = record {
 }
 
 -- such bytes count up, and each of them begins so many characters
-lead-up : (c b first many : ℕ) → 0xC0 ≤ first → first ≤ b → b < 256 → begun_by b ≡ ((b - first) * many, (b - first) * many + (many - 1)) ∷ []
+lead-up : (c b first many : ℕ) → 0xC0 ≤ first → first ≤ b → b < 256 → chars_with_first_byte b ≡ ((b - first) * many, (b - first) * many + (many - 1)) ∷ []
     → (b - first) * many ≤ c → c ≤ (b - first) * many + (many - 1) → Lead c b
 lead-up c b first many high from is only h k =
     lead-by c b ((b - first) * many) ((b - first) * many + (many - 1)) is (in_range-above 0x80 0xBF b (omega arith) (omega arith)) only h k
 
 -- the byte is this one
-lead-one : (c b this low high : ℕ) → b ≡ this → this < 256 → is_in_range 0x80 0xBF this ≡ false → begun_by this ≡ (low, high) ∷ [] → low ≤ c → c ≤ high → Lead c b
+lead-one : (c b this low high : ℕ) → b ≡ this → this < 256 → is_in_range 0x80 0xBF this ≡ false → chars_with_first_byte this ≡ (low, high) ∷ [] → low ≤ c → c ≤ high → Lead c b
 lead-one c b this low high same is begins only h k = rw same (lead-by c this low high is begins only h k)
 
 lead-1 : (c : ℕ) → c < 128 → Lead c c

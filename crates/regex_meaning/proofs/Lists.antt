@@ -4,7 +4,7 @@ use Rattle.std.specs.Prelude.{nat_eq}
 use Rattle.std.specs.List.{list_all}
 use Rattle.std.proofs.lemmas.Bool.{and_from, eq-eqb, or_right}
 use Rattle.std.proofs.lemmas.List.{reverse-append}
-use Rattle.regex_meaning.specs.Lists.{contains, numbers_from}
+use Rattle.regex_meaning.specs.NumberListHelpers.{contains, numbers_from}
 
 module _ {A B : Type 0} where
   pub flat_map-same : (f g : A → List B) → ((x : A) → f x ≡ g x) → (xs : List A) → flat_map f xs ≡ flat_map g xs

@@ -7,7 +7,7 @@ use Rattle.regex_meaning.specs.Laws.{Each, IsOnward, list_from, match_then_list}
 use Rattle.regex_meaning.specs.Tree.{Node}
 use Rattle.regex_meaning.specs.Text.{Text, rightwards, last_place}
 use Rattle.regex_meaning.specs.Outcomes.{Outcome}
-use Rattle.regex_meaning.specs.Find.{Found, no_groups, first_of, match_at, first_match, first_match_among, place_behind, matches_from, match_list}
+use Rattle.regex_meaning.specs.FirstAndAllMatches.{Found, no_groups, first_outcome, match_at, first_match, first_match_among, place_behind, matches_from, match_list}
 use Rattle.regex_meaning.proofs.Onward.{outcomes-onward}
 use Rattle.std.proofs.lemmas.Bool.{ltb-true}
 
@@ -23,7 +23,7 @@ module _ (root : Node) (text : Text) where
   StandsFrom place (Some m) = (place ≤ m.start) × (m.start ≤ m.end) × (m.end ≤ last_place text)
 
   stands-first_of : (place : ℕ) (os : List Outcome) → place ≤ last_place text → Each (λ o. IsOnward text rightwards place o.end) os
-      → StandsFrom place (first_of place os)
+      → StandsFrom place (first_outcome place os)
   stands-first_of place [] h on = tt
   stands-first_of place (o ∷ os) h on = (omega arith, omega arith, omega arith)
 

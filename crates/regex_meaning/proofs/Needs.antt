@@ -3,8 +3,8 @@ use Rattle.std.proofs.Common.{◌≡◌, ℕ, zero, suc, ◌+◌, ◌<◌, ◌�
 use Rattle.std.specs.Option.{option_map_or}
 use Rattle.regex_meaning.specs.Tree.{Tree}
 use Rattle.regex_meaning.specs.Text.{Text, last_place}
-use Rattle.regex_meaning.specs.Find.{Found, first_match, place_behind}
-use Rattle.regex_meaning.specs.Ticks.{need, needs_from}
+use Rattle.regex_meaning.specs.FirstAndAllMatches.{Found, first_match, place_behind}
+use Rattle.regex_meaning.specs.OutcomesWithStepTicks.{need, needs_from}
 use Rattle.regex_meaning.specs.Laws.{needs_on, needs_behind}
 use Rattle.regex_meaning.proofs.Matches.{StandsFrom, stands-first, GoesOnInside, goes-inside}
 

@@ -4,9 +4,9 @@ use Rattle.std.proofs.Common.{filter, flat_map}
 use Rattle.std.specs.Prelude.{if◌then◌else◌, ◌&&◌, nat_le, nat_lt, slice_get}
 use Rattle.regex_meaning.specs.Tree.{Node, empty, goal, byte_sequence, cat, end_of_cat, alt, string_set, anchor, word_boundary, capture_group}
 use Rattle.regex_meaning.specs.Tree.{back_ref, lookaround, loop, loop_1_char_body}
-use Rattle.regex_meaning.specs.Text.{Text, Direction, rightwards, leftwards, characters_left, moved, next_character}
-use Rattle.regex_meaning.specs.Outcomes.{Groups, Outcome, Repetition, rounds, outcomes, counts, preferred, captured, cleared, is_some_and}
-use Rattle.regex_meaning.specs.Outcomes.{one_character, spelled, spells, same_as_group, here_if, looked}
+use Rattle.regex_meaning.specs.Text.{Text, Direction, rightwards, leftwards, characters_ahead, moved, next_character}
+use Rattle.regex_meaning.specs.Outcomes.{Groups, Outcome, Repetition, bounded_repeat, outcomes, passes_empty_check, preferred, captured, cleared, is_some_and}
+use Rattle.regex_meaning.specs.Outcomes.{one_character, spelled, is_case_variant, backref_outcomes, empty_match_if, lookaround_outcomes}
 pub use Rattle.regex_meaning.specs.Laws.{IsOnward}
 use Rattle.regex_meaning.proofs.Each.{Each, Each-append, Each-if, Each-when, Each-filter, Each-map, Each-flat_map, Each-image}
 
@@ -34,12 +34,12 @@ module _ (text : Text) where
   pub here-onward : (d : Direction) (place : ℕ) (groups : Groups) → AllOnward d place (record { end = place; groups = groups } ∷ [])
   here-onward d place groups = (IsOnward-refl d place, tt)
 
-  moved-onward : (d : Direction) (n place : ℕ) → n ≤ characters_left text d place → IsOnward text d place (moved text d n place)
+  moved-onward : (d : Direction) (n place : ℕ) → n ≤ characters_ahead text d place → IsOnward text d place (moved text d n place)
   moved-onward rightwards n place h = (omega arith, omega arith)
   moved-onward leftwards n place h = (omega arith, tt)
 
   next_character-left : (test : ℕ → Bool) (d : Direction) (place : ℕ)
-      → is_some_and (next_character text d place) test ≡ true → 1 ≤ characters_left text d place
+      → is_some_and (next_character text d place) test ≡ true → 1 ≤ characters_ahead text d place
   next_character-left test rightwards place h =
       let below : place < length text.characters = slice_get-below test text.characters place h in omega arith
   next_character-left test leftwards zero h = grind arith
@@ -56,22 +56,22 @@ module _ (text : Text) where
       Each-when (λ (o : Outcome). IsOnward text d place o.end) _ _ (λ h. moved-onward d (length cs) place (leb→le _ _ (passed-left _ _ h)))
 
   pub same_as_group-onward : (icase : Bool) (range : Option (ℕ × ℕ)) (d : Direction) (place : ℕ) (groups : Groups)
-      → AllOnward d place (same_as_group text icase range d place groups)
+      → AllOnward d place (backref_outcomes text icase range d place groups)
   same_as_group-onward icase None d place groups = here-onward d place groups
   same_as_group-onward icase (Some range) d place groups = spelled-onward _ _ d place groups
 
   strings-onward : (icase : Bool) (strings : List (List ℕ)) (d : Direction) (place : ℕ) (groups : Groups)
-      → AllOnward d place (flat_map (λ s. spelled text (spells text icase) s d place groups) strings)
+      → AllOnward d place (flat_map (λ s. spelled text (is_case_variant text icase) s d place groups) strings)
   strings-onward icase [] d place groups = tt
   strings-onward icase (s ∷ strings) d place groups =
-      Each-append _ _ _ (spelled-onward (spells text icase) s d place groups) (strings-onward icase strings d place groups)
+      Each-append _ _ _ (spelled-onward (is_case_variant text icase) s d place groups) (strings-onward icase strings d place groups)
 
-  here_if-onward : (holds : Bool) (d : Direction) (place : ℕ) (groups : Groups) → AllOnward d place (here_if holds place groups)
+  here_if-onward : (holds : Bool) (d : Direction) (place : ℕ) (groups : Groups) → AllOnward d place (empty_match_if holds place groups)
   here_if-onward true d place groups = here-onward d place groups
   here_if-onward false d place groups = tt
 
   looked-onward : (negate : Bool) (os : List Outcome) (d : Direction) (place : ℕ) (groups : Groups)
-      → AllOnward d place (looked negate os place groups)
+      → AllOnward d place (lookaround_outcomes negate os place groups)
   looked-onward false [] d place groups = tt
   looked-onward false (o ∷ os) d place groups = here-onward d place o.groups
   looked-onward true [] d place groups = here-onward d place groups
@@ -94,17 +94,17 @@ module _ (text : Text) where
   BodyOnward d r = (place : ℕ) (groups : Groups) → AllOnward d place (r.body place groups)
 
   pub rounds-onward : (d : Direction) (r : Repetition Outcome) → BodyOnward d r → (turns k place : ℕ) (groups : Groups)
-      → AllOnward d place (rounds r turns k place groups)
-  unfolding rounds
+      → AllOnward d place (bounded_repeat r turns k place groups)
+  unfolding bounded_repeat
   rounds-onward d r b zero k place groups = tt
   rounds-onward d r b (suc turns) k place groups =
       let IsOn = λ (o : Outcome). IsOnward text d place o.end in
-      let bodies = filter (counts r k place) (r.body place groups) in
-      let again = flat_map (λ (o : Outcome). rounds r turns (k + 1) o.end o.groups) bodies in
+      let bodies = filter (passes_empty_check r k place) (r.body place groups) in
+      let again = flat_map (λ (o : Outcome). bounded_repeat r turns (k + 1) o.end o.groups) bodies in
       let leave : List Outcome = record { end = place; groups = groups } ∷ [] in
-      let bodies_on : AllOnward d place bodies = Each-filter IsOn (counts r k place) (r.body place groups) (b place groups) in
+      let bodies_on : AllOnward d place bodies = Each-filter IsOn (passes_empty_check r k place) (r.body place groups) (b place groups) in
       let again_on : AllOnward d place again =
-      then-onward d place bodies (λ (o : Outcome). rounds r turns (k + 1) o.end o.groups) bodies_on
+      then-onward d place bodies (λ (o : Outcome). bounded_repeat r turns (k + 1) o.end o.groups) bodies_on
       (λ o. rounds-onward d r b turns (k + 1) o.end o.groups) in
       preferred-onward r.greedy d place (if nat_lt k r.most then again else []) (if nat_le r.least k then leave else [])
       (Each-if IsOn (nat_lt k r.most) again [] again_on tt)

@@ -6,12 +6,12 @@ use Rattle.std.specs.Option.{option_or}
 use Rattle.std.proofs.lemmas.List.{length-set, length-replicate, length-map, length-append}
 use Rattle.regex_meaning.specs.Tree.{Node, group_ids}
 use Rattle.regex_meaning.specs.Text.{Text, Direction, rightwards, leftwards, last_place}
-use Rattle.regex_meaning.specs.Offsets.{IsText, offset, place_at}
+use Rattle.regex_meaning.specs.CodeUnitOffsets.{IsText, offset, place_at}
 use Rattle.regex_meaning.specs.Outcomes.{Groups, Outcome, outcomes}
-use Rattle.regex_meaning.specs.Find.{Found, no_groups, first_of, match_at, first_match, first_match_among, place_behind, matches_from, match_list}
-use Rattle.regex_meaning.specs.Names.{Answer, answer, answers_from}
-use Rattle.regex_meaning.specs.Answers.{first_answer, next_start, answers_on, answer_then_list}
-use Rattle.regex_meaning.specs.Laws.{IsOnward, StandsIn, IsRange, IsAnswerOf, StandInOrder}
+use Rattle.regex_meaning.specs.FirstAndAllMatches.{Found, no_groups, first_outcome, match_at, first_match, first_match_among, place_behind, matches_from, match_list}
+use Rattle.regex_meaning.specs.Captures.{Answer, answer, answers_from}
+use Rattle.regex_meaning.specs.SearchAnswers.{first_answer, next_start, answers_on, answer_then_list}
+use Rattle.regex_meaning.specs.Laws.{IsOnward, IsWithinText, IsRange, IsAnswerOf, StandInOrder}
 use Rattle.regex_meaning.proofs.Each.{Each, Each-map, Each-image, Each-set, Each-replicate}
 use Rattle.regex_meaning.proofs.Matches.{StandsFrom, stands-first, if-cases}
 use Rattle.regex_meaning.proofs.States.{AreKept, outcomes-states}
@@ -39,29 +39,29 @@ module _ (text : Text) where
   inside-onward rightwards a b on h = omega arith
   inside-onward leftwards a b on h = omega arith
 
-  inside-kept : AreKept text (λ place. place ≤ last_place text) (λ groups. Each (StandsIn text) groups)
+  inside-kept : AreKept text (λ place. place ≤ last_place text) (λ groups. Each (IsWithinText text) groups)
   inside-kept = record {
     onward = inside-onward;
-    cleared = λ id groups h. Each-set (StandsIn text) groups id None h tt;
-    set = λ id a b groups p q h. Each-set (StandsIn text) groups id (Some (min a b, max a b)) h (omega arith, omega arith);
+    cleared = λ id groups h. Each-set (IsWithinText text) groups id None h tt;
+    set = λ id a b groups p q h. Each-set (IsWithinText text) groups id (Some (min a b, max a b)) h (omega arith, omega arith);
   }
 
-  pub outcomes-inside : (node : Node) (d : Direction) (place : ℕ) (groups : Groups) → place ≤ last_place text → Each (StandsIn text) groups
-      → Each (λ o. (o.end ≤ last_place text) × Each (StandsIn text) o.groups) (outcomes text node d place groups)
-  outcomes-inside = outcomes-states text (λ place. place ≤ last_place text) (λ groups. Each (StandsIn text) groups) inside-kept
+  pub outcomes-inside : (node : Node) (d : Direction) (place : ℕ) (groups : Groups) → place ≤ last_place text → Each (IsWithinText text) groups
+      → Each (λ o. (o.end ≤ last_place text) × Each (IsWithinText text) o.groups) (outcomes text node d place groups)
+  outcomes-inside = outcomes-states text (λ place. place ≤ last_place text) (λ groups. Each (IsWithinText text) groups) inside-kept
 
 -- ---- Matches
 
 module _ (root : Node) (text : Text) where
   -- the groups of a match
   abbrev pub HasGroups : Groups → Type 0
-  HasGroups groups = (length groups ≡ length (group_ids root)) × Each (StandsIn text) groups
+  HasGroups groups = (length groups ≡ length (group_ids root)) × Each (IsWithinText text) groups
 
   abbrev HasFound : Option Found → Type 0
   HasFound None = Unit {0}
   HasFound (Some m) = HasGroups m.groups
 
-  found-first_of : (place : ℕ) (os : List Outcome) → Each (λ o. HasGroups o.groups) os → HasFound (first_of place os)
+  found-first_of : (place : ℕ) (os : List Outcome) → Each (λ o. HasGroups o.groups) os → HasFound (first_outcome place os)
   found-first_of place [] h = tt
   found-first_of place (o ∷ os) h = h.0
 
@@ -73,9 +73,9 @@ module _ (root : Node) (text : Text) where
   outcomes-groups place inside =
       let os = outcomes text root rightwards place (no_groups root) in
       let n : length (no_groups root) ≡ length (group_ids root) = length-replicate (length (group_ids root)) None in
-      both-each (λ (o : Outcome). length o.groups ≡ length (group_ids root)) (λ (o : Outcome). Each (StandsIn text) o.groups) os
+      both-each (λ (o : Outcome). length o.groups ≡ length (group_ids root)) (λ (o : Outcome). Each (IsWithinText text) o.groups) os
       (Each-map _ _ (λ o e. e ∙ n) os (outcomes-count text root rightwards place (no_groups root)))
-      (Each-map _ _ (λ o h. h.1) os (outcomes-inside text root rightwards place (no_groups root) inside (Each-replicate (StandsIn text) _ None tt)))
+      (Each-map _ _ (λ o h. h.1) os (outcomes-inside text root rightwards place (no_groups root) inside (Each-replicate (IsWithinText text) _ None tt)))
 
   found-or : (m n : Option Found) → HasFound m → HasFound n → HasFound (option_or m n)
   found-or None n h k = k
@@ -145,7 +145,7 @@ module _ (root : Node) (text : Text) (is : IsText text) where
   range-IsRange a b le inside =
       (offset-le text a b is le inside, offset-IsBoundary text a is (omega arith), offset-IsBoundary text b is inside)
 
-  group-IsRange : (g : Option (ℕ × ℕ)) → StandsIn text g → IfSome (option_map (λ (r : ℕ × ℕ). (offset text r.0, offset text r.1)) g) (IsRange text)
+  group-IsRange : (g : Option (ℕ × ℕ)) → IsWithinText text g → IfSome (option_map (λ (r : ℕ × ℕ). (offset text r.0, offset text r.1)) g) (IsRange text)
   group-IsRange None h = tt
   group-IsRange (Some r) h = range-IsRange r.0 r.1 h.0 h.1
 
@@ -153,7 +153,7 @@ module _ (root : Node) (text : Text) (is : IsText text) where
       → IsAnswerOf root text (answer root text m)
   answer-IsAnswerOf m le inside g = record {
     whole = range-IsRange m.start m.end le inside;
-    groups = Each-image (StandsIn text) (λ c. IfSome c (IsRange text)) (option_map (λ r. (offset text r.0, offset text r.1))) group-IsRange m.groups g.1;
+    groups = Each-image (IsWithinText text) (λ c. IfSome c (IsRange text)) (option_map (λ r. (offset text r.0, offset text r.1))) group-IsRange m.groups g.1;
     count = length-map m.groups (option_map (λ r. (offset text r.0, offset text r.1))) ∙ g.0;
   }
 

@@ -8,8 +8,8 @@ use Rattle.regex_meaning.specs.Tree.{Quantifier, Node, empty, goal, byte_sequenc
 use Rattle.regex_meaning.specs.Tree.{end_of_line, word_boundary, capture_group, back_ref, lookaround, loop, loop_1_char_body}
 use Rattle.regex_meaning.specs.Text.{Text, Direction, rightwards, leftwards}
 use Rattle.regex_meaning.specs.Outcomes.{Groups, Outcome, Repetition, repetition, repeat, outcomes, captured, cleared, one_character, spelled}
-use Rattle.regex_meaning.specs.Outcomes.{same_as_group, group_range, looked, direction_of}
-use Rattle.regex_meaning.specs.Find.{Found, no_groups, first_match, first_match_among, place_behind, matches_from, match_list}
+use Rattle.regex_meaning.specs.Outcomes.{backref_outcomes, group_range, lookaround_outcomes, direction_of}
+use Rattle.regex_meaning.specs.FirstAndAllMatches.{Found, no_groups, first_match, first_match_among, place_behind, matches_from, match_list}
 use Rattle.regex_meaning.proofs.Each.{Each, Each-take, Each-drop}
 use Rattle.regex_meaning.proofs.Lists.{flat_map-same}
 
@@ -51,7 +51,7 @@ module _ (characters : List ℕ) (unicode : Bool) (s_offsets t_offsets : List �
   spelled-self e cs leftwards place groups = refl
 
   same_as_group-same : (icase : Bool) (range : Option (ℕ × ℕ)) (d : Direction) (place : ℕ) (groups : Groups)
-      → same_as_group s icase range d place groups ≡ same_as_group t icase range d place groups
+      → backref_outcomes s icase range d place groups ≡ backref_outcomes t icase range d place groups
   same_as_group-same icase None d place groups = refl
   same_as_group-same icase (Some range) d place groups =
       spelled-same (λ c d. c == d || (icase && s_fold c == s_fold d)) (λ c d. c == d || (icase && t_fold c == t_fold d))
@@ -87,7 +87,7 @@ module _ (characters : List ℕ) (unicode : Bool) (s_offsets t_offsets : List �
   outcomes-same (anchor end_of_line multiline) d place groups = refl
   outcomes-same (word_boundary invert unicode_icase) d place groups = refl
   outcomes-same (lookaround l contents) d place groups =
-      ap (λ (os : List Outcome). looked l.negate os place groups) (outcomes-same contents (direction_of l) place groups)
+      ap (λ (os : List Outcome). lookaround_outcomes l.negate os place groups) (outcomes-same contents (direction_of l) place groups)
   outcomes-same (loop q start_group end_group loopee) d place groups =
       loop-same q _ _ (λ p g. outcomes-same loopee d p (cleared start_group (end_group - start_group) g)) d place groups
   outcomes-same (loop_1_char_body q loopee) d place groups = loop-same q _ _ (λ p g. outcomes-same loopee d p g) d place groups

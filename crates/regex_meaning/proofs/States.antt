@@ -5,8 +5,8 @@ use Rattle.regex_meaning.specs.Tree.{Node, empty, goal, char, char_set, byte_set
 use Rattle.regex_meaning.specs.Tree.{match_any, match_any_except_line_terminator, anchor, word_boundary, capture_group, back_ref, lookaround, loop}
 use Rattle.regex_meaning.specs.Tree.{loop_1_char_body}
 use Rattle.regex_meaning.specs.Text.{Text, Direction}
-use Rattle.regex_meaning.specs.Outcomes.{Groups, Outcome, Repetition, rounds, outcomes, counts, preferred, captured, cleared, one_character, spelled}
-use Rattle.regex_meaning.specs.Outcomes.{spells, same_as_group, here_if, looked, direction_of}
+use Rattle.regex_meaning.specs.Outcomes.{Groups, Outcome, Repetition, bounded_repeat, outcomes, passes_empty_check, preferred, captured, cleared, one_character, spelled}
+use Rattle.regex_meaning.specs.Outcomes.{is_case_variant, backref_outcomes, empty_match_if, lookaround_outcomes, direction_of}
 use Rattle.regex_meaning.specs.Laws.{IsOnward}
 use Rattle.regex_meaning.proofs.Each.{Each, Each-append, Each-if, Each-filter, Each-flat_map, Each-image}
 use Rattle.regex_meaning.proofs.Onward.{one_character-onward, spelled-onward}
@@ -37,7 +37,7 @@ module _ (text : Text) (P : ℕ → Type 0) (G : Groups → Type 0) (kept : AreK
   here-state : (place : ℕ) (groups : Groups) → P place → G groups → AreStates (record { end = place; groups = groups } ∷ [])
   here-state place groups p g = ((p, g), tt)
 
-  here_if-states : (holds : Bool) (place : ℕ) (groups : Groups) → P place → G groups → AreStates (here_if holds place groups)
+  here_if-states : (holds : Bool) (place : ℕ) (groups : Groups) → P place → G groups → AreStates (empty_match_if holds place groups)
   here_if-states true place groups p g = here-state place groups p g
   here_if-states false place groups p g = tt
 
@@ -59,18 +59,18 @@ module _ (text : Text) (P : ℕ → Type 0) (G : Groups → Type 0) (kept : AreK
       (spelled-onward text same cs d place groups)
 
   strings-states : (icase : Bool) (strings : List (List ℕ)) (d : Direction) (place : ℕ) (groups : Groups) → P place → G groups
-      → AreStates (flat_map (λ s. spelled text (spells text icase) s d place groups) strings)
+      → AreStates (flat_map (λ s. spelled text (is_case_variant text icase) s d place groups) strings)
   strings-states icase [] d place groups p g = tt
   strings-states icase (s ∷ strings) d place groups p g =
-      Each-append _ _ _ (spelled-states (spells text icase) s d place groups p g) (strings-states icase strings d place groups p g)
+      Each-append _ _ _ (spelled-states (is_case_variant text icase) s d place groups p g) (strings-states icase strings d place groups p g)
 
   same_as_group-states : (icase : Bool) (range : Option (ℕ × ℕ)) (d : Direction) (place : ℕ) (groups : Groups) → P place → G groups
-      → AreStates (same_as_group text icase range d place groups)
+      → AreStates (backref_outcomes text icase range d place groups)
   same_as_group-states icase None d place groups p g = here-state place groups p g
   same_as_group-states icase (Some range) d place groups p g = spelled-states _ _ d place groups p g
 
   looked-states : (negate : Bool) (os : List Outcome) (place : ℕ) (groups : Groups) → P place → G groups → AreStates os
-      → AreStates (looked negate os place groups)
+      → AreStates (lookaround_outcomes negate os place groups)
   looked-states false [] place groups p g h = tt
   looked-states false (o ∷ os) place groups p g h = here-state place o.groups p h.0.1
   looked-states true [] place groups p g h = here-state place groups p g
@@ -89,16 +89,16 @@ module _ (text : Text) (P : ℕ → Type 0) (G : Groups → Type 0) (kept : AreK
   BodyStates r = (place : ℕ) (groups : Groups) → P place → G groups → AreStates (r.body place groups)
 
   rounds-states : (r : Repetition Outcome) → BodyStates r → (turns k place : ℕ) (groups : Groups) → P place → G groups
-      → AreStates (rounds r turns k place groups)
-  unfolding rounds
+      → AreStates (bounded_repeat r turns k place groups)
+  unfolding bounded_repeat
   rounds-states r b zero k place groups p g = tt
   rounds-states r b (suc turns) k place groups p g =
-      let bodies = filter (counts r k place) (r.body place groups) in
-      let bodies_are : AreStates bodies = Each-filter IsState (counts r k place) (r.body place groups) (b place groups p g) in
-      let again = flat_map (λ (o : Outcome). rounds r turns (k + 1) o.end o.groups) bodies in
+      let bodies = filter (passes_empty_check r k place) (r.body place groups) in
+      let bodies_are : AreStates bodies = Each-filter IsState (passes_empty_check r k place) (r.body place groups) (b place groups p g) in
+      let again = flat_map (λ (o : Outcome). bounded_repeat r turns (k + 1) o.end o.groups) bodies in
       let leave : List Outcome = record { end = place; groups = groups } ∷ [] in
       let again_are : AreStates again =
-      Each-flat_map IsState IsState (λ (o : Outcome). rounds r turns (k + 1) o.end o.groups)
+      Each-flat_map IsState IsState (λ (o : Outcome). bounded_repeat r turns (k + 1) o.end o.groups)
       (λ o s. rounds-states r b turns (k + 1) o.end o.groups s.0 s.1) bodies bodies_are in
       preferred-states r.greedy (if nat_lt k r.most then again else []) (if nat_le r.least k then leave else [])
       (Each-if IsState (nat_lt k r.most) again [] again_are tt)

@@ -7,14 +7,14 @@ use Rattle.std.specs.Option.{option_map_or}
 use Rattle.std.specs.List.{list_all}
 use Rattle.regex_meaning.specs.Tree.{Tree}
 use Rattle.regex_meaning.specs.Text.{Text, last_place}
-use Rattle.regex_meaning.specs.Offsets.{IsText, IsBoundary, offset, place_at}
-use Rattle.regex_meaning.specs.Find.{Found, first_match, place_behind}
-use Rattle.regex_meaning.specs.Names.{Answer, answer, answers_from}
-use Rattle.regex_meaning.specs.Answers.{first_answer, first_found, next_start, answers_on, answer_then_list}
-use Rattle.regex_meaning.specs.Ticks.{need, needs, needs_from}
+use Rattle.regex_meaning.specs.CodeUnitOffsets.{IsText, IsBoundary, offset, place_at}
+use Rattle.regex_meaning.specs.FirstAndAllMatches.{Found, first_match, place_behind}
+use Rattle.regex_meaning.specs.Captures.{Answer, answer, answers_from}
+use Rattle.regex_meaning.specs.SearchAnswers.{first_answer, first_found, next_start, answers_on, answer_then_list}
+use Rattle.regex_meaning.specs.OutcomesWithStepTicks.{need, needs, needs_from}
 use Rattle.regex_meaning.specs.Laws.{needs_on, needs_behind}
-use Rattle.regex_meaning.specs.Steps.{is_within, left_of, those_within, need_from, needs_of_answers, answers_within, end_within, answers_next}
-use Rattle.regex_meaning.specs.Steps.{end_next}
+use Rattle.regex_meaning.specs.StepBudget.{is_within, remaining_budget, those_within, need_from, needs_of_answers, answers_within, finishes_within, answers_next}
+use Rattle.regex_meaning.specs.StepBudget.{end_next}
 use Rattle.regex_meaning.proofs.AnswerLemmas.{answers-go_on}
 use Rattle.regex_meaning.proofs.Matches.{StandsFrom, stands-first, GoesOnInside, goes-inside}
 use Rattle.regex_meaning.proofs.Needs.{needs-unfold}
@@ -115,8 +115,8 @@ module _ (tree : Tree) (text : Text) (is : IsText text) where
   -- where there is a match, and the budget is enough for it
   pub within-some : (budget : Option ℕ) (start : ℕ) (m : Answer) → first_answer tree.root text start ≡ Some m
       → is_within budget (need_from tree text start) ≡ true
-      → (answers_within tree text budget start ≡ m ∷ answers_next tree text (left_of budget (need_from tree text start)) (next_start tree.root text start))
-      × (end_within tree text budget start ≡ end_next tree text (left_of budget (need_from tree text start)) (next_start tree.root text start))
+      → (answers_within tree text budget start ≡ m ∷ answers_next tree text (remaining_budget budget (need_from tree text start)) (next_start tree.root text start))
+      × (finishes_within tree text budget start ≡ end_next tree text (remaining_budget budget (need_from tree text start)) (next_start tree.root text start))
   within-some None start m found within = (
     answers-go_on tree.root text is start ∙ ap (λ a. answer_then_list tree.root text a (next_start tree.root text start)) found ∙ by (next_start tree.root text start),
     by_end (next_start tree.root text start),
@@ -167,7 +167,7 @@ module _ (tree : Tree) (text : Text) (is : IsText text) where
 
   -- where there is none, and the budget is enough to find that
   pub within-none : (budget : Option ℕ) (start : ℕ) → first_answer tree.root text start ≡ None → is_within budget (need_from tree text start) ≡ true
-      → (answers_within tree text budget start ≡ []) × (end_within tree text budget start ≡ true)
+      → (answers_within tree text budget start ≡ []) × (finishes_within tree text budget start ≡ true)
   within-none None start found within = (answers-go_on tree.root text is start ∙ ap (λ a. answer_then_list tree.root text a (next_start tree.root text start)) found, refl)
   within-none (Some steps) start found within =
       (ap (those_within steps (needs_of_answers tree text start)) answers_are ∙ nothing (needs_of_answers tree text start), by (place_at text start) refl)
@@ -189,7 +189,7 @@ module _ (tree : Tree) (text : Text) (is : IsText text) where
 
   -- where the budget is not enough
   pub beyond : (budget : Option ℕ) (start : ℕ) → is_within budget (need_from tree text start) ≡ false
-      → (answers_within tree text budget start ≡ []) × (end_within tree text budget start ≡ false)
+      → (answers_within tree text budget start ≡ []) × (finishes_within tree text budget start ≡ false)
   beyond None start past = cc
   beyond (Some steps) start past = by (place_at text start) refl
     where

@@ -10,7 +10,7 @@ use Rattle.std.specs.Char.{len_utf8}
 use Rattle.std.specs.Str.{chars}
 use Rattle.regex_meaning.specs.Text.{Text, last_place, offsets_from, one_unit, fold_char, fold_ascii, fold_code_point, utf16_width, utf16_characters}
 use Rattle.regex_meaning.specs.Text.{utf8_text, ascii_text, utf16_text, ucs2_text}
-use Rattle.regex_meaning.specs.Offsets.{Rises, IsText, offset, units, place_at, IsBoundary}
+use Rattle.regex_meaning.specs.CodeUnitOffsets.{Rises, IsText, offset, units, place_at, IsBoundary}
 
 -- ---- Rising lists
 

@@ -5,11 +5,11 @@ use Rattle.std.specs.Prelude.{if◌then◌else◌, ◌==◌, slice_range}
 use Rattle.std.proofs.lemmas.List.{take-append-drop}
 use Rattle.std.proofs.lemmas.Bool.{cases_Bool}
 use mathlib.Core.Logic.{inl, inr}
-use Rattle.regex_meaning.specs.Lists.{contains}
+use Rattle.regex_meaning.specs.NumberListHelpers.{contains}
 use Rattle.regex_meaning.specs.Tree.{Flags}
-use Rattle.regex_meaning.specs.Names.{Answer}
+use Rattle.regex_meaning.specs.Captures.{Answer}
 use Rattle.regex_meaning.specs.Replace.{expansion, replaced}
-use Rattle.regex_meaning.specs.Flags.{flags_text, flags_of_text, special, escaped, escape}
+use Rattle.regex_meaning.specs.FlagLettersAndEscaping.{flags_text, flags_from_letters, syntax_characters, with_backslash_if_syntax, escape}
 use Rattle.regex_meaning.specs.Laws.{StandInOrder}
 
 -- ---- Replaced texts
@@ -45,15 +45,15 @@ for-both P t f false = f
 abbrev flags : (icase multiline dot_all no_opt unicode unicode_sets : Bool) → Flags
 flags i m s n u v = record { icase = i; multiline = m; dot_all = s; no_opt = n; unicode = u; unicode_sets = v }
 
-read-back : (n i m s u v : Bool) → flags_of_text (flags_text (flags i m s n u v)) ≡ flags i m s false u v
-unfolding flags_text flags_of_text
+read-back : (n i m s u v : Bool) → flags_from_letters (flags_text (flags i m s n u v)) ≡ flags i m s false u v
+unfolding flags_text flags_from_letters
 read-back n =
     for-both _ (for-both _ (for-both _ (for-both _ (for-both _ refl refl) (for-both _ refl refl)) (for-both _ (for-both _ refl refl) (for-both _ refl refl)))
     (for-both _ (for-both _ (for-both _ refl refl) (for-both _ refl refl)) (for-both _ (for-both _ refl refl) (for-both _ refl refl))))
     (for-both _ (for-both _ (for-both _ (for-both _ refl refl) (for-both _ refl refl)) (for-both _ (for-both _ refl refl) (for-both _ refl refl)))
     (for-both _ (for-both _ (for-both _ refl refl) (for-both _ refl refl)) (for-both _ (for-both _ refl refl) (for-both _ refl refl))))
 
-pub flags-read_back : (f : Flags) → flags_of_text (flags_text f) ≡ record f { no_opt = false }
+pub flags-read_back : (f : Flags) → flags_from_letters (flags_text f) ≡ record f { no_opt = false }
 flags-read_back f = read-back f.no_opt f.icase f.multiline f.dot_all f.unicode f.unicode_sets
 
 -- ---- Escaped texts
@@ -70,9 +70,9 @@ not-first c d ds h = elim (cases_Bool (c == d)) [
   | inr e ↦ e
 ]
 
-unescape-escaped : (c : ℕ) (rest : List ℕ) → unescape false (escaped c ++ rest) ≡ c ∷ unescape false rest
+unescape-escaped : (c : ℕ) (rest : List ℕ) → unescape false (with_backslash_if_syntax c ++ rest) ≡ c ∷ unescape false rest
 unfolding unescape
-unescape-escaped c rest = elim (cases_Bool (contains special c)) [
+unescape-escaped c rest = elim (cases_Bool (contains syntax_characters c)) [
   | inl e ↦ rw e refl
   | inr e ↦ let other : (c == 92) ≡ false = not-first c 92 (codes "^$.|?*+()[]{}") e in rw (e, other) refl
 ]

@@ -5,10 +5,10 @@ use Rattle.regex_meaning.specs.Tree.{Quantifier, Node, empty, goal, char, char_s
 use Rattle.regex_meaning.specs.Tree.{string_set, match_any, match_any_except_line_terminator, anchor, word_boundary, capture_group, back_ref}
 use Rattle.regex_meaning.specs.Tree.{lookaround, loop, loop_1_char_body}
 use Rattle.regex_meaning.specs.Text.{Text, Direction}
-use Rattle.regex_meaning.specs.Outcomes.{Groups, Outcome, repetition, rounds, counts, preferred, captured, cleared, looked, direction_of, spelled}
-use Rattle.regex_meaning.specs.Outcomes.{spells, outcomes, most_of}
-use Rattle.regex_meaning.specs.Ticks.{Item, tick, pair, pairs, ticks, and_then, ticked_pairs, with_ticks_between, ticked_alt, ways, ticked_rounds}
-use Rattle.regex_meaning.specs.Ticks.{ticked_string, ticked_strings, ticked}
+use Rattle.regex_meaning.specs.Outcomes.{Groups, Outcome, repetition, bounded_repeat, passes_empty_check, preferred, captured, cleared, lookaround_outcomes, direction_of, spelled}
+use Rattle.regex_meaning.specs.Outcomes.{is_case_variant, outcomes, max_iterations}
+use Rattle.regex_meaning.specs.OutcomesWithStepTicks.{TickOrOutcome, tick, pair, outcomes_without_ticks, ticks, outcomes_replaced_by_lists, ticks_before_outcomes, with_ticks_between, ticked_alt, ticked_preferred, ticked_bounded_repeat}
+use Rattle.regex_meaning.specs.OutcomesWithStepTicks.{ticked_string, ticked_strings, ticked}
 use Rattle.std.proofs.lemmas.List.{append-nil, map-id}
 use Rattle.std.proofs.lemmas.List.Concat.{flat_map_single}
 use Rattle.regex_meaning.proofs.Lists.{flat_map-same}
@@ -29,87 +29,87 @@ flat_map-filter kept f (x ∷ xs) = go (kept x) (flat_map-filter kept f xs)
 
 -- ---- Pairs
 
-pub pairs-append : (xs ys : List Item) → pairs (xs ++ ys) ≡ pairs xs ++ pairs ys
+pub pairs-append : (xs ys : List TickOrOutcome) → outcomes_without_ticks (xs ++ ys) ≡ outcomes_without_ticks xs ++ outcomes_without_ticks ys
 pairs-append [] ys = refl
 pairs-append (tick ∷ xs) ys = pairs-append xs ys
 pairs-append (pair o ∷ xs) ys = ap (λ (os : List Outcome). o ∷ os) (pairs-append xs ys)
 
-pairs-ticks : (n : ℕ) (xs : List Item) → pairs (ticks n ++ xs) ≡ pairs xs
+pairs-ticks : (n : ℕ) (xs : List TickOrOutcome) → outcomes_without_ticks (ticks n ++ xs) ≡ outcomes_without_ticks xs
 pairs-ticks zero xs = refl
 pairs-ticks (suc n) xs = pairs-ticks n xs
 
-pairs-pair : (os : List Outcome) → pairs (map pair os) ≡ os
+pairs-pair : (os : List Outcome) → outcomes_without_ticks (map pair os) ≡ os
 pairs-pair [] = refl
 pairs-pair (o ∷ os) = ap (λ (ps : List Outcome). o ∷ ps) (pairs-pair os)
 
-pairs-with_ticks_between : (os : List Outcome) → pairs (with_ticks_between os) ≡ os
+pairs-with_ticks_between : (os : List Outcome) → outcomes_without_ticks (with_ticks_between os) ≡ os
 pairs-with_ticks_between [] = refl
 pairs-with_ticks_between (o ∷ []) = refl
 pairs-with_ticks_between (o ∷ p ∷ os) = ap (λ (ps : List Outcome). o ∷ ps) (pairs-with_ticks_between (p ∷ os))
 
-pub pairs-and_then : (items : List Item) (next : Outcome → List Item) → pairs (and_then items next) ≡ flat_map (λ o. pairs (next o)) (pairs items)
+pub pairs-and_then : (items : List TickOrOutcome) (next : Outcome → List TickOrOutcome) → outcomes_without_ticks (outcomes_replaced_by_lists items next) ≡ flat_map (λ o. outcomes_without_ticks (next o)) (outcomes_without_ticks items)
 pairs-and_then [] next = refl
 pairs-and_then (tick ∷ items) next = pairs-and_then items next
-pairs-and_then (pair o ∷ items) next = rw (pairs-append (next o) (and_then items next), pairs-and_then items next)
+pairs-and_then (pair o ∷ items) next = rw (pairs-append (next o) (outcomes_replaced_by_lists items next), pairs-and_then items next)
 
-pairs-ticked_pairs : (items : List Item) → pairs (ticked_pairs items) ≡ pairs items
+pairs-ticked_pairs : (items : List TickOrOutcome) → outcomes_without_ticks (ticks_before_outcomes items) ≡ outcomes_without_ticks items
 pairs-ticked_pairs items =
-    rw (pairs-and_then items (λ o. tick ∷ pair o ∷ []), flat_map_single (λ o. o) (pairs items), map-id (pairs items))
+    rw (pairs-and_then items (λ o. tick ∷ pair o ∷ []), flat_map_single (λ o. o) (outcomes_without_ticks items), map-id (outcomes_without_ticks items))
 
-pairs-ticked_alt : (left right : List Item) → pairs (ticked_alt left right) ≡ pairs left ++ pairs right
-pairs-ticked_alt left right = rw (pairs-append (ticked_pairs left) (tick ∷ right), pairs-ticked_pairs left)
+pairs-ticked_alt : (left right : List TickOrOutcome) → outcomes_without_ticks (ticked_alt left right) ≡ outcomes_without_ticks left ++ outcomes_without_ticks right
+pairs-ticked_alt left right = rw (pairs-append (ticks_before_outcomes left) (tick ∷ right), pairs-ticked_pairs left)
 
-pairs-ways : (may_again may_leave greedy : Bool) (again leave : List Item)
-    → pairs (ways may_again may_leave greedy again leave)
-    ≡ preferred greedy (if may_again then pairs again else []) (if may_leave then pairs leave else [])
+pairs-ways : (may_again may_leave greedy : Bool) (again leave : List TickOrOutcome)
+    → outcomes_without_ticks (ticked_preferred may_again may_leave greedy again leave)
+    ≡ preferred greedy (if may_again then outcomes_without_ticks again else []) (if may_leave then outcomes_without_ticks leave else [])
 pairs-ways false false true again leave = refl
 pairs-ways false false false again leave = refl
-pairs-ways true false true again leave = sym (append-nil (pairs again))
+pairs-ways true false true again leave = sym (append-nil (outcomes_without_ticks again))
 pairs-ways true false false again leave = refl
 pairs-ways false true true again leave = refl
-pairs-ways false true false again leave = sym (append-nil (pairs leave))
+pairs-ways false true false again leave = sym (append-nil (outcomes_without_ticks leave))
 pairs-ways true true true again leave = pairs-append again (tick ∷ leave)
 pairs-ways true true false again leave = pairs-append leave (tick ∷ again)
 
 -- ---- Loops
 
-if-pairs : (b : Bool) (items : List Item) (os : List Outcome) → pairs items ≡ os
-    → pairs (if b then items else []) ≡ (if b then os else [])
+if-pairs : (b : Bool) (items : List TickOrOutcome) (os : List Outcome) → outcomes_without_ticks items ≡ os
+    → outcomes_without_ticks (if b then items else []) ≡ (if b then os else [])
 if-pairs true items os e = e
 if-pairs false items os e = refl
 
-pairs-again : (kept : Outcome → Bool) (further : Outcome → List Item) (later : Outcome → List Outcome)
-    → ((o : Outcome) → pairs (further o) ≡ later o) → (items : List Item) (os : List Outcome) → pairs items ≡ os
-    → pairs (and_then items (λ o. tick ∷ (if kept o then further o else []))) ≡ flat_map later (filter kept os)
+pairs-again : (kept : Outcome → Bool) (further : Outcome → List TickOrOutcome) (later : Outcome → List Outcome)
+    → ((o : Outcome) → outcomes_without_ticks (further o) ≡ later o) → (items : List TickOrOutcome) (os : List Outcome) → outcomes_without_ticks items ≡ os
+    → outcomes_without_ticks (outcomes_replaced_by_lists items (λ o. tick ∷ (if kept o then further o else []))) ≡ flat_map later (filter kept os)
 pairs-again kept further later h items os e =
     rw (pairs-and_then items (λ o. tick ∷ (if kept o then further o else [])), e)
-    (flat_map-same (λ o. pairs (if kept o then further o else [])) (λ o. if kept o then later o else [])
+    (flat_map-same (λ o. outcomes_without_ticks (if kept o then further o else [])) (λ o. if kept o then later o else [])
     (λ o. if-pairs (kept o) (further o) (later o) (h o)) os
     ∙ flat_map-filter kept later os)
 
-pairs-ticked_rounds : (q : Quantifier) (ticked_body : ℕ → Groups → List Item) (body : ℕ → Groups → List Outcome)
-    → ((place : ℕ) (groups : Groups) → pairs (ticked_body place groups) ≡ body place groups)
+pairs-ticked_rounds : (q : Quantifier) (ticked_body : ℕ → Groups → List TickOrOutcome) (body : ℕ → Groups → List Outcome)
+    → ((place : ℕ) (groups : Groups) → outcomes_without_ticks (ticked_body place groups) ≡ body place groups)
     → (turns k place : ℕ) (groups : Groups)
-    → pairs (ticked_rounds (repetition q ticked_body) turns k place groups) ≡ rounds (repetition q body) turns k place groups
-unfolding ticked_rounds rounds
+    → outcomes_without_ticks (ticked_bounded_repeat (repetition q ticked_body) turns k place groups) ≡ bounded_repeat (repetition q body) turns k place groups
+unfolding ticked_bounded_repeat bounded_repeat
 pairs-ticked_rounds q ticked_body body h zero k place groups = refl
 pairs-ticked_rounds q ticked_body body h (suc turns) k place groups =
-    pairs-ways (nat_lt k (most_of q)) (nat_le q.min k) q.greedy _ (pair (record { end = place; groups = groups }) ∷ [])
-    ∙ ap (λ (os : List Outcome). preferred q.greedy (if nat_lt k (most_of q) then os else []) (if nat_le q.min k then record { end = place; groups = groups } ∷ [] else []))
-    (pairs-again (counts (repetition q body) k place)
-    (λ o. ticked_rounds (repetition q ticked_body) turns (k + 1) o.end o.groups)
-    (λ o. rounds (repetition q body) turns (k + 1) o.end o.groups)
+    pairs-ways (nat_lt k (max_iterations q)) (nat_le q.min k) q.greedy _ (pair (record { end = place; groups = groups }) ∷ [])
+    ∙ ap (λ (os : List Outcome). preferred q.greedy (if nat_lt k (max_iterations q) then os else []) (if nat_le q.min k then record { end = place; groups = groups } ∷ [] else []))
+    (pairs-again (passes_empty_check (repetition q body) k place)
+    (λ o. ticked_bounded_repeat (repetition q ticked_body) turns (k + 1) o.end o.groups)
+    (λ o. bounded_repeat (repetition q body) turns (k + 1) o.end o.groups)
     (λ o. pairs-ticked_rounds q ticked_body body h turns (k + 1) o.end o.groups)
     (ticked_body place groups) (body place groups) (h place groups))
 
 module _ (text : Text) where
   pairs-ticked_string : (icase : Bool) (s : List ℕ) (d : Direction) (place : ℕ) (groups : Groups)
-      → pairs (ticked_string text icase s d place groups) ≡ spelled text (spells text icase) s d place groups
+      → outcomes_without_ticks (ticked_string text icase s d place groups) ≡ spelled text (is_case_variant text icase) s d place groups
   pairs-ticked_string icase s d place groups = rw (pairs-ticks, pairs-pair)
 
   pairs-ticked_strings : (icase : Bool) (strings : List (List ℕ)) (d : Direction) (place : ℕ) (groups : Groups)
-      → pairs (ticked_strings text icase strings d place groups)
-      ≡ flat_map (λ s. spelled text (spells text icase) s d place groups) strings
+      → outcomes_without_ticks (ticked_strings text icase strings d place groups)
+      ≡ flat_map (λ s. spelled text (is_case_variant text icase) s d place groups) strings
   pairs-ticked_strings icase [] d place groups = refl
   pairs-ticked_strings icase (s ∷ []) d place groups =
       rw (pairs-ticked_string icase s d place groups) (sym (append-nil _))
@@ -122,7 +122,7 @@ module _ (text : Text) where
 
   -- the pairs of the list with ticks are the outcomes
   pub pairs-ticked : (node : Node) (d : Direction) (place : ℕ) (groups : Groups)
-      → pairs (ticked text node d place groups) ≡ outcomes text node d place groups
+      → outcomes_without_ticks (ticked text node d place groups) ≡ outcomes text node d place groups
   unfolding ticked outcomes
   pairs-ticked empty d place groups = pairs-pair _
   pairs-ticked end_of_cat d place groups = pairs-pair _
@@ -154,7 +154,7 @@ module _ (text : Text) where
       ) (flat_map_single (captured id place) _)
   pairs-ticked (lookaround l contents) d place groups =
       rw (pairs-ticks, pairs-pair)
-      (ap (λ (os : List Outcome). looked l.negate os place groups)
+      (ap (λ (os : List Outcome). lookaround_outcomes l.negate os place groups)
       (pairs-ticked_pairs (ticked text contents (direction_of l) place groups) ∙ pairs-ticked contents (direction_of l) place groups))
   pairs-ticked (loop q start_group end_group loopee) d place groups =
       pairs-ticked_rounds q _ _ (λ p g. pairs-ticks (end_group - start_group) _ ∙ pairs-ticked loopee d p (cleared start_group (end_group - start_group) g)) _ 0 place groups

@@ -4,10 +4,10 @@ use Rattle.std.proofs.Common.{zero-add, eq-eqb, ne_eqb, lt-ltb, le-leb, leb-true
 use Rattle.std.specs.List.{list_any, position_or_len}
 use Rattle.std.proofs.lemmas.Bool.{cases_Bool, lt-leb, and_parts}
 use mathlib.Core.Logic.{inl, inr}
-use Rattle.regex_meaning.specs.Lists.{contains}
-use Rattle.regex_meaning.specs.Text.{is_high_surrogate, is_low_surrogate, character_of_pair, utf16_width, utf16_characters, offsets_from}
+use Rattle.regex_meaning.specs.NumberListHelpers.{contains}
+use Rattle.regex_meaning.specs.Text.{is_high_surrogate, is_low_surrogate, decode_surrogate_pair, utf16_width, utf16_characters, offsets_from}
 use Rattle.regex_meaning.specs.Text.{is_unit_boundary, utf16_text, one_unit}
-use Rattle.regex_meaning.specs.Offsets.{place_at, units}
+use Rattle.regex_meaning.specs.CodeUnitOffsets.{place_at, units}
 use Rattle.regex_meaning.specs.Laws.{is_within_pair}
 use Rattle.std.proofs.Math.Bool.{and-false}
 use Rattle.regex_meaning.proofs.Booleans.{le-same}
@@ -46,8 +46,8 @@ is_between units i = nat_le i (length units) && not (is_within_pair units i)
 pub single-width : (u : ℕ) → u < 0x1_0000 → utf16_width u ≡ 1
 single-width u less = rw (lt-leb 0x1_0000 u less) refl
 
-pair-width : (u v : ℕ) → utf16_width (character_of_pair u v) ≡ 2
-pair-width u v = rw (le-leb 0x1_0000 (character_of_pair u v) (omega arith)) refl
+pair-width : (u v : ℕ) → utf16_width (decode_surrogate_pair u v) ≡ 2
+pair-width u v = rw (le-leb 0x1_0000 (decode_surrogate_pair u v) (omega arith)) refl
 
 -- no unit is both a low surrogate and a high one
 pub low-not_high : (v : ℕ) → is_low_surrogate v ≡ true → is_high_surrogate v ≡ false

@@ -4,7 +4,7 @@ use Rattle.std.specs.Char.{len_utf8}
 use Rattle.std.proofs.lemmas.Str.{length-encode, encodes-chars, IsUtf8-had}
 use lib.Utf8.{encode, encodes}
 use Rattle.regex_meaning.specs.Text.{offsets_from, one_unit, utf8_text, ascii_text, ucs2_text}
-use Rattle.regex_meaning.specs.Offsets.{units}
+use Rattle.regex_meaning.specs.CodeUnitOffsets.{units}
 
 abbrev total : (width : ℕ → ℕ) → List ℕ → ℕ
 total width [] = 0

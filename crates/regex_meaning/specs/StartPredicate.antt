@@ -1,24 +1,24 @@
--- What a text has to start with where a tree has an outcome.
+-- What a text must begin with at a place where a tree has an outcome (a rule of this crate).
 use Rattle.std.specs.Prelude.{◌≢◌, ℕ, ◌+◌, ◌*◌, ◌-◌, ◌≤◌, Bool, true, false, ◌&&◌, ◌||◌, not, List, [], ◌∷◌, take, drop, filter, map, flat_map, min}
 use Rattle.std.specs.Prelude.{max, ◌++◌, if◌then◌else◌, nat_lt, nat_le, nat_eq, ◌==◌, encode_utf8_all, IsTrue}
 use Rattle.std.specs.List.{list_any, list_all, starts_with}
 use Rattle.std.specs.Int.{is_in_range}
-use Rattle.regex_meaning.specs.Lists.{contains, numbers_from}
+use Rattle.regex_meaning.specs.NumberListHelpers.{contains, numbers_from}
 use Rattle.regex_meaning.specs.Tree.{Intervals, BracketContents, start_of_line, Node, char_set, byte_set, byte_sequence, cat, end_of_cat, alt}
 use Rattle.regex_meaning.specs.Tree.{bracket, anchor, capture_group, lookaround, loop, loop_1_char_body, Tree}
 use Rattle.regex_meaning.specs.Text.{Text, rightwards, last_place, is_scalar}
 use Rattle.regex_meaning.specs.Outcomes.{outcomes}
-use Rattle.regex_meaning.specs.Find.{no_groups}
+use Rattle.regex_meaning.specs.FirstAndAllMatches.{no_groups}
 
--- ---- Sets of bytes, as rising lists
+-- ---- Sets of bytes, as increasing lists
 
 -- the bytes that pass the test
-unfoldable pub bytes_where : (ℕ → Bool) → List ℕ
-bytes_where test = filter test (numbers_from 0 256)
+unfoldable pub bytes_that_pass : (ℕ → Bool) → List ℕ
+bytes_that_pass test = filter test (numbers_from 0 256)
 
 -- the code points whose UTF-8 begins with this byte
-abbrev pub begun_by : (byte : ℕ) → Intervals
-begun_by b =
+abbrev pub chars_with_first_byte : (byte : ℕ) → Intervals
+chars_with_first_byte b =
     if nat_lt b 0x80 then (b, b) ∷ []
     else if is_in_range 0xC2 0xDF b then ((b - 0xC0) * 0x40, (b - 0xC0) * 0x40 + 0x3F) ∷ []
     else if b == 0xE0 then (0x800, 0xFFF) ∷ []
@@ -27,85 +27,94 @@ begun_by b =
     else if is_in_range 0xF1 0xF3 b then ((b - 0xF0) * 0x4_0000, (b - 0xF0) * 0x4_0000 + 0x3_FFFF) ∷ []
     else if b == 0xF4 then (0x10_0000, 0x10_FFFF) ∷ [] else []
 
--- two lists of intervals share a number
-abbrev pub meet : Intervals → Intervals → Bool
-meet xs ys = list_any (λ x. list_any (λ y. nat_le x.0 x.1 && nat_le y.0 y.1 && nat_le x.0 y.1 && nat_le y.0 x.1) ys) xs
+-- whether two lists of intervals have a number in common
+abbrev pub intersects : Intervals → Intervals → Bool
+intersects xs ys = list_any (λ x. list_any (λ y. nat_le x.0 x.1 && nat_le y.0 y.1 && nat_le x.0 y.1 && nat_le y.0 x.1) ys) xs
 
--- the first bytes of these code points, up to U+10FFFF
+-- the first UTF-8 bytes of these code points, up to U+10FFFF
 abbrev pub first_bytes : Intervals → List ℕ
-first_bytes intervals = bytes_where (λ b. meet (begun_by b) intervals)
+first_bytes intervals = bytes_that_pass (λ b. intersects (chars_with_first_byte b) intervals)
 
--- the parts of an interval that stand outside another one
-abbrev pub outside : (other this : ℕ × ℕ) → Intervals
-outside other this =
+-- the parts of the interval `this` outside the interval `other`
+abbrev pub interval_minus : (other this : ℕ × ℕ) → Intervals
+interval_minus other this =
     if nat_lt other.1 other.0 then this ∷ []
     else (if nat_lt this.0 other.0 then (this.0, min this.1 (other.0 - 1)) ∷ [] else [])
     ++ (if nat_lt other.1 this.1 then (max this.0 (other.1 + 1), this.1) ∷ [] else [])
 
--- the numbers of the first intervals that stand in none of the second
-abbrev pub without : Intervals → Intervals → Intervals
-without these [] = these
-without these (other ∷ others) = without (flat_map (outside other) these) others
+-- the intervals of the first list without the numbers of the second
+abbrev pub intervals_minus : Intervals → Intervals → Intervals
+intervals_minus these [] = these
+intervals_minus these (other ∷ others) = intervals_minus (flat_map (interval_minus other) these) others
 
--- the code points that a bracket accepts
+-- the code points that a class accepts
 abbrev pub code_points : BracketContents → Intervals
-code_points contents = if contents.invert then without ((0, 0x10_FFFF) ∷ []) contents.intervals else contents.intervals
+code_points contents = if contents.invert then intervals_minus ((0, 0x10_FFFF) ∷ []) contents.intervals else contents.intervals
 
--- ---- The table
+-- ---- The predicate of a node
 
-pub data Beginning : Type 0 where
-  -- it reads nothing: what follows decides
-  open_ended : Beginning
-  arbitrary : Beginning
-  sequence : (bytes : List ℕ) → Beginning
-  one_of : (bytes : List ℕ) → Beginning
+-- what the text must begin with if the node matches: nothing known (`arbitrary`), a sequence of
+-- bytes, or one of some bytes
+pub data AbstractStartPredicate : Type 0 where
+  -- the node consumes nothing, so that the predicate is that of what follows
+  open_ended : AbstractStartPredicate
+  arbitrary : AbstractStartPredicate
+  sequence : (bytes : List ℕ) → AbstractStartPredicate
+  one_of : (bytes : List ℕ) → AbstractStartPredicate
 
-abbrev pub sequence_of : List ℕ → Beginning
-sequence_of [] = arbitrary
-sequence_of (b ∷ bs) = sequence (b ∷ bs)
+-- a sequence of bytes; nothing is known if it is empty
+abbrev pub byte_sequence_predicate : List ℕ → AbstractStartPredicate
+byte_sequence_predicate [] = arbitrary
+byte_sequence_predicate (b ∷ bs) = sequence (b ∷ bs)
 
--- that of the first child that does not stay open
-abbrev pub then_of : Beginning → Beginning → Beginning
-then_of open_ended rest = rest
-then_of first rest = first
+-- the predicate of the first child that is not open-ended
+abbrev pub first_decided : AbstractStartPredicate → AbstractStartPredicate → AbstractStartPredicate
+first_decided open_ended rest = rest
+first_decided first rest = first
 
-abbrev pub shared_front : List ℕ → List ℕ → List ℕ
-shared_front [] ys = []
-shared_front (x ∷ xs) [] = []
-shared_front (x ∷ xs) (y ∷ ys) = if x == y then x ∷ shared_front xs ys else []
+-- the longest common prefix of two lists
+abbrev pub common_prefix : List ℕ → List ℕ → List ℕ
+common_prefix [] ys = []
+common_prefix (x ∷ xs) [] = []
+common_prefix (x ∷ xs) (y ∷ ys) = if x == y then x ∷ common_prefix xs ys else []
 
-abbrev pub first_byte : List ℕ → List ℕ
-first_byte bytes = take 1 bytes
+-- the first byte of a sequence, as a set
+abbrev pub first_byte_as_set : List ℕ → List ℕ
+first_byte_as_set bytes = take 1 bytes
 
+-- the union of two sets of bytes
 abbrev pub union : List ℕ → List ℕ → List ℕ
-union xs ys = bytes_where (λ b. contains xs b || contains ys b)
+union xs ys = bytes_that_pass (λ b. contains xs b || contains ys b)
 
-abbrev pub sequence_or : (front first_bytes : List ℕ) → Beginning
-sequence_or [] first_bytes = one_of first_bytes
-sequence_or (b ∷ bs) first_bytes = sequence (b ∷ bs)
+-- the common prefix if it is not empty, else the set of first bytes
+abbrev pub common_prefix_or_first_bytes : (front first_bytes : List ℕ) → AbstractStartPredicate
+common_prefix_or_first_bytes [] first_bytes = one_of first_bytes
+common_prefix_or_first_bytes (b ∷ bs) first_bytes = sequence (b ∷ bs)
 
-abbrev pub join : Beginning → Beginning → Beginning
-join (sequence xs) (sequence ys) = sequence_or (shared_front xs ys) (union (first_byte xs) (first_byte ys))
-join (sequence xs) (one_of ys) = one_of (union (first_byte xs) ys)
-join (one_of xs) (sequence ys) = one_of (union xs (first_byte ys))
+-- the predicate of two alternatives
+abbrev pub join : AbstractStartPredicate → AbstractStartPredicate → AbstractStartPredicate
+join (sequence xs) (sequence ys) = common_prefix_or_first_bytes (common_prefix xs ys) (union (first_byte_as_set xs) (first_byte_as_set ys))
+join (sequence xs) (one_of ys) = one_of (union (first_byte_as_set xs) ys)
+join (one_of xs) (sequence ys) = one_of (union xs (first_byte_as_set ys))
 join (one_of xs) (one_of ys) = one_of (union xs ys)
 join _ _ = arbitrary
 
-unfoldable pub beginning : Node → Beginning
-beginning (byte_sequence bytes) = sequence_of bytes
-beginning (byte_set members) = one_of (bytes_where (contains members))
-beginning (char_set members) = one_of (first_bytes (map (λ c. (c, c)) members))
-beginning (bracket contents) = one_of (first_bytes (code_points contents))
-beginning (cat first rest) = then_of (beginning first) (beginning rest)
-beginning end_of_cat = open_ended
-beginning (capture_group id name contents) = beginning contents
-beginning (loop q start_group end_group loopee) = if nat_lt 0 q.min then beginning loopee else arbitrary
-beginning (loop_1_char_body q loopee) = if nat_lt 0 q.min then beginning loopee else arbitrary
-beginning (alt left right) = join (beginning left) (beginning right)
-beginning (lookaround l contents) = open_ended
-beginning _ = arbitrary
+-- the predicate of a node
+unfoldable pub abstract_start_predicate : Node → AbstractStartPredicate
+abstract_start_predicate (byte_sequence bytes) = byte_sequence_predicate bytes
+abstract_start_predicate (byte_set members) = one_of (bytes_that_pass (contains members))
+abstract_start_predicate (char_set members) = one_of (first_bytes (map (λ c. (c, c)) members))
+abstract_start_predicate (bracket contents) = one_of (first_bytes (code_points contents))
+abstract_start_predicate (cat first rest) = first_decided (abstract_start_predicate first) (abstract_start_predicate rest)
+abstract_start_predicate end_of_cat = open_ended
+abstract_start_predicate (capture_group id name contents) = abstract_start_predicate contents
+abstract_start_predicate (loop q start_group end_group loopee) = if nat_lt 0 q.min then abstract_start_predicate loopee else arbitrary
+abstract_start_predicate (loop_1_char_body q loopee) = if nat_lt 0 q.min then abstract_start_predicate loopee else arbitrary
+abstract_start_predicate (alt left right) = join (abstract_start_predicate left) (abstract_start_predicate right)
+abstract_start_predicate (lookaround l contents) = open_ended
+abstract_start_predicate _ = arbitrary
 
--- outcomes stand at the left end alone
+-- whether the node matches at the left end of the text only
 abbrev pub is_anchored : Node → Bool
 is_anchored (anchor start_of_line multiline) = not multiline
 is_anchored (cat first rest) = is_anchored first
@@ -115,54 +124,60 @@ is_anchored _ = false
 
 -- ---- The predicate of a tree
 
+-- what the text must begin with: nothing known, a byte of a set, a sequence of bytes, or the left
+-- end only
 pub data StartPredicate : Type 0 where
   start_arbitrary : StartPredicate
-  -- one byte, or one of two or three, or of more
+  -- one byte, or one of two, of three, or of more
   start_byte_set : (bytes : List ℕ) → StartPredicate
-  -- two bytes or more
+  -- at least two bytes
   start_byte_sequence : (bytes : List ℕ) → StartPredicate
   start_anchored : StartPredicate
 
-abbrev pub start_of : Beginning → StartPredicate
-start_of (sequence (b ∷ [])) = start_byte_set (b ∷ [])
-start_of (sequence (b ∷ c ∷ bs)) = start_byte_sequence (b ∷ c ∷ bs)
-start_of (one_of (b ∷ bs)) = start_byte_set (b ∷ bs)
-start_of _ = start_arbitrary
+-- the predicate of a tree, given that of its root; of an empty set or an open end nothing is known
+abbrev pub resolved_start_predicate : AbstractStartPredicate → StartPredicate
+resolved_start_predicate (sequence (b ∷ [])) = start_byte_set (b ∷ [])
+resolved_start_predicate (sequence (b ∷ c ∷ bs)) = start_byte_sequence (b ∷ c ∷ bs)
+resolved_start_predicate (one_of (b ∷ bs)) = start_byte_set (b ∷ bs)
+resolved_start_predicate _ = start_arbitrary
 
+-- the start predicate of a tree
 unfoldable pub start_predicate : Tree → StartPredicate
 start_predicate tree =
-    if not tree.flags.multiline && is_anchored tree.root then start_anchored else start_of (beginning tree.root)
+    if not tree.flags.multiline && is_anchored tree.root then start_anchored else resolved_start_predicate (abstract_start_predicate tree.root)
 
--- ---- What it says
+-- ---- Meaning of the predicate
 
 -- the bytes of the text from a place on
-abbrev pub bytes_from : Text → ℕ → List ℕ
-bytes_from text place = encode_utf8_all (drop place text.characters)
+abbrev pub text_bytes_from_place : Text → ℕ → List ℕ
+text_bytes_from_place text place = encode_utf8_all (drop place text.characters)
 
+-- whether the bytes begin with one of these members
 abbrev pub begins_with_one_of : List ℕ → List ℕ → Bool
 begins_with_one_of members [] = false
 begins_with_one_of members (b ∷ bs) = contains members b
 
--- the predicate does not rule the place out
+-- whether the predicate allows a match to start at the place
 unfoldable pub may_start : StartPredicate → Text → ℕ → Bool
 may_start start_arbitrary text place = true
-may_start (start_byte_set members) text place = begins_with_one_of members (bytes_from text place)
-may_start (start_byte_sequence bytes) text place = starts_with nat_eq (bytes_from text place) bytes
+may_start (start_byte_set members) text place = begins_with_one_of members (text_bytes_from_place text place)
+may_start (start_byte_sequence bytes) text place = starts_with nat_eq (text_bytes_from_place text place) bytes
 may_start start_anchored text place = place == 0
 
--- no byte of it stands inside a character
+-- whether no byte of the set, and not the first byte of the sequence, is a UTF-8 continuation byte
 abbrev pub begins_characters : StartPredicate → Bool
 begins_characters (start_byte_set members) = list_all (λ b. not (is_in_range 0x80 0xBF b)) members
 begins_characters (start_byte_sequence bytes) = list_all (λ b. not (is_in_range 0x80 0xBF b)) (take 1 bytes)
 begins_characters _ = true
 
--- its set or its sequence has a byte
+-- whether the set or the sequence of the predicate is not empty
 abbrev pub is_filled : StartPredicate → Bool
 is_filled (start_byte_set []) = false
 is_filled (start_byte_sequence []) = false
 is_filled _ = true
 
--- wherever the tree has an outcome, the predicate holds
+-- the predicate allows every place at which the tree has an outcome; besides, its bytes begin
+-- characters, and it is not empty
 pub record IsSound (p : StartPredicate) (root : Node) : Type 0 where
   pub holds : (text : Text) (place : ℕ) → IsTrue (list_all is_scalar text.characters) → place ≤ last_place text
       → outcomes text root rightwards place (no_groups root) ≢ [] → IsTrue (may_start p text place)

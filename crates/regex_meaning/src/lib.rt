@@ -1,138 +1,140 @@
-// The meaning of patterns: definitions that contracts cite, and laws of theirs.
+// Meaning of patterns: the definitions that contracts refer to, and proofs of their laws.
 #![tactic(auto)]
 
-ghost use Rattle.regex_meaning.specs.Laws.{PairsAreOutcomes, RepeatUnfolds, OutcomesGoOn, OutcomesKeepGroups, OutcomesStayInText, FirstMatchUnfolds};
+ghost use Rattle.regex_meaning.specs.Laws.{TicksChangeNothing, LoopRepetitionUnfolds, OutcomesEndAheadOfPlace, OutcomesKeepGroups, OutcomesStayInText, FirstMatchUnfolds};
 ghost use Rattle.regex_meaning.specs.Laws.{MatchListUnfolds, NeedsUnfold, PlacesHaveOffsets, EncodingsAreTexts, UnitBoundariesAreBoundaries};
-ghost use Rattle.regex_meaning.specs.Laws.{SameInUtf16, SameInAscii, AnswersGoOn, ListGoesOnAhead, AnswersStandInText, MatchesAtAreFirst};
-ghost use Rattle.regex_meaning.specs.Laws.{AnswersAreRanges, AnswersStandInOrder, AnswersAreFew, AnswersResume, NamesAgree};
-ghost use Rattle.regex_meaning.specs.Laws.{WholeMatchesChangeNothing, FlagsReadBack, EscapeIsInjective, PredicateIsSound};
+ghost use Rattle.regex_meaning.specs.Laws.{SameMatchesInUtf16, SameAnswersInAscii, AnswersFromOffsetUnfold, NextStartIsAhead, AnswersAreWithinText, MatchAtOffsetIsFirstAnswer};
+ghost use Rattle.regex_meaning.specs.Laws.{AnswersSatisfyIsAnswerOf, AnswersAreOrderedWithoutOverlap, AnswerCountIsBounded, ResumedSearchYieldsRest, NamedGroupAgreesWithNamedGroups};
+ghost use Rattle.regex_meaning.specs.Laws.{ReplacingMatchesByThemselvesChangesNothing, FlagsParseDisplayRoundTrip, EscapeIsInjective, StartPredicateIsSound};
 
-/// The ticks of a search are put among its outcomes, and change none of them.
+/// Proves that the list of ticks and outcomes of a node contains exactly its outcomes, in order.
 pub fn ticks_change_nothing()
-    ensures { PairsAreOutcomes }
+    ensures { TicksChangeNothing }
 {}
 
-/// A loop does what one iteration does and goes on.
+/// Proves that a loop's outcomes are those of one iteration followed by the rest of the loop.
 pub fn loops_unfold()
-    ensures { RepeatUnfolds }
+    ensures { LoopRepetitionUnfolds }
 {}
 
-/// No outcome goes back.
-pub fn outcomes_go_on()
-    ensures { OutcomesGoOn }
+/// Proves that no outcome ends on the wrong side of the place where matching began.
+pub fn outcomes_end_ahead_of_place()
+    ensures { OutcomesEndAheadOfPlace }
 {}
 
-/// A unit boundary is a boundary of the text: no pair is cut there.
+/// Proves that a unit boundary is a boundary of the text: it cuts no surrogate pair.
 pub fn unit_boundaries_are_boundaries()
     ensures { UnitBoundariesAreBoundaries }
 {}
 
-/// No outcome gains or loses a group.
+/// Proves that every outcome has as many groups as there were before.
 pub fn outcomes_keep_groups()
     ensures { OutcomesKeepGroups }
 {}
 
-/// Outcomes and their groups stay within the text.
+/// Proves that outcomes and their groups stay within the text.
 pub fn outcomes_stay_in_text()
     ensures { OutcomesStayInText }
 {}
 
-/// The list of matches goes on from behind the first one.
+/// Proves that the list of matches is the first match and the list from its resume place.
 pub fn matches_go_on()
     ensures { MatchListUnfolds }
 {}
 
-/// The first match stands at the place itself, or else at or behind the next one.
+/// Proves that the first match begins at the place itself, or else is the first match from the next
+/// place.
 pub fn first_matches_unfold()
     ensures { FirstMatchUnfolds }
 {}
 
-/// Places and their offsets are in the same order, one for one.
+/// Proves that places and their offsets correspond one to one, in the same order.
 pub fn places_have_offsets()
     ensures { PlacesHaveOffsets }
 {}
 
-/// The texts of the four encodings are texts.
+/// Proves that the texts of the four encodings satisfy `IsText`.
 pub fn encodings_are_texts()
     ensures { EncodingsAreTexts }
 {}
 
-/// The list of answers goes on from where the first one says.
-pub fn answers_go_on()
-    ensures { AnswersGoOn }
+/// Proves that the list of answers is the first answer and the list from the next start.
+pub fn answers_from_offset_unfold()
+    ensures { AnswersFromOffsetUnfold }
 {}
 
-/// The list goes on at a boundary ahead.
-pub fn list_goes_on_ahead()
-    ensures { ListGoesOnAhead }
+/// Proves that the next start is a boundary after the current start.
+pub fn next_start_is_ahead()
+    ensures { NextStartIsAhead }
 {}
 
-/// The first answer is a range of whole characters, not before the start.
-pub fn answers_stand_in_text()
-    ensures { AnswersStandInText }
+/// Proves that the first answer is a range of whole characters and does not begin before the start.
+pub fn answers_are_within_text()
+    ensures { AnswersAreWithinText }
 {}
 
-/// The match at an offset is the first answer from there, if that begins there.
-pub fn matches_at_are_first()
-    ensures { MatchesAtAreFirst }
+/// Proves that the match at an offset is the first answer from there, if that answer begins there.
+pub fn match_at_offset_is_first_answer()
+    ensures { MatchAtOffsetIsFirstAnswer }
 {}
 
-/// Every range of an answer is one of whole characters, and there is an entry for each group.
-pub fn answers_are_ranges()
-    ensures { AnswersAreRanges }
+/// Proves that each range of an answer consists of whole characters, and that an answer has an
+/// entry for each group.
+pub fn answers_satisfy_is_answer_of()
+    ensures { AnswersSatisfyIsAnswerOf }
 {}
 
-/// Starts of answers rise, and no two answers overlap.
-pub fn answers_stand_in_order()
-    ensures { AnswersStandInOrder }
+/// Proves that the starts of answers increase and that no two answers overlap.
+pub fn answers_are_ordered_without_overlap()
+    ensures { AnswersAreOrderedWithoutOverlap }
 {}
 
-/// There is at most one answer more than characters.
-pub fn answers_are_few()
-    ensures { AnswersAreFew }
+/// Proves that there is at most one answer more than there are characters.
+pub fn answer_count_is_bounded()
+    ensures { AnswerCountIsBounded }
 {}
 
-/// A search from the end of a match that is not empty gives the rest of the list.
-pub fn answers_resume()
-    ensures { AnswersResume }
+/// Proves that a search from the end of a nonempty match yields the rest of the list.
+pub fn resumed_search_yields_rest()
+    ensures { ResumedSearchYieldsRest }
 {}
 
-/// Needs add up along the list of matches.
+/// Proves that needs add up along the list of matches.
 pub fn needs_unfold()
     ensures { NeedsUnfold }
 {}
 
-/// A name's range is the one that stands with it among all names.
-pub fn names_agree()
-    ensures { NamesAgree }
+/// Proves that looking up one name gives the range that the list of all names has for it.
+pub fn named_group_agrees_with_named_groups()
+    ensures { NamedGroupAgreesWithNamedGroups }
 {}
 
-/// One text in UTF-8 and in UTF-16 has its matches at the same places.
-pub fn same_in_utf16()
-    ensures { SameInUtf16 }
+/// Proves that a text has its matches at the same places in UTF-8 and in UTF-16.
+pub fn same_matches_in_utf16()
+    ensures { SameMatchesInUtf16 }
 {}
 
-/// An ASCII text has the same answers as ASCII and as UTF-8.
-pub fn same_in_ascii()
-    ensures { SameInAscii }
+/// Proves that an ASCII text has the same answers when read as ASCII and as UTF-8.
+pub fn same_answers_in_ascii()
+    ensures { SameAnswersInAscii }
 {}
 
-/// Matches replaced by themselves give the text back.
-pub fn whole_matches_change_nothing()
-    ensures { WholeMatchesChangeNothing }
+/// Proves that replacing each match by itself gives the original text.
+pub fn replacing_matches_by_themselves_changes_nothing()
+    ensures { ReplacingMatchesByThemselvesChangesNothing }
 {}
 
-/// The flags of displayed flags are these, but for `no_opt`.
-pub fn flags_read_back()
-    ensures { FlagsReadBack }
+/// Proves that parsing displayed flags gives the same flags, with `no_opt` cleared.
+pub fn flags_parse_display_round_trip()
+    ensures { FlagsParseDisplayRoundTrip }
 {}
 
-/// No two texts are escaped alike.
+/// Proves that different texts have different escaped texts.
 pub fn escape_is_injective()
     ensures { EscapeIsInjective }
 {}
 
-/// The start predicate of a well-formed tree is sound.
-pub fn predicate_is_sound()
-    ensures { PredicateIsSound }
+/// Proves that the start predicate of a well-formed tree is sound.
+pub fn start_predicate_is_sound()
+    ensures { StartPredicateIsSound }
 {}

@@ -1,17 +1,17 @@
 -- Matches in offsets, as a test computes them.
 use Rattle.std.specs.Prelude.{ℕ, List, [], ◌∷◌, map, take, length, ◌+◌, Option, option_map, true, false, Bool, not, ◌||◌}
 use Rattle.std.specs.List.{list_all}
-use Rattle.regex_meaning.specs.Lists.{numbers_from}
+use Rattle.regex_meaning.specs.NumberListHelpers.{numbers_from}
 use Rattle.std.specs.Str.{chars}
 use Rattle.regex_meaning.specs.Tree.{Intervals, BracketContents, Quantifier, Lookaround, Node, Flags}
 use Rattle.regex_meaning.specs.Text.{Text, utf8_text, rightwards, fold_code_point, expand_code_point}
-use Rattle.regex_meaning.specs.Outcomes.{Outcome, outcomes, rounds, Groups}
-use Rattle.regex_meaning.specs.Find.{Found, no_groups, match_list, first_match_among, matches_from}
-use Rattle.regex_meaning.specs.Names.{Answer, answers_from, named_group}
-use Rattle.regex_meaning.specs.Answers.{answer_at, next_start}
+use Rattle.regex_meaning.specs.Outcomes.{Outcome, outcomes, bounded_repeat, Groups}
+use Rattle.regex_meaning.specs.FirstAndAllMatches.{Found, no_groups, match_list, first_match_among, matches_from}
+use Rattle.regex_meaning.specs.Captures.{Answer, answers_from, named_group}
+use Rattle.regex_meaning.specs.SearchAnswers.{answer_at, next_start}
 use Rattle.regex_meaning.specs.Replace.{expansion, replaced}
-use Rattle.regex_meaning.specs.StartPredicate.{StartPredicate, start_predicate, beginning, bytes_where, may_start}
-use Rattle.regex_meaning.specs.Ticks.{ticked, ticked_rounds, need, needs}
+use Rattle.regex_meaning.specs.StartPredicate.{StartPredicate, start_predicate, abstract_start_predicate, bytes_that_pass, may_start}
+use Rattle.regex_meaning.specs.OutcomesWithStepTicks.{ticked, ticked_bounded_repeat, need, needs}
 use Rattle.std.specs.Char.{encode_utf8 as encode}
 
 abbrev pub found : ℕ → ℕ → Groups → Found
@@ -31,31 +31,31 @@ abbrev pub as_found : Answer → Found
 as_found m = record { start = m.range.0; end = m.range.1; groups = m.captures }
 
 unfoldable pub matches : Node → Text → ℕ → List Found
-unfolding answers_from match_list first_match_among matches_from outcomes rounds fold_code_point expand_code_point chars
+unfolding answers_from match_list first_match_among matches_from outcomes bounded_repeat fold_code_point expand_code_point chars
 matches root text start = map as_found (answers_from root text start)
 
 unfoldable pub first : Node → Text → ℕ → List Found
-unfolding answers_from match_list first_match_among matches_from outcomes rounds fold_code_point expand_code_point chars
+unfolding answers_from match_list first_match_among matches_from outcomes bounded_repeat fold_code_point expand_code_point chars
 first root text start = map as_found (take 1 (answers_from root text start))
 
 -- the match at an offset
 unfoldable pub at_offset : Node → Text → ℕ → Option Found
-unfolding outcomes rounds fold_code_point expand_code_point chars
+unfolding outcomes bounded_repeat fold_code_point expand_code_point chars
 at_offset root text at = option_map as_found (answer_at root text at)
 
 -- where the list goes on behind the first match from an offset
 unfoldable pub goes_on_at : Node → Text → ℕ → Option ℕ
-unfolding first_match_among outcomes rounds fold_code_point expand_code_point chars
+unfolding first_match_among outcomes bounded_repeat fold_code_point expand_code_point chars
 goes_on_at root text start = next_start root text start
 
 -- the ranges of a name in all matches from the start
 unfoldable pub named : Node → Text → (name : List ℕ) → List (Option (ℕ × ℕ))
-unfolding answers_from match_list first_match_among matches_from outcomes rounds fold_code_point expand_code_point chars
+unfolding answers_from match_list first_match_among matches_from outcomes bounded_repeat fold_code_point expand_code_point chars
 named root text name = map (λ m. named_group m name) (answers_from root text 0)
 
 -- the text with at most `count` matches replaced
 unfoldable pub replaced_by : (count : ℕ) → Node → (text replacement : List ℕ) → List ℕ
-unfolding answers_from match_list first_match_among matches_from outcomes rounds fold_code_point expand_code_point chars replaced expansion
+unfolding answers_from match_list first_match_among matches_from outcomes bounded_repeat fold_code_point expand_code_point chars replaced expansion
 replaced_by count root text replacement =
     replaced text 0 (map (λ m. (m, expansion text m replacement)) (take count (answers_from root (utf8_text text false) 0)))
 
@@ -63,11 +63,11 @@ abbrev pub no_flags : Flags
 no_flags = record { icase = false; multiline = false; dot_all = false; no_opt = false; unicode = false; unicode_sets = false }
 
 unfoldable pub needs_of : Node → Text → ℕ → List ℕ
-unfolding needs need ticked ticked_rounds start_predicate beginning bytes_where may_start match_list first_match_among matches_from outcomes rounds fold_code_point expand_code_point chars encode
+unfolding needs need ticked ticked_bounded_repeat start_predicate abstract_start_predicate bytes_that_pass may_start match_list first_match_among matches_from outcomes bounded_repeat fold_code_point expand_code_point chars encode
 needs_of root text place = needs (record { root = root; flags = no_flags }) text place
 
 unfoldable pub start_of_tree : Node → StartPredicate
-unfolding start_predicate beginning bytes_where chars encode
+unfolding start_predicate abstract_start_predicate bytes_that_pass chars encode
 start_of_tree root = start_predicate (record { root = root; flags = no_flags })
 
 abbrev has_outcome : List Outcome → Bool
@@ -76,7 +76,7 @@ has_outcome (o ∷ os) = true
 
 -- wherever the tree has an outcome, its predicate holds
 unfoldable pub sound_on : Node → Text → Bool
-unfolding outcomes rounds fold_code_point expand_code_point chars start_predicate beginning bytes_where may_start encode
+unfolding outcomes bounded_repeat fold_code_point expand_code_point chars start_predicate abstract_start_predicate bytes_that_pass may_start encode
 sound_on root text =
     list_all (λ place. not (has_outcome (outcomes text root rightwards place (no_groups root)))
     || may_start (start_predicate (record { root = root; flags = no_flags })) text place)

@@ -1,15 +1,15 @@
 -- Programs and the trees whose code they are.
 use Rattle.std.specs.Prelude.{◌≡◌, ℕ, ◌^◌, ◌-◌, List, [], ◌∷◌, None, refl, true, false}
 use Rattle.regex_meaning.specs.Tree.{goal, char, byte_set, byte_sequence, cat, end_of_cat, alt, lookaround, loop, loop_1_char_body}
-use Rattle.regex_meaning.specs.Layout.{Insn, Goal, Char, Alt, Jump, EnterLoop, LoopAgain, Loop1CharBody, ByteSeq, Lookbehind, Program, Mark, IsCode}
-use Rattle.regex_meaning.specs.Layout.{reads_bytes}
+use Rattle.regex_meaning.specs.CompilationRelation.{Insn, Goal, Char, Alt, Jump, EnterLoop, LoopAgain, Loop1CharBody, ByteSeq, Lookbehind, Program, Counters, IsCode}
+use Rattle.regex_meaning.specs.CompilationRelation.{reads_bytes}
 use Rattle.regex_meaning.specs.StartPredicate.{start_arbitrary}
 use Rattle.regex_meaning_rows.specs.Computing.{times, look, no_flags}
 
 abbrev program : List Insn → Program
 program insns = record { insns = insns; brackets = []; loops = 1; groups = 0; flags = no_flags; group_names = []; start_pred = start_arbitrary }
 
-abbrev mark : ℕ → ℕ → Mark
+abbrev mark : ℕ → ℕ → Counters
 mark i l = record { insn = i; loop = l; bracket = 0 }
 
 alternatives : IsCode (program (Alt 3 ∷ Char 97 ∷ Jump 5 ∷ Char 97 ∷ Char 98 ∷ Goal ∷ [])) false

@@ -2,7 +2,7 @@
 use Rattle.std.specs.Prelude.{◌≡◌, ◌-◌, ◌^◌, [], ◌∷◌, Some, None, refl, true, false, codes, map}
 use Rattle.regex_meaning.specs.Tree.{goal, bracket, char, cat, end_of_cat, match_any, loop_1_char_body}
 use Rattle.regex_meaning.specs.Text.{utf8_text, ascii_text, utf16_text, ucs2_text}
-use Rattle.regex_meaning.specs.Offsets.{offset, units, place_at}
+use Rattle.regex_meaning.specs.CodeUnitOffsets.{offset, units, place_at}
 use Rattle.std.specs.Str.{chars}
 use Rattle.regex_meaning_rows.specs.Computing.{at_offset, found, matches, goes_on_at, in_brackets, times}
 

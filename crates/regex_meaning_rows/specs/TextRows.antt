@@ -1,11 +1,11 @@
 -- Replacements, names, flags and `escape`.
 use Rattle.std.specs.Prelude.{◌≡◌, ◌++◌, ◌==◌, Bool, filter, map, ℕ, List, [], ◌∷◌, Some, None, refl, true, false, codes}
-use Rattle.regex_meaning.specs.Lists.{numbers_from}
+use Rattle.regex_meaning.specs.NumberListHelpers.{numbers_from}
 use Rattle.regex_meaning.specs.Text.{is_unit_boundary, expand_code_point, fold_code_point}
 use Rattle.regex_meaning.specs.Outcomes.{Groups}
-use Rattle.regex_meaning.specs.Names.{Answer, group, named_group, named_groups}
+use Rattle.regex_meaning.specs.Captures.{Answer, group, named_group, named_groups}
 use Rattle.regex_meaning.specs.Replace.{expansion, replaced}
-use Rattle.regex_meaning.specs.Flags.{flags_text, flags_of_text, escape, special}
+use Rattle.regex_meaning.specs.FlagLettersAndEscaping.{flags_text, flags_from_letters, escape, syntax_characters}
 
 abbrev answer : ℕ → ℕ → Groups → Answer
 answer a b gs = record { range = (a, b); captures = gs; names = [] }
@@ -96,16 +96,16 @@ groups_cut_off = refl
 name_cut_off : named_group (record one_of_two { captures = [] }) (codes "n") ≡ None
 name_cut_off = refl
 
-flags : flags_of_text (codes "gimuy") ≡ record { icase = true; multiline = true; dot_all = false; no_opt = false; unicode = true; unicode_sets = false }
-unfolding flags_of_text
+flags : flags_from_letters (codes "gimuy") ≡ record { icase = true; multiline = true; dot_all = false; no_opt = false; unicode = true; unicode_sets = false }
+unfolding flags_from_letters
 flags = refl
 
-no_letters : flags_text (flags_of_text []) ≡ []
-unfolding flags_text flags_of_text
+no_letters : flags_text (flags_from_letters []) ≡ []
+unfolding flags_text flags_from_letters
 no_letters = refl
 
-letters : flags_text (flags_of_text (codes "gimuy")) ≡ codes "miu"
-unfolding flags_text flags_of_text
+letters : flags_text (flags_from_letters (codes "gimuy")) ≡ codes "miu"
+unfolding flags_text flags_from_letters
 letters = refl
 
 escaped_text : escape (codes "a^b$c.d|e?f*g+h(i)j[k]l{m}n\\o") ≡ codes "a\\^b\\$c\\.d\\|e\\?f\\*g\\+h\\(i\\)j\\[k\\]l\\{m\\}n\\\\o"
@@ -116,7 +116,7 @@ escaped_nothing : escape [] ≡ []
 unfolding escape
 escaped_nothing = refl
 
-fourteen : special ≡ 92 ∷ 94 ∷ 36 ∷ 46 ∷ 124 ∷ 63 ∷ 42 ∷ 43 ∷ 40 ∷ 41 ∷ 91 ∷ 93 ∷ 123 ∷ 125 ∷ []
+fourteen : syntax_characters ≡ 92 ∷ 94 ∷ 36 ∷ 46 ∷ 124 ∷ 63 ∷ 42 ∷ 43 ∷ 40 ∷ 41 ∷ 91 ∷ 93 ∷ 123 ∷ 125 ∷ []
 fourteen = refl
 
 boundaries : map (is_unit_boundary (0xD83D ∷ 0xDE00 ∷ [])) (0 ∷ 1 ∷ 2 ∷ 3 ∷ []) ≡ true ∷ false ∷ true ∷ false ∷ []

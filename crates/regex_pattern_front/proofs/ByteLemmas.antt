@@ -8,11 +8,11 @@ use Rattle.std.proofs.Common.{get_or-set_same, get_or-set_other, bit_and, bit_or
 use Rattle.std.proofs.lemmas.Bool.{cases_eq, cases_lt, ne_eqb, eq-eqb, eqb-true, lt-ltb, le-ltb, and_right}
 use Rattle.std.proofs.lemmas.Nat.Bits.{shr_and_one, bit_at-lt}
 use Rattle.std.proofs.Math.Bool.{or_comm}
-use Rattle.regex_pattern_front.specs.ByteSets.{is_set}
+use Rattle.regex_pattern_front.specs.ByteSetMembers.{is_bit_set}
 use Rattle.regex_pattern_front.proofs.Bits.{has_bit, no-bits, bit-set}
 pub use Rattle.regex_grammar.proofs.Parts.{contains-numbers_from}
-use Rattle.regex_meaning.specs.Lists.{contains, numbers_from}
-use Rattle.regex_meaning.specs.StartPredicate.{bytes_where}
+use Rattle.regex_meaning.specs.NumberListHelpers.{contains, numbers_from}
+use Rattle.regex_meaning.specs.StartPredicate.{bytes_that_pass}
 
 -- ---- Membership
 
@@ -47,8 +47,8 @@ contains-filter test b first (suc count) =
     (one_more (test first) (nat_eq b first) (test b) (contains (numbers_from (first + 1) count) b) (λ e. ap test (eqb-true b first e)))
 
 -- a byte is among those that pass the test exactly if it passes
-pub contains-bytes_where : (test : ℕ → Bool) (b : ℕ) → b < 256 → contains (bytes_where test) b ≡ test b
-unfolding bytes_where
+pub contains-bytes_where : (test : ℕ → Bool) (b : ℕ) → b < 256 → contains (bytes_that_pass test) b ≡ test b
+unfolding bytes_that_pass
 contains-bytes_where test b h =
     contains-filter test b 0 256 ∙ rw (contains-numbers_from b 0 256 (omega arith) (omega arith)) (with_true (test b))
   where
@@ -63,8 +63,8 @@ contains-before b first (suc count) h =
     rw (ne_eqb b first (omega arith)) (contains-before b (first + 1) count (omega arith))
 
 -- what is no byte is among none
-pub contains-beyond : (test : ℕ → Bool) (b : ℕ) → 256 ≤ b → contains (bytes_where test) b ≡ false
-unfolding bytes_where
+pub contains-beyond : (test : ℕ → Bool) (b : ℕ) → 256 ≤ b → contains (bytes_that_pass test) b ≡ false
+unfolding bytes_that_pass
 contains-beyond test b h = contains-filter test b 0 256 ∙ rw (contains-before b 0 256 (omega arith)) (with_false (test b))
   where
     with_false : (t : Bool) → (t && false) ≡ false
@@ -72,11 +72,11 @@ contains-beyond test b h = contains-filter test b 0 256 ∙ rw (contains-before 
     with_false false = refl
 
 -- what is not of ASCII is in no set of bytes below 128
-pub ascii-beyond : (bits : List ℕ) (b : ℕ) → 128 ≤ b → contains (bytes_where (is_set bits)) b ≡ false
+pub ascii-beyond : (bits : List ℕ) (b : ℕ) → 128 ≤ b → contains (bytes_that_pass (is_bit_set bits)) b ≡ false
 ascii-beyond bits b h =
     elim (cases_lt b 256) [
-      | inl below ↦ rw (contains-bytes_where (is_set bits) b below, le-ltb b 128 h)
-      | inr beyond ↦ contains-beyond (is_set bits) b beyond
+      | inl below ↦ rw (contains-bytes_where (is_bit_set bits) b below, le-ltb b 128 h)
+      | inr beyond ↦ contains-beyond (is_bit_set bits) b beyond
     ]
 
 filter-same : (f g : ℕ → Bool) (first count : ℕ) → ((b : ℕ) → first ≤ b → b < first + count → f b ≡ g b)
@@ -86,12 +86,12 @@ filter-same f g first (suc count) h =
     rw (h first (omega arith) (omega arith), filter-same f g (first + 1) count (λ b p q. h b (omega arith) (omega arith)))
 
 -- two tests that agree on bytes give one list
-pub bytes_where-same : (f g : ℕ → Bool) → ((b : ℕ) → b < 256 → f b ≡ g b) → bytes_where f ≡ bytes_where g
-unfolding bytes_where
+pub bytes_where-same : (f g : ℕ → Bool) → ((b : ℕ) → b < 256 → f b ≡ g b) → bytes_that_pass f ≡ bytes_that_pass g
+unfolding bytes_that_pass
 bytes_where-same f g h = filter-same f g 0 256 (λ b p q. h b (omega arith))
 
-pub bytes_where-none : (test : ℕ → Bool) → ((b : ℕ) → b < 256 → test b ≡ false) → bytes_where test ≡ []
-unfolding bytes_where
+pub bytes_where-none : (test : ℕ → Bool) → ((b : ℕ) → b < 256 → test b ≡ false) → bytes_that_pass test ≡ []
+unfolding bytes_that_pass
 bytes_where-none test h = filter-same test (λ b. false) 0 256 (λ b p q. h b (omega arith)) ∙ no_byte 0 256
   where
     no_byte : (first count : ℕ) → filter (λ b. false) (numbers_from first count) ≡ []
@@ -110,7 +110,7 @@ written xs i j v d h =
 
 -- a table with one more byte
 pub table-set : (table : List Bool) (byte : ℕ) → length table ≡ 256 → byte < 256
-    → bytes_where (λ b. get_or (set table byte true) b false) ≡ bytes_where (λ b. b == byte || contains (bytes_where (λ c. get_or table c false)) b)
+    → bytes_that_pass (λ b. get_or (set table byte true) b false) ≡ bytes_that_pass (λ b. b == byte || contains (bytes_that_pass (λ c. get_or table c false)) b)
 table-set table byte sized h =
     bytes_where-same _ _
     (λ b within.
@@ -122,7 +122,7 @@ table-set table byte sized h =
 
 -- the bits of one byte
 pub is_set-read : (bits : List ℕ) (byte : ℕ) → byte < 128
-    → not (eqb (bit_and (get_or bits (byte / 64) 0 / 2 ^ (byte % 64)) 1) 0) ≡ is_set bits byte
+    → not (eqb (bit_and (get_or bits (byte / 64) 0 / 2 ^ (byte % 64)) 1) 0) ≡ is_bit_set bits byte
 is_set-read bits byte h = rw (lt-ltb byte 128 h, shr_and_one (get_or bits (byte / 64) 0) (byte % 64)) (one_or_none _ (bit_at-lt _ _))
   where
     one_or_none : (b : ℕ) → b < 2 → not (eqb b 0) ≡ eqb b 1
@@ -132,21 +132,21 @@ is_set-read bits byte h = rw (lt-ltb byte 128 h, shr_and_one (get_or bits (byte 
 
 -- two words of bits with one more byte
 pub bits-set : (bits : List ℕ) (byte : ℕ) → length bits ≡ 2 → byte < 128
-    → bytes_where (is_set (set bits (byte / 64) (bit_or (get_or bits (byte / 64) 0) (1 * 2 ^ (byte % 64) % 2 ^ 64))))
-    ≡ bytes_where (λ b. b == byte || contains (bytes_where (is_set bits)) b)
+    → bytes_that_pass (is_bit_set (set bits (byte / 64) (bit_or (get_or bits (byte / 64) 0) (1 * 2 ^ (byte % 64) % 2 ^ 64))))
+    ≡ bytes_that_pass (λ b. b == byte || contains (bytes_that_pass (is_bit_set bits)) b)
 bits-set bits byte sized h =
     bytes_where-same _ _
     (λ b within.
-    rw (contains-bytes_where (is_set bits) b within)
+    rw (contains-bytes_where (is_bit_set bits) b within)
     (elim (cases_lt b 128) [
       | inl below ↦ rw (lt-ltb b 128 below) (bit-set bits byte b (omega arith) ∙ or_comm (has_bit bits b) (b == byte))
       | inr above ↦ rw (le-ltb b 128 above, ne_eqb b byte (omega arith))
     ]))
 
-pub bits-none : bytes_where (is_set (0 ∷ 0 ∷ [])) ≡ []
+pub bits-none : bytes_that_pass (is_bit_set (0 ∷ 0 ∷ [])) ≡ []
 bits-none = bytes_where-none _ (λ b within. and_right (nat_lt b 128) (has_bit (0 ∷ 0 ∷ []) b) (no-bits 2 b))
 
-pub table-none : bytes_where (λ b. get_or (replicate 256 false) b false) ≡ []
+pub table-none : bytes_that_pass (λ b. get_or (replicate 256 false) b false) ≡ []
 table-none = bytes_where-none _ (λ b within. get_or-replicate 256 b)
   where
     get_or-replicate : (n b : ℕ) → get_or (replicate n false) b false ≡ false

@@ -6,12 +6,12 @@ use Rattle.std.specs.Int.{is_in_range}
 use Rattle.std.specs.List.{list_any}
 use Rattle.std.proofs.lemmas.Bool.{cases_lt, cases_eq, lt-leb, le-leb, ne_eqb, eq-eqb, eqb-true, or_cases, or_left, or_right, and_parts}
 use Rattle.std.proofs.lemmas.List.Folds.{list_any-append}
-use Rattle.regex_meaning.specs.Lists.{contains}
+use Rattle.regex_meaning.specs.NumberListHelpers.{contains}
 use Rattle.regex_meaning.specs.Tree.{Intervals, Flags}
 use Rattle.regex_meaning.specs.Outcomes.{in_intervals}
 use Rattle.regex_meaning.specs.Text.{to_lowercase, to_uppercase, fold_code_point, nonascii_with_fold, all_with_fold, expand_code_point}
-use Rattle.regex_grammar.specs.Classes.{one, closed}
-use Rattle.regex_pattern_front.specs.ClassReads.{closing, with_same_fold}
+use Rattle.regex_grammar.specs.CharacterClasses.{single_code_point_interval, closed_under_case_folding}
+use Rattle.regex_pattern_front.specs.ClassReaderContracts.{case_variants_if_one_passes, same_fold_passes}
 
 -- ---- Letters
 
@@ -354,10 +354,10 @@ any-intro test [] d e t = absurd (true≢false (sym e))
 any-intro test (x ∷ xs) d e t =
     ⊎_elim (λ h. or_left (test x) _ (sym (ap test (eqb-true d x h)) ∙ t)) (λ h. or_right (test x) _ (any-intro test xs d h t)) (or_cases (nat_eq d x) _ e)
 
-pub fold-own : (unicode : Bool) (test : ℕ → Bool) (d : ℕ) → test d ≡ true → with_same_fold unicode test d ≡ true
+pub fold-own : (unicode : Bool) (test : ℕ → Bool) (d : ℕ) → test d ≡ true → same_fold_passes unicode test d ≡ true
 fold-own unicode test d t = any-intro test (expand_code_point d true unicode) d (own_class unicode d) t
 
-pub fold-same : (unicode : Bool) (test : ℕ → Bool) (c d : ℕ) → contains (expand_code_point c true unicode) d ≡ true → with_same_fold unicode test d ≡ with_same_fold unicode test c
+pub fold-same : (unicode : Bool) (test : ℕ → Bool) (c d : ℕ) → contains (expand_code_point c true unicode) d ≡ true → same_fold_passes unicode test d ≡ same_fold_passes unicode test c
 fold-same unicode test c d e = ap (list_any test) (same_class unicode c d e)
 
 iff : (a b : Bool) → (a ≡ true → b ≡ true) → (b ≡ true → a ≡ true) → a ≡ b
@@ -371,7 +371,7 @@ any-elim test (x ∷ xs) e =
     ⊎_elim (λ h. (x, or_left (nat_eq x x) _ (eq-eqb x x refl), h)) (λ h. let k = any-elim test xs h in (k.0, or_right (nat_eq k.0 x) _ k.1, k.2)) (or_cases (test x) _ e)
 
 -- what is closed stays so
-pub closed-twice : (flags : Flags) (test : ℕ → Bool) (c : ℕ) → closed flags (closed flags test) c ≡ closed flags test c
+pub closed-twice : (flags : Flags) (test : ℕ → Bool) (c : ℕ) → closed_under_case_folding flags (closed_under_case_folding flags test) c ≡ closed_under_case_folding flags test c
 unfolding expand_code_point
 closed-twice flags test c = by flags.icase
   where
@@ -386,8 +386,8 @@ closed-twice flags test c = by flags.icase
             either_way false = refl
     by true =
         iff _ _
-        (λ h. let k = any-elim (with_same_fold flags.unicode test) _ h in sym (fold-same flags.unicode test c k.0 k.1) ∙ k.2)
-        (λ h. fold-own flags.unicode (with_same_fold flags.unicode test) c h)
+        (λ h. let k = any-elim (same_fold_passes flags.unicode test) _ h in sym (fold-same flags.unicode test c k.0 k.1) ∙ k.2)
+        (λ h. fold-own flags.unicode (same_fold_passes flags.unicode test) c h)
 
 -- ---- The letters one after another
 
@@ -405,15 +405,15 @@ in_one c d =
           ]
     ]
 
-pub in_ones : (letters : List ℕ) (c : ℕ) → in_intervals (map one letters) c ≡ contains letters c
+pub in_ones : (letters : List ℕ) (c : ℕ) → in_intervals (map single_code_point_interval letters) c ≡ contains letters c
 in_ones [] c = refl
 in_ones (d ∷ ds) c = ap₂ (λ x y. x || y) (in_one c d) (in_ones ds c)
 
 -- the letters below this one are done
 pub record ClosingSoFar (test : ℕ → Bool) (unicode : Bool) (set : Intervals) (next : ℕ) : Type 0 where
-  pub sound : (d : ℕ) → in_intervals set d ≡ true → with_same_fold unicode test d ≡ true
+  pub sound : (d : ℕ) → in_intervals set d ≡ true → same_fold_passes unicode test d ≡ true
   pub kept : (d : ℕ) → test d ≡ true → in_intervals set d ≡ true
-  pub complete : (upper d : ℕ) → 65 ≤ upper → upper < next → with_same_fold unicode test upper ≡ true
+  pub complete : (upper d : ℕ) → 65 ≤ upper → upper < next → same_fold_passes unicode test upper ≡ true
       → contains (expand_code_point upper true unicode) d ≡ true → in_intervals set d ≡ true
 
 pub closing-none : (test : ℕ → Bool) (unicode : Bool) (set : Intervals) → ((d : ℕ) → test d ≡ in_intervals set d) → ClosingSoFar test unicode set 65
@@ -423,18 +423,18 @@ closing-none test unicode set same = record {
   complete = λ upper d low high h k. absurd (omega arith);
 }
 
-in_closing : (test : ℕ → Bool) (unicode : Bool) (next d : ℕ) → in_intervals (closing test next unicode) d ≡ (with_same_fold unicode test next && contains (expand_code_point next true unicode) d)
-in_closing test unicode next d = by (with_same_fold unicode test next)
+in_closing : (test : ℕ → Bool) (unicode : Bool) (next d : ℕ) → in_intervals (case_variants_if_one_passes test next unicode) d ≡ (same_fold_passes unicode test next && contains (expand_code_point next true unicode) d)
+in_closing test unicode next d = by (same_fold_passes unicode test next)
   where
-    by : (b : Bool) → in_intervals (if b then map one (expand_code_point next true unicode) else []) d ≡ (b && contains (expand_code_point next true unicode) d)
+    by : (b : Bool) → in_intervals (if b then map single_code_point_interval (expand_code_point next true unicode) else []) d ≡ (b && contains (expand_code_point next true unicode) d)
     by true = in_ones (expand_code_point next true unicode) d
     by false = refl
 
 pub closing-more : (test : ℕ → Bool) (unicode : Bool) (set new : Intervals) (next : ℕ) → ClosingSoFar test unicode set next
-    → new ≡ set ++ closing test next unicode → ClosingSoFar test unicode new (next + 1)
+    → new ≡ set ++ case_variants_if_one_passes test next unicode → ClosingSoFar test unicode new (next + 1)
 closing-more test unicode set new next s e = record {
   sound = λ d h. ⊎_elim (λ k. s.sound d k)
-      (λ k. let both = and_parts (with_same_fold unicode test next) _ (sym (in_closing test unicode next d) ∙ k) in
+      (λ k. let both = and_parts (same_fold_passes unicode test next) _ (sym (in_closing test unicode next d) ∙ k) in
       fold-same unicode test next d both.1 ∙ both.0)
       (or_cases (in_intervals set d) _ (sym (is d) ∙ h));
   kept = λ d h. is d ∙ or_left _ _ (s.kept d h);
@@ -443,25 +443,25 @@ closing-more test unicode set new next s e = record {
         | inl below ↦ is d ∙ or_left _ _ (s.complete upper d low below h k)
         | inr above ↦ let same : upper ≡ next = omega arith in
             is d ∙ or_right (in_intervals set d) _
-            (in_closing test unicode next d ∙ rw (sym (ap (with_same_fold unicode test) same) ∙ h, sym (ap (λ x. contains (expand_code_point x true unicode) d) same) ∙ k) refl)
+            (in_closing test unicode next d ∙ rw (sym (ap (same_fold_passes unicode test) same) ∙ h, sym (ap (λ x. contains (expand_code_point x true unicode) d) same) ∙ k) refl)
       ];
 }
   where
-    is : (d : ℕ) → in_intervals new d ≡ (in_intervals set d || in_intervals (closing test next unicode) d)
-    is d = ap (λ x. in_intervals x d) e ∙ in_append set (closing test next unicode) d
+    is : (d : ℕ) → in_intervals new d ≡ (in_intervals set d || in_intervals (case_variants_if_one_passes test next unicode) d)
+    is d = ap (λ x. in_intervals x d) e ∙ in_append set (case_variants_if_one_passes test next unicode) d
 
 pub closing-all : (test : ℕ → Bool) (unicode : Bool) (set : Intervals) (next : ℕ) → ClosingSoFar test unicode set next → 91 ≤ next
-    → (d : ℕ) → in_intervals set d ≡ with_same_fold unicode test d
+    → (d : ℕ) → in_intervals set d ≡ same_fold_passes unicode test d
 closing-all test unicode set next s done d = iff _ _ (s.sound d) (λ h. by h (letter_or_alone unicode d))
   where
-    by : with_same_fold unicode test d ≡ true
+    by : same_fold_passes unicode test d ≡ true
         → (expand_code_point d true unicode ≡ d ∷ []) ⊎ ((upper : ℕ) × (65 ≤ upper) × (upper ≤ 90) × (contains (expand_code_point upper true unicode) d ≡ true))
         → in_intervals set d ≡ true
-    by h (inl one) = s.kept d (⊎_elim (λ k. k) (λ k. absurd (true≢false (sym k))) (or_cases (test d) false (sym (ap (list_any test) one) ∙ h)))
+    by h (inl single_code_point_interval) = s.kept d (⊎_elim (λ k. k) (λ k. absurd (true≢false (sym k))) (or_cases (test d) false (sym (ap (list_any test) single_code_point_interval) ∙ h)))
     by h (inr k) = let last : k.0 ≤ 90 = k.2 in s.complete k.0 d k.1 (omega arith) (sym (fold-same unicode test k.0 d k.3) ∙ h) k.3
 
 -- what one letter adds, where its kind is these letters
 pub closing-as : (test : ℕ → Bool) (upper : ℕ) (unicode : Bool) (letters : List ℕ) (passes : Bool) → letters ≡ expand_code_point upper true unicode
-    → passes ≡ list_any test letters → (if passes then map one letters else []) ≡ closing test upper unicode
+    → passes ≡ list_any test letters → (if passes then map single_code_point_interval letters else []) ≡ case_variants_if_one_passes test upper unicode
 closing-as test upper unicode letters passes e f =
-    ap (λ b. if b then map one letters else []) f ∙ ap (λ x. if list_any test x then map one x else []) e
+    ap (λ b. if b then map single_code_point_interval letters else []) f ∙ ap (λ x. if list_any test x then map single_code_point_interval x else []) e

@@ -7,7 +7,7 @@ use Rattle.std.specs.Int.{is_in_range}
 use Rattle.std.proofs.lemmas.Bool.{cond_both, cases_lt, lt-ltb, le-ltb, ltb-true, eqb-true, leb-true, false_from_ne_true}
 use Rattle.std.proofs.Math.Bool.{or-false}
 use Rattle.regex_meaning.specs.Tree.{Intervals}
-use Rattle.regex_meaning.specs.StartPredicate.{begun_by, meet}
+use Rattle.regex_meaning.specs.StartPredicate.{chars_with_first_byte, intersects}
 use Rattle.regex_meaning.proofs.Booleans.{and-left, and-right}
 use Rattle.regex_meaning.proofs.FirstBytes.{true-in_range}
 use Rattle.regex_meaning.proofs.Options.{some-same}
@@ -32,7 +32,7 @@ rises : (c d x y : ℕ) → IsFirstByte c x → IsFirstByte d y → c ≤ d → 
 rises c d x y first second h = grind arith
 
 -- two intervals that meet
-meets-one : (lo hi first last : ℕ) → meet ((lo, hi) ∷ []) ((first, last) ∷ []) ≡ true → (first ≤ hi) × (lo ≤ last)
+meets-one : (lo hi first last : ℕ) → intersects ((lo, hi) ∷ []) ((first, last) ∷ []) ≡ true → (first ≤ hi) × (lo ≤ last)
 meets-one lo hi first last e =
     let t : meets ≡ true = sym (or-false (meets || false) ∙ or-false meets) ∙ e in
     (leb-true first hi (and-right (holding && nat_le lo last) (nat_le first hi) t), leb-true lo last (and-right holding (nat_le lo last) (and-left (holding && nat_le lo last) (nat_le first hi) t)))
@@ -50,7 +50,7 @@ record Ends (first last least greatest : ℕ) : Type 0 where
 
 -- if these code points meet the interval, their byte stands between those of its ends
 abbrev Between : (first last least greatest b : ℕ) → Intervals → Type 0
-Between first last least greatest b begun = meet begun ((first, last) ∷ []) ≡ true → (least ≤ b) × (b ≤ greatest)
+Between first last least greatest b begun = intersects begun ((first, last) ∷ []) ≡ true → (least ≤ b) × (b ≤ greatest)
 
 between : (first last least greatest b lo hi : ℕ) → Ends first last least greatest → lo ≤ 0x10_FFFF → IsFirstByte lo b → IsFirstByte hi b
     → Between first last least greatest b ((lo, hi) ∷ [])
@@ -58,7 +58,7 @@ between first last least greatest b lo hi ends within from to m =
     let r = meets-one lo hi first last m in
     (rises (min first 0x10_FFFF) hi least b ends.from to (omega (arith, r.0)), rises lo (min last 0x10_FFFF) b greatest from ends.to (omega (arith, r.1)))
 
-all-between : (first last least greatest b : ℕ) → Ends first last least greatest → Between first last least greatest b (begun_by b)
+all-between : (first last least greatest b : ℕ) → Ends first last least greatest → Between first last least greatest b (chars_with_first_byte b)
 all-between first last least greatest b ends =
     let P = Between first last least greatest b in
     let of = λ (lo hi : ℕ). between first last least greatest b lo hi ends in
@@ -84,7 +84,7 @@ all-between first last least greatest b ends =
 -- no byte outside those of the ends begins a code point of the interval
 pub none-outside : (first last low high least greatest : ℕ) → low ≡ min first 0x10_FFFF → high ≡ min last 0x10_FFFF
     → slice_get (encode low) 0 ≡ Some least → slice_get (encode high) 0 ≡ Some greatest
-    → (b : ℕ) → (b < least) ⊎ (greatest < b) → meet (begun_by b) ((first, last) ∷ []) ≡ false
+    → (b : ℕ) → (b < least) ⊎ (greatest < b) → intersects (chars_with_first_byte b) ((first, last) ∷ []) ≡ false
 none-outside first last low high least greatest p q e f b outside =
     false_from_ne_true _ (λ m. out (all-between first last least greatest b ends m) outside)
   where

@@ -11,8 +11,8 @@ use Rattle.std.proofs.lemmas.List.Elements.{All-cons}
 use Rattle.std.proofs.lemmas.Bool.Decides.{nat_tests}
 use Rattle.std.proofs.lemmas.List.Recursion.{or_at, or_from_places}
 use Rattle.regex_meaning.specs.Outcomes.{in_intervals}
-use Rattle.regex_grammar.specs.Classes.{AreApart}
-use Rattle.regex_pattern_front.specs.Intervals.{interval_of, AreInOrder, holds_some, merged, gaps}
+use Rattle.regex_grammar.specs.CharacterClasses.{AreCanonicalIntervals}
+use Rattle.regex_pattern_front.specs.Intervals.{interval_of, IntervalsAreInOrder, is_nonempty, merged_intervals, gaps_between_intervals}
 use Rattle.regex_pattern_front.specs.declared.codepointset.Interval.{Interval}
 
 -- the number is in one of the intervals
@@ -37,16 +37,16 @@ abbrev pub Rises : ℕ → List Interval → Type 0
 Rises n [] = Unit {0}
 Rises n (i ∷ is) = (n ≤ i.first) × (i.first ≤ i.last) × Rises i.first is
 
-Above-from_order : (n : ℕ) (xs : List Interval) → ((d : Interval) → 0 < length xs → n ≤ (get_or xs 0 d).first) → AreInOrder (map interval_of xs) → Above n xs
+Above-from_order : (n : ℕ) (xs : List Interval) → ((d : Interval) → 0 < length xs → n ≤ (get_or xs 0 d).first) → IntervalsAreInOrder (map interval_of xs) → Above n xs
 Above-from_order n [] low h = tt
 Above-from_order n (i ∷ []) low h = (low i (omega arith), h, tt)
 Above-from_order n (i ∷ j ∷ xs) low h =
     (low i (omega arith), h.0, Above-from_order (i.last + 1) (j ∷ xs) (λ d _. let past : i.last < j.first = h.1 in omega arith) h.2)
 
-pub Above-zero : (xs : List Interval) → AreInOrder (map interval_of xs) → Above 0 xs
+pub Above-zero : (xs : List Interval) → IntervalsAreInOrder (map interval_of xs) → Above 0 xs
 Above-zero xs h = Above-from_order 0 xs (λ d _. omega arith) h
 
-pub order-from_Above : (n : ℕ) (xs : List Interval) → Above n xs → AreInOrder (map interval_of xs)
+pub order-from_Above : (n : ℕ) (xs : List Interval) → Above n xs → IntervalsAreInOrder (map interval_of xs)
 order-from_Above n [] h = tt
 order-from_Above n (i ∷ []) h = h.1
 order-from_Above n (i ∷ j ∷ xs) h = (h.1, omega (arith, h.2.0), order-from_Above (i.last + 1) (j ∷ xs) h.2)
@@ -78,15 +78,15 @@ false-le : (x y : ℕ) → nat_le x y ≡ false → y < x
 false-le x y h = leb-false x y h
 
 member-merged_step : (t : Bool) (now next : Interval) (others : List Interval) (c : ℕ)
-    → (t ≡ true → member (merged (record now { last = max now.last next.last }) others) c ≡ member (now ∷ next ∷ others) c)
-    → (t ≡ false → member (now ∷ merged next others) c ≡ member (now ∷ next ∷ others) c)
-    → member (if t then merged (record now { last = max now.last next.last }) others else now ∷ merged next others) c ≡ member (now ∷ next ∷ others) c
+    → (t ≡ true → member (merged_intervals (record now { last = max now.last next.last }) others) c ≡ member (now ∷ next ∷ others) c)
+    → (t ≡ false → member (now ∷ merged_intervals next others) c ≡ member (now ∷ next ∷ others) c)
+    → member (if t then merged_intervals (record now { last = max now.last next.last }) others else now ∷ merged_intervals next others) c ≡ member (now ∷ next ∷ others) c
 member-merged_step true now next others c h k = h refl
 member-merged_step false now next others c h k = k refl
 
 -- joined intervals hold the same numbers
 pub member-merged : (now : Interval) (others : List Interval) (c : ℕ) → now.first ≤ now.last → Rises now.first others
-    → member (merged now others) c ≡ member (now ∷ others) c
+    → member (merged_intervals now others) c ≡ member (now ∷ others) c
 member-merged now [] c h r = refl
 member-merged now (next ∷ others) c h r =
     let after : now.first ≤ next.first = r.0 in
@@ -100,15 +100,15 @@ member-merged now (next ∷ others) c h r =
     (λ t. rw (member-merged next others c some r.2))
 
 spaced-merged_step : (t : Bool) (gap n : ℕ) (now next : Interval) (others : List Interval)
-    → (t ≡ true → Spaced gap n (merged (record now { last = max now.last next.last }) others))
-    → (t ≡ false → Spaced gap n (now ∷ merged next others))
-    → Spaced gap n (if t then merged (record now { last = max now.last next.last }) others else now ∷ merged next others)
+    → (t ≡ true → Spaced gap n (merged_intervals (record now { last = max now.last next.last }) others))
+    → (t ≡ false → Spaced gap n (now ∷ merged_intervals next others))
+    → Spaced gap n (if t then merged_intervals (record now { last = max now.last next.last }) others else now ∷ merged_intervals next others)
 spaced-merged_step true gap n now next others h k = h refl
 spaced-merged_step false gap n now next others h k = k refl
 
 -- joined intervals stand in order, and between them a number is left out
 pub Spaced-merged : (gap n : ℕ) (now : Interval) (others : List Interval) → gap ≤ 2 → n ≤ now.first → now.first ≤ now.last → Rises now.first others
-    → Spaced gap n (merged now others)
+    → Spaced gap n (merged_intervals now others)
 Spaced-merged gap n now [] g l h r = (l, h, tt)
 Spaced-merged gap n now (next ∷ others) g l h r =
     let after : now.first ≤ next.first = r.0 in
@@ -120,7 +120,7 @@ Spaced-merged gap n now (next ∷ others) g l h r =
     let far : now.last < next.first - 1 = false-le _ _ t in
     (l, h, Spaced-merged gap (now.last + gap) next others g (omega arith) some r.2))
 
-pub apart-from_Apart : (n : ℕ) (xs : List Interval) → Apart n xs → AreApart (map interval_of xs)
+pub apart-from_Apart : (n : ℕ) (xs : List Interval) → Apart n xs → AreCanonicalIntervals (map interval_of xs)
 apart-from_Apart n [] h = tt
 apart-from_Apart n (i ∷ []) h = h.1
 apart-from_Apart n (i ∷ j ∷ xs) h = (h.1, omega (arith, h.2.0), apart-from_Apart (i.last + 2) (j ∷ xs) h.2)
@@ -150,17 +150,17 @@ beyond : (last c : ℕ) (inside : Bool) → 0x10_FFFF ≤ last → (not (nat_le 
 beyond last c inside h = rw (le-leb 0x10_FFFF last h)
 
 pub member-gaps : (n : ℕ) (xs : List Interval) (c : ℕ) → n ≤ 0x10_FFFF → Above n xs
-    → member (gaps n xs) c ≡ (nat_le n c && (nat_le c 0x10_FFFF && not (member xs c)))
+    → member (gaps_between_intervals n xs) c ≡ (nat_le n c && (nat_le c 0x10_FFFF && not (member xs c)))
 member-gaps n [] c h a = grind (arith, nat_tests)
 member-gaps n (i ∷ is) c h a =
     let low : n ≤ i.first = a.0 in
     let some : i.first ≤ i.last = a.1 in
-    let rest = if nat_le 0x10_FFFF i.last then [] else gaps (i.last + 1) is in
+    let rest = if nat_le 0x10_FFFF i.last then [] else gaps_between_intervals (i.last + 1) is in
     gap-before n i.first c rest h
-    ∙ ap (λ b. (nat_le n c && (nat_lt c i.first && nat_le c 0x10_FFFF)) || b) (no_rest (nat_le 0x10_FFFF i.last) c (gaps (i.last + 1) is)
+    ∙ ap (λ b. (nat_le n c && (nat_lt c i.first && nat_le c 0x10_FFFF)) || b) (no_rest (nat_le 0x10_FFFF i.last) c (gaps_between_intervals (i.last + 1) is)
     ∙ (elim (cases_lt i.last 0x10_FFFF) [
       | inl below ↦ ap (λ b. not (nat_le 0x10_FFFF i.last) && b) (member-gaps (i.last + 1) is c (omega arith) a.2)
-      | inr past ↦ beyond i.last c (member (gaps (i.last + 1) is) c) past ∙ sym (beyond i.last c _ past)
+      | inr past ↦ beyond i.last c (member (gaps_between_intervals (i.last + 1) is) c) past ∙ sym (beyond i.last c _ past)
     ]))
     ∙ gap_tests n i.first i.last c (member is c) low some (λ l. member-below (i.last + 1) c is a.2 l)
 
@@ -172,14 +172,14 @@ Spaced-before gap m n first rest some h k a b =
       | inr past ↦ rw (le-ltb n first past) a
     ]
 
-pub Spaced-gaps : (gap m n : ℕ) (xs : List Interval) → 0 < gap → gap ≤ 2 → m ≤ n → n ≤ 0x10_FFFF → Above n xs → Spaced gap m (gaps n xs)
+pub Spaced-gaps : (gap m n : ℕ) (xs : List Interval) → 0 < gap → gap ≤ 2 → m ≤ n → n ≤ 0x10_FFFF → Above n xs → Spaced gap m (gaps_between_intervals n xs)
 Spaced-gaps gap m n [] g g' h k a = (h, k, tt)
 Spaced-gaps gap m n (i ∷ is) g g' h k a =
     let low : n ≤ i.first = a.0 in
     let some : i.first ≤ i.last = a.1 in
     elim (cases_lt i.last 0x10_FFFF) [
       | inl below ↦ rw (lt-leb 0x10_FFFF i.last below)
-          (Spaced-before gap m n i.first (gaps (i.last + 1) is) g h k (Spaced-gaps gap m (i.last + 1) is g g' (omega arith) (omega arith) a.2)
+          (Spaced-before gap m n i.first (gaps_between_intervals (i.last + 1) is) g h k (Spaced-gaps gap m (i.last + 1) is g g' (omega arith) (omega arith) a.2)
           (Spaced-gaps gap (i.first + (gap - 1)) (i.last + 1) is g g' (omega arith) (omega arith) a.2))
       | inr past ↦ rw (le-leb 0x10_FFFF i.last past) (Spaced-before gap m n i.first [] g h k tt tt)
     ]
@@ -220,7 +220,7 @@ same_at (i ∷ is) zero d e h = refl
 same_at (i ∷ is) (suc k) d e h = same_at is k d e (omega arith)
 
 -- of two the later one begins and ends behind the other one
-rising : (xs : List Interval) (j k : ℕ) (d : Interval) → AreInOrder (map interval_of xs) → j < k → k < length xs
+rising : (xs : List Interval) (j k : ℕ) (d : Interval) → IntervalsAreInOrder (map interval_of xs) → j < k → k < length xs
     → ((get_or xs j d).first < (get_or xs k d).first) × ((get_or xs j d).last < (get_or xs k d).last)
 rising xs j k d o less within =
     let a = Above-zero xs o in
@@ -228,7 +228,7 @@ rising xs j k d o less within =
     let one = (Above-at 0 xs j d a (omega (arith, less, within))).1 in
     let other = (Above-at 0 xs k d a within).1 in (omega (arith, between, one), omega (arith, between, other))
 
-pub end_before : (xs : List Interval) (c middle : ℕ) (e : Interval) → AreInOrder (map interval_of xs) → middle < length xs
+pub end_before : (xs : List Interval) (c middle : ℕ) (e : Interval) → IntervalsAreInOrder (map interval_of xs) → middle < length xs
     → (get_or xs middle e).last < c → EndBefore xs c (middle + 1)
 end_before xs c middle e o h l k d below =
     let is : (get_or xs middle d).last ≡ (get_or xs middle e).last = ap (λ i. i.last) (same_at xs middle d e h) in
@@ -237,7 +237,7 @@ end_before xs c middle e o h l k d below =
       | inr after ↦ let at : k ≡ middle = omega arith in rw at (omega arith)
     ]
 
-pub begin_after : (xs : List Interval) (c middle : ℕ) (e : Interval) → AreInOrder (map interval_of xs) → middle < length xs
+pub begin_after : (xs : List Interval) (c middle : ℕ) (e : Interval) → IntervalsAreInOrder (map interval_of xs) → middle < length xs
     → c < (get_or xs middle e).first → BeginAfter xs c middle
 begin_after xs c middle e o h l k d from within =
     let is : (get_or xs middle d).first ≡ (get_or xs middle e).first = ap (λ i. i.first) (same_at xs middle d e h) in
@@ -288,7 +288,7 @@ empty_range a b c m h =
     nothing false = refl
 
 -- an empty interval has no number
-pub member-filter : (xs : List Interval) (c : ℕ) → member (filter holds_some xs) c ≡ member xs c
+pub member-filter : (xs : List Interval) (c : ℕ) → member (filter is_nonempty xs) c ≡ member xs c
 member-filter [] c = refl
 member-filter (i ∷ is) c =
     elim (cases_lt i.last i.first) [
@@ -308,12 +308,12 @@ Rises-from n (i ∷ is) low all rise = (
       (λ j k d h l. rise (suc j) (suc k) d (omega arith) (omega arith)),
 )
 
-pub All-holding : (xs : List Interval) → All (λ i. i.first ≤ i.last) (filter holds_some xs)
+pub All-holding : (xs : List Interval) → All (λ i. i.first ≤ i.last) (filter is_nonempty xs)
 All-holding [] = λ k d h. absurd (omega arith)
 All-holding (i ∷ is) =
     elim (cases_lt i.last i.first) [
       | inl none ↦ rw (lt-leb i.first i.last none) (All-holding is)
-      | inr some ↦ rw (le-leb i.first i.last some) (All-cons (λ (j : Interval). j.first ≤ j.last) i (filter holds_some is) some (All-holding is))
+      | inr some ↦ rw (le-leb i.first i.last some) (All-cons (λ (j : Interval). j.first ≤ j.last) i (filter is_nonempty is) some (All-holding is))
     ]
 
 Rises-rest : (first : Interval) (others : List Interval) → All (λ i. i.first ≤ i.last) (first ∷ others)
@@ -321,25 +321,25 @@ Rises-rest : (first : Interval) (others : List Interval) → All (λ i. i.first 
 Rises-rest first others all rise = Rises-from first.first (first ∷ others) (λ d h. omega arith) all rise
 
 module _ (xs : List Interval) (first : Interval) (others v : List Interval) (is : xs ≡ first ∷ others)
-    (all : All (λ i. i.first ≤ i.last) xs) (rise : IsNonDecreasingBy (λ (i : Interval). i.first) xs) (made : v ≡ merged first others) where
+    (all : All (λ i. i.first ≤ i.last) xs) (rise : IsNonDecreasingBy (λ (i : Interval). i.first) xs) (made : v ≡ merged_intervals first others) where
   rises : Rises first.first (first ∷ others)
   rises = Rises-rest first others (rw is at all) (rw is at rise)
 
-  pub merged_in_order : AreInOrder (map interval_of v)
-  merged_in_order = rw made (order-from_Above first.first (merged first others) (Spaced-merged 1 first.first first others (omega arith) (omega arith) rises.1 rises.2))
+  pub merged_in_order : IntervalsAreInOrder (map interval_of v)
+  merged_in_order = rw made (order-from_Above first.first (merged_intervals first others) (Spaced-merged 1 first.first first others (omega arith) (omega arith) rises.1 rises.2))
 
-  pub merged_apart : AreApart (map interval_of v)
-  merged_apart = rw made (apart-from_Apart first.first (merged first others) (Spaced-merged 2 first.first first others (omega arith) (omega arith) rises.1 rises.2))
+  pub merged_apart : AreCanonicalIntervals (map interval_of v)
+  merged_apart = rw made (apart-from_Apart first.first (merged_intervals first others) (Spaced-merged 2 first.first first others (omega arith) (omega arith) rises.1 rises.2))
 
   pub merged_members : (c : ℕ) → member v c ≡ member xs c
   merged_members c = rw (made, is) (member-merged first others c rises.1 rises.2)
 
-module _ (xs v : List Interval) (order : AreInOrder (map interval_of xs)) (made : v ≡ gaps 0 xs) where
-  pub gaps_in_order : AreInOrder (map interval_of v)
-  gaps_in_order = rw made (order-from_Above 0 (gaps 0 xs) (Spaced-gaps 1 0 0 xs (omega arith) (omega arith) (omega arith) (omega arith) (Above-zero xs order)))
+module _ (xs v : List Interval) (order : IntervalsAreInOrder (map interval_of xs)) (made : v ≡ gaps_between_intervals 0 xs) where
+  pub gaps_in_order : IntervalsAreInOrder (map interval_of v)
+  gaps_in_order = rw made (order-from_Above 0 (gaps_between_intervals 0 xs) (Spaced-gaps 1 0 0 xs (omega arith) (omega arith) (omega arith) (omega arith) (Above-zero xs order)))
 
-  pub gaps_apart : AreApart (map interval_of v)
-  gaps_apart = rw made (apart-from_Apart 0 (gaps 0 xs) (Spaced-gaps 2 0 0 xs (omega arith) (omega arith) (omega arith) (omega arith) (Above-zero xs order)))
+  pub gaps_apart : AreCanonicalIntervals (map interval_of v)
+  gaps_apart = rw made (apart-from_Apart 0 (gaps_between_intervals 0 xs) (Spaced-gaps 2 0 0 xs (omega arith) (omega arith) (omega arith) (omega arith) (Above-zero xs order)))
 
   pub gaps_members : (c : ℕ) → member v c ≡ (nat_le c 0x10_FFFF && not (member xs c))
   gaps_members c = rw made (member-gaps 0 xs c (omega arith) (Above-zero xs order) ∙ rw (le-leb 0 c (omega arith)))

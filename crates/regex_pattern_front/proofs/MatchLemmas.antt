@@ -6,9 +6,9 @@ use Rattle.std.specs.Option.{option_map_or}
 use Rattle.regex_meaning.specs.Tree.{Node, group_ids}
 use Rattle.regex_meaning.specs.Text.{Text, last_place}
 use Rattle.regex_meaning.specs.Outcomes.{outcomes}
-use Rattle.regex_meaning.specs.Find.{Found, match_at, first_match, first_match_among, place_behind, matches_from, match_list}
-use Rattle.regex_meaning.specs.Names.{Answer, names_by_id, answer, answers_from}
-use Rattle.regex_meaning.specs.Offsets.{offset, place_at}
+use Rattle.regex_meaning.specs.FirstAndAllMatches.{Found, match_at, first_match, first_match_among, place_behind, matches_from, match_list}
+use Rattle.regex_meaning.specs.Captures.{Answer, group_names_by_id, answer, answers_from}
+use Rattle.regex_meaning.specs.CodeUnitOffsets.{offset, place_at}
 
 module _ (a b : Node) (text : Text) (outcomes_same : outcomes text a ≡ outcomes text b) (ids_same : group_ids a ≡ group_ids b) where
   at-same : (place : ℕ) → match_at a text place ≡ match_at b text place
@@ -32,7 +32,7 @@ module _ (a b : Node) (text : Text) (outcomes_same : outcomes text a ≡ outcome
   unfolding match_list
   list-same place = from-same _ _ ∙ ap (matches_from b text (last_place text + 1)) (first-same place)
 
-  answer-same : names_by_id a ≡ names_by_id b → (m : Found) → answer a text m ≡ answer b text m
+  answer-same : group_names_by_id a ≡ group_names_by_id b → (m : Found) → answer a text m ≡ answer b text m
   answer-same named m =
       ap (λ (names : List (List ℕ)). record {
         range = (offset text m.start, offset text m.end);
@@ -41,7 +41,7 @@ module _ (a b : Node) (text : Text) (outcomes_same : outcomes text a ≡ outcome
       }) named
 
   -- the same answers, if the names are the same too
-  pub answers-same : names_by_id a ≡ names_by_id b → (start : ℕ) → answers_from a text start ≡ answers_from b text start
+  pub answers-same : group_names_by_id a ≡ group_names_by_id b → (start : ℕ) → answers_from a text start ≡ answers_from b text start
   unfolding answers_from
   answers-same named start = go (place_at text start)
     where

@@ -4,20 +4,20 @@ use mathlib.Core.Path.{fun_ext}
 use Rattle.std.specs.Prelude.{if◌then◌else◌, nat_le, map, ◌==◌}
 use Rattle.std.specs.List.{list_all}
 use Rattle.regex_pattern_front.proofs.BoolLemmas.{left, right, and_from}
-use Rattle.regex_meaning.specs.Lists.{contains, numbers_from}
+use Rattle.regex_meaning.specs.NumberListHelpers.{contains, numbers_from}
 use Rattle.regex_meaning.specs.Tree.{Quantifier, Node, char, char_set, byte_set, byte_sequence, cat, alt, bracket, string_set, match_any}
 use Rattle.regex_meaning.specs.Tree.{match_any_except_line_terminator, capture_group, back_ref, lookaround, loop, loop_1_char_body, group_ids}
-use Rattle.regex_meaning.specs.Tree.{own_id, gathered, every}
-use Rattle.regex_meaning.specs.Names.{name_of, named_ids, names_by_id, own_name}
+use Rattle.regex_meaning.specs.Tree.{own_id, fold_nodes, every_node_passes}
+use Rattle.regex_meaning.specs.Captures.{group_name_of_id, capturing_group_ids_and_names, group_names_by_id, own_name}
 use Rattle.regex_meaning.specs.Text.{Text, Direction}
 use Rattle.regex_meaning.specs.Outcomes.{Groups, Outcome, outcomes}
-use Rattle.regex_meaning.specs.Layout.{reads_bytes, is_of_bytes}
-use Rattle.regex_meaning.specs.WellFormed.{goal_count, own_goals, is_end_of_cat, ends_in_goal, encloses, names_the_groups_inside, refers_to_a_group}
-use Rattle.regex_meaning.specs.WellFormed.{has_order_in_quantifier, is_one_character, has_one_character_body, has_text_in_sequence}
-use Rattle.regex_meaning.specs.WellFormed.{fits_instructions}
+use Rattle.regex_meaning.specs.CompilationRelation.{reads_bytes, is_byte_node}
+use Rattle.regex_meaning.specs.WellFormedTrees.{number_of_goals, own_goals, is_end_of_cat, ends_in_goal, encloses, names_the_groups_inside, refers_to_a_group}
+use Rattle.regex_meaning.specs.WellFormedTrees.{has_order_in_quantifier, is_one_character, has_one_character_body, has_text_in_sequence}
+use Rattle.regex_meaning.specs.WellFormedTrees.{fits_instructions}
 use Rattle.regex_meaning.proofs.WellFormedLemmas.{clauses, by_clauses}
-use Rattle.regex_pattern_front.specs.Optimized.{reads_one_character, optimized, OptimizedIsWellFormed, OptimizedHasSameOutcomes}
-use Rattle.regex_pattern_front.specs.Optimized.{OptimizedHasSameAnswers}
+use Rattle.regex_pattern_front.specs.OptimizedTrees.{reads_one_character, optimized, OptimizedIsWellFormed, OptimizedHasSameOutcomes}
+use Rattle.regex_pattern_front.specs.OptimizedTrees.{OptimizedHasSameAnswers}
 use Rattle.regex_pattern_front.proofs.MatchLemmas.{answers-same}
 use Rattle.std.proofs.lemmas.Bool.{and_from}
 use Rattle.regex_meaning.proofs.Booleans.{and-left, and-right}
@@ -36,7 +36,7 @@ module _ {A : Type 0} (own : Node → A) where
       go false = many
 
   module _ (join : A → A → A) (keeps : (n : Node) → own (optimized n) ≡ own n) where
-    gathered-optimized : (n : Node) → gathered join own (optimized n) ≡ gathered join own n
+    gathered-optimized : (n : Node) → fold_nodes join own (optimized n) ≡ fold_nodes join own n
     unfolding optimized
     gathered-optimized (cat first rest) = rw (keeps (cat first rest), gathered-optimized first, gathered-optimized rest)
     gathered-optimized (alt left right) = rw (keeps (alt left right), gathered-optimized left, gathered-optimized right)
@@ -45,8 +45,8 @@ module _ {A : Type 0} (own : Node → A) where
     gathered-optimized (loop q s e loopee) = go (reads_one_character loopee) (keeps (loop q s e loopee)) (gathered-optimized loopee)
       where
         go : (r : Bool) → own (if r then loop_1_char_body q loopee else loop q s e (optimized loopee)) ≡ own (loop q s e loopee)
-            → gathered join own (optimized loopee) ≡ gathered join own loopee
-            → gathered join own (if r then loop_1_char_body q loopee else loop q s e (optimized loopee)) ≡ gathered join own (loop q s e loopee)
+            → fold_nodes join own (optimized loopee) ≡ fold_nodes join own loopee
+            → fold_nodes join own (if r then loop_1_char_body q loopee else loop q s e (optimized loopee)) ≡ fold_nodes join own (loop q s e loopee)
         go true here below = rw here
         go false here below = rw (here, below)
     gathered-optimized (loop_1_char_body q loopee) = rw (keeps (loop_1_char_body q loopee), gathered-optimized loopee)
@@ -54,33 +54,33 @@ module _ {A : Type 0} (own : Node → A) where
 
 own-optimized : (n : Node)
     → (own_goals (optimized n) ≡ own_goals n) × (own_id (optimized n) ≡ own_id n) × (own_name (optimized n) ≡ own_name n)
-    × (is_of_bytes (optimized n) ≡ is_of_bytes n)
+    × (is_byte_node (optimized n) ≡ is_byte_node n)
 unfolding optimized
 own-optimized (loop q s e loopee) = (
   loop-keeps own_goals q s e loopee refl refl,
   loop-keeps own_id q s e loopee refl refl,
   loop-keeps own_name q s e loopee refl refl,
-  loop-keeps is_of_bytes q s e loopee refl refl,
+  loop-keeps is_byte_node q s e loopee refl refl,
 )
 own-optimized _ = (refl, refl, refl, refl)
 
-goal_count-optimized : (n : Node) → goal_count (optimized n) ≡ goal_count n
+goal_count-optimized : (n : Node) → number_of_goals (optimized n) ≡ number_of_goals n
 goal_count-optimized = gathered-optimized own_goals ◌+◌ (λ n. (own-optimized n).0)
 
 pub group_ids-optimized : (n : Node) → group_ids (optimized n) ≡ group_ids n
 group_ids-optimized = gathered-optimized own_id ◌++◌ (λ n. (own-optimized n).1)
 
-pub named_ids-optimized : (n : Node) → named_ids (optimized n) ≡ named_ids n
+pub named_ids-optimized : (n : Node) → capturing_group_ids_and_names (optimized n) ≡ capturing_group_ids_and_names n
 named_ids-optimized = gathered-optimized own_name ◌++◌ (λ n. (own-optimized n).2)
 
 pub reads_bytes-optimized : (n : Node) → reads_bytes (optimized n) ≡ reads_bytes n
-reads_bytes-optimized = gathered-optimized is_of_bytes ◌||◌ (λ n. (own-optimized n).3)
+reads_bytes-optimized = gathered-optimized is_byte_node ◌||◌ (λ n. (own-optimized n).3)
 
-pub names_by_id-optimized : (n : Node) → names_by_id (optimized n) ≡ names_by_id n
+pub names_by_id-optimized : (n : Node) → group_names_by_id (optimized n) ≡ group_names_by_id n
 names_by_id-optimized n = ap by_id (named_ids-optimized n)
   where
     by_id : List (ℕ × List ℕ) → List (List ℕ)
-    by_id named = if list_all (λ p. length p.1 == 0) named then [] else map (name_of named) (numbers_from 0 (length named))
+    by_id named = if list_all (λ p. length p.1 == 0) named then [] else map (group_name_of_id named) (numbers_from 0 (length named))
 
 is_end_of_cat-optimized : (n : Node) → is_end_of_cat (optimized n) ≡ is_end_of_cat n
 unfolding optimized
@@ -116,30 +116,30 @@ is_one-reads _ h = grind arith
 
 -- a test that holds of the optimized node where it holds of the node holds of each one
 module _ (test : Node → Bool) (keeps : (n : Node) → test n ≡ true → test (optimized n) ≡ true) where
-  every-optimized : (n : Node) → every test n ≡ true → every test (optimized n) ≡ true
+  every-optimized : (n : Node) → every_node_passes test n ≡ true → every_node_passes test (optimized n) ≡ true
   unfolding optimized
   every-optimized (cat first rest) h =
       and_from _ _
-      (and_from _ _ (keeps (cat first rest) (and-left (test (cat first rest)) _ (and-left _ (every test rest) h))) (every-optimized first (and-right (test (cat first rest)) _ (and-left _ (every test rest) h))))
-      (every-optimized rest (and-right _ (every test rest) h))
+      (and_from _ _ (keeps (cat first rest) (and-left (test (cat first rest)) _ (and-left _ (every_node_passes test rest) h))) (every-optimized first (and-right (test (cat first rest)) _ (and-left _ (every_node_passes test rest) h))))
+      (every-optimized rest (and-right _ (every_node_passes test rest) h))
   every-optimized (alt first rest) h =
       and_from _ _
-      (and_from _ _ (keeps (alt first rest) (and-left (test (alt first rest)) _ (and-left _ (every test rest) h))) (every-optimized first (and-right (test (alt first rest)) _ (and-left _ (every test rest) h))))
-      (every-optimized rest (and-right _ (every test rest) h))
+      (and_from _ _ (keeps (alt first rest) (and-left (test (alt first rest)) _ (and-left _ (every_node_passes test rest) h))) (every-optimized first (and-right (test (alt first rest)) _ (and-left _ (every_node_passes test rest) h))))
+      (every-optimized rest (and-right _ (every_node_passes test rest) h))
   every-optimized (capture_group id name contents) h =
-      and_from _ _ (keeps (capture_group id name contents) (and-left _ (every test contents) h)) (every-optimized contents (and-right _ (every test contents) h))
+      and_from _ _ (keeps (capture_group id name contents) (and-left _ (every_node_passes test contents) h)) (every-optimized contents (and-right _ (every_node_passes test contents) h))
   every-optimized (lookaround l contents) h =
-      and_from _ _ (keeps (lookaround l contents) (and-left _ (every test contents) h)) (every-optimized contents (and-right _ (every test contents) h))
+      and_from _ _ (keeps (lookaround l contents) (and-left _ (every_node_passes test contents) h)) (every-optimized contents (and-right _ (every_node_passes test contents) h))
   every-optimized (loop q s e loopee) h =
-      go (reads_one_character loopee) (keeps (loop q s e loopee) (and-left _ (every test loopee) h)) (and-right _ (every test loopee) h)
-      (every-optimized loopee (and-right _ (every test loopee) h))
+      go (reads_one_character loopee) (keeps (loop q s e loopee) (and-left _ (every_node_passes test loopee) h)) (and-right _ (every_node_passes test loopee) h)
+      (every-optimized loopee (and-right _ (every_node_passes test loopee) h))
     where
-      go : (r : Bool) → test (if r then loop_1_char_body q loopee else loop q s e (optimized loopee)) ≡ true → every test loopee ≡ true → every test (optimized loopee) ≡ true
-          → every test (if r then loop_1_char_body q loopee else loop q s e (optimized loopee)) ≡ true
+      go : (r : Bool) → test (if r then loop_1_char_body q loopee else loop q s e (optimized loopee)) ≡ true → every_node_passes test loopee ≡ true → every_node_passes test (optimized loopee) ≡ true
+          → every_node_passes test (if r then loop_1_char_body q loopee else loop q s e (optimized loopee)) ≡ true
       go true here below inside = and_from _ _ here below
       go false here below inside = and_from _ _ here inside
   every-optimized (loop_1_char_body q loopee) h =
-      and_from _ _ (keeps (loop_1_char_body q loopee) (and-left _ (every test loopee) h)) (every-optimized loopee (and-right _ (every test loopee) h))
+      and_from _ _ (keeps (loop_1_char_body q loopee) (and-left _ (every_node_passes test loopee) h)) (every-optimized loopee (and-right _ (every_node_passes test loopee) h))
   every-optimized _ h = h
 
 -- a test that does not look at loops
@@ -228,21 +228,21 @@ module _ (text : Text) where
   fun_ext3 : (F G : Direction → ℕ → Groups → List Outcome) → ((d : Direction) (p : ℕ) (g : Groups) → F d p g ≡ G d p g) → F ≡ G
   fun_ext3 F G h = fun_ext (λ d. fun_ext (λ p. fun_ext (λ g. h d p g)))
 
-  same : (n : Node) → every names_the_groups_inside n ≡ true → outcomes text (optimized n) ≡ outcomes text n
+  same : (n : Node) → every_node_passes names_the_groups_inside n ≡ true → outcomes text (optimized n) ≡ outcomes text n
   unfolding optimized outcomes
   same (cat first rest) h =
-      fun_ext3 _ _ (λ d p g. rw (same first (and-right (names_the_groups_inside (cat first rest)) _ (and-left _ (every names_the_groups_inside rest) h)), same rest (and-right _ (every names_the_groups_inside rest) h)))
+      fun_ext3 _ _ (λ d p g. rw (same first (and-right (names_the_groups_inside (cat first rest)) _ (and-left _ (every_node_passes names_the_groups_inside rest) h)), same rest (and-right _ (every_node_passes names_the_groups_inside rest) h)))
   same (alt first rest) h =
-      fun_ext3 _ _ (λ d p g. rw (same first (and-right (names_the_groups_inside (alt first rest)) _ (and-left _ (every names_the_groups_inside rest) h)), same rest (and-right _ (every names_the_groups_inside rest) h)))
+      fun_ext3 _ _ (λ d p g. rw (same first (and-right (names_the_groups_inside (alt first rest)) _ (and-left _ (every_node_passes names_the_groups_inside rest) h)), same rest (and-right _ (every_node_passes names_the_groups_inside rest) h)))
   same (capture_group id name contents) h = fun_ext3 _ _ (λ d p g. rw (same contents h))
-  same (lookaround l contents) h = fun_ext3 _ _ (λ d p g. rw (same contents (and-right _ (every names_the_groups_inside contents) h)))
+  same (lookaround l contents) h = fun_ext3 _ _ (λ d p g. rw (same contents (and-right _ (every_node_passes names_the_groups_inside contents) h)))
   same (loop q s e loopee) h =
-      go (reads_one_character loopee) refl (same loopee (and-right _ (every names_the_groups_inside loopee) h))
+      go (reads_one_character loopee) refl (same loopee (and-right _ (every_node_passes names_the_groups_inside loopee) h))
     where
       go : (r : Bool) → reads_one_character loopee ≡ r → outcomes text (optimized loopee) ≡ outcomes text loopee
           → outcomes text (if r then loop_1_char_body q loopee else loop q s e (optimized loopee)) ≡ outcomes text (loop q s e loopee)
       go true k inside =
-          fun_ext3 _ _ (λ d p g. rw (encloses_none s e loopee (no_ids loopee k) (and-left (encloses s e loopee) (every names_the_groups_inside loopee) h)))
+          fun_ext3 _ _ (λ d p g. rw (encloses_none s e loopee (no_ids loopee k) (and-left (encloses s e loopee) (every_node_passes names_the_groups_inside loopee) h)))
       go false k inside = fun_ext3 _ _ (λ d p g. rw inside)
   same (loop_1_char_body q loopee) h = fun_ext3 _ _ (λ d p g. rw (same loopee h))
   same _ h = refl

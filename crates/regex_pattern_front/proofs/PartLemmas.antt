@@ -11,31 +11,31 @@ use Rattle.std.proofs.lemmas.List.Sorted.{sum_by-IsPermutation, All-permutation}
 use Rattle.std.proofs.lemmas.List.Elements.{All-cons, All-append}
 use Rattle.regex_pattern_front.proofs.BoolLemmas.{and_from}
 use Rattle.regex_meaning.specs.Tree as tree
-use Rattle.regex_meaning.specs.Tree.{group_ids, every, empty, goal, char, char_set, byte_set, byte_sequence, cat, end_of_cat, alt, bracket}
+use Rattle.regex_meaning.specs.Tree.{group_ids, every_node_passes, empty, goal, char, char_set, byte_set, byte_sequence, cat, end_of_cat, alt, bracket}
 use Rattle.regex_meaning.specs.Tree.{string_set, match_any, match_any_except_line_terminator, anchor, word_boundary, capture_group, back_ref}
 use Rattle.regex_meaning.specs.Tree.{lookaround, loop, loop_1_char_body, Lookaround, Quantifier}
-use Rattle.regex_meaning.specs.WellFormed.{goal_count, is_in_order}
+use Rattle.regex_meaning.specs.WellFormedTrees.{number_of_goals, is_in_order}
 use Rattle.regex_pattern_front.specs.declared.ir.Node.{Node}
-use Rattle.regex_pattern_front.specs.TreeOf.{node_of, cat_of}
-use Rattle.regex_pattern_front.specs.Parts.{is_sound, times, IsPart, AreParts, IsMadeOf, KeepsParts}
+use Rattle.regex_pattern_front.specs.AstToSpecTree.{node_of, cat_of}
+use Rattle.regex_pattern_front.specs.SubtreeListInvariants.{is_sound, occurrences_of_id, IsSoundSubtree, AreSoundSubtrees, IsSubtreeMadeOfNodes, KeepsSubtrees}
 use Rattle.regex_grammar.proofs.Parts.{every-more, within-none, within-join, sum_by-cons, count_by-append}
 pub use Rattle.regex_grammar.proofs.Parts.{part-leaf, part-group, part-lookaround, part-loop, whole, whole-plain, whole-reads_none}
 
 -- ---- Lists
 
-pub parts-none : (first greatest : ℕ) → AreParts first first greatest []
+pub parts-none : (first greatest : ℕ) → AreSoundSubtrees first first greatest []
 parts-none first greatest = record { goals = refl; count = omega arith; ids = λ id. sym (within-none first id); sound = λ k d h. absurd (omega arith) }
 
-All-more : (greatest more : ℕ) (xs : List Node) → greatest ≤ more → All (λ n. IsTrue (every (is_sound greatest) (node_of n))) xs → All (λ n. IsTrue (every (is_sound more) (node_of n))) xs
+All-more : (greatest more : ℕ) (xs : List Node) → greatest ≤ more → All (λ n. IsTrue (every_node_passes (is_sound greatest) (node_of n))) xs → All (λ n. IsTrue (every_node_passes (is_sound more) (node_of n))) xs
 All-more greatest more xs h all = λ k d l. every-more greatest more (node_of (get_or xs k d)) h (all k d l)
 
-pub parts-more : (first end greatest more : ℕ) (xs : List Node) → greatest ≤ more → AreParts first end greatest xs → AreParts first end more xs
+pub parts-more : (first end greatest more : ℕ) (xs : List Node) → greatest ≤ more → AreSoundSubtrees first end greatest xs → AreSoundSubtrees first end more xs
 parts-more first end greatest more xs h a = record { goals = a.goals; count = a.count; ids = a.ids; sound = All-more greatest more xs h a.sound }
 
 pub parts-push : (first middle end greatest more : ℕ) (xs : List Node) (n : Node) → greatest ≤ more
-    → AreParts first middle greatest xs → IsPart middle end more (node_of n) → AreParts first end more (xs ++ n ∷ [])
+    → AreSoundSubtrees first middle greatest xs → IsSoundSubtree middle end more (node_of n) → AreSoundSubtrees first end more (xs ++ n ∷ [])
 parts-push first middle end greatest more xs n h a p = record {
-  goals = sum_by-append (λ n. goal_count (node_of n)) xs (n ∷ []) ∙ (let g = p.goals in let s = a.goals in omega arith);
+  goals = sum_by-append (λ n. number_of_goals (node_of n)) xs (n ∷ []) ∙ (let g = p.goals in let s = a.goals in omega arith);
   count = rw (sum_by-append (λ n. length (group_ids (node_of n))) xs (n ∷ [])) (let g = p.count in let s = a.count in omega arith);
   ids = λ id.
       let g = p.ids id in
@@ -43,9 +43,9 @@ parts-push first middle end greatest more xs n h a p = record {
       let low : first ≤ middle = omega (arith, a.count) in
       let high : middle ≤ end = omega (arith, p.count) in
       let j = within-join first middle end id low high in
-      sum_by-append (λ n. times id (node_of n)) xs (n ∷ []) ∙ omega arith;
-  sound = All-append (λ n. IsTrue (every (is_sound more) (node_of n))) xs (n ∷ []) (All-more greatest more xs h a.sound)
-      (All-cons (λ n. IsTrue (every (is_sound more) (node_of n))) n [] p.sound (λ k d h. absurd (omega arith)));
+      sum_by-append (λ n. occurrences_of_id id (node_of n)) xs (n ∷ []) ∙ omega arith;
+  sound = All-append (λ n. IsTrue (every_node_passes (is_sound more) (node_of n))) xs (n ∷ []) (All-more greatest more xs h a.sound)
+      (All-cons (λ n. IsTrue (every_node_passes (is_sound more) (node_of n))) n [] p.sound (λ k d h. absurd (omega arith)));
 }
 
 All-split : (P : Node → Type 0) (xs ys : List Node) → All P (xs ++ ys) → All P xs × All P ys
@@ -54,7 +54,7 @@ All-split P (x ∷ xs) ys all =
     let r = All-split P xs ys (λ k d h. all (suc k) d (omega arith)) in
     (All-cons P x xs (all 0 x (omega arith)) r.0, r.1)
 
-pub parts-one : (first end greatest : ℕ) (n : Node) → AreParts first end greatest (n ∷ []) → IsPart first end greatest (node_of n)
+pub parts-one : (first end greatest : ℕ) (n : Node) → AreSoundSubtrees first end greatest (n ∷ []) → IsSoundSubtree first end greatest (node_of n)
 parts-one first end greatest n a = record {
   goals = let g = a.goals in omega arith;
   count = let g = a.count in omega arith;
@@ -64,7 +64,7 @@ parts-one first end greatest n a = record {
 
 -- ---- Several nodes made one
 
-pub part-made : (first end greatest : ℕ) (xs : List Node) (n : tree.Node) → IsMadeOf xs n → AreParts first end greatest xs → IsPart first end greatest n
+pub part-made : (first end greatest : ℕ) (xs : List Node) (n : tree.Node) → IsSubtreeMadeOfNodes xs n → AreSoundSubtrees first end greatest xs → IsSoundSubtree first end greatest n
 part-made first end greatest xs n m a = record {
   goals = m.goals ∙ a.goals;
   count = rw m.count a.count;
@@ -72,15 +72,15 @@ part-made first end greatest xs n m a = record {
   sound = m.sound greatest a.sound;
 }
 
-pub parts-made : (xs ys : List Node) (n : Node) → IsMadeOf ys (node_of n) → KeepsParts (xs ++ ys) (xs ++ n ∷ [])
+pub parts-made : (xs ys : List Node) (n : Node) → IsSubtreeMadeOfNodes ys (node_of n) → KeepsSubtrees (xs ++ ys) (xs ++ n ∷ [])
 parts-made xs ys n m = λ first end greatest a. record {
-  goals = same (λ m. goal_count m) m.goals ∙ a.goals;
+  goals = same (λ m. number_of_goals m) m.goals ∙ a.goals;
   count = rw (same (λ m. length (group_ids m)) m.count) a.count;
-  ids = λ id. same (λ m. times id m) (m.ids id) ∙ a.ids id;
+  ids = λ id. same (λ m. occurrences_of_id id m) (m.ids id) ∙ a.ids id;
   sound =
-      let parts = All-split (λ m. IsTrue (every (is_sound greatest) (node_of m))) xs ys a.sound in
-      All-append (λ m. IsTrue (every (is_sound greatest) (node_of m))) xs (n ∷ []) parts.0
-      (All-cons (λ m. IsTrue (every (is_sound greatest) (node_of m))) n [] (m.sound greatest parts.1) (λ k d h. absurd (omega arith)));
+      let parts = All-split (λ m. IsTrue (every_node_passes (is_sound greatest) (node_of m))) xs ys a.sound in
+      All-append (λ m. IsTrue (every_node_passes (is_sound greatest) (node_of m))) xs (n ∷ []) parts.0
+      (All-cons (λ m. IsTrue (every_node_passes (is_sound greatest) (node_of m))) n [] (m.sound greatest parts.1) (λ k d h. absurd (omega arith)));
 }
   where
     same : (f : tree.Node → ℕ) → f (node_of n) ≡ sum_by (λ m. f (node_of m)) ys
@@ -90,15 +90,15 @@ parts-made xs ys n m = λ first end greatest a. record {
         let e1 = sum_by-append (λ m. f (node_of m)) xs ys in
         omega arith
 
-pub made-permuted : (xs ys : List Node) (n : tree.Node) → IsPermutation xs ys → IsMadeOf ys n → IsMadeOf xs n
+pub made-permuted : (xs ys : List Node) (n : tree.Node) → IsPermutation xs ys → IsSubtreeMadeOfNodes ys n → IsSubtreeMadeOfNodes xs n
 made-permuted xs ys n h m = record {
-  goals = m.goals ∙ sum_by-IsPermutation (λ n. goal_count (node_of n)) xs ys h;
+  goals = m.goals ∙ sum_by-IsPermutation (λ n. number_of_goals (node_of n)) xs ys h;
   count = m.count ∙ sum_by-IsPermutation (λ n. length (group_ids (node_of n))) xs ys h;
-  ids = λ id. m.ids id ∙ sum_by-IsPermutation (λ n. times id (node_of n)) xs ys h;
-  sound = λ greatest all. m.sound greatest (All-permutation (λ n. IsTrue (every (is_sound greatest) (node_of n))) xs ys h all);
+  ids = λ id. m.ids id ∙ sum_by-IsPermutation (λ n. occurrences_of_id id (node_of n)) xs ys h;
+  sound = λ greatest all. m.sound greatest (All-permutation (λ n. IsTrue (every_node_passes (is_sound greatest) (node_of n))) xs ys h all);
 }
 
-pub made-alt : (l r : Node) → IsMadeOf (l ∷ r ∷ []) (alt (node_of l) (node_of r))
+pub made-alt : (l r : Node) → IsSubtreeMadeOfNodes (l ∷ r ∷ []) (alt (node_of l) (node_of r))
 made-alt l r = record {
   goals = omega arith;
   count = let e = length-append (group_ids (node_of l)) (group_ids (node_of r)) in omega arith;
@@ -107,32 +107,32 @@ made-alt l r = record {
 }
 
 -- the last two nodes made one
-pub parts-alt : (xs : List Node) (l r n : Node) → node_of n ≡ alt (node_of l) (node_of r) → KeepsParts ((xs ++ l ∷ []) ++ r ∷ []) (xs ++ n ∷ [])
+pub parts-alt : (xs : List Node) (l r n : Node) → node_of n ≡ alt (node_of l) (node_of r) → KeepsSubtrees ((xs ++ l ∷ []) ++ r ∷ []) (xs ++ n ∷ [])
 parts-alt xs l r n is = λ first end greatest a.
     parts-made xs (l ∷ r ∷ []) n (rw is (made-alt l r)) first end greatest (rw (append_assoc xs (l ∷ []) (r ∷ [])) at a)
 
 -- ---- Nodes round parts
 
-cat-goals : (xs : List Node) → goal_count (cat_of xs) ≡ sum_by (λ n. goal_count (node_of n)) xs
+cat-goals : (xs : List Node) → number_of_goals (cat_of xs) ≡ sum_by (λ n. number_of_goals (node_of n)) xs
 cat-goals [] = refl
-cat-goals (x ∷ xs) = omega (arith, cat-goals xs, sum_by-cons (λ n. goal_count (node_of n)) x xs)
+cat-goals (x ∷ xs) = omega (arith, cat-goals xs, sum_by-cons (λ n. number_of_goals (node_of n)) x xs)
 
 cat-count : (xs : List Node) → length (group_ids (cat_of xs)) ≡ sum_by (λ n. length (group_ids (node_of n))) xs
 cat-count [] = refl
 cat-count (x ∷ xs) = length-append (group_ids (node_of x)) (group_ids (cat_of xs)) ∙ ap (λ m. length (group_ids (node_of x)) + m) (cat-count xs)
     ∙ sym (sum_by-cons (λ n. length (group_ids (node_of n))) x xs)
 
-cat-ids : (id : ℕ) (xs : List Node) → times id (cat_of xs) ≡ sum_by (λ n. times id (node_of n)) xs
+cat-ids : (id : ℕ) (xs : List Node) → occurrences_of_id id (cat_of xs) ≡ sum_by (λ n. occurrences_of_id id (node_of n)) xs
 cat-ids id [] = refl
-cat-ids id (x ∷ xs) = count_by-append (nat_eq id) (group_ids (node_of x)) (group_ids (cat_of xs)) ∙ ap (λ m. times id (node_of x) + m) (cat-ids id xs)
-    ∙ sym (sum_by-cons (λ n. times id (node_of n)) x xs)
+cat-ids id (x ∷ xs) = count_by-append (nat_eq id) (group_ids (node_of x)) (group_ids (cat_of xs)) ∙ ap (λ m. occurrences_of_id id (node_of x) + m) (cat-ids id xs)
+    ∙ sym (sum_by-cons (λ n. occurrences_of_id id (node_of n)) x xs)
 
-cat-sound : (greatest : ℕ) (xs : List Node) → All (λ n. IsTrue (every (is_sound greatest) (node_of n))) xs → every (is_sound greatest) (cat_of xs) ≡ true
+cat-sound : (greatest : ℕ) (xs : List Node) → All (λ n. IsTrue (every_node_passes (is_sound greatest) (node_of n))) xs → every_node_passes (is_sound greatest) (cat_of xs) ≡ true
 cat-sound greatest [] all = refl
 cat-sound greatest (x ∷ xs) all =
     and_from _ _ (and_from _ _ refl (all 0 x (omega arith))) (cat-sound greatest xs (λ k d h. all (suc k) d (omega arith)))
 
-pub made-cat : (xs : List Node) → IsMadeOf xs (cat_of xs)
+pub made-cat : (xs : List Node) → IsSubtreeMadeOfNodes xs (cat_of xs)
 made-cat xs = record { goals = cat-goals xs; count = cat-count xs; ids = λ id. cat-ids id xs; sound = λ greatest all. cat-sound greatest xs all }
 
 -- ---- Empty lists, and counts

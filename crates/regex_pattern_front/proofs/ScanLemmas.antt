@@ -12,33 +12,33 @@ use Rattle.std.specs.String.{string_cmp}
 use Rattle.std.specs.Ordering.{nat_cmp}
 use Rattle.std.specs.Cmp.Lexicographic.{slice_cmp}
 use Rattle.std.proofs.lemmas.Map.Text.{btree_map_updates_text}
-use Rattle.regex_grammar.specs.Reading.{Text, number_of}
-use Rattle.regex_grammar.specs.Characters.{GroupName, is_name}
-use Rattle.regex_grammar.specs.Grammar.{opener}
-use Rattle.regex_grammar.specs.Ahead.{opened_name, name_at, names_ahead}
+use Rattle.regex_grammar.specs.ReadingStatesAndDigits.{RemainingPattern, group_number_of}
+use Rattle.regex_grammar.specs.EscapesNamesQuantifiers.{GroupName, is_name}
+use Rattle.regex_grammar.specs.Grammar.{lookaround_opener}
+use Rattle.regex_grammar.specs.GroupNameScan.{name_of_opened_group, group_name_at, scanned_group_names}
 use Rattle.regex_grammar.proofs.OneTree.{rest_of}
 use Rattle.regex_grammar.proofs.Found.{name-found, none-found}
-use Rattle.regex_pattern_front.specs.declared.groups.Scan.{Scan}
-use Rattle.regex_pattern_front.specs.Reads.{IsEaten, IsUnescapedRead}
-use Rattle.regex_pattern_front.specs.GroupReads.{IsSignRead, NoneBegins, class_behind, names_behind, numbered, AreNoted, Notes, Scans}
+use Rattle.regex_pattern_front.specs.declared.group_openings_and_names.GroupNameScanState.{GroupNameScanState}
+use Rattle.regex_pattern_front.specs.CodePointReaderContracts.{IsEaten, IsUnescapedRead}
+use Rattle.regex_pattern_front.specs.GroupReaderContracts.{IsLookaroundSignRead, NoneBegins, in_class_after, names_opened_by, with_name_numbered, AreScanned, ScansGroups, ScansCodePoint}
 
 -- ---- One code point
 
-ahead-step : (k : Bool) (c : ℕ) (rest : Text) → c ≢ 92 → names_ahead k (c ∷ rest) ≡ names_behind k c rest ++ names_ahead (class_behind k c) rest
-unfolding names_ahead
+ahead-step : (k : Bool) (c : ℕ) (rest : RemainingPattern) → c ≢ 92 → scanned_group_names k (c ∷ rest) ≡ names_opened_by k c rest ++ scanned_group_names (in_class_after k c) rest
+unfolding scanned_group_names
 ahead-step k c [] ne = by (nat_eq c 40) (nat_eq c 91) (nat_eq c 93) k
   where
     by : (p o e k : Bool) → (if (p || false) && not k then [] ∷ [] else [])
-        ≡ (if p && not k then opened_name [] else []) ++ names_ahead (if o then true else if e then false else k) []
+        ≡ (if p && not k then name_of_opened_group [] else []) ++ scanned_group_names (if o then true else if e then false else k) []
     by true o e true = refl
     by true o e false = refl
     by false o e k = refl
 ahead-step k c (d ∷ rest) ne = rw (ne_eqb c 92 ne) (by (nat_eq c 40) (nat_eq c 91) (nat_eq c 93) k refl refl refl)
   where
     by : (p o e k : Bool) → nat_eq c 40 ≡ p → nat_eq c 91 ≡ o → nat_eq c 93 ≡ e
-        → (if o || false then names_ahead true (d ∷ rest) else if e || false then names_ahead false (d ∷ rest)
-        else if (p || false) && not k then opened_name (d ∷ rest) ++ names_ahead k (d ∷ rest) else names_ahead k (d ∷ rest))
-        ≡ (if p && not k then opened_name (d ∷ rest) else []) ++ names_ahead (if o then true else if e then false else k) (d ∷ rest)
+        → (if o || false then scanned_group_names true (d ∷ rest) else if e || false then scanned_group_names false (d ∷ rest)
+        else if (p || false) && not k then name_of_opened_group (d ∷ rest) ++ scanned_group_names k (d ∷ rest) else scanned_group_names k (d ∷ rest))
+        ≡ (if p && not k then name_of_opened_group (d ∷ rest) else []) ++ scanned_group_names (if o then true else if e then false else k) (d ∷ rest)
     by true true e k f g h = absurd (no f g)
       where
         no : nat_eq c 40 ≡ true → nat_eq c 91 ≡ true → ⊥
@@ -56,35 +56,35 @@ ahead-step k c (d ∷ rest) ne = rw (ne_eqb c 92 ne) (by (nat_eq c 40) (nat_eq c
     by false false false true f g h = refl
     by false false false false f g h = refl
 
-ahead-escape : (k : Bool) (d : ℕ) (rest : Text) → names_ahead k (92 ∷ d ∷ rest) ≡ names_ahead k rest
-unfolding names_ahead
+ahead-escape : (k : Bool) (d : ℕ) (rest : RemainingPattern) → scanned_group_names k (92 ∷ d ∷ rest) ≡ scanned_group_names k rest
+unfolding scanned_group_names
 ahead-escape k d rest = refl
 
-ahead-slash : (k : Bool) → names_ahead k (92 ∷ []) ≡ []
-unfolding names_ahead
+ahead-slash : (k : Bool) → scanned_group_names k (92 ∷ []) ≡ []
+unfolding scanned_group_names
 ahead-slash k = refl
 
-ahead-none : (k : Bool) → names_ahead k [] ≡ []
-unfolding names_ahead
+ahead-none : (k : Bool) → scanned_group_names k [] ≡ []
+unfolding scanned_group_names
 ahead-none k = refl
 
 -- ---- How a parenthesis opens
 
-first_is_not : (c : ℕ) (here : Text) (d : ℕ) → NoneBegins d (c ∷ here) → nat_eq d c ≡ false
+first_is_not : (c : ℕ) (here : RemainingPattern) (d : ℕ) → NoneBegins d (c ∷ here) → nat_eq d c ≡ false
 first_is_not c here d h = false_from_ne_true (nat_eq d c) (λ e. h here (ap (λ (x : ℕ). x ∷ here) (sym (eqb-true d c e))))
 
-pub opened-capture : (here : Text) → NoneBegins 63 here → opened_name here ≡ [] ∷ []
+pub opened-capture : (here : RemainingPattern) → NoneBegins 63 here → name_of_opened_group here ≡ [] ∷ []
 opened-capture [] h = refl
 opened-capture (c ∷ here) h = rw (first_is_not c here 63 h) refl
 
-pub opened-named : (here rest : Text) → here ≡ 63 ∷ 60 ∷ rest → NoneBegins 33 rest → NoneBegins 61 rest → opened_name here ≡ name_at rest ∷ []
+pub opened-named : (here rest : RemainingPattern) → here ≡ 63 ∷ 60 ∷ rest → NoneBegins 33 rest → NoneBegins 61 rest → name_of_opened_group here ≡ group_name_at rest ∷ []
 opened-named here [] e n m = rw e refl
 opened-named here (c ∷ rest) e n m = rw (e, first_is_not c rest 61 m, first_is_not c rest 33 n) refl
 
-pub opened-plain : (here rest : Text) → here ≡ 63 ∷ 58 ∷ rest → opened_name here ≡ []
+pub opened-plain : (here rest : RemainingPattern) → here ≡ 63 ∷ 58 ∷ rest → name_of_opened_group here ≡ []
 opened-plain here rest e = rw e refl
 
-pub opened-look : (negate backwards : Bool) (here rest : Text) → 40 ∷ here ≡ codes (opener negate backwards) ++ rest → opened_name here ≡ []
+pub opened-look : (negate backwards : Bool) (here rest : RemainingPattern) → 40 ∷ here ≡ codes (lookaround_opener negate backwards) ++ rest → name_of_opened_group here ≡ []
 opened-look false false here rest e = rw (ap rest_of e) refl
 opened-look true false here rest e = rw (ap rest_of e) refl
 opened-look false true here rest e = rw (ap rest_of e) refl
@@ -92,17 +92,17 @@ opened-look true true here rest e = rw (ap rest_of e) refl
 
 -- ---- Numbers of names
 
-pub number-append : (name : Text) (names : List Text) (other : Text)
-    → number_of name (names ++ other ∷ []) ≡ (elim (number_of name names) [ Some n ↦ Some n | None ↦ if pointwise nat_eq name other then Some (length names + 1) else None ])
+pub number-append : (name : RemainingPattern) (names : List RemainingPattern) (other : RemainingPattern)
+    → group_number_of name (names ++ other ∷ []) ≡ (elim (group_number_of name names) [ Some n ↦ Some n | None ↦ if pointwise nat_eq name other then Some (length names + 1) else None ])
 number-append name [] other = by (pointwise nat_eq name other)
   where
     by : (b : Bool) → (if b then Some 1 else option_map suc None) ≡ (if b then Some (0 + 1) else None)
     by true = refl
     by false = refl
-number-append name (x ∷ names) other = by (pointwise nat_eq name x) (number_of name names) (number-append name names other)
+number-append name (x ∷ names) other = by (pointwise nat_eq name x) (group_number_of name names) (number-append name names other)
   where
-    by : (b : Bool) (o : Option ℕ) → number_of name (names ++ other ∷ []) ≡ (elim o [ Some n ↦ Some n | None ↦ if pointwise nat_eq name other then Some (length names + 1) else None ])
-        → (if b then Some 1 else option_map suc (number_of name (names ++ other ∷ [])))
+    by : (b : Bool) (o : Option ℕ) → group_number_of name (names ++ other ∷ []) ≡ (elim o [ Some n ↦ Some n | None ↦ if pointwise nat_eq name other then Some (length names + 1) else None ])
+        → (if b then Some 1 else option_map suc (group_number_of name (names ++ other ∷ [])))
         ≡ (elim (if b then Some 1 else option_map suc o) [ Some n ↦ Some n | None ↦ if pointwise nat_eq name other then Some (suc (length names) + 1) else None ])
     by true o e = refl
     by false (Some n) e = ap (option_map suc) e
@@ -114,46 +114,46 @@ number-append name (x ∷ names) other = by (pointwise nat_eq name x) (number_of
 
 -- ---- The whole text
 
-pub record ScanSoFar (pattern : Text) (scan : Scan) (rest : Text) : Type 0 where
-  pub names : List Text
-  pub found : names_ahead false pattern ≡ names ++ names_ahead scan.in_class rest
-  pub noted : AreNoted scan names
+pub record ScanSoFar (pattern : RemainingPattern) (scan : GroupNameScanState) (rest : RemainingPattern) : Type 0 where
+  pub names : List RemainingPattern
+  pub found : scanned_group_names false pattern ≡ names ++ scanned_group_names scan.in_class rest
+  pub noted : AreScanned scan names
 
-pub scan-next : (pattern here there : Text) (old new : Scan) (c : ℕ) → ScanSoFar pattern old here → IsUnescapedRead here (Some c) there → Scans old new c there
+pub scan-next : (pattern here there : RemainingPattern) (old new : GroupNameScanState) (c : ℕ) → ScanSoFar pattern old here → IsUnescapedRead here (Some c) there → ScansCodePoint old new c there
     → ScanSoFar pattern new there
 scan-next pattern here there old new c s (inl u) m =
-    let same : class_behind old.in_class c ≡ old.in_class = rw u.0 refl in
-    let none : names_behind old.in_class c there ≡ [] = rw u.0 refl in
+    let same : in_class_after old.in_class c ≡ old.in_class = rw u.0 refl in
+    let none : names_opened_by old.in_class c there ≡ [] = rw u.0 refl in
     record {
       names = s.names;
-      found = s.found ∙ ap (λ x. s.names ++ x) (ap (names_ahead old.in_class) u.1.0 ∙ ahead-slash old.in_class ∙ sym (ahead-none new.in_class) ∙ ap (names_ahead new.in_class) (sym u.1.1));
-      noted = subst (λ x. AreNoted new x) (append-nil s.names) (subst (λ x. AreNoted new (s.names ++ x)) none (m.1 s.names s.noted));
+      found = s.found ∙ ap (λ x. s.names ++ x) (ap (scanned_group_names old.in_class) u.1.0 ∙ ahead-slash old.in_class ∙ sym (ahead-none new.in_class) ∙ ap (scanned_group_names new.in_class) (sym u.1.1));
+      noted = subst (λ x. AreScanned new x) (append-nil s.names) (subst (λ x. AreScanned new (s.names ++ x)) none (m.1 s.names s.noted));
     }
 scan-next pattern here there old new c s (inr (inl u)) m =
-    let same : class_behind old.in_class c ≡ old.in_class = rw u.0 refl in
-    let none : names_behind old.in_class c there ≡ [] = rw u.0 refl in
+    let same : in_class_after old.in_class c ≡ old.in_class = rw u.0 refl in
+    let none : names_opened_by old.in_class c there ≡ [] = rw u.0 refl in
     record {
       names = s.names;
-      found = s.found ∙ ap (λ x. s.names ++ x) (ap (names_ahead old.in_class) u.2 ∙ ahead-escape old.in_class u.1 there ∙ ap (λ k. names_ahead k there) (sym (m.0 ∙ same)));
-      noted = subst (λ x. AreNoted new x) (append-nil s.names) (subst (λ x. AreNoted new (s.names ++ x)) none (m.1 s.names s.noted));
+      found = s.found ∙ ap (λ x. s.names ++ x) (ap (scanned_group_names old.in_class) u.2 ∙ ahead-escape old.in_class u.1 there ∙ ap (λ k. scanned_group_names k there) (sym (m.0 ∙ same)));
+      noted = subst (λ x. AreScanned new x) (append-nil s.names) (subst (λ x. AreScanned new (s.names ++ x)) none (m.1 s.names s.noted));
     }
 scan-next pattern here there old new c s (inr (inr u)) m =
     record {
-      names = s.names ++ names_behind old.in_class c there;
-      found = s.found ∙ ap (λ x. s.names ++ x) (ap (names_ahead old.in_class) u.1 ∙ ahead-step old.in_class c there u.0)
-          ∙ sym (append_assoc s.names (names_behind old.in_class c there) (names_ahead (class_behind old.in_class c) there))
-          ∙ ap (λ k. (s.names ++ names_behind old.in_class c there) ++ names_ahead k there) (sym m.0);
+      names = s.names ++ names_opened_by old.in_class c there;
+      found = s.found ∙ ap (λ x. s.names ++ x) (ap (scanned_group_names old.in_class) u.1 ∙ ahead-step old.in_class c there u.0)
+          ∙ sym (append_assoc s.names (names_opened_by old.in_class c there) (scanned_group_names (in_class_after old.in_class c) there))
+          ∙ ap (λ k. (s.names ++ names_opened_by old.in_class c there) ++ scanned_group_names k there) (sym m.0);
       noted = m.1 s.names s.noted;
     }
 
-pub scan-end : (pattern here : Text) (scan : Scan) → ScanSoFar pattern scan here → here ≡ [] → AreNoted scan (names_ahead false pattern)
+pub scan-end : (pattern here : RemainingPattern) (scan : GroupNameScanState) → ScanSoFar pattern scan here → here ≡ [] → AreScanned scan (scanned_group_names false pattern)
 scan-end pattern here scan s e =
-    subst (λ x. AreNoted scan x)
-    (sym (s.found ∙ ap (λ x. s.names ++ names_ahead scan.in_class x) e ∙ ap (λ x. s.names ++ x) (ahead-none scan.in_class) ∙ append-nil s.names)) s.noted
+    subst (λ x. AreScanned scan x)
+    (sym (s.found ∙ ap (λ x. s.names ++ scanned_group_names scan.in_class x) e ∙ ap (λ x. s.names ++ x) (ahead-none scan.in_class) ∙ append-nil s.names)) s.noted
 
 -- the words that open a lookaround
-pub look-is : {here a b : Text} (d there : Text) (negate backwards : Bool) → here ≡ 63 ∷ a → b ≡ a → IsEaten 60 b backwards d → IsSignRead d (Some negate) there
-    → 40 ∷ here ≡ codes (opener negate backwards) ++ there
+pub look-is : {here a b : RemainingPattern} (d there : RemainingPattern) (negate backwards : Bool) → here ≡ 63 ∷ a → b ≡ a → IsEaten 60 b backwards d → IsLookaroundSignRead d (Some negate) there
+    → 40 ∷ here ≡ codes (lookaround_opener negate backwards) ++ there
 look-is d there false false e f g h = ap (λ x. 40 ∷ x) (e ∙ ap (λ x. 63 ∷ x) (sym f ∙ sym g.0 ∙ h))
 look-is d there true false e f g h = ap (λ x. 40 ∷ x) (e ∙ ap (λ x. 63 ∷ x) (sym f ∙ sym g.0 ∙ h))
 look-is d there false true e f g h = ap (λ x. 40 ∷ x) (e ∙ ap (λ x. 63 ∷ x) (sym f ∙ g ∙ ap (λ x. 60 ∷ x) h))
@@ -161,13 +161,13 @@ look-is d there true true e f g h = ap (λ x. 40 ∷ x) (e ∙ ap (λ x. 63 ∷ 
 
 -- ---- What one step notes
 
-noted-same : (old new : Scan) (names : List Text) → new.numbers ≡ old.numbers → new.groups ≡ old.groups → AreNoted old names → AreNoted new names
+noted-same : (old new : GroupNameScanState) (names : List RemainingPattern) → new.numbers ≡ old.numbers → new.groups ≡ old.groups → AreScanned old names → AreScanned new names
 noted-same old new names e f h = λ few. let k = h few in (f ∙ k.0, λ name is. ap (λ m. get_by_text m name) e ∙ k.1 name is)
 
-pub notes-none : (old new : Scan) (more : List Text) → more ≡ [] → new.numbers ≡ old.numbers → new.groups ≡ old.groups → new.in_class ≡ old.in_class → Notes old new more
+pub notes-none : (old new : GroupNameScanState) (more : List RemainingPattern) → more ≡ [] → new.numbers ≡ old.numbers → new.groups ≡ old.groups → new.in_class ≡ old.in_class → ScansGroups old new more
 notes-none old new more none e f g = (
   g,
-  λ names h. subst (λ x. AreNoted new (names ++ x)) (sym none) (subst (λ x. AreNoted new x) (sym (append-nil names)) (noted-same old new names e f h)),
+  λ names h. subst (λ x. AreScanned new (names ++ x)) (sym none) (subst (λ x. AreScanned new x) (sym (append-nil names)) (noted-same old new names e f h)),
 )
 
 abbrev choice : ℕ → Option ℕ → Option ℕ → Bool → Option ℕ
@@ -177,14 +177,14 @@ abbrev last : ℕ → Option ℕ → Bool → Option ℕ
 last before o p = elim o [ Some n ↦ Some n | None ↦ if p then Some (before + 1) else None ]
 
 -- a group more, by its name or none
-module _ (old new : Scan) (name : Text) (groups : new.groups ≡ min (old.groups + 1) (2 ^ 32 - 1)) (in_class : new.in_class ≡ old.in_class)
-    (numbers : (other : Text) → is_name other ≡ true → get_by_text new.numbers other
+module _ (old new : GroupNameScanState) (name : RemainingPattern) (groups : new.groups ≡ min (old.groups + 1) (2 ^ 32 - 1)) (in_class : new.in_class ≡ old.in_class)
+    (numbers : (other : RemainingPattern) → is_name other ≡ true → get_by_text new.numbers other
     ≡ (if is_some (get_by_text old.numbers name) then get_by_text old.numbers other else if pointwise nat_eq name other then Some new.groups else get_by_text old.numbers other))
   where
-    pub notes-one : Notes old new (name ∷ [])
+    pub notes-one : ScansGroups old new (name ∷ [])
     notes-one = (in_class, noted)
       where
-        noted : (names : List Text) → AreNoted old names → AreNoted new (names ++ name ∷ [])
+        noted : (names : List RemainingPattern) → AreScanned old names → AreScanned new (names ++ name ∷ [])
         noted names h few =
             let long : length (names ++ name ∷ []) ≡ length names + 1 = simp length-append in
             let k = h (omega arith) in
@@ -192,10 +192,10 @@ module _ (old new : Scan) (name : Text) (groups : new.groups ≡ min (old.groups
             let now : new.groups ≡ length names + 1 = omega (arith, groups) in
             (omega (arith, now), λ other is. numbers other is ∙ by names k.1 now other is)
           where
-            by : (names : List Text) → ((other : Text) → is_name other ≡ true → get_by_text old.numbers other ≡ number_of other names) → new.groups ≡ length names + 1
-                → (other : Text) → is_name other ≡ true
+            by : (names : List RemainingPattern) → ((other : RemainingPattern) → is_name other ≡ true → get_by_text old.numbers other ≡ group_number_of other names) → new.groups ≡ length names + 1
+                → (other : RemainingPattern) → is_name other ≡ true
                 → (if is_some (get_by_text old.numbers name) then get_by_text old.numbers other else if pointwise nat_eq name other then Some new.groups else get_by_text old.numbers other)
-                ≡ number_of other (names ++ name ∷ [])
+                ≡ group_number_of other (names ++ name ∷ [])
             by names are now other is = go (pointwise nat_eq name other) refl
               where
                 found : (o : Option ℕ) (p : Bool) → p ≡ true → choice new.groups o o true ≡ last (length names) o p
@@ -208,47 +208,47 @@ module _ (old new : Scan) (name : Text) (groups : new.groups ≡ min (old.groups
                 kept (Some m) None p e = sym (rw e refl)
                 kept None None p e = sym (rw e refl)
 
-                go : (b : Bool) → pointwise nat_eq name other ≡ b → choice new.groups (get_by_text old.numbers name) (get_by_text old.numbers other) (pointwise nat_eq name other) ≡ number_of other (names ++ name ∷ [])
+                go : (b : Bool) → pointwise nat_eq name other ≡ b → choice new.groups (get_by_text old.numbers name) (get_by_text old.numbers other) (pointwise nat_eq name other) ≡ group_number_of other (names ++ name ∷ [])
                 go true f =
                     let same : name ≡ other = same_text name other (sym f) in
-                    let here : get_by_text old.numbers name ≡ number_of other names = ap (λ x. get_by_text old.numbers x) same ∙ are other is in
+                    let here : get_by_text old.numbers name ≡ group_number_of other names = ap (λ x. get_by_text old.numbers x) same ∙ are other is in
                     let self : pointwise nat_eq other name ≡ true = ap₂ (λ x y. pointwise nat_eq x y) (sym same) same ∙ f in
-                    ap₂ (λ x y. choice new.groups x y (pointwise nat_eq name other)) here (are other is) ∙ ap (λ b. choice new.groups (number_of other names) (number_of other names) b) f
-                    ∙ found (number_of other names) (pointwise nat_eq other name) self ∙ sym (number-append other names name)
+                    ap₂ (λ x y. choice new.groups x y (pointwise nat_eq name other)) here (are other is) ∙ ap (λ b. choice new.groups (group_number_of other names) (group_number_of other names) b) f
+                    ∙ found (group_number_of other names) (pointwise nat_eq other name) self ∙ sym (number-append other names name)
                 go false f =
                     let differs : pointwise nat_eq other name ≡ false = false_from_ne_true (pointwise nat_eq other name) (λ g. other_text name other (sym f) (sym (same_text other name (sym g)))) in
                     ap₂ (λ x b. choice new.groups (get_by_text old.numbers name) x b) (are other is) f
-                    ∙ kept (get_by_text old.numbers name) (number_of other names) (pointwise nat_eq other name) differs ∙ sym (number-append other names name)
+                    ∙ kept (get_by_text old.numbers name) (group_number_of other names) (pointwise nat_eq other name) differs ∙ sym (number-append other names name)
 
-pub notes-nameless : (old new : Scan) → new.groups ≡ min (old.groups + 1) (2 ^ 32 - 1) → new.in_class ≡ old.in_class → new.numbers ≡ old.numbers → Notes old new ([] ∷ [])
+pub notes-nameless : (old new : GroupNameScanState) → new.groups ≡ min (old.groups + 1) (2 ^ 32 - 1) → new.in_class ≡ old.in_class → new.numbers ≡ old.numbers → ScansGroups old new ([] ∷ [])
 notes-nameless old new e f g =
     notes-one old new [] e f (λ other is. ap (λ m. get_by_text m other) g ∙ by (is_some (get_by_text old.numbers [])) (get_by_text old.numbers other) other is)
   where
-    by : (b : Bool) (o : Option ℕ) (other : Text) → is_name other ≡ true → o ≡ (if b then o else if pointwise nat_eq [] other then Some new.groups else o)
+    by : (b : Bool) (o : Option ℕ) (other : RemainingPattern) → is_name other ≡ true → o ≡ (if b then o else if pointwise nat_eq [] other then Some new.groups else o)
     by b o [] is = absurd (true≢false (sym is))
     by true o (c ∷ cs) is = refl
     by false o (c ∷ cs) is = refl
 
-pub notes-as : (old new : Scan) {more other : List Text} → more ≡ other → Notes old new other → Notes old new more
-notes-as old new e h = subst (λ x. Notes old new x) (sym e) h
+pub notes-as : (old new : GroupNameScanState) {more other : List RemainingPattern} → more ≡ other → ScansGroups old new other → ScansGroups old new more
+notes-as old new e h = subst (λ x. ScansGroups old new x) (sym e) h
 
 -- a group with the name that stands here
-pub notes-named : (old new : Scan) (here there name : Text) (group : ℕ) → GroupName here there name → group ≡ min (old.groups + 1) (2 ^ 32 - 1) → new.groups ≡ group
-    → new.in_class ≡ old.in_class → ((other : Text) → get_by_text new.numbers other ≡ numbered name group (λ x. get_by_text old.numbers x) other)
-    → Notes old new (name_at here ∷ [])
+pub notes-named : (old new : GroupNameScanState) (here there name : RemainingPattern) (group : ℕ) → GroupName here there name → group ≡ min (old.groups + 1) (2 ^ 32 - 1) → new.groups ≡ group
+    → new.in_class ≡ old.in_class → ((other : RemainingPattern) → get_by_text new.numbers other ≡ with_name_numbered name group (λ x. get_by_text old.numbers x) other)
+    → ScansGroups old new (group_name_at here ∷ [])
 notes-named old new here there name group g e is f numbers =
     notes-as old new (ap (λ x. x ∷ []) (name-found here there name g))
-    (notes-one old new name (is ∙ e) f (λ other named. numbers other ∙ ap (λ n. numbered name n (λ x. get_by_text old.numbers x) other) (sym is)))
+    (notes-one old new name (is ∙ e) f (λ other named. numbers other ∙ ap (λ n. with_name_numbered name n (λ x. get_by_text old.numbers x) other) (sym is)))
 
 -- a group where no name stands
-pub notes-no_name : (old new : Scan) (here : Text) → ((there name : Text) → GroupName here there name → ⊥) → new.groups ≡ min (old.groups + 1) (2 ^ 32 - 1)
-    → new.in_class ≡ old.in_class → new.numbers ≡ old.numbers → Notes old new (name_at here ∷ [])
+pub notes-no_name : (old new : GroupNameScanState) (here : RemainingPattern) → ((there name : RemainingPattern) → GroupName here there name → ⊥) → new.groups ≡ min (old.groups + 1) (2 ^ 32 - 1)
+    → new.in_class ≡ old.in_class → new.numbers ≡ old.numbers → ScansGroups old new (group_name_at here ∷ [])
 notes-no_name old new here none e f g = notes-as old new (ap (λ x. x ∷ []) (none-found here none)) (notes-nameless old new e f g)
 
 -- a name that no other group has
-pub number-inserted : {R : Type 0} (old new : BTreeMap (String R) ℕ) (name : Text) (group : ℕ) → is_some (get_by_text old name) ≡ false
+pub number-inserted : {R : Type 0} (old new : BTreeMap (String R) ℕ) (name : RemainingPattern) (group : ℕ) → is_some (get_by_text old name) ≡ false
     → UpdatesBy string_cmp (λ k. slice_cmp nat_cmp name (string_bytes k)) old new (Some group)
-    → (other : Text) → get_by_text new other ≡ numbered name group (λ x. get_by_text old x) other
+    → (other : RemainingPattern) → get_by_text new other ≡ with_name_numbered name group (λ x. get_by_text old x) other
 number-inserted old new name group none h other =
     btree_map_updates_text name old new (Some group) h other ∙ sym (ap (λ b. if b then get_by_text old other else if bytes_eq name other then Some group else get_by_text old other) none)
 

@@ -1,18 +1,18 @@
-//! Sets of bytes, and where they stand in a text.
+//! Sets of bytes, and the search for their first occurrence.
 
 ghost use Rattle.std.specs.Prelude.{◌≡◌, ◌<◌, ◌≤◌, ◌||◌, ◌==◌, ℕ, Bool, List, [], length, slice_index};
-ghost use Rattle.regex_meaning.specs.{Lists.{contains}, StartPredicate.{bytes_where}};
-ghost use Rattle.regex_pattern_front.specs.Searching.{FindsFirst, holds_at};
+ghost use Rattle.regex_meaning.specs.{NumberListHelpers.{contains}, StartPredicate.{bytes_that_pass}};
+ghost use Rattle.regex_pattern_front.specs.FirstPassingIndex.{FindsFirstPassingIndex, member_byte_at_index};
 
-/// A set of bytes. Contracts see its members.
+/// A set of bytes. Contracts refer to its `members`.
 pub trait ByteSet: Copy {
     ghost members: { Self → List ℕ };
 
-    /// Whether a byte is in the set.
+    /// Checks whether a byte is in the set.
     fn contains(&self, byte: u8) -> bool
         ensures { result ≡ contains (members self.now) byte };
 
-    /// Whether a character is in the set, which one that is no byte is not.
+    /// Checks whether a character is in the set. A character that is no byte is not in it.
     fn has_char(&self, c: u32) -> bool
         ensures { result ≡ contains (members self.now) c };
 }
@@ -20,13 +20,14 @@ pub trait ByteSet: Copy {
 /// A set of bytes that is an array of at most four.
 pub trait SmallArraySet: ByteSet {}
 
-/// What is looked for in bytes: a set, or a sequence. Contracts see at which indices it stands.
+/// A set or a sequence of bytes to search for. Contracts refer to the indices at which it occurs,
+/// by `stands_at`.
 pub trait ByteSearcher {
     ghost stands_at: { Self → (bytes : List ℕ) → (index : ℕ) → Bool };
 
-    /// The first index at which it stands, if there is one.
+    /// Returns the first index at which it occurs, or `None` if it does not occur.
     fn find_in(&self, bytes: &[u8]) -> Option<usize>
-        ensures { FindsFirst (stands_at self.now bytes.now) (length bytes.now) result };
+        ensures { FindsFirstPassingIndex (stands_at self.now bytes.now) (length bytes.now) result };
 }
 
 /// A set of bytes below 128.
@@ -37,7 +38,7 @@ pub struct AsciiBitmap {
 }
 
 impl Default for AsciiBitmap {
-    ghost use Rattle.regex_pattern_front.specs.ByteSets.{ascii_bitmap_bytes};
+    ghost use Rattle.regex_pattern_front.specs.ByteSetMembers.{ascii_bitmap_bytes};
 
     fn default() -> Self
         ensures { ascii_bitmap_bytes result ≡ [] }
@@ -47,12 +48,12 @@ impl Default for AsciiBitmap {
 }
 
 impl AsciiBitmap {
-    ghost use Rattle.regex_pattern_front.specs.ByteSets.{ascii_bitmap_bytes};
+    ghost use Rattle.regex_pattern_front.specs.ByteSetMembers.{ascii_bitmap_bytes};
 
-    /// Adds a byte. One from 128 on is none of ASCII, and leaves the set as it is.
+    /// Adds a byte. A byte from 128 on is not ASCII and leaves the set as it is.
     pub fn set(&mut self, byte: u8)
         ensures added { byte < 128 → ascii_bitmap_bytes self.new
-            ≡ bytes_where (λ b. b == byte || contains (ascii_bitmap_bytes self.old) b) }
+            ≡ bytes_that_pass (λ b. b == byte || contains (ascii_bitmap_bytes self.old) b) }
         ensures kept { 128 ≤ byte → ascii_bitmap_bytes self.new ≡ ascii_bitmap_bytes self.old }
     {
         if byte < 128 {
@@ -62,7 +63,7 @@ impl AsciiBitmap {
 }
 
 impl ByteSet for AsciiBitmap {
-    ghost use Rattle.regex_pattern_front.specs.ByteSets.{ascii_bitmap_bytes};
+    ghost use Rattle.regex_pattern_front.specs.ByteSetMembers.{ascii_bitmap_bytes};
 
     ghost members = { ascii_bitmap_bytes };
 
@@ -85,7 +86,7 @@ pub struct ByteBitmap {
 }
 
 impl Default for ByteBitmap {
-    ghost use Rattle.regex_pattern_front.specs.ByteSets.{byte_bitmap_bytes};
+    ghost use Rattle.regex_pattern_front.specs.ByteSetMembers.{byte_bitmap_bytes};
 
     fn default() -> Self
         ensures { byte_bitmap_bytes result ≡ [] }
@@ -97,18 +98,18 @@ impl Default for ByteBitmap {
 }
 
 impl ByteBitmap {
-    ghost use Rattle.regex_pattern_front.specs.ByteSets.{byte_bitmap_bytes};
+    ghost use Rattle.regex_pattern_front.specs.ByteSetMembers.{byte_bitmap_bytes};
 
     /// Adds a byte.
     pub fn set(&mut self, byte: u8)
-        ensures { byte_bitmap_bytes self.new ≡ bytes_where (λ b. b == byte || contains (byte_bitmap_bytes self.old) b) }
+        ensures { byte_bitmap_bytes self.new ≡ bytes_that_pass (λ b. b == byte || contains (byte_bitmap_bytes self.old) b) }
     {
         self.table[usize::from(byte)] = true;
     }
 }
 
 impl ByteSet for ByteBitmap {
-    ghost use Rattle.regex_pattern_front.specs.ByteSets.{byte_bitmap_bytes};
+    ghost use Rattle.regex_pattern_front.specs.ByteSetMembers.{byte_bitmap_bytes};
 
     ghost members = { byte_bitmap_bytes };
 
@@ -123,7 +124,7 @@ impl ByteSet for ByteBitmap {
     }
 }
 
-/// A set of a few bytes: an array of 2 to 4, some of which may be the same.
+/// A small set of bytes: an array of 2 to 4 bytes, some of which may be equal.
 #[derive(Clone, Copy)]
 pub struct ByteArraySet<ArraySet>(pub ArraySet);
 
@@ -212,9 +213,9 @@ impl SmallArraySet for [u8; 3] {}
 impl SmallArraySet for [u8; 4] {}
 
 impl ByteSearcher for ByteBitmap {
-    ghost use Rattle.regex_pattern_front.specs.ByteSets.{byte_bitmap_bytes};
+    ghost use Rattle.regex_pattern_front.specs.ByteSetMembers.{byte_bitmap_bytes};
 
-    ghost stands_at = { λ s bytes. holds_at (byte_bitmap_bytes s) bytes };
+    ghost stands_at = { λ s bytes. member_byte_at_index (byte_bitmap_bytes s) bytes };
 
     #[inline(always)]
     fn find_in(&self, bytes: &[u8]) -> Option<usize> {
@@ -223,7 +224,7 @@ impl ByteSearcher for ByteBitmap {
 }
 
 impl ByteSearcher for [u8; 1] {
-    ghost stands_at = { λ s bytes. holds_at s bytes };
+    ghost stands_at = { λ s bytes. member_byte_at_index s bytes };
 
     #[inline(always)]
     fn find_in(&self, bytes: &[u8]) -> Option<usize> {
@@ -232,7 +233,7 @@ impl ByteSearcher for [u8; 1] {
 }
 
 impl ByteSearcher for [u8; 2] {
-    ghost stands_at = { λ s bytes. holds_at s bytes };
+    ghost stands_at = { λ s bytes. member_byte_at_index s bytes };
 
     #[inline(always)]
     fn find_in(&self, bytes: &[u8]) -> Option<usize> {
@@ -241,7 +242,7 @@ impl ByteSearcher for [u8; 2] {
 }
 
 impl ByteSearcher for [u8; 3] {
-    ghost stands_at = { λ s bytes. holds_at s bytes };
+    ghost stands_at = { λ s bytes. member_byte_at_index s bytes };
 
     #[inline(always)]
     fn find_in(&self, bytes: &[u8]) -> Option<usize> {
@@ -249,10 +250,10 @@ impl ByteSearcher for [u8; 3] {
     }
 }
 
-// The first index of a byte of the set.
+// Returns the first index of a byte of the set, or `None` if there is none.
 #[inline(always)]
 fn find_member<S: ByteSet>(set: &S, bytes: &[u8]) -> Option<usize>
-    ensures { FindsFirst (holds_at (S.members set.now) bytes.now) (length bytes.now) result }
+    ensures { FindsFirstPassingIndex (member_byte_at_index (S.members set.now) bytes.now) (length bytes.now) result }
 {
     let mut at = 0;
     while at < bytes.len() {

@@ -2,19 +2,19 @@
 
 ghost use Rattle.std.specs.Prelude.{◌≡◌, ◌≢◌, ◌≤◌, ◌∷◌, ◌++◌, [], Bool, false, ℕ, length, map, option_map, IfOk, OnOk};
 ghost use Rattle.regex_meaning.specs.Outcomes.{in_intervals};
-ghost use Rattle.regex_grammar.specs.Classes.{class as class_of, one, CharacterClass, ClassAtom, IsSetOf, is_of};
+ghost use Rattle.regex_grammar.specs.CharacterClasses.{class as class_of, single_code_point_interval, CharacterClass, ClassAtom, IsSetOf, is_in_class_member};
 ghost use Rattle.std.specs.List.{list_any};
-ghost use Rattle.regex_pattern_front.specs.{Intervals.{interval_of}, TreeOf.{contents_of, flags_of}, Reads.{IsReadBy, IsReadOr}};
-ghost use Rattle.regex_pattern_front.specs.ClassReads.{base_class, escape_member, atom_member, escape_of, held, IsClosure, Adds, IsEndRead};
-ghost use Rattle.regex_pattern_front.specs.ClassReads.{IsMemberRead, AreRangesRead, AreSetsTold, IsRangeOf, is_operation, with_same_fold, closing};
+ghost use Rattle.regex_pattern_front.specs.{Intervals.{interval_of}, AstToSpecTree.{class_as_spec, flags_of}, CodePointReaderContracts.{IsReadOrErrorMeansNone, IsReadOr}};
+ghost use Rattle.regex_pattern_front.specs.ClassReaderContracts.{class_escape_set, escape_member, atom_member, escape_of, is_in_any_interval, IsCaseClosure, AddsMembers, IsRangeEndRead};
+ghost use Rattle.regex_pattern_front.specs.ClassReaderContracts.{IsClassMemberRead, AreClassRangesRead, DetectsSetOperation, IsRangeOfTwoAtoms, begins_set_operation, same_fold_passes, case_variants_if_one_passes};
 
+use crate::code_point_reader::PatternReader;
 use crate::codepointset::{CodePointSet, Interval};
 use crate::diagnosis::Cause;
 use crate::escapes::character_escape;
-use crate::fault::Fault;
 use crate::flags::Flags;
 use crate::folding::expand_code_point;
-use crate::reader::Reader;
+use crate::parser_error::ParseFault;
 use crate::types::BracketContents;
 use std::alloc::{AllocError, Global};
 
@@ -42,7 +42,7 @@ const WORD_CHARACTERS: [Interval; 4] = [
     },
 ];
 
-// White space and line terminators (ECMA-262, 11.2 and 11.3).
+// WhiteSpace and LineTerminator (ECMA-262, 11.2 and 11.3).
 const SPACES: [Interval; 10] = [
     Interval {
         first: 0x09,
@@ -86,51 +86,51 @@ const SPACES: [Interval; 10] = [
     },
 ];
 
-/// What `\d`, `\w` and `\s` stand for, or with `invert` `\D`, `\W` and `\S`.
+/// A class escape: `\d`, `\w` or `\s`, or with `invert` `\D`, `\W` or `\S`.
 #[derive(Clone, Copy)]
 pub(crate) struct ClassEscape {
-    base: Base,
+    base: CharacterClassType,
     invert: bool,
 }
 
 #[derive(Clone, Copy)]
-enum Base {
+enum CharacterClassType {
     Digits,
     WordCharacters,
     Spaces,
 }
 
 impl ClassEscape {
-    /// The class escape of this letter, if there is one.
+    /// Returns the class escape of this letter, or `None` if it has none.
     pub(crate) fn of(letter: Option<char>) -> Option<ClassEscape>
         ensures { option_map escape_member result ≡ escape_of letter }
     {
         let (base, invert) = match letter? {
-            'd' => (Base::Digits, false),
-            'D' => (Base::Digits, true),
-            'w' => (Base::WordCharacters, false),
-            'W' => (Base::WordCharacters, true),
-            's' => (Base::Spaces, false),
-            'S' => (Base::Spaces, true),
+            'd' => (CharacterClassType::Digits, false),
+            'D' => (CharacterClassType::Digits, true),
+            'w' => (CharacterClassType::WordCharacters, false),
+            'W' => (CharacterClassType::WordCharacters, true),
+            's' => (CharacterClassType::Spaces, false),
+            'S' => (CharacterClassType::Spaces, true),
             _ => return None,
         };
         Some(ClassEscape { base, invert })
     }
 
-    /// Its class.
+    /// Returns the class of the escape.
     pub(crate) fn contents(self, alloc: Global, flags: Flags) -> Result<BracketContents, AllocError>
-        ensures set { IfOk result (λ b. IsSetOf (flags_of flags) (class_of (base_class self.base) false ∷ []) b.cps) }
+        ensures set { IfOk result (λ b. IsSetOf (flags_of flags) (class_of (class_escape_set self.base) false ∷ []) b.cps) }
         ensures invert { IfOk result (λ b. b.invert ≡ self.invert) }
     {
         Ok(BracketContents {
             invert: self.invert,
-            cps: closed(self.base.intervals(alloc)?, flags)?,
+            cps: case_closed(self.base.intervals(alloc)?, flags)?,
         })
     }
 
-    // Its code points.
+    // Returns the code points of the escape.
     fn set(self, alloc: Global, flags: Flags) -> Result<CodePointSet, AllocError>
-        ensures { IfOk result (λ s. (c : ℕ) → in_intervals s c ≡ is_of (flags_of flags) c (escape_member self)) }
+        ensures { IfOk result (λ s. (c : ℕ) → in_intervals s c ≡ is_in_class_member (flags_of flags) c (escape_member self)) }
     {
         let contents = self.contents(alloc, flags)?;
         if contents.invert {
@@ -140,30 +140,30 @@ impl ClassEscape {
         }
     }
 
-    // Adds its code points.
+    // Adds the code points of the escape to the intervals.
     fn add_to(self, intervals: &mut Vec<Interval>, flags: Flags) -> Result<(), AllocError>
         ensures { let old = intervals.old.items in let new = intervals.new.items in
-            OnOk result (Adds (flags_of flags) old new (escape_member self ∷ [])) }
+            OnOk result (AddsMembers (flags_of flags) old new (escape_member self ∷ [])) }
     {
         let set = self.set(*intervals.allocator(), flags)?;
-        add_all(intervals, set.intervals())
+        append_intervals(intervals, set.intervals())
     }
 }
 
-impl Base {
+impl CharacterClassType {
     fn intervals(self, alloc: Global) -> Result<Vec<Interval>, AllocError>
-        ensures { IfOk result (λ v. map interval_of v.items ≡ base_class self) }
+        ensures { IfOk result (λ v. map interval_of v.items ≡ class_escape_set self) }
     {
         match self {
-            Base::Digits => DIGITS.to_vec(alloc),
-            Base::WordCharacters => WORD_CHARACTERS.to_vec(alloc),
-            Base::Spaces => SPACES.to_vec(alloc),
+            CharacterClassType::Digits => DIGITS.to_vec(alloc),
+            CharacterClassType::WordCharacters => WORD_CHARACTERS.to_vec(alloc),
+            CharacterClassType::Spaces => SPACES.to_vec(alloc),
         }
     }
 }
 
-// Adds these intervals.
-fn add_all(intervals: &mut Vec<Interval>, others: &[Interval]) -> Result<(), AllocError>
+// Appends these intervals.
+fn append_intervals(intervals: &mut Vec<Interval>, others: &[Interval]) -> Result<(), AllocError>
     ensures { OnOk result (intervals.new.items ≡ intervals.old.items ++ others.now) }
 {
     for interval in others {
@@ -172,15 +172,15 @@ fn add_all(intervals: &mut Vec<Interval>, others: &[Interval]) -> Result<(), All
     Ok(())
 }
 
-/// Reads the rest of `[`..`]` (ECMA-262, 21.2.1 `ClassRanges`).
-pub(crate) fn class(
+/// Reads a class from after its `[` to its `]` (ECMA-262, 21.2.1 `CharacterClass`).
+pub(crate) fn read_class(
     alloc: Global,
-    reader: &mut Reader,
+    reader: &mut PatternReader,
     flags: Flags,
-) -> Result<BracketContents, Fault>
+) -> Result<BracketContents, ParseFault>
     ensures moves { length reader.new.rest.now ≤ length reader.old.rest.now }
     ensures text { let here = reader.old.rest.now in
-        IsReadOr contents_of (CharacterClass (flags_of flags) here) result reader.new.rest.now }
+        IsReadOr class_as_spec (CharacterClass (flags_of flags) here) result reader.new.rest.now }
 {
     if flags.unicode_sets {
         no_set_operation(*reader)?;
@@ -193,45 +193,45 @@ pub(crate) fn class(
     })
 }
 
-// Reads the rest of a class that began before `start`, up to its end.
+// Reads the members of a class up to its `]`. The class begins just before `start`.
 fn ranges(
     alloc: Global,
-    reader: &mut Reader,
-    start: Reader,
+    reader: &mut PatternReader,
+    start: PatternReader,
     flags: Flags,
-) -> Result<CodePointSet, Fault>
+) -> Result<CodePointSet, ParseFault>
     ensures moves { length reader.new.rest.now ≤ length reader.old.rest.now }
-    ensures text { AreRangesRead (flags_of flags) reader.old.rest.now result reader.new.rest.now }
+    ensures text { AreClassRangesRead (flags_of flags) reader.old.rest.now result reader.new.rest.now }
 {
     let mut intervals = Vec::new(alloc);
     while let Some(c) = reader.next() {
         if c == ']' as u32 {
-            return Ok(closed(intervals, flags)?);
+            return Ok(case_closed(intervals, flags)?);
         }
         read_member(&mut intervals, reader, c, flags)?;
     }
-    Err(start.refuse_last(Cause::UnclosedClass))
+    Err(start.error_at_last_read(Cause::UnclosedClass))
 }
 
-// Refuses a nested class, `&&` or `--` in the class that begins here.
-fn no_set_operation(reader: Reader) -> Result<(), Fault>
-    ensures { AreSetsTold reader.entry.rest.now result }
+// Returns an error if the class that begins here contains a nested class, `&&` or `--`.
+fn no_set_operation(reader: PatternReader) -> Result<(), ParseFault>
+    ensures { DetectsSetOperation reader.entry.rest.now result }
 {
     let mut ahead = reader;
-    while let Some(c) = ahead.next_unescaped() {
+    while let Some(c) = ahead.read_escape_as_backslash() {
         if c == ']' as u32 {
             return Ok(());
         }
-        if is_operation(c, ahead.peek()) {
-            return Err(ahead.refuse_last(Cause::SetOperation));
+        if begins_set_operation(c, ahead.peek()) {
+            return Err(ahead.error_at_last_read(Cause::SetOperation));
         }
     }
     Ok(())
 }
 
-// Whether a class or a set operation begins with this code point, where this stands behind it.
-fn is_operation(c: u32, next: Option<char>) -> bool
-    ensures { result ≡ is_operation c next }
+// Checks whether a nested class or a set operation begins with this code point, given the next one.
+fn begins_set_operation(c: u32, next: Option<char>) -> bool
+    ensures { result ≡ begins_set_operation c next }
 {
     match char::from_u32(c) {
         Some('[') => true,
@@ -241,24 +241,25 @@ fn is_operation(c: u32, next: Option<char>) -> bool
     }
 }
 
-// One end of a range, or what stands for itself.
+// One end of a range, or a member by itself.
 #[derive(Clone, Copy)]
-enum Atom {
+enum ClassAtomValue {
     Character(u32),
     Escape(ClassEscape),
 }
 
-// Reads the character, range or class escape that begins with this code point. A `-` that is no range's is itself.
+// Reads the character, range or class escape that begins with this code point. A `-` that makes no
+// range denotes itself.
 fn read_member(
     intervals: &mut Vec<Interval>,
-    reader: &mut Reader,
+    reader: &mut PatternReader,
     c: u32,
     flags: Flags,
-) -> Result<(), Fault>
+) -> Result<(), ParseFault>
     requires { c ≢ 93 }
     ensures moves { length reader.new.rest.now ≤ length reader.old.rest.now }
     ensures text { let here = c ∷ reader.old.rest.now in let there = reader.new.rest.now in
-        IsMemberRead (flags_of flags) here intervals.old.items result intervals.new.items there }
+        IsClassMemberRead (flags_of flags) here intervals.old.items result intervals.new.items there }
 {
     let start = *reader;
     let first = read_atom(reader, c, flags)?;
@@ -268,36 +269,37 @@ fn read_member(
         return Ok(());
     };
     *reader = ahead;
-    if let Some((first, last)) = range_of(first, second) {
+    if let Some((first, last)) = range_ends_of_atoms(first, second) {
         if last < first {
-            return Err(start.refuse_last(Cause::RangeOutOfOrder));
+            return Err(start.error_at_last_read(Cause::RangeOutOfOrder));
         }
         intervals.push(Interval { first, last })?;
         return Ok(());
     }
     add(intervals, first, flags)?;
-    add(intervals, Atom::Character('-' as u32), flags)?;
+    add(intervals, ClassAtomValue::Character('-' as u32), flags)?;
     add(intervals, second, flags)?;
     Ok(())
 }
 
-// The ends of a range from one atom to another, where both are characters.
-fn range_of(first: Atom, second: Atom) -> Option<(u32, u32)>
-    ensures { IsRangeOf first second result }
+// Returns the ends of a range, if both atoms are characters.
+fn range_ends_of_atoms(first: ClassAtomValue, second: ClassAtomValue) -> Option<(u32, u32)>
+    ensures { IsRangeOfTwoAtoms first second result }
 {
-    let Atom::Character(first) = first else {
+    let ClassAtomValue::Character(first) = first else {
         return None;
     };
-    let Atom::Character(last) = second else {
+    let ClassAtomValue::Character(last) = second else {
         return None;
     };
     Some((first, last))
 }
 
-// Reads a `-` and what the range ends with; none where no `-` stands here, or one before the class's end.
-fn range_end(reader: &mut Reader, flags: Flags) -> Result<Option<Atom>, Fault>
+// Reads a `-` and the atom that ends the range. Returns `None` if there is no `-`, or if it is the
+// last character of the class.
+fn range_end(reader: &mut PatternReader, flags: Flags) -> Result<Option<ClassAtomValue>, ParseFault>
     ensures moves { length reader.new.rest.now ≤ length reader.old.rest.now }
-    ensures text { IsEndRead (flags_of flags) reader.old.rest.now result reader.new.rest.now }
+    ensures text { IsRangeEndRead (flags_of flags) reader.old.rest.now result reader.new.rest.now }
 {
     if !reader.eat('-') {
         return Ok(None);
@@ -309,53 +311,59 @@ fn range_end(reader: &mut Reader, flags: Flags) -> Result<Option<Atom>, Fault>
 }
 
 // Reads the character or class escape that begins with this code point.
-fn read_atom(reader: &mut Reader, c: u32, flags: Flags) -> Result<Atom, Fault>
+fn read_atom(reader: &mut PatternReader, c: u32, flags: Flags) -> Result<ClassAtomValue, ParseFault>
     requires { c ≢ 93 }
     ensures moves { length reader.new.rest.now ≤ length reader.old.rest.now }
     ensures text { let here = c ∷ reader.old.rest.now in
-        IsReadBy atom_member (ClassAtom (flags_of flags) here) result reader.new.rest.now }
+        IsReadOrErrorMeansNone atom_member (ClassAtom (flags_of flags) here) result reader.new.rest.now }
 {
     if c != '\\' as u32 {
-        return Ok(Atom::Character(c));
+        return Ok(ClassAtomValue::Character(c));
     }
     if let Some(escape) = ClassEscape::of(reader.peek()) {
         let _ = reader.next();
-        return Ok(Atom::Escape(escape));
+        return Ok(ClassAtomValue::Escape(escape));
     }
     if reader.eat('b') {
-        return Ok(Atom::Character(0x08));
+        return Ok(ClassAtomValue::Character(0x08));
     }
-    Ok(Atom::Character(character_escape(reader, flags.unicode)?))
+    Ok(ClassAtomValue::Character(character_escape(reader, flags.unicode)?))
 }
 
-fn add(intervals: &mut Vec<Interval>, atom: Atom, flags: Flags) -> Result<(), AllocError>
+fn add(intervals: &mut Vec<Interval>, atom: ClassAtomValue, flags: Flags) -> Result<(), AllocError>
     ensures { let old = intervals.old.items in let new = intervals.new.items in
-        OnOk result (Adds (flags_of flags) old new (atom_member atom ∷ [])) }
+        OnOk result (AddsMembers (flags_of flags) old new (atom_member atom ∷ [])) }
 {
     match atom {
-        Atom::Character(c) => intervals.push(Interval { first: c, last: c })?,
-        Atom::Escape(escape) => escape.add_to(intervals, flags)?,
+        ClassAtomValue::Character(c) => intervals.push(Interval { first: c, last: c })?,
+        ClassAtomValue::Escape(escape) => escape.add_to(intervals, flags)?,
     }
     Ok(())
 }
 
-// The set of these intervals; with `icase` also whatever has the fold of a member.
-fn closed(mut intervals: Vec<Interval>, flags: Flags) -> Result<CodePointSet, AllocError>
-    ensures { IfOk result (λ s. IsClosure (flags_of flags) (held intervals.items) s) }
+// Returns the set of these intervals, with `icase` together with all code points that fold as a
+// member does.
+fn case_closed(mut intervals: Vec<Interval>, flags: Flags) -> Result<CodePointSet, AllocError>
+    ensures { IfOk result (λ s. IsCaseClosure (flags_of flags) (is_in_any_interval intervals.items) s) }
 {
     let alloc = *intervals.allocator();
     let set = CodePointSet::from_intervals(alloc, &intervals)?;
     if !flags.icase {
         return Ok(set);
     }
-    close(&mut intervals, &set, flags.unicode)?;
+    add_case_variants(&mut intervals, &set, flags.unicode)?;
     CodePointSet::from_intervals(alloc, &intervals)
 }
 
-// Adds whatever has the fold of a member of the set, which has what the intervals have.
-fn close(intervals: &mut Vec<Interval>, set: &CodePointSet, unicode: bool) -> Result<(), AllocError>
-    ensures { OnOk result (((c : ℕ) → in_intervals set.now c ≡ held intervals.old.items c)
-        → (c : ℕ) → held intervals.new.items c ≡ with_same_fold unicode (in_intervals set.now) c) }
+// Adds all code points that fold as a member of the set does. The set must have the same members as
+// the intervals.
+fn add_case_variants(
+    intervals: &mut Vec<Interval>,
+    set: &CodePointSet,
+    unicode: bool,
+) -> Result<(), AllocError>
+    ensures { OnOk result (((c : ℕ) → in_intervals set.now c ≡ is_in_any_interval intervals.old.items c)
+        → (c : ℕ) → is_in_any_interval intervals.new.items c ≡ same_fold_passes unicode (in_intervals set.now) c) }
 {
     for upper in 'A' as u32..'Z' as u32 + 1 {
         close_over(intervals, set, upper, unicode)?;
@@ -363,7 +371,7 @@ fn close(intervals: &mut Vec<Interval>, set: &CodePointSet, unicode: bool) -> Re
     Ok(())
 }
 
-// Adds all that have the fold of this letter, where the set has one of them.
+// Adds all code points with the fold of this letter, if one of them is in the set.
 fn close_over(
     intervals: &mut Vec<Interval>,
     set: &CodePointSet,
@@ -371,7 +379,7 @@ fn close_over(
     unicode: bool,
 ) -> Result<(), AllocError>
     ensures { OnOk result (map interval_of intervals.new.items
-        ≡ map interval_of intervals.old.items ++ closing (in_intervals set.now) upper unicode) }
+        ≡ map interval_of intervals.old.items ++ case_variants_if_one_passes (in_intervals set.now) upper unicode) }
 {
     let letters = expand_code_point(*intervals.allocator(), upper, true, unicode)?;
     if !has_any(set, &letters) {
@@ -388,7 +396,7 @@ fn has_any(set: &CodePointSet, members: &[u32]) -> bool
 
 fn add_each(intervals: &mut Vec<Interval>, members: &[u32]) -> Result<(), AllocError>
     ensures { OnOk result (map interval_of intervals.new.items
-        ≡ map interval_of intervals.old.items ++ map one members.now) }
+        ≡ map interval_of intervals.old.items ++ map single_code_point_interval members.now) }
 {
     for c in members {
         intervals.push(Interval {

@@ -4,8 +4,8 @@ ghost use Rattle.std.specs.Prelude.{◌≡◌, ℕ, ◌+◌, ◌<◌, ◌≤◌,
 ghost use Rattle.std.specs.List.{All};
 ghost use Rattle.std.specs.List.Sorted.{IsNonDecreasingBy, IsPermutation};
 ghost use Rattle.regex_meaning.specs.Outcomes.{in_intervals};
-ghost use Rattle.regex_grammar.specs.Classes.{AreApart};
-ghost use Rattle.regex_pattern_front.specs.Intervals.{interval_of, AreInOrder, holds_some, merged, gaps};
+ghost use Rattle.regex_grammar.specs.CharacterClasses.{AreCanonicalIntervals};
+ghost use Rattle.regex_pattern_front.specs.Intervals.{interval_of, IntervalsAreInOrder, is_nonempty, merged_intervals, gaps_between_intervals};
 
 use std::alloc::{AllocError, Global};
 use std::marker::Model;
@@ -13,15 +13,16 @@ use std::marker::Model;
 /// The greatest code point.
 pub const CODE_POINT_MAX: u32 = 0x10_FFFF;
 
-/// The code points from `first` to `last`, both counted in; none where `last` is below `first`.
+/// The code points from `first` to `last`, both inclusive. The interval is empty if `last` is below
+/// `first`.
 #[derive(Clone, Copy, Debug, PartialEq, Eq)]
 pub struct Interval {
     pub first: u32,
     pub last: u32,
 }
 
-/// A set of code points: intervals in order, none of them empty, no two of which share a number.
-/// Contracts see the list of their ends.
+/// A set of code points: intervals in increasing order, none of which is empty and no two of which
+/// overlap. Contracts refer to the list of their ends.
 #[derive(Drop)]
 pub struct CodePointSet {
     intervals: Vec<Interval>,
@@ -29,17 +30,17 @@ pub struct CodePointSet {
 
 impl Model for CodePointSet {
     ghost use Rattle.std.specs.Prelude.{ℕ, List, map};
-    ghost use Rattle.regex_pattern_front.specs.Intervals.{interval_of, AreInOrder};
+    ghost use Rattle.regex_pattern_front.specs.Intervals.{interval_of, IntervalsAreInOrder};
 
     ghost Value = { List (ℕ × ℕ) };
 
     ghost view = { λ s. map interval_of s.intervals.items };
 
-    ghost invariant = { λ s. AreInOrder (map interval_of s.intervals.items) };
+    ghost invariant = { λ s. IntervalsAreInOrder (map interval_of s.intervals.items) };
 }
 
 impl CodePointSet {
-    /// The empty set.
+    /// Returns the empty set.
     pub fn new(alloc: Global) -> Self
         ensures { result ≡ [] }
     {
@@ -48,14 +49,15 @@ impl CodePointSet {
         }
     }
 
-    /// The numbers of these intervals, which may stand in any order, meet, or be empty.
+    /// Returns the set of the code points in these intervals. They may be in any order, overlap,
+    /// touch, or be empty.
     ///
     /// # Errors
     ///
-    /// Where there is no memory for the set.
+    /// Returns an error on allocation failure.
     pub fn from_intervals(alloc: Global, intervals: &[Interval]) -> Result<Self, AllocError>
         ensures members { IfOk result (λ s. (c : ℕ) → in_intervals s c ≡ in_intervals (map interval_of intervals.now) c) }
-        ensures apart { IfOk result (λ s. AreApart s) }
+        ensures apart { IfOk result (λ s. AreCanonicalIntervals s) }
     {
         let sorted = sorted(alloc, intervals)?;
         match sorted.split_first() {
@@ -66,40 +68,40 @@ impl CodePointSet {
         }
     }
 
-    /// The intervals, rising.
+    /// Returns the intervals, in increasing order.
     pub fn intervals(&self) -> &[Interval]
         ensures { map interval_of result.now ≡ self.now }
     {
         &self.intervals
     }
 
-    /// Whether a number is in the set.
+    /// Checks whether a number is in the set.
     pub fn contains(&self, c: u32) -> bool
         ensures { result ≡ in_intervals self.now c }
     {
         contains(&self.intervals, c)
     }
 
-    /// The code points that are not in the set.
+    /// Returns the set of the code points that are not in this set.
     ///
     /// # Errors
     ///
-    /// Where there is no memory for them.
+    /// Returns an error on allocation failure.
     pub fn inverted(&self) -> Result<Self, AllocError>
         ensures members { IfOk result (λ s. (c : ℕ) → in_intervals s c
             ≡ (nat_le c 0x10_FFFF && not (in_intervals self.now c))) }
-        ensures apart { IfOk result (λ s. AreApart s) }
+        ensures apart { IfOk result (λ s. AreCanonicalIntervals s) }
     {
         Ok(CodePointSet {
-            intervals: gaps(*self.intervals.allocator(), &self.intervals)?,
+            intervals: gaps_between_intervals(*self.intervals.allocator(), &self.intervals)?,
         })
     }
 
-    /// The same set once more.
+    /// Returns a copy of the set.
     ///
     /// # Errors
     ///
-    /// Where there is no memory for the copy.
+    /// Returns an error on allocation failure.
     pub fn clone(&self) -> Result<Self, AllocError>
         ensures { IfOk result (λ s. s ≡ self.now) }
     {
@@ -109,7 +111,7 @@ impl CodePointSet {
     }
 }
 
-// The intervals that hold a number, by their first.
+// Returns the nonempty intervals, sorted by `first`.
 fn sorted(alloc: Global, intervals: &[Interval]) -> Result<Vec<Interval>, AllocError>
     ensures hold { IfOk result (λ v. All (λ i. i.first ≤ i.last) v.items) }
     ensures rise { IfOk result (λ v. IsNonDecreasingBy (λ (i : _). i.first) v.items) }
@@ -121,9 +123,9 @@ fn sorted(alloc: Global, intervals: &[Interval]) -> Result<Vec<Interval>, AllocE
     Ok(holding)
 }
 
-// The intervals that hold a number.
+// Returns the nonempty intervals.
 fn holding(alloc: Global, intervals: &[Interval]) -> Result<Vec<Interval>, AllocError>
-    ensures { IfOk result (λ v. v.items ≡ filter holds_some intervals.now) }
+    ensures { IfOk result (λ v. v.items ≡ filter is_nonempty intervals.now) }
 {
     let mut holding = Vec::new(alloc);
     for interval in intervals {
@@ -134,9 +136,9 @@ fn holding(alloc: Global, intervals: &[Interval]) -> Result<Vec<Interval>, Alloc
     Ok(holding)
 }
 
-// The intervals with those that meet or touch made one, where each begins at or after the one before.
+// Merges intervals that overlap or touch. Each interval must begin at or after the one before.
 fn merge(alloc: Global, first: Interval, others: &[Interval]) -> Result<Vec<Interval>, AllocError>
-    ensures { IfOk result (λ v. v.items ≡ merged first others.now) }
+    ensures { IfOk result (λ v. v.items ≡ merged_intervals first others.now) }
 {
     let mut intervals = Vec::new(alloc);
     let mut current = first;
@@ -152,35 +154,39 @@ fn merge(alloc: Global, first: Interval, others: &[Interval]) -> Result<Vec<Inte
     Ok(intervals)
 }
 
-// What stands between the intervals, up to the greatest code point.
-fn gaps(alloc: Global, intervals: &[Interval]) -> Result<Vec<Interval>, AllocError>
-    ensures { IfOk result (λ v. v.items ≡ gaps 0 intervals.now) }
+// Returns the intervals between these intervals, up to the greatest code point.
+fn gaps_between_intervals(
+    alloc: Global,
+    intervals: &[Interval],
+) -> Result<Vec<Interval>, AllocError>
+    ensures { IfOk result (λ v. v.items ≡ gaps_between_intervals 0 intervals.now) }
 {
-    let mut gaps = Vec::new(alloc);
+    let mut gaps_between_intervals = Vec::new(alloc);
     let mut next = 0;
     for interval in intervals {
         if next < interval.first {
-            gaps.push(Interval {
+            gaps_between_intervals.push(Interval {
                 first: next,
                 last: CODE_POINT_MAX.min(interval.first - 1),
             })?;
         }
         if interval.last >= CODE_POINT_MAX {
-            return Ok(gaps);
+            return Ok(gaps_between_intervals);
         }
         next = interval.last + 1;
     }
-    gaps.push(Interval {
+    gaps_between_intervals.push(Interval {
         first: next,
         last: CODE_POINT_MAX,
     })?;
-    Ok(gaps)
+    Ok(gaps_between_intervals)
 }
 
-// By halves: intervals below `low` end before the number, those from `high` on begin after it.
+// Binary search: intervals below `low` end before the number, and those from `high` on begin after
+// it.
 #[inline]
 fn contains(intervals: &[Interval], c: u32) -> bool
-    requires { AreInOrder (map interval_of intervals.now) }
+    requires { IntervalsAreInOrder (map interval_of intervals.now) }
     ensures { result ≡ in_intervals (map interval_of intervals.now) c }
 {
     let mut low = 0;

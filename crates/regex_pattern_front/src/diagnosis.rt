@@ -1,4 +1,4 @@
-//! What is wrong with a text that is no pattern, and where.
+//! Diagnoses: what is wrong with a text that is no pattern, and where.
 
 ghost use Rattle.std.specs.Prelude.{◌≡◌, IsCharBoundary, chars, drop};
 
@@ -8,37 +8,37 @@ use thiserror::Error;
 /// What is wrong with a text that is no pattern.
 #[derive(Clone, Copy, Debug, PartialEq, Eq, Error)]
 pub enum Cause {
-    /// A parenthesis that does not close.
+    /// A parenthesis that is not closed.
     #[error("unclosed group")]
     UnclosedGroup,
-    /// A closing parenthesis of which none opened.
+    /// A closing parenthesis without an opening one.
     #[error("unopened group")]
     UnopenedGroup,
-    /// `(?` before what no kind of group begins with.
+    /// `(?` followed by what begins no kind of group.
     #[error("unknown kind of group")]
     InvalidGroup,
-    /// A capturing group past the greatest number that there may be.
+    /// More capturing groups than are allowed.
     #[error("too many groups")]
     TooManyGroups,
-    /// A quantifier with no term before it, or with a quantifier there.
+    /// A quantifier with no term before it, or after another quantifier.
     #[error("nothing to repeat")]
     NothingToRepeat,
-    /// A quantifier behind an anchor, a word boundary or a lookaround.
+    /// A quantifier after an anchor, a word boundary or a lookaround.
     #[error("an assertion is not repeated")]
     RepeatedAssertion,
     /// `{n,m}` with `m` below `n`.
     #[error("quantifier out of order")]
     QuantifierOutOfOrder,
-    /// A class that does not close.
+    /// A class that is not closed.
     #[error("unclosed class")]
     UnclosedClass,
-    /// A range of a class that ends before its start.
+    /// A range in a class whose end is below its start.
     #[error("range out of order")]
     RangeOutOfOrder,
     /// With `unicode_sets`, a nested class, `&&` or `--`.
     #[error("set operations are not supported")]
     SetOperation,
-    /// A backslash before a letter or digit that no escape begins with.
+    /// A backslash before a letter or digit with which no escape begins.
     #[error("unknown escape")]
     UnknownEscape,
     /// `\p` or `\P`.
@@ -53,48 +53,51 @@ pub enum Cause {
     /// `\x` without two hexadecimal digits.
     #[error("incomplete hexadecimal escape")]
     HexEscape,
-    /// `\u` without four hexadecimal digits; with `unicode`, braces round no such digits too.
+    /// `\u` without four hexadecimal digits; with `unicode`, also `\u{` without hexadecimal digits
+    /// and a `}` after it.
     #[error("incomplete Unicode escape")]
     UnicodeEscape,
-    /// With `unicode`, a `\u{..}` past U+10FFFF.
+    /// With `unicode`, `\u{..}` past U+10FFFF.
     #[error("no code point is so great")]
     CodePointTooGreat,
     /// A backslash at the end of the text.
     #[error("nothing to escape")]
     NothingToEscape,
-    /// A reference to a group that the pattern has not.
+    /// A reference to a group that the pattern does not have.
     #[error("no such group")]
     NoSuchGroup,
-    /// `\k` before what no name begins with.
+    /// `\k` without a `<` after it.
     #[error("reference without a name")]
     MissingName,
-    /// What may not stand in a name, or not there.
+    /// A code point that is not allowed in a name, or not at this position of it.
     #[error("invalid name")]
     InvalidName,
-    /// A name that does not end.
+    /// A name that is not closed.
     #[error("unclosed name")]
     UnclosedName,
-    /// The name of a group that stands before.
+    /// The name of an earlier group.
     #[error("duplicate name")]
     DuplicateName,
-    /// With `unicode`, a `]`, `{` or `}` that closes nothing, or opens nothing.
+    /// With `unicode`, a `]`, `{` or `}` without its partner.
     #[error("lone bracket")]
     LoneBracket,
 }
 
-/// What is wrong with a text that is no pattern, and where. Shown, it is like `unclosed group at 3`.
+/// What is wrong with a text that is no pattern, and where. It displays as `unclosed group at 3`.
 #[derive(Clone, Copy, Debug, PartialEq, Eq, Error)]
 #[error("{cause} at {at}")]
 pub struct Diagnosis {
     /// What is wrong.
     pub cause: Cause,
-    /// The index of the code point with which it begins. Of a name that does not end this is the `<`, of an invalid one
-    /// what may not stand there, and of a duplicate one its first letter.
+    /// Index of the code point with which the error begins. For an unclosed name this is the `<`,
+    /// for an invalid name the code point that is not allowed, and for a duplicate name its first
+    /// letter.
     pub at: usize,
 }
 
 impl Diagnosis {
-    /// The offset in bytes of the place, where the pattern is a text; where the text has fewer code points, its length.
+    /// Returns the byte offset of the error in a pattern that is a `str`. It is the length of the
+    /// pattern if that has fewer than `at` code points.
     pub fn offset_in(self, pattern: &str) -> usize
         ensures boundary { IsCharBoundary pattern.now result }
         ensures place { chars (drop result pattern.now) ≡ drop self.at (chars pattern.now) }
@@ -107,39 +110,44 @@ impl Diagnosis {
         pattern.len() - rest.as_str().len()
     }
 
-    /// The diagnosis to show below a pattern on a terminal: the line of the pattern in which the place is, a line with `^`
-    /// below the place, and what is wrong. Each code point takes one column there. A control character is shown as a
-    /// blank, and what is no character as U+FFFD.
-    pub fn below(self, pattern: &[u32]) -> Caret<'_> {
+    /// Returns the diagnosis to display below a pattern on a terminal: the line of the pattern that
+    /// contains the error, a line with `^` below the error, and the cause. Each code point takes
+    /// one column. A control character is shown as a blank, and a number that is no `char` as
+    /// U+FFFD.
+    pub fn below(self, pattern: &[u32]) -> CaretDiagnosis<'_> {
         let (before, behind) = pattern.split_at(self.at.min(pattern.len()));
-        Caret {
-            before: Piece::CodePoints(last_line(before)),
-            behind: Piece::CodePoints(first_line(behind)),
+        CaretDiagnosis {
+            before: PatternLinePiece::CodePoints(last_line(before)),
+            behind: PatternLinePiece::CodePoints(first_line(behind)),
             cause: self.cause,
         }
     }
 
-    /// The same below a pattern that is a text.
-    pub fn below_text(self, pattern: &str) -> Caret<'_> {
+    /// Returns the diagnosis to display below a pattern that is a `str`, as `below` does.
+    pub fn below_text(self, pattern: &str) -> CaretDiagnosis<'_> {
         let (before, behind) = pattern.split_at(self.offset_in(pattern));
-        Caret {
-            before: Piece::Text(before.rsplit_once('\n').map_or(before, |(_, line)| line)),
-            behind: Piece::Text(behind.split_once('\n').map_or(behind, |(line, _)| line)),
+        CaretDiagnosis {
+            before: PatternLinePiece::Text(
+                before.rsplit_once('\n').map_or(before, |(_, line)| line),
+            ),
+            behind: PatternLinePiece::Text(
+                behind.split_once('\n').map_or(behind, |(line, _)| line),
+            ),
             cause: self.cause,
         }
     }
 }
 
-/// A line of a pattern, with what is wrong in it.
+/// A line of a pattern, and what is wrong in it.
 #[derive(Clone, Copy, Debug)]
-pub struct Caret<'p> {
-    // What stands before the place, and from it on.
-    before: Piece<'p>,
-    behind: Piece<'p>,
+pub struct CaretDiagnosis<'p> {
+    // The line before the error, and from the error on.
+    before: PatternLinePiece<'p>,
+    behind: PatternLinePiece<'p>,
     cause: Cause,
 }
 
-impl fmt::Display for Caret<'_> {
+impl fmt::Display for CaretDiagnosis<'_> {
     fn fmt<W: fmt::Write>(&self, f: &mut fmt::Formatter<W>) -> fmt::Result {
         self.before.write(f)?;
         self.behind.write(f)?;
@@ -153,27 +161,27 @@ impl fmt::Display for Caret<'_> {
 
 // A piece of a line of a pattern.
 #[derive(Clone, Copy, Debug)]
-enum Piece<'p> {
+enum PatternLinePiece<'p> {
     CodePoints(&'p [u32]),
     Text(&'p str),
 }
 
-impl Piece<'_> {
+impl PatternLinePiece<'_> {
     fn columns(self) -> usize {
         match self {
-            Piece::CodePoints(points) => points.len(),
-            Piece::Text(text) => text.chars().count(),
+            PatternLinePiece::CodePoints(points) => points.len(),
+            PatternLinePiece::Text(text) => text.chars().count(),
         }
     }
 
     fn write<W: fmt::Write>(self, f: &mut fmt::Formatter<W>) -> fmt::Result {
         match self {
-            Piece::CodePoints(points) => {
+            PatternLinePiece::CodePoints(points) => {
                 for c in points {
                     write!(f, "{}", shown(*c))?;
                 }
             }
-            Piece::Text(text) => {
+            PatternLinePiece::Text(text) => {
                 for c in text.chars() {
                     write!(f, "{}", shown(u32::from(c)))?;
                 }
@@ -183,7 +191,7 @@ impl Piece<'_> {
     }
 }
 
-// What is shown of a code point, in one column.
+// Returns the character that shows a code point in one column.
 fn shown(c: u32) -> char {
     match char::from_u32(c) {
         Some('\0'..='\x1F' | '\x7F') => ' ',
@@ -196,7 +204,7 @@ fn is_line_break(c: u32) -> bool {
     c == '\n' as u32
 }
 
-// What stands behind the last line break.
+// Returns the text after the last line break.
 fn last_line(text: &[u32]) -> &[u32] {
     let mut start = text.len();
     while start > 0 && !is_line_break(text[start - 1]) {
@@ -205,7 +213,7 @@ fn last_line(text: &[u32]) -> &[u32] {
     &text[start..]
 }
 
-// What stands before the first line break.
+// Returns the text before the first line break.
 fn first_line(text: &[u32]) -> &[u32] {
     let mut end = 0;
     while end < text.len() && !is_line_break(text[end]) {

@@ -1,50 +1,52 @@
-//! What stands behind a backslash, and names.
+//! Escapes after a backslash, and group names.
 
 ghost use Rattle.std.specs.Prelude.{◌≡◌, ◌≤◌, ◌∷◌, length, string_bytes, Bool, not, ◌&&◌, ◌==◌, IfSome, if◌then◌else◌};
-ghost use Rattle.regex_grammar.specs.Characters.{CharacterEscape, GroupName, control, begins_name, goes_on_name, Hex, UnicodeEscape, is_lead};
-ghost use Rattle.regex_grammar.specs.Characters.{is_trail};
-ghost use Rattle.regex_pattern_front.specs.Reads.{IsReadAs, IsReadOr, IsLetter, IsTrailRead, IsPaired, IsCodePoint};
+ghost use Rattle.regex_grammar.specs.EscapesNamesQuantifiers.{CharacterEscape, GroupName, control_escape_code_point, is_identifier_start, is_identifier_part, FixedHexDigits, UnicodeEscape, is_lead_surrogate};
+ghost use Rattle.regex_grammar.specs.EscapesNamesQuantifiers.{is_trail_surrogate};
+ghost use Rattle.regex_pattern_front.specs.CodePointReaderContracts.{IsReadOrNothingCanBeRead, IsReadOr, IsGroupNameLetter, IsTrailSurrogateEscapeRead, IsPairedWithTrailSurrogate, IsBracedCodePointEscape};
 
+use crate::code_point_reader::PatternReader;
 use crate::codepointset::CODE_POINT_MAX;
 use crate::diagnosis::Cause;
-use crate::fault::Fault;
-use crate::reader::Reader;
+use crate::parser_error::ParseFault;
 use std::alloc::Global;
 
-/// Reads what follows a backslash and stands for one character (ECMA-262, 21.2.1 `CharacterEscape`):
-/// `t n v f r`, `0` with no digit after it, `xHH`, `uHHHH`, with `unicode` `u{H..}`, or what is no letter or digit
-/// of ASCII.
-pub(crate) fn character_escape(reader: &mut Reader, unicode: bool) -> Result<u32, Fault>
+/// Reads an escape of one character after its backslash (ECMA-262, 21.2.1 `CharacterEscape`): `t n
+/// v f r`, `0` with no digit after it, `xHH`, `uHHHH`, with `unicode` `u{H..}`, or any code point
+/// except an ASCII letter or digit.
+pub(crate) fn character_escape(reader: &mut PatternReader, unicode: bool) -> Result<u32, ParseFault>
     ensures moves { length reader.new.rest.now ≤ length reader.old.rest.now }
-    ensures text { IsReadAs (CharacterEscape unicode reader.old.rest.now) result reader.new.rest.now }
+    ensures text { IsReadOrNothingCanBeRead (CharacterEscape unicode reader.old.rest.now) result reader.new.rest.now }
 {
     let start = *reader;
     let Some(c) = reader.next() else {
-        return Err(start.refuse_last(Cause::NothingToEscape));
+        return Err(start.error_at_last_read(Cause::NothingToEscape));
     };
-    match escaped(reader, c, unicode) {
+    match character_of_escape(reader, c, unicode) {
         Ok(c) => Ok(c),
-        Err(cause) => Err(start.refuse_last(cause)),
+        Err(cause) => Err(start.error_at_last_read(cause)),
     }
 }
 
-// What an escape stands for that begins with this code point.
-fn escaped(reader: &mut Reader, c: u32, unicode: bool) -> Result<u32, Cause>
+// Returns the character of an escape that begins with this code point.
+fn character_of_escape(reader: &mut PatternReader, c: u32, unicode: bool) -> Result<u32, Cause>
     ensures moves { length reader.new.rest.now ≤ length reader.old.rest.now }
-    ensures text { IsReadAs (CharacterEscape unicode (c ∷ reader.old.rest.now)) result reader.new.rest.now }
+    ensures text { IsReadOrNothingCanBeRead (CharacterEscape unicode (c ∷ reader.old.rest.now)) result reader.new.rest.now }
 {
     match char::from_u32(c) {
         Some('0') => null(reader),
-        Some('x') => byte(reader),
+        Some('x') => read_two_hex_digits(reader),
         Some('u') => unicode_escape(reader, unicode),
-        Some(letter) if letter.is_ascii_alphanumeric() => control(letter).ok_or(unknown(letter)),
+        Some(letter) if letter.is_ascii_alphanumeric() => control_escape_code_point(letter).ok_or(
+            invalid_escape_cause(letter),
+        ),
         _ => Ok(c),
     }
 }
 
-// The control character that a letter stands for.
-fn control(letter: char) -> Option<u32>
-    ensures { result ≡ control letter }
+// Returns the control character of a letter (`ControlEscape`).
+fn control_escape_code_point(letter: char) -> Option<u32>
+    ensures { result ≡ control_escape_code_point letter }
 {
     match letter {
         't' => Some(0x09),
@@ -56,8 +58,8 @@ fn control(letter: char) -> Option<u32>
     }
 }
 
-// What is wrong with an escape that begins with this letter or digit.
-fn unknown(letter: char) -> Cause {
+// Returns the cause for an invalid escape that begins with this letter or digit.
+fn invalid_escape_cause(letter: char) -> Cause {
     match letter {
         'p' | 'P' => Cause::PropertyEscape,
         'c' => Cause::ControlEscape,
@@ -66,9 +68,9 @@ fn unknown(letter: char) -> Cause {
     }
 }
 
-// `\0`, which no digit may follow.
-fn null(reader: &Reader) -> Result<u32, Cause>
-    ensures { (unicode : Bool) → IsReadAs (CharacterEscape unicode (48 ∷ reader.now.rest.now)) result reader.now.rest.now }
+// Reads the rest of `\0`; no digit may follow.
+fn null(reader: &PatternReader) -> Result<u32, Cause>
+    ensures { (unicode : Bool) → IsReadOrNothingCanBeRead (CharacterEscape unicode (48 ∷ reader.now.rest.now)) result reader.now.rest.now }
 {
     match reader.peek() {
         Some(c) if c.is_ascii_digit() => Err(Cause::OctalEscape),
@@ -76,18 +78,19 @@ fn null(reader: &Reader) -> Result<u32, Cause>
     }
 }
 
-// Two hexadecimal digits.
-fn byte(reader: &mut Reader) -> Result<u32, Cause>
+// Reads two hexadecimal digits.
+fn read_two_hex_digits(reader: &mut PatternReader) -> Result<u32, Cause>
     ensures moves { length reader.new.rest.now ≤ length reader.old.rest.now }
-    ensures text { IsReadAs (Hex 2 reader.old.rest.now) result reader.new.rest.now }
+    ensures text { IsReadOrNothingCanBeRead (FixedHexDigits 2 reader.old.rest.now) result reader.new.rest.now }
 {
-    reader.hex(2).ok_or(Cause::HexEscape)
+    reader.read_hex_digits(2).ok_or(Cause::HexEscape)
 }
 
-// What follows `\u`. With `unicode` two surrogates that make a pair are one character.
-fn unicode_escape(reader: &mut Reader, unicode: bool) -> Result<u32, Cause>
+// Reads the rest of an escape after `\u`. With `unicode`, two surrogates that make a pair are one
+// character.
+fn unicode_escape(reader: &mut PatternReader, unicode: bool) -> Result<u32, Cause>
     ensures moves { length reader.new.rest.now ≤ length reader.old.rest.now }
-    ensures text { IsReadAs (UnicodeEscape unicode reader.old.rest.now) result reader.new.rest.now }
+    ensures text { IsReadOrNothingCanBeRead (UnicodeEscape unicode reader.old.rest.now) result reader.new.rest.now }
 {
     if !unicode {
         return code_unit(reader);
@@ -99,20 +102,21 @@ fn unicode_escape(reader: &mut Reader, unicode: bool) -> Result<u32, Cause>
     Ok(paired(reader, c))
 }
 
-// Four hexadecimal digits.
-fn code_unit(reader: &mut Reader) -> Result<u32, Cause>
+// Reads four hexadecimal digits.
+fn code_unit(reader: &mut PatternReader) -> Result<u32, Cause>
     ensures moves { length reader.new.rest.now ≤ length reader.old.rest.now }
-    ensures text { IsReadAs (Hex 4 reader.old.rest.now) result reader.new.rest.now }
+    ensures text { IsReadOrNothingCanBeRead (FixedHexDigits 4 reader.old.rest.now) result reader.new.rest.now }
 {
-    reader.hex(4).ok_or(Cause::UnicodeEscape)
+    reader.read_hex_digits(4).ok_or(Cause::UnicodeEscape)
 }
 
-// What this number stands for, which with an escape of a low surrogate behind it may be a pair.
-fn paired(reader: &mut Reader, c: u32) -> u32
+// Returns the code point of this number, or that of a surrogate pair if an escape of a low
+// surrogate follows it.
+fn paired(reader: &mut PatternReader, c: u32) -> u32
     ensures moves { length reader.new.rest.now ≤ length reader.old.rest.now }
-    ensures text { IsPaired c reader.old.rest.now result reader.new.rest.now }
+    ensures text { IsPairedWithTrailSurrogate c reader.old.rest.now result reader.new.rest.now }
 {
-    if !is_lead(c) {
+    if !is_lead_surrogate(c) {
         return c;
     }
     let mut ahead = *reader;
@@ -123,22 +127,22 @@ fn paired(reader: &mut Reader, c: u32) -> u32
     0x1_0000 + (c - 0xD800) * 0x400 + (low - 0xDC00)
 }
 
-fn is_lead(c: u32) -> bool
-    ensures { result ≡ is_lead c }
+fn is_lead_surrogate(c: u32) -> bool
+    ensures { result ≡ is_lead_surrogate c }
 {
     0xD800 <= c && c <= 0xDBFF
 }
 
-fn is_trail(c: u32) -> bool
-    ensures { result ≡ is_trail c }
+fn is_trail_surrogate(c: u32) -> bool
+    ensures { result ≡ is_trail_surrogate c }
 {
     0xDC00 <= c && c <= 0xDFFF
 }
 
-// What follows `\u{`.
-fn code_point(reader: &mut Reader) -> Result<u32, Cause>
+// Reads the rest of an escape after `\u{`.
+fn code_point(reader: &mut PatternReader) -> Result<u32, Cause>
     ensures moves { length reader.new.rest.now ≤ length reader.old.rest.now }
-    ensures text { IsReadAs (IsCodePoint reader.old.rest.now) result reader.new.rest.now }
+    ensures text { IsReadOrNothingCanBeRead (IsBracedCodePointEscape reader.old.rest.now) result reader.new.rest.now }
 {
     let c = reader.number(16).ok_or(Cause::UnicodeEscape)?;
     if !reader.eat('}') {
@@ -151,10 +155,10 @@ fn code_point(reader: &mut Reader) -> Result<u32, Cause>
 }
 
 // Reads an escape of a low surrogate.
-fn low_surrogate(reader: &mut Reader) -> Option<u32>
+fn low_surrogate(reader: &mut PatternReader) -> Option<u32>
     ensures moves { length reader.new.rest.now ≤ length reader.old.rest.now }
     ensures range { IfSome result (λ c. (0xDC00 ≤ c) × (c ≤ 0xDFFF)) }
-    ensures text { IsTrailRead reader.old.rest.now result reader.new.rest.now }
+    ensures text { IsTrailSurrogateEscapeRead reader.old.rest.now result reader.new.rest.now }
 {
     if !reader.eat('\\') {
         return None;
@@ -162,12 +166,13 @@ fn low_surrogate(reader: &mut Reader) -> Option<u32>
     if !reader.eat('u') {
         return None;
     }
-    let c = reader.hex(4)?;
-    if is_trail(c) { Some(c) } else { None }
+    let c = reader.read_hex_digits(4)?;
+    if is_trail_surrogate(c) { Some(c) } else { None }
 }
 
-/// Reads the rest of `<name>`: letters and digits of ASCII, `_` and `$`, no digit first.
-pub(crate) fn name(alloc: Global, reader: &mut Reader) -> Result<String, Fault>
+/// Reads a name after its `<`, and the `>`: ASCII letters and digits, `_` and `$`, with no digit
+/// first.
+pub(crate) fn name(alloc: Global, reader: &mut PatternReader) -> Result<String, ParseFault>
     ensures moves { length reader.new.rest.now ≤ length reader.old.rest.now }
     ensures text { IsReadOr (λ s. string_bytes s) (GroupName reader.old.rest.now) result reader.new.rest.now }
 {
@@ -179,12 +184,12 @@ pub(crate) fn name(alloc: Global, reader: &mut Reader) -> Result<String, Fault>
             return Ok(name);
         }
         let Some(letter) = letter_of_name(c, is_first) else {
-            return Err(reader.refuse_last(Cause::InvalidName));
+            return Err(reader.error_at_last_read(Cause::InvalidName));
         };
         name.push(letter)?;
         is_first = false;
     }
-    Err(start.refuse_last(Cause::UnclosedName))
+    Err(start.error_at_last_read(Cause::UnclosedName))
 }
 
 fn ends_name(c: u32, is_first: bool) -> bool
@@ -193,9 +198,9 @@ fn ends_name(c: u32, is_first: bool) -> bool
     !is_first && c == '>' as u32
 }
 
-// The code point, if it may stand in a name.
+// Returns the code point as a `char` if it is allowed in a name.
 fn letter_of_name(c: u32, is_first: bool) -> Option<char>
-    ensures { IsLetter is_first c result }
+    ensures { IsGroupNameLetter is_first c result }
 {
     match char::from_u32(c) {
         Some(letter) if may_stand_in_name(letter, is_first) => Some(letter),
@@ -204,7 +209,7 @@ fn letter_of_name(c: u32, is_first: bool) -> Option<char>
 }
 
 fn may_stand_in_name(c: char, is_first: bool) -> bool
-    ensures { result ≡ (if is_first then begins_name c else goes_on_name c) }
+    ensures { result ≡ (if is_first then is_identifier_start c else is_identifier_part c) }
 {
     c.is_ascii_alphabetic() || c == '_' || c == '$' || c.is_ascii_digit() && !is_first
 }

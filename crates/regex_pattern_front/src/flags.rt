@@ -1,18 +1,19 @@
-//! The flags of a pattern.
+//! Flags of a pattern.
 
-/// Flags of a pattern, as `/pattern/flags` of ECMAScript has them, and whether to leave out optimizing.
+/// Flags of a pattern, as in `/pattern/flags` of ECMAScript, and whether to skip optimization.
 #[derive(Clone, Copy, Debug, Default, PartialEq, Eq)]
 pub struct Flags {
-    /// Letters of ASCII match whatever their case (`i`).
+    /// ASCII letters match in either case (`i`).
     pub icase: bool,
-    /// `^` and `$` hold beside line terminators too (`m`).
+    /// `^` and `$` also match beside line terminators (`m`).
     pub multiline: bool,
-    /// `.` matches line terminators too (`s`).
+    /// `.` also matches line terminators (`s`).
     pub dot_all: bool,
-    /// The tree is left as it was parsed.
+    /// The tree is not optimized after parsing.
     pub no_opt: bool,
-    /// Patterns are read by code points, and with `i` U+017F matches as `s` does and U+212A as `k` (`u`).
+    /// Patterns are read by code points, and with `i`, U+017F matches as `s` does and U+212A as `k`
+    /// (`u`).
     pub unicode: bool,
-    /// Classes with set operations, or with classes inside, are refused (`v`).
+    /// Classes with set operations or nested classes are refused (`v`).
     pub unicode_sets: bool,
 }

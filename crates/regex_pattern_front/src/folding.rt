@@ -1,19 +1,20 @@
-//! The case of code points, and how they begin in UTF-8.
+//! Case folding of code points, and their first bytes in UTF-8.
 
 ghost use Rattle.std.specs.Prelude.{◌≡◌, ◌<◌, ◌≤◌, ◌||◌, ℕ, Bool, Some, IfOk, [], ◌∷◌, ◌++◌, slice_get, encode_utf8, if◌then◌else◌, ◌==◌};
-ghost use Rattle.regex_meaning.specs.Lists.{contains};
+ghost use Rattle.regex_meaning.specs.NumberListHelpers.{contains};
 ghost use Rattle.regex_meaning.specs.Text.{fold_code_point, expand_code_point, all_with_fold, nonascii_with_fold, nonascii_folds_to_ascii_word_char};
 ghost use Rattle.regex_meaning.specs.Text.{to_lowercase, to_uppercase};
-ghost use Rattle.regex_meaning.specs.StartPredicate.{bytes_where, begun_by, meet};
-ghost use Rattle.regex_pattern_front.specs.{ByteSets.{byte_bitmap_bytes}, Intervals.{interval_of, as_list}};
+ghost use Rattle.regex_meaning.specs.StartPredicate.{bytes_that_pass, chars_with_first_byte, intersects};
+ghost use Rattle.regex_pattern_front.specs.{ByteSetMembers.{byte_bitmap_bytes}, Intervals.{interval_of, interval_as_list}};
 
 use crate::bytesearch::ByteBitmap;
 use crate::codepointset::{CODE_POINT_MAX, Interval};
 use std::alloc::{AllocError, Global};
 
-/// What stands for a code point where case does not count. With `unicode` it is the lowercase letter of
-/// ASCII, also for U+017F and U+212A; without it is the uppercase one. Any other code point is itself
-/// (ECMA-262, 21.2.2.8.2 `Canonicalize`, over the letters that fold to ASCII).
+/// Returns the code point that represents `c` when case is ignored. With `unicode` it is the
+/// lowercase ASCII letter, also for U+017F and U+212A; without it, the uppercase one. Any other
+/// code point is itself (ECMA-262, 21.2.2.8.2 `Canonicalize`, restricted to the letters that fold
+/// to ASCII).
 #[inline]
 #[tactic(auto, unfolding(regex_meaning::specs::Text::fold_code_point))]
 pub fn fold_code_point(c: u32, unicode: bool) -> u32
@@ -43,12 +44,12 @@ fn to_uppercase(c: u32) -> u32
     if 0x61 <= c && c <= 0x7A { c - 0x20 } else { c }
 }
 
-/// The code points that a code point of a pattern stands for, rising: with `icase` all that have its fold
-/// (`fold_code_point`), else itself alone.
+/// Returns the code points that a code point of a pattern matches, in increasing order: with
+/// `icase` all that have its fold (`fold_code_point`), else itself alone.
 ///
 /// # Errors
 ///
-/// Where there is no memory for them.
+/// Returns an error on allocation failure.
 #[tactic(auto, unfolding(regex_meaning::specs::Text::expand_code_point))]
 pub fn expand_code_point(
     alloc: Global,
@@ -65,7 +66,7 @@ pub fn expand_code_point(
     }
 }
 
-// All code points with this fold, rising.
+// Returns all code points with this fold, in increasing order.
 fn all_with_fold(alloc: Global, folded: u32, unicode: bool) -> Result<Vec<u32>, AllocError>
     ensures { IfOk result (λ members. members.items ≡ all_with_fold unicode folded) }
 {
@@ -83,7 +84,7 @@ fn all_with_fold(alloc: Global, folded: u32, unicode: bool) -> Result<Vec<u32>, 
     Ok(members)
 }
 
-/// Whether a code point beyond ASCII folds to a word character of ASCII: U+017F and U+212A do.
+/// Checks whether a code point beyond ASCII folds to an ASCII word character: U+017F and U+212A do.
 #[inline]
 pub fn nonascii_folds_to_ascii_word_char(c: u32) -> bool
     ensures { result ≡ nonascii_folds_to_ascii_word_char c }
@@ -91,8 +92,9 @@ pub fn nonascii_folds_to_ascii_word_char(c: u32) -> bool
     c == 0x017F || c == 0x212A
 }
 
-/// The first byte of a code point in UTF-8; that of a surrogate is 0xED, as for the code points round it. A number past
-/// U+10FFFF has no UTF-8: it gives 0xFF, which begins no character.
+/// Returns the first byte of a code point in UTF-8. For a surrogate it is 0xED, as for the code
+/// points around it. A number past U+10FFFF has no UTF-8; for it this returns 0xFF, which begins no
+/// character.
 pub fn utf8_first_byte(c: u32) -> u8
     ensures begins { c ≤ 0x10_FFFF → slice_get (encode_utf8 c) 0 ≡ Some result }
     ensures beyond { 0x10_FFFF < c → result ≡ 0xFF }
@@ -110,12 +112,12 @@ pub fn utf8_first_byte(c: u32) -> u8
     }
 }
 
-/// Adds the first bytes of the interval's code points, up to U+10FFFF.
+/// Adds the first UTF-8 bytes of the interval's code points, up to U+10FFFF.
 pub fn add_utf8_first_bytes_to_bitmap(interval: Interval, bitmap: &mut ByteBitmap)
-    ensures { byte_bitmap_bytes bitmap.new ≡ bytes_where (λ b.
-        contains (byte_bitmap_bytes bitmap.old) b || meet (begun_by b) (interval_of interval ∷ [])) }
+    ensures { byte_bitmap_bytes bitmap.new ≡ bytes_that_pass (λ b.
+        contains (byte_bitmap_bytes bitmap.old) b || intersects (chars_with_first_byte b) (interval_of interval ∷ [])) }
 {
-    // No other byte begins one of them, since first bytes rise with the code points.
+    // No other byte can be a first byte, since first bytes increase with the code points.
     let least = utf8_first_byte(interval.first.min(CODE_POINT_MAX));
     let greatest = utf8_first_byte(interval.last.min(CODE_POINT_MAX));
     for byte in least..=greatest {
@@ -125,19 +127,19 @@ pub fn add_utf8_first_bytes_to_bitmap(interval: Interval, bitmap: &mut ByteBitma
     }
 }
 
-// Whether UTF-8 of a code point of the interval begins with this byte.
+// Checks whether the UTF-8 of a code point of the interval begins with this byte.
 fn may_begin(byte: u8, interval: Interval) -> bool
-    ensures { result ≡ meet (begun_by byte) (interval_of interval ∷ []) }
+    ensures { result ≡ intersects (chars_with_first_byte byte) (interval_of interval ∷ []) }
 {
-    let Some(begun) = begun_by(byte) else {
+    let Some(begun) = chars_with_first_byte(byte) else {
         return false;
     };
     interval.first <= interval.last && begun.first <= interval.last && interval.first <= begun.last
 }
 
-// The code points whose UTF-8 begins with this byte; none for a byte that begins none.
-fn begun_by(byte: u8) -> Option<Interval>
-    ensures { as_list result ≡ begun_by byte }
+// Returns the code points whose UTF-8 begins with this byte, or `None` if there are none.
+fn chars_with_first_byte(byte: u8) -> Option<Interval>
+    ensures { interval_as_list result ≡ chars_with_first_byte byte }
 {
     let b = u32::from(byte);
     let (first, last) = match byte {

@@ -1,7 +1,7 @@
 //! The pattern tree.
 
 ghost use Rattle.std.specs.Prelude.{◌≡◌, ◌+◌, Some, None};
-ghost use Rattle.regex_pattern_front.specs.{Parting.{IsParted, weight, weight_of, work_in, work_of}, TreeOf.{cat_of}, declared.ir.Node.{Node}};
+ghost use Rattle.regex_pattern_front.specs.{IterativeDropMeasure.{DecreasesDropMeasure, tree_size, node_size, drop_measure_in, drop_measure_of}, AstToSpecTree.{cat_of}, declared.ir.Node.{Node}};
 
 use crate::flags::Flags;
 use crate::types::{BracketContents, CaptureGroupID};
@@ -17,14 +17,14 @@ pub enum AnchorType {
     EndOfLine,
 }
 
-/// How often a loop runs, and whether it prefers another iteration.
+/// How often a loop iterates, and whether it prefers another iteration.
 #[derive(Clone, Copy, Debug, PartialEq, Eq)]
 pub struct Quantifier {
-    /// The least number of iterations.
+    /// Minimum number of iterations.
     pub min: usize,
-    /// The greatest number of iterations; where there is none it is `usize::MAX`.
+    /// Maximum number of iterations; `None` stands for `usize::MAX`.
     pub max: Option<usize>,
-    /// Whether another iteration is preferred to leaving.
+    /// Whether another iteration is preferred to leaving the loop.
     pub greedy: bool,
 }
 
@@ -44,20 +44,20 @@ pub enum Node {
     ByteSet(Vec<u8>),
     /// The characters whose UTF-8 these bytes are.
     ByteSequence(Vec<u8>),
-    /// One node after another, in stored order.
+    /// A sequence of nodes, in stored order.
     Cat(Vec<Node>),
-    /// One node or the other, the left one preferred.
+    /// One node or the other; the left one is preferred.
     Alt(Box<Node>, Box<Node>),
     /// One character of a class.
     Bracket(BracketContents),
-    /// One of these strings, the first one preferred.
+    /// One of these strings; earlier ones are preferred.
     StringSet {
         alternatives: Vec<Vec<u32>>,
         icase: bool,
     },
     /// Any character.
     MatchAny,
-    /// Any character but U+000A, U+000D, U+2028 and U+2029.
+    /// Any character except U+000A, U+000D, U+2028 and U+2029.
     MatchAnyExceptLineTerminator,
     /// The start or the end of the text or, with `multiline`, of a line.
     Anchor {
@@ -69,18 +69,18 @@ pub enum Node {
         invert: bool,
         unicode_icase: bool,
     },
-    /// A capturing group. Ids count from 0; an empty name is none.
+    /// A capturing group. Ids count from 0. An empty name means that it has none.
     CaptureGroup {
         id: CaptureGroupID,
         contents: Box<Node>,
         name: Option<String>,
     },
-    /// The text of a group once more. Groups count from 1 here.
+    /// The text of a group again. Groups count from 1 here.
     BackRef {
         group: u32,
         icase: bool,
     },
-    /// A lookahead or a lookbehind, with the range of the ids inside it.
+    /// A lookahead or a lookbehind, with the range of the group ids inside it.
     LookaroundAssertion {
         negate: bool,
         backwards: bool,
@@ -88,7 +88,7 @@ pub enum Node {
         end_group: CaptureGroupID,
         contents: Box<Node>,
     },
-    /// A loop, with the range of the ids inside it.
+    /// A loop, with the range of the group ids inside it.
     Loop {
         loopee: Box<Node>,
         quant: Quantifier,
@@ -102,11 +102,12 @@ pub enum Node {
 }
 
 impl Node {
-    ghost use Rattle.regex_pattern_front.specs.{Optimized.{narrowed}, TreeOf.{node_of}};
+    ghost use Rattle.regex_pattern_front.specs.{OptimizedTrees.{as_one_char_loop}, AstToSpecTree.{node_of}};
 
-    // Of a loop the loop over one character, which names no groups.
-    pub(crate) fn narrowed(self) -> Node
-        ensures { node_of result ≡ narrowed (node_of self) }
+    // Turns a loop into a loop over one character, which names no groups. Other nodes stay as they
+    // are.
+    pub(crate) fn as_one_char_loop(self) -> Node
+        ensures { node_of result ≡ as_one_char_loop (node_of self) }
     {
         match self {
             Node::Loop {
@@ -118,9 +119,9 @@ impl Node {
         }
     }
 
-    // Takes the node from what is inside it.
-    fn parted(self, rest: Option<Node>) -> Parted
-        ensures { IsParted result (work_of self rest) }
+    // Separates the node from its children, for `Drop`.
+    fn parted(self, rest: Option<Node>) -> DropStep
+        ensures { DecreasesDropMeasure result (drop_measure_of self rest) }
     {
         match self {
             Node::Cat(children) => parted_row(children, rest),
@@ -129,20 +130,20 @@ impl Node {
                 id: _,
                 contents,
                 name: _,
-            } => Parted::Inside(Box::into_inner(contents), rest),
+            } => DropStep::Inside(Box::into_inner(contents), rest),
             Node::LookaroundAssertion {
                 negate: _,
                 backwards: _,
                 start_group: _,
                 end_group: _,
                 contents,
-            } => Parted::Inside(Box::into_inner(contents), rest),
+            } => DropStep::Inside(Box::into_inner(contents), rest),
             Node::Loop {
                 loopee,
                 quant: _,
                 enclosed_groups: _,
-            } => Parted::Inside(Box::into_inner(loopee), rest),
-            Node::Loop1CharBody { loopee, quant: _ } => Parted::Inside(
+            } => DropStep::Inside(Box::into_inner(loopee), rest),
+            Node::Loop1CharBody { loopee, quant: _ } => DropStep::Inside(
                 Box::into_inner(loopee),
                 rest,
             ),
@@ -172,53 +173,55 @@ impl Node {
     }
 }
 
-// What a node was taken apart to.
-enum Parted {
-    // A node inside it, and the rest.
+// The result of separating a node from its children.
+enum DropStep {
+    // A child, and the rest.
     Inside(Node, Option<Node>),
-    // A row without nodes, and the rest.
+    // A list without nodes, and the rest.
     Row(Vec<Node>, Option<Node>),
     // Nothing is left.
     Nothing,
 }
 
-// A loop that takes no memory and no stack, however deep the tree is: what is not let go yet is a node and the rest, in
-// which the way back stands in the place of a node inside.
+// Drops a tree in a loop that allocates no memory, and whose stack does not grow with the depth of
+// the tree. What is not dropped yet is one node and the rest; the rest links back to its parent
+// from the position of a separated child.
 impl Drop for Node {
     fn drop(mut self) {
         let mut rest = None;
         loop {
             match self.parted(rest) {
-                Parted::Inside(node, others) => {
+                DropStep::Inside(node, others) => {
                     self = node;
                     rest = others;
                 }
-                Parted::Row(_row, others) => match others {
+                DropStep::Row(_row, others) => match others {
                     Some(node) => {
                         self = node;
                         rest = None;
                     }
                     None => return,
                 },
-                Parted::Nothing => return,
+                DropStep::Nothing => return,
             }
         }
     }
 }
 
-// The rest alone.
-fn begun(rest: Option<Node>) -> Parted
-    ensures { (node : Node) → IsParted result (work_of node rest) }
+// Continues with the rest.
+fn begun(rest: Option<Node>) -> DropStep
+    ensures { (node : Node) → DecreasesDropMeasure result (drop_measure_of node rest) }
 {
     match rest {
-        Some(node) => Parted::Inside(node, None),
-        None => Parted::Nothing,
+        Some(node) => DropStep::Inside(node, None),
+        None => DropStep::Nothing,
     }
 }
 
-// Of a row its last node or, where there is a rest, the first one, whose place it takes: so the rest is reached last.
-fn parted_row(children: Vec<Node>, rest: Option<Node>) -> Parted
-    ensures { IsParted result (work_in (weight (cat_of children.items)) rest) }
+// Separates the last node of a list or, if there is a rest, the first one, and puts the rest in its
+// position, so that the rest is reached last.
+fn parted_row(children: Vec<Node>, rest: Option<Node>) -> DropStep
+    ensures { DecreasesDropMeasure result (drop_measure_in (tree_size (cat_of children.items)) rest) }
 {
     match rest {
         None => popped(children),
@@ -226,38 +229,39 @@ fn parted_row(children: Vec<Node>, rest: Option<Node>) -> Parted
     }
 }
 
-fn popped(mut children: Vec<Node>) -> Parted
-    ensures { IsParted result (work_in (weight (cat_of children.items)) None) }
+fn popped(mut children: Vec<Node>) -> DropStep
+    ensures { DecreasesDropMeasure result (drop_measure_in (tree_size (cat_of children.items)) None) }
 {
     let Some(node) = children.pop() else {
-        return Parted::Row(children, None);
+        return DropStep::Row(children, None);
     };
     if children.is_empty() {
-        return Parted::Row(children, Some(node));
+        return DropStep::Row(children, Some(node));
     }
-    Parted::Inside(node, Some(Node::Cat(children)))
+    DropStep::Inside(node, Some(Node::Cat(children)))
 }
 
-fn linked(mut children: Vec<Node>, link: Node) -> Parted
-    ensures { IsParted result (work_in (weight (cat_of children.items)) (Some link)) }
+fn linked(mut children: Vec<Node>, link: Node) -> DropStep
+    ensures { DecreasesDropMeasure result (drop_measure_in (tree_size (cat_of children.items)) (Some link)) }
 {
     if children.is_empty() {
-        return Parted::Row(children, Some(link));
+        return DropStep::Row(children, Some(link));
     }
     let node = mem::replace(&mut children[0], link);
-    Parted::Inside(node, Some(Node::Cat(children)))
+    DropStep::Inside(node, Some(Node::Cat(children)))
 }
 
-// Of alternatives the right one or, where there is a rest, the left one, whose place it takes.
-fn parted_alternatives(mut left: Box<Node>, right: Box<Node>, rest: Option<Node>) -> Parted
-    ensures { let both = weight_of left.value + weight_of right.value + 1 in
-        IsParted result (work_in both rest) }
+// Separates the right alternative or, if there is a rest, the left one, and puts the rest in its
+// position.
+fn parted_alternatives(mut left: Box<Node>, right: Box<Node>, rest: Option<Node>) -> DropStep
+    ensures { let both = node_size left.value + node_size right.value + 1 in
+        DecreasesDropMeasure result (drop_measure_in both rest) }
 {
     match rest {
-        None => Parted::Inside(Box::into_inner(right), Some(Box::into_inner(left))),
+        None => DropStep::Inside(Box::into_inner(right), Some(Box::into_inner(left))),
         Some(link) => {
             let node = mem::replace(&mut *left, link);
-            Parted::Inside(node, Some(Node::Alt(left, right)))
+            DropStep::Inside(node, Some(Node::Alt(left, right)))
         }
     }
 }

@@ -1,20 +1,21 @@
-//! The front: pattern trees, their flags, and what they are made of.
+//! The front end: pattern trees, their flags, the parser that makes them, and sets of code points
+//! and bytes.
 #![tactic(auto)]
 
 pub mod bytesearch;
 mod classes;
+mod code_point_reader;
 pub mod codepointset;
-pub mod depth;
 pub mod diagnosis;
 mod escapes;
-mod fault;
 pub mod flags;
 pub mod folding;
-mod groups;
+mod group_openings_and_names;
+mod group_stack;
+mod groupless_terms;
 pub mod ir;
-mod leaves;
-mod nesting;
+pub mod nesting_depth;
 pub mod optimizer;
 pub mod parse;
-mod reader;
+mod parser_error;
 pub mod types;

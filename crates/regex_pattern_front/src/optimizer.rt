@@ -1,17 +1,17 @@
-//! Loops over one character.
+//! The optimizer, which introduces loops over one character.
 
 ghost use Rattle.std.specs.Prelude.{◌≡◌};
-ghost use Rattle.regex_pattern_front.specs.{TreeOf.{cat_of, node_of}, declared.ir.Node.TheVariants.{Alt}};
-ghost use Rattle.regex_pattern_front.specs.Optimized.{reads_one_character, optimized, narrowed, behind_first, with_first, turned_back};
-ghost use Rattle.regex_pattern_front.specs.Optimized.{OptimizedIsWellFormed, OptimizedHasSameOutcomes, OptimizedHasSameAnswers};
-ghost use Rattle.regex_pattern_front.specs.Optimized.{OptimizedHasSameGroups, OptimizedHasSameNames};
+ghost use Rattle.regex_pattern_front.specs.{AstToSpecTree.{cat_of, node_of}, declared.ir.Node.TheVariants.{Alt}};
+ghost use Rattle.regex_pattern_front.specs.OptimizedTrees.{reads_one_character, optimized, as_one_char_loop, rest_of_alternatives, prepend_alternative, restored_alternatives};
+ghost use Rattle.regex_pattern_front.specs.OptimizedTrees.{OptimizedIsWellFormed, OptimizedHasSameOutcomes, OptimizedHasSameAnswers};
+ghost use Rattle.regex_pattern_front.specs.OptimizedTrees.{OptimizedHasSameGroups, OptimizedHasSameNames};
 ghost use Rattle.regex_meaning.specs.Tree.{alt};
 
 use crate::ir::{Node, Regex};
 use std::mem;
 
-/// Makes each `Loop` over a node of one character a `Loop1CharBody`, and changes nothing else. Takes no memory, and no
-/// more stack for many alternatives than for two.
+/// Turns each `Loop` over a one-character node into a `Loop1CharBody`, and changes nothing else. It
+/// allocates no memory, and uses no more stack for many alternatives than for two.
 pub fn optimize(re: &mut Regex)
     ensures root { node_of re.new.node ≡ optimized (node_of re.old.node) }
     ensures flags { re.new.flags ≡ re.old.flags }
@@ -30,7 +30,7 @@ fn optimize_node(node: &mut Node)
         Node::LookaroundAssertion { contents, .. } => optimize_node(contents),
         Node::Loop { loopee, .. } => {
             if reads_one_character(loopee) {
-                narrow(node);
+                to_char_loop(node);
             } else {
                 optimize_node(loopee);
             }
@@ -49,9 +49,11 @@ fn optimize_all(nodes: &mut Vec<Node>)
     }
 }
 
-// Two alternatives, the second of which may be alternatives again, in a loop: on the way there each is turned to look at
-// the one before it, and on the way back as it was. How many were turned is all that its frame holds of that, and what
-// moves nodes has returned before, so nested ones take little stack. A row longer than that counts is a row in a row.
+// Optimizes alternatives that are nested to the right in a loop. On the way to the last one, each
+// link is reversed to point to the alternative before it; on the way back each is restored. The
+// frame holds only the number of reversed links, and the functions that move nodes return before
+// the recursion, so nested alternations take little stack. A chain longer than that number can
+// count is continued by recursion.
 #[cycle(optimize)]
 #[inline(never)]
 fn optimize_row(first: &mut Node, rest: &mut Node)
@@ -64,28 +66,28 @@ fn optimize_row(first: &mut Node, rest: &mut Node)
             break;
         }
         optimize_node(left);
-        turn(rest, first);
+        move_alternative(rest, first);
         turned += 1;
     }
     optimize_node(rest);
-    turn_back(first, rest, turned);
+    restore_alternatives(first, rest, turned);
 }
 
-// So many alternatives of a row that was turned round, before those behind them.
-fn turn_back(done: &mut Node, rest: &mut Node, mut turned: usize)
-    ensures { alt (node_of done.new) (node_of rest.new) ≡ turned_back turned (node_of done.old) (node_of rest.old) }
+// Restores `turned` reversed alternatives, before those after them.
+fn restore_alternatives(done: &mut Node, rest: &mut Node, mut turned: usize)
+    ensures { alt (node_of done.new) (node_of rest.new) ≡ restored_alternatives turned (node_of done.old) (node_of rest.old) }
 {
     while turned > 0 {
-        turn(done, rest);
+        move_alternative(done, rest);
         turned -= 1;
     }
 }
 
-// Moves the first of alternatives before what stands in another place.
+// Moves the first alternative of one chain to the front of another.
 #[inline(never)]
-fn turn(from: &mut Node, to: &mut Node)
-    ensures from { node_of from.new ≡ behind_first (node_of from.old) }
-    ensures to { node_of to.new ≡ with_first (node_of from.old) (node_of to.old) }
+fn move_alternative(from: &mut Node, to: &mut Node)
+    ensures from { node_of from.new ≡ rest_of_alternatives (node_of from.old) }
+    ensures to { node_of to.new ≡ prepend_alternative (node_of from.old) (node_of to.old) }
     ensures part { (left right : _) → from.old ≡ Alt left right → from.new ≡ right.value }
 {
     if let Node::Alt(_, right) = from {
@@ -94,17 +96,18 @@ fn turn(from: &mut Node, to: &mut Node)
     }
 }
 
-// Makes a loop one over one character.
+// Turns a loop into a loop over one character.
 #[inline(never)]
-fn narrow(node: &mut Node)
-    ensures { node_of node.new ≡ narrowed (node_of node.old) }
+fn to_char_loop(node: &mut Node)
+    ensures { node_of node.new ≡ as_one_char_loop (node_of node.old) }
 {
     let taken = mem::replace(node, Node::Empty);
-    *node = taken.narrowed();
+    *node = taken.as_one_char_loop();
 }
 
-/// Whether a node reads one character and accepts it or not: loops over such a node are those that `optimize` changes.
-#[tactic(auto, unfolding(crate::specs::TreeOf::node_of))]
+/// Checks whether a node reads one character and accepts it or not. `optimize` changes exactly the
+/// loops over such nodes.
+#[tactic(auto, unfolding(crate::specs::AstToSpecTree::node_of))]
 pub fn reads_one_character(node: &Node) -> bool
     ensures { result ≡ reads_one_character (node_of node.now) }
 {
@@ -119,18 +122,18 @@ pub fn reads_one_character(node: &Node) -> bool
     }
 }
 
-/// A law: the optimized tree is well formed if the tree is.
+/// Proves that the optimized tree is well formed if the tree is.
 pub fn optimized_is_well_formed()
     ensures { OptimizedIsWellFormed }
 {}
 
-/// A law: the optimized tree of a well-formed tree has the tree's outcomes.
+/// Proves that the optimized tree of a well-formed tree has the same outcomes.
 pub fn optimized_has_same_outcomes()
     ensures { OptimizedHasSameOutcomes }
 {}
 
-/// A law: the optimized tree of a well-formed tree has the tree's matches in each text, and always its groups and their
-/// names.
+/// Proves that the optimized tree of a well-formed tree has the same matches in each text, and that
+/// optimizing any tree keeps its groups and their names.
 pub fn optimized_has_same_matches()
     ensures answers { OptimizedHasSameAnswers }
     ensures groups { OptimizedHasSameGroups }

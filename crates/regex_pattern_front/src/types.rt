@@ -1,23 +1,23 @@
-//! Names that several modules share.
+//! Types and limits that several modules share.
 
 ghost use Rattle.std.specs.Prelude.{◌≡◌, ℕ, ◌&&◌, not, map, nat_le, IfOk};
 ghost use Rattle.regex_meaning.specs.Outcomes.{in_intervals};
-ghost use Rattle.regex_grammar.specs.Classes.{AreApart};
+ghost use Rattle.regex_grammar.specs.CharacterClasses.{AreCanonicalIntervals};
 ghost use Rattle.regex_pattern_front.specs.Intervals.{interval_of};
 
 use crate::codepointset::{CodePointSet, Interval};
 use std::alloc::AllocError;
 
-/// The number of a capturing group, from 0 on in order of opening.
+/// The id of a capturing group, from 0 on in order of opening.
 pub type CaptureGroupID = u16;
 
 /// The number of a loop in a program.
 pub type LoopID = u16;
 
-/// How many capturing groups a pattern may have.
+/// Maximum number of capturing groups in a pattern.
 pub const MAX_CAPTURE_GROUPS: usize = 65535;
 
-/// How many characters a set of characters holds that stands in one instruction.
+/// Maximum number of characters in a set that fits one instruction.
 pub const MAX_CHAR_SET_LENGTH: usize = 4;
 
 /// A class: the code points of a set, or with `invert` all others.
@@ -28,38 +28,38 @@ pub struct BracketContents {
 }
 
 impl BracketContents {
-    /// Whether a number is in the set, whatever `invert` is.
+    /// Checks whether a number is in the set, regardless of `invert`.
     pub fn contains(&self, c: u32) -> bool
         ensures { result ≡ in_intervals self.now.cps c }
     {
         self.cps.contains(c)
     }
 
-    /// The intervals of the set, rising, whatever `invert` is.
+    /// Returns the intervals of the set in increasing order, regardless of `invert`.
     pub fn intervals(&self) -> &[Interval]
         ensures { map interval_of result.now ≡ self.now.cps }
     {
         self.cps.intervals()
     }
 
-    /// The code points that are not in the set, whatever `invert` is.
+    /// Returns the code points that are not in the set, regardless of `invert`.
     ///
     /// # Errors
     ///
-    /// Where there is no memory for them.
+    /// Returns an error on allocation failure.
     pub fn inverted(&self) -> Result<CodePointSet, AllocError>
         ensures members { IfOk result (λ s. (c : ℕ) → in_intervals s c
             ≡ (nat_le c 0x10_FFFF && not (in_intervals self.now.cps c))) }
-        ensures apart { IfOk result (λ s. AreApart s) }
+        ensures apart { IfOk result (λ s. AreCanonicalIntervals s) }
     {
         self.cps.inverted()
     }
 
-    /// The same class once more.
+    /// Returns a copy of the class.
     ///
     /// # Errors
     ///
-    /// Where there is no memory for the copy.
+    /// Returns an error on allocation failure.
     pub fn clone(&self) -> Result<Self, AllocError>
         ensures { IfOk result (λ b. b ≡ self.now) }
     {

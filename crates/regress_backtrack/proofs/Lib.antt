@@ -16,7 +16,7 @@ pub mod RunTurns
 pub mod RunMarks
 pub mod FurtherTurns
 pub mod ChoiceTurns
-pub mod Dispatch
+pub mod DispatchLemmas
 pub mod LookTurns
 pub mod PossessiveTurns
 mod BeginOtherwise

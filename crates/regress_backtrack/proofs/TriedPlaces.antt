@@ -4,26 +4,26 @@ use Rattle.std.proofs.Common.{arith, inl, inr, drop, slice_get}
 use Rattle.std.proofs.lemmas.Bool.{cases_lt, le-leb}
 use Rattle.std.specs.Prelude.{if◌then◌else◌, nat_eq, filter, option_map, option_and_then, unwrap_or, IfSome, IsTrue, encode_utf8_all}
 use Rattle.std.specs.List.{list_all, starts_with}
-use Rattle.regex_meaning.specs.Lists.{contains, numbers_from}
+use Rattle.regex_meaning.specs.NumberListHelpers.{contains, numbers_from}
 use Rattle.regex_meaning.specs.Tree.{Tree}
 use Rattle.regex_meaning.specs.Text.{Text, rightwards, last_place, is_scalar}
-use Rattle.regex_meaning.specs.Offsets.{IsText, IsBoundary, offset, read, units}
+use Rattle.regex_meaning.specs.CodeUnitOffsets.{IsText, IsBoundary, offset, read, units}
 use Rattle.regex_meaning.specs.StartPredicate.{StartPredicate, start_arbitrary, start_byte_set, start_byte_sequence, start_anchored, start_predicate}
-use Rattle.regex_meaning.specs.StartPredicate.{may_start, begins_with_one_of, bytes_from}
-use Rattle.regex_meaning.specs.Ticks.{tried_places}
-use Rattle.regex_meaning.specs.Units.{Encoding, utf8, utf16, ucs2, is_character}
-use Rattle.regex_meaning.specs.WellFormed.{is_well_formed}
+use Rattle.regex_meaning.specs.StartPredicate.{may_start, begins_with_one_of, text_bytes_from_place}
+use Rattle.regex_meaning.specs.OutcomesWithStepTicks.{tried_places}
+use Rattle.regex_meaning.specs.CodeUnits.{Encoding, utf8, utf16, ucs2, is_character}
+use Rattle.regex_meaning.specs.WellFormedTrees.{is_well_formed}
 use Rattle.regex_meaning.proofs.TextLemmas.{IsBoundary-place, offset-IsBoundary, place_at-offset}
-use Rattle.regress_input.specs.Reading.{led_to, past_bytes, place, where_bytes, is_of_bytes, IsInUtf8}
-use Rattle.regress_machine.specs.Bytes.{ReadsBytes}
+use Rattle.regress_input.specs.ReadsFromOffset.{end_if_matched, past_bytes, place, if_byte_units, has_byte_units, IsInUtf8}
+use Rattle.regress_machine.specs.TextsForBytePrograms.{ReadsBytes}
 use Rattle.regress_machine.proofs.Utf8.{bytes_near-side, offset-inside}
-use Rattle.regress_exec.specs.Attempts.{IsNextTry, IsVain, NoneBetween, anchors, first_of_places, first_tried, next_tried, behind_tried}
+use Rattle.regress_exec.specs.Attempts.{IsNextCandidate, NoMatchAt, NoMatchStartsBetween, is_anchored_predicate, first_of_places, first_filtered_start, next_filtered_start, filtered_start_after}
 use Rattle.regress_exec.proofs.Skips.{untried}
 use Rattle.regress_exec.proofs.FirstMatch.{read-inside, read-end}
 use Rattle.regress_exec.proofs.Anchored.{ruled-out, anchored-behind, one-on}
 use Rattle.regress_scan.proofs.Readers.{literal-read}
 use Rattle.regress_machine.specs.Machine.{State, go_if, has_bytes}
-use Rattle.regress_backtrack.specs.Tried.{lets_through, IsFirstTried, IsNextTried}
+use Rattle.regress_backtrack.specs.StartsAcceptedByPredicate.{lets_through, IsFirstTried, IsNextTried}
 
 -- ---- What stands at a place
 
@@ -57,18 +57,18 @@ module _ (text : Text) (is : IsText text) (reads : ReadsBytes text) where
       (ap (offset text) (sym same) ∙ p.2, subst (λ q. q ≤ last_place text) same p.3)
 
   -- the bytes from a boundary on
-  pub bytes-there : (at : ℕ) → IsBoundary text at → drop at (encode_utf8_all text.characters) ≡ bytes_from text (place text at)
+  pub bytes-there : (at : ℕ) → IsBoundary text at → drop at (encode_utf8_all text.characters) ≡ text_bytes_from_place text (place text at)
   bytes-there at on =
       let p = place-of at on in
       ap (λ n. drop n (encode_utf8_all text.characters)) (sym p.0) ∙ bytes_near-side text reads rightwards (place text at) p.1
 
-  pub begins-there : (members : List ℕ) (at : ℕ) → IsBoundary text at → is_member members (slice_get (encode_utf8_all text.characters) at) ≡ begins_with_one_of members (bytes_from text (place text at))
+  pub begins-there : (members : List ℕ) (at : ℕ) → IsBoundary text at → is_member members (slice_get (encode_utf8_all text.characters) at) ≡ begins_with_one_of members (text_bytes_from_place text (place text at))
   begins-there members at on =
       ap (is_member members) (get-first at (encode_utf8_all text.characters) ∙ ap (λ (l : List ℕ). slice_get l 0) (bytes-there at on))
-      ∙ sym (begins-first members (bytes_from text (place text at)))
+      ∙ sym (begins-first members (text_bytes_from_place text (place text at)))
 
-  pub sequence-there : (bytes : List ℕ) (at : ℕ) (found : Bool) (to : ℕ) → IsBoundary text at → led_to found to ≡ past_bytes (encode_utf8_all text.characters) bytes rightwards at
-      → found ≡ starts_with nat_eq (bytes_from text (place text at)) bytes
+  pub sequence-there : (bytes : List ℕ) (at : ℕ) (found : Bool) (to : ℕ) → IsBoundary text at → end_if_matched found to ≡ past_bytes (encode_utf8_all text.characters) bytes rightwards at
+      → found ≡ starts_with nat_eq (text_bytes_from_place text (place text at)) bytes
   sequence-there bytes at found to on led =
       let p = place-of at on in
       let inside = offset-inside text reads (place text at) p.1 in
@@ -78,26 +78,26 @@ module _ (text : Text) (is : IsText text) (reads : ReadsBytes text) where
 
   -- the same of what is read where units are bytes
   pub begins-read : (are_bytes : Bool) → IsTrue are_bytes → (members : List ℕ) (at : ℕ) → IsBoundary text at → (byte : Option ℕ)
-      → byte ≡ where_bytes are_bytes (slice_get (encode_utf8_all text.characters) at) → is_member members byte ≡ begins_with_one_of members (bytes_from text (place text at))
+      → byte ≡ if_byte_units are_bytes (slice_get (encode_utf8_all text.characters) at) → is_member members byte ≡ begins_with_one_of members (text_bytes_from_place text (place text at))
   begins-read true sure members at on byte e = ap (is_member members) e ∙ begins-there members at on
   begins-read false sure members at on byte e = cc
 
   pub sequence-read : (are_bytes : Bool) → IsTrue are_bytes → (bytes : List ℕ) (at : ℕ) (found : Bool) (to : ℕ) → IsBoundary text at
-      → led_to found to ≡ where_bytes are_bytes (past_bytes (encode_utf8_all text.characters) bytes rightwards at) → found ≡ starts_with nat_eq (bytes_from text (place text at)) bytes
+      → end_if_matched found to ≡ if_byte_units are_bytes (past_bytes (encode_utf8_all text.characters) bytes rightwards at) → found ≡ starts_with nat_eq (text_bytes_from_place text (place text at)) bytes
   sequence-read true sure bytes at found to on led = sequence-there bytes at found to on led
   sequence-read false sure bytes at found to on led = cc
 
 -- a text whose units are bytes is one of bytes
-pub reads-bytes : (e : Encoding) (are_bytes : Bool) (text : Text) → are_bytes ≡ is_of_bytes e → IsTrue are_bytes → IsTrue (list_all (is_character e) text.characters)
+pub reads-bytes : (e : Encoding) (are_bytes : Bool) (text : Text) → are_bytes ≡ has_byte_units e → IsTrue are_bytes → IsTrue (list_all (is_character e) text.characters)
     → (IsTrue are_bytes → IsInUtf8 text) → ReadsBytes text
 reads-bytes utf8 are_bytes text by sure characters spelled = record { scalars = characters; offsets = (spelled sure).offsets }
 reads-bytes utf16 are_bytes text by sure characters spelled = cc
 reads-bytes ucs2 are_bytes text by sure characters spelled = cc
 
 -- the byte that is read at a boundary of one
-pub begins-here : (e : Encoding) {are_bytes : Bool} {text : Text} → are_bytes ≡ is_of_bytes e → IsTrue are_bytes → IsTrue (list_all (is_character e) text.characters)
+pub begins-here : (e : Encoding) {are_bytes : Bool} {text : Text} → are_bytes ≡ has_byte_units e → IsTrue are_bytes → IsTrue (list_all (is_character e) text.characters)
     → (IsTrue are_bytes → IsInUtf8 text) → IsText text → (members : List ℕ) (at : ℕ) → IsBoundary text at → (byte : Option ℕ)
-    → byte ≡ where_bytes are_bytes (slice_get (encode_utf8_all text.characters) at) → is_member members byte ≡ begins_with_one_of members (bytes_from text (place text at))
+    → byte ≡ if_byte_units are_bytes (slice_get (encode_utf8_all text.characters) at) → is_member members byte ≡ begins_with_one_of members (text_bytes_from_place text (place text at))
 begins-here e {are_bytes = are} {text = text} by sure characters spelled is =
     begins-read text is (reads-bytes e are text by sure characters spelled) are sure
 
@@ -116,14 +116,14 @@ pub fewer : {P : Type 0} (offset : P → ℕ) (text : Text) (at : ℕ) (next : O
 fewer offset text at None inside ahead within = omega (arith, inside)
 fewer offset text at (Some p) inside ahead within = omega (arith, inside, ahead, within)
 
-behind-anchored : (s : StartPredicate) (tree : Tree) (text : Text) (at : ℕ) → anchors s ≡ true → behind_tried s tree text at ≡ None
+behind-anchored : (s : StartPredicate) (tree : Tree) (text : Text) (at : ℕ) → is_anchored_predicate s ≡ true → filtered_start_after s tree text at ≡ None
 behind-anchored start_arbitrary tree text at e = cc
 behind-anchored (start_byte_set members) tree text at e = cc
 behind-anchored (start_byte_sequence bytes) tree text at e = cc
 behind-anchored start_anchored tree text at e = refl
 
-behind-open : (s : StartPredicate) (tree : Tree) (text : Text) (at : ℕ) → anchors s ≡ false
-    → behind_tried s tree text at ≡ option_and_then (λ (r : ℕ × ℕ). first_tried tree text r.1) (read text rightwards at)
+behind-open : (s : StartPredicate) (tree : Tree) (text : Text) (at : ℕ) → is_anchored_predicate s ≡ false
+    → filtered_start_after s tree text at ≡ option_and_then (λ (r : ℕ × ℕ). first_filtered_start tree text r.1) (read text rightwards at)
 behind-open start_arbitrary tree text at e = refl
 behind-open (start_byte_set members) tree text at e = refl
 behind-open (start_byte_sequence bytes) tree text at e = refl
@@ -140,7 +140,7 @@ module _ (tree : Tree) (text : Text) (is : IsText text) where
     is_the : start_predicate tree ≡ s
     places : (q : ℕ) → tried_places tree text s q ≡ filter (may_start s text) (numbers_from q (last_place text + 1 - q))
 
-  first-from : (s : StartPredicate) → GoesBy s → (n p : ℕ) → p ≤ last_place text → p + n ≡ last_place text + 1 → first_tried tree text (offset text p) ≡ first_of_places text (among s n p)
+  first-from : (s : StartPredicate) → GoesBy s → (n p : ℕ) → p ≤ last_place text → p + n ≡ last_place text + 1 → first_filtered_start tree text (offset text p) ≡ first_of_places text (among s n p)
   first-from s by n p inside whole =
       let m : last_place text + 1 - p ≡ n = omega (arith, whole) in
       ap (option_and_then (λ place. first_of_places text (tried_places tree text (start_predicate tree) place))) (place_at-offset text p is inside)
@@ -151,34 +151,34 @@ module _ (tree : Tree) (text : Text) (is : IsText text) where
   prefix : (s : StartPredicate) (n p : ℕ) (b : Bool) → may_start s text p ≡ b → among s (suc n) p ≡ (if b then p ∷ among s n (p + 1) else among s n (p + 1))
   prefix s n p b e = ap (λ b. if b then p ∷ among s n (p + 1) else among s n (p + 1)) e
 
-  here-open : (s : StartPredicate) → GoesBy s → (p : ℕ) → p ≤ last_place text → may_start s text p ≡ true → first_tried tree text (offset text p) ≡ Some (offset text p)
+  here-open : (s : StartPredicate) → GoesBy s → (p : ℕ) → p ≤ last_place text → may_start s text p ≡ true → first_filtered_start tree text (offset text p) ≡ Some (offset text p)
   here-open s by p inside e =
       first-from s by (suc (last_place text - p)) p inside (omega (arith, inside))
       ∙ ap (first_of_places text) (prefix s (last_place text - p) p true e)
 
   on-open : (s : StartPredicate) → GoesBy s → (p : ℕ) → p ≤ last_place text → may_start s text p ≡ false
-      → first_tried tree text (offset text p) ≡ option_and_then (λ (r : ℕ × ℕ). first_tried tree text r.1) (read text rightwards (offset text p))
+      → first_filtered_start tree text (offset text p) ≡ option_and_then (λ (r : ℕ × ℕ). first_filtered_start tree text r.1) (read text rightwards (offset text p))
   on-open s by p inside e = cases (last_place text - p) refl
     where
-      cases : (n : ℕ) → last_place text - p ≡ n → first_tried tree text (offset text p) ≡ option_and_then (λ (r : ℕ × ℕ). first_tried tree text r.1) (read text rightwards (offset text p))
+      cases : (n : ℕ) → last_place text - p ≡ n → first_filtered_start tree text (offset text p) ≡ option_and_then (λ (r : ℕ × ℕ). first_filtered_start tree text r.1) (read text rightwards (offset text p))
       cases zero left =
           first-from s by (suc zero) p inside (omega (arith, inside, left))
           ∙ ap (first_of_places text) (prefix s zero p false e)
-          ∙ ap (option_and_then (λ (r : ℕ × ℕ). first_tried tree text r.1)) (sym (read-end tree text is p inside (omega (arith, left))))
+          ∙ ap (option_and_then (λ (r : ℕ × ℕ). first_filtered_start tree text r.1)) (sym (read-end tree text is p inside (omega (arith, left))))
       cases (suc n) left =
           first-from s by (suc (suc n)) p inside (omega (arith, inside, left))
           ∙ ap (first_of_places text) (prefix s (suc n) p false e)
           ∙ sym (first-from s by (suc n) (p + 1) (omega (arith, left)) (omega (arith, inside, left)))
-          ∙ ap (option_and_then (λ (r : ℕ × ℕ). first_tried tree text r.1)) (sym (read-inside tree text is p (omega (arith, left))).1)
+          ∙ ap (option_and_then (λ (r : ℕ × ℕ). first_filtered_start tree text r.1)) (sym (read-inside tree text is p (omega (arith, left))).1)
 
-  first-anchored : start_predicate tree ≡ start_anchored → (p : ℕ) → p ≤ last_place text → first_tried tree text (offset text p) ≡ Some (offset text p)
+  first-anchored : start_predicate tree ≡ start_anchored → (p : ℕ) → p ≤ last_place text → first_filtered_start tree text (offset text p) ≡ Some (offset text p)
   first-anchored e p inside =
       ap (option_and_then (λ place. first_of_places text (tried_places tree text (start_predicate tree) place))) (place_at-offset text p is inside)
       ∙ ap (λ (s : StartPredicate). first_of_places text (tried_places tree text s p)) e
       ∙ ap (λ b. first_of_places text (if b then p ∷ [] else [])) (le-leb p (last_place text) inside)
 
   -- a place that the predicate lets through is tried
-  here : (s : StartPredicate) → start_predicate tree ≡ s → (p : ℕ) → p ≤ last_place text → lets_through s text p ≡ true → first_tried tree text (offset text p) ≡ Some (offset text p)
+  here : (s : StartPredicate) → start_predicate tree ≡ s → (p : ℕ) → p ≤ last_place text → lets_through s text p ≡ true → first_filtered_start tree text (offset text p) ≡ Some (offset text p)
   here start_arbitrary e p inside h = here-open start_arbitrary (record { is_the = e; places = λ q. refl }) p inside h
   here (start_byte_set members) e p inside h = here-open (start_byte_set members) (record { is_the = e; places = λ q. refl }) p inside h
   here (start_byte_sequence bytes) e p inside h = here-open (start_byte_sequence bytes) (record { is_the = e; places = λ q. refl }) p inside h
@@ -186,29 +186,29 @@ module _ (tree : Tree) (text : Text) (is : IsText text) where
 
   -- else the first one that is tried stands one character on, or behind it
   on : (s : StartPredicate) → start_predicate tree ≡ s → (p : ℕ) → p ≤ last_place text → lets_through s text p ≡ false
-      → first_tried tree text (offset text p) ≡ option_and_then (λ (r : ℕ × ℕ). first_tried tree text r.1) (read text rightwards (offset text p))
+      → first_filtered_start tree text (offset text p) ≡ option_and_then (λ (r : ℕ × ℕ). first_filtered_start tree text r.1) (read text rightwards (offset text p))
   on start_arbitrary e p inside h = on-open start_arbitrary (record { is_the = e; places = λ q. refl }) p inside h
   on (start_byte_set members) e p inside h = on-open (start_byte_set members) (record { is_the = e; places = λ q. refl }) p inside h
   on (start_byte_sequence bytes) e p inside h = on-open (start_byte_sequence bytes) (record { is_the = e; places = λ q. refl }) p inside h
   on start_anchored e p inside h = cc
 
   -- the same at offsets
-  pub tried-here : (s : StartPredicate) → start_predicate tree ≡ s → (at : ℕ) → IsBoundary text at → lets_through s text (place text at) ≡ true → first_tried tree text at ≡ Some at
+  pub tried-here : (s : StartPredicate) → start_predicate tree ≡ s → (at : ℕ) → IsBoundary text at → lets_through s text (place text at) ≡ true → first_filtered_start tree text at ≡ Some at
   tried-here s e at b h =
       let p = IsBoundary-place text at is b in
       let same : place text at ≡ p.0 = ap (λ o. unwrap_or o 0) p.1 in
-      subst (λ a. first_tried tree text a ≡ Some a) p.2 (here s e p.0 p.3 (ap (lets_through s text) (sym same) ∙ h))
+      subst (λ a. first_filtered_start tree text a ≡ Some a) p.2 (here s e p.0 p.3 (ap (lets_through s text) (sym same) ∙ h))
 
   pub tried-on : (s : StartPredicate) → start_predicate tree ≡ s → (at : ℕ) → IsBoundary text at → lets_through s text (place text at) ≡ false
-      → first_tried tree text at ≡ option_and_then (λ (r : ℕ × ℕ). first_tried tree text r.1) (read text rightwards at)
+      → first_filtered_start tree text at ≡ option_and_then (λ (r : ℕ × ℕ). first_filtered_start tree text r.1) (read text rightwards at)
   tried-on s e at b h =
       let p = IsBoundary-place text at is b in
       let same : place text at ≡ p.0 = ap (λ o. unwrap_or o 0) p.1 in
-      subst (λ a. first_tried tree text a ≡ option_and_then (λ (r : ℕ × ℕ). first_tried tree text r.1) (read text rightwards a)) p.2 (on s e p.0 p.3 (ap (lets_through s text) (sym same) ∙ h))
+      subst (λ a. first_filtered_start tree text a ≡ option_and_then (λ (r : ℕ × ℕ). first_filtered_start tree text r.1) (read text rightwards a)) p.2 (on s e p.0 p.3 (ap (lets_through s text) (sym same) ∙ h))
 
   -- ---- No match begins at a place that is left out
 
-  composed : (from to : ℕ) (next : Option ℕ) → IsNextTry tree text from (Some to) → IsNextTry tree text to next → IsNextTry tree text from next
+  composed : (from to : ℕ) (next : Option ℕ) → IsNextCandidate tree text from (Some to) → IsNextCandidate tree text to next → IsNextCandidate tree text from next
   composed from to None a b = λ x boundary le less. elim (cases_lt x to) [
     | inl before ↦ a.2 x boundary le before
     | inr behind ↦ b x boundary behind less
@@ -222,13 +222,13 @@ module _ (tree : Tree) (text : Text) (is : IsText text) where
     ],
   )
 
-  none-with : (at to : ℕ) → IsVain tree text at → NoneBetween tree text (at + 1) to → NoneBetween tree text at to
+  none-with : (at to : ℕ) → NoMatchAt tree text at → NoMatchStartsBetween tree text (at + 1) to → NoMatchStartsBetween tree text at to
   none-with at to vain none = λ x boundary le less. elim (cases_lt at x) [
     | inl past ↦ none x boundary (omega (arith, past)) less
-    | inr within ↦ let same : at ≡ x = omega (arith, within, le) in subst (IsVain tree text) same vain
+    | inr within ↦ let same : at ≡ x = omega (arith, within, le) in subst (NoMatchAt tree text) same vain
   ]
 
-  with-vain : (at : ℕ) (next : Option ℕ) → IsVain tree text at → IsNextTry tree text (at + 1) next → IsNextTry tree text at next
+  with-vain : (at : ℕ) (next : Option ℕ) → NoMatchAt tree text at → IsNextCandidate tree text (at + 1) next → IsNextCandidate tree text at next
   with-vain at None vain none = none-with at (units text + 1) vain none
   with-vain at (Some to) vain n = (n.0, (let l = n.1 in omega (arith, l)), none-with at to vain n.2)
 
@@ -239,99 +239,99 @@ module _ (tree : Tree) (text : Text) (is : IsText text) where
     not-let (start_byte_sequence bytes) e p h may = let m : may_start (start_byte_sequence bytes) text p ≡ true = subst (λ s. may_start s text p ≡ true) e may in cc
     not-let start_anchored e p h may = cc
 
-    vain-there : (p : ℕ) → p ≤ last_place text → lets_through (start_predicate tree) text p ≡ false → IsVain tree text (offset text p)
+    vain-there : (p : ℕ) → p ≤ last_place text → lets_through (start_predicate tree) text p ≡ false → NoMatchAt tree text (offset text p)
     vain-there p inside h = ruled-out tree text is well_formed scalars (offset text p) p (place_at-offset text p is inside) inside (not-let (start_predicate tree) refl p h)
 
-    let-through : (p : ℕ) → p ≤ last_place text → lets_through (start_predicate tree) text p ≡ true → IsNextTry tree text (offset text p) (first_tried tree text (offset text p))
-    let-through p inside h = subst (IsNextTry tree text (offset text p)) (sym (here (start_predicate tree) refl p inside h)) (
+    let-through : (p : ℕ) → p ≤ last_place text → lets_through (start_predicate tree) text p ≡ true → IsNextCandidate tree text (offset text p) (first_filtered_start tree text (offset text p))
+    let-through p inside h = subst (IsNextCandidate tree text (offset text p)) (sym (here (start_predicate tree) refl p inside h)) (
       offset-IsBoundary text p is inside,
       omega arith,
       λ x boundary le less. absurd (omega (arith, le, less)),
     )
 
     left-out-last : (p : ℕ) → p ≤ last_place text → last_place text ≤ p → lets_through (start_predicate tree) text p ≡ false
-        → IsNextTry tree text (offset text p) (first_tried tree text (offset text p))
+        → IsNextCandidate tree text (offset text p) (first_filtered_start tree text (offset text p))
     left-out-last p inside past h =
         let end = read-end tree text is p inside past in
-        let none : first_tried tree text (offset text p) ≡ None = on (start_predicate tree) refl p inside h ∙ ap (option_and_then (λ (r : ℕ × ℕ). first_tried tree text r.1)) end in
-        let behind : IsNextTry tree text (offset text p + 1) None =
-        subst (λ o. IsNextTry tree text (offset text p + 1) (option_map (λ (r : ℕ × ℕ). r.1) o)) end (one-on tree text is (offset text p) (offset-IsBoundary text p is inside)) in
-        subst (IsNextTry tree text (offset text p)) (sym none) (with-vain (offset text p) None (vain-there p inside h) behind)
+        let none : first_filtered_start tree text (offset text p) ≡ None = on (start_predicate tree) refl p inside h ∙ ap (option_and_then (λ (r : ℕ × ℕ). first_filtered_start tree text r.1)) end in
+        let behind : IsNextCandidate tree text (offset text p + 1) None =
+        subst (λ o. IsNextCandidate tree text (offset text p + 1) (option_map (λ (r : ℕ × ℕ). r.1) o)) end (one-on tree text is (offset text p) (offset-IsBoundary text p is inside)) in
+        subst (IsNextCandidate tree text (offset text p)) (sym none) (with-vain (offset text p) None (vain-there p inside h) behind)
 
     left-out : (p : ℕ) → p < last_place text → lets_through (start_predicate tree) text p ≡ false
-        → IsNextTry tree text (offset text (p + 1)) (first_tried tree text (offset text (p + 1))) → IsNextTry tree text (offset text p) (first_tried tree text (offset text p))
+        → IsNextCandidate tree text (offset text (p + 1)) (first_filtered_start tree text (offset text (p + 1))) → IsNextCandidate tree text (offset text p) (first_filtered_start tree text (offset text p))
     left-out p less h later =
         let inside : p ≤ last_place text = omega (arith, less) in
         let next = read-inside tree text is p less in
-        let same : first_tried tree text (offset text p) ≡ first_tried tree text (offset text (p + 1)) =
-        on (start_predicate tree) refl p inside h ∙ ap (option_and_then (λ (r : ℕ × ℕ). first_tried tree text r.1)) next.1 in
-        let step : IsNextTry tree text (offset text p + 1) (Some (offset text (p + 1))) =
-        subst (λ o. IsNextTry tree text (offset text p + 1) (option_map (λ (r : ℕ × ℕ). r.1) o)) next.1 (one-on tree text is (offset text p) (offset-IsBoundary text p is inside)) in
-        subst (IsNextTry tree text (offset text p)) (sym same)
-        (with-vain (offset text p) (first_tried tree text (offset text (p + 1))) (vain-there p inside h)
-        (composed (offset text p + 1) (offset text (p + 1)) (first_tried tree text (offset text (p + 1))) step later))
+        let same : first_filtered_start tree text (offset text p) ≡ first_filtered_start tree text (offset text (p + 1)) =
+        on (start_predicate tree) refl p inside h ∙ ap (option_and_then (λ (r : ℕ × ℕ). first_filtered_start tree text r.1)) next.1 in
+        let step : IsNextCandidate tree text (offset text p + 1) (Some (offset text (p + 1))) =
+        subst (λ o. IsNextCandidate tree text (offset text p + 1) (option_map (λ (r : ℕ × ℕ). r.1) o)) next.1 (one-on tree text is (offset text p) (offset-IsBoundary text p is inside)) in
+        subst (IsNextCandidate tree text (offset text p)) (sym same)
+        (with-vain (offset text p) (first_filtered_start tree text (offset text (p + 1))) (vain-there p inside h)
+        (composed (offset text p + 1) (offset text (p + 1)) (first_filtered_start tree text (offset text (p + 1))) step later))
 
     by-cases : {X : Type 0} (b : Bool) → (b ≡ true → X) → (b ≡ false → X) → X
     by-cases true f g = f refl
     by-cases false f g = g refl
 
-    next-from : (n p : ℕ) → p + n ≡ last_place text → IsNextTry tree text (offset text p) (first_tried tree text (offset text p))
+    next-from : (n p : ℕ) → p + n ≡ last_place text → IsNextCandidate tree text (offset text p) (first_filtered_start tree text (offset text p))
     next-from zero p whole = by-cases (lets_through (start_predicate tree) text p) (let-through p (omega (arith, whole))) (left-out-last p (omega (arith, whole)) (omega (arith, whole)))
     next-from (suc n) p whole =
         by-cases (lets_through (start_predicate tree) text p) (let-through p (omega (arith, whole)))
         (λ h. left-out p (omega (arith, whole)) h (next-from n (p + 1) (omega (arith, whole))))
 
-    pub tried-is_next : (at : ℕ) → IsBoundary text at → IsNextTry tree text at (first_tried tree text at)
+    pub tried-is_next : (at : ℕ) → IsBoundary text at → IsNextCandidate tree text at (first_filtered_start tree text at)
     tried-is_next at b =
         let p = IsBoundary-place text at is b in
         let inside = p.3 in
-        subst (λ a. IsNextTry tree text a (first_tried tree text a)) p.2 (next-from (last_place text - p.0) p.0 (omega (arith, inside)))
+        subst (λ a. IsNextCandidate tree text a (first_filtered_start tree text a)) p.2 (next-from (last_place text - p.0) p.0 (omega (arith, inside)))
 
-    pub behind-is_next : (at : ℕ) → IsBoundary text at → IsNextTry tree text (at + 1) (next_tried tree text at)
+    pub behind-is_next : (at : ℕ) → IsBoundary text at → IsNextCandidate tree text (at + 1) (next_filtered_start tree text at)
     behind-is_next at b = by (start_predicate tree) refl
       where
-        after : (r : Option (ℕ × ℕ)) → read text rightwards at ≡ r → IsNextTry tree text (at + 1) (option_and_then (λ (r : ℕ × ℕ). first_tried tree text r.1) r)
-        after None q = subst (λ o. IsNextTry tree text (at + 1) (option_map (λ (r : ℕ × ℕ). r.1) o)) q (one-on tree text is at b)
+        after : (r : Option (ℕ × ℕ)) → read text rightwards at ≡ r → IsNextCandidate tree text (at + 1) (option_and_then (λ (r : ℕ × ℕ). first_filtered_start tree text r.1) r)
+        after None q = subst (λ o. IsNextCandidate tree text (at + 1) (option_map (λ (r : ℕ × ℕ). r.1) o)) q (one-on tree text is at b)
         after (Some r) q =
-            let step : IsNextTry tree text (at + 1) (Some r.1) = subst (λ o. IsNextTry tree text (at + 1) (option_map (λ (r : ℕ × ℕ). r.1) o)) q (one-on tree text is at b) in
-            composed (at + 1) r.1 (first_tried tree text r.1) step (tried-is_next r.1 step.0)
+            let step : IsNextCandidate tree text (at + 1) (Some r.1) = subst (λ o. IsNextCandidate tree text (at + 1) (option_map (λ (r : ℕ × ℕ). r.1) o)) q (one-on tree text is at b) in
+            composed (at + 1) r.1 (first_filtered_start tree text r.1) step (tried-is_next r.1 step.0)
 
-        open-by : (s : StartPredicate) → start_predicate tree ≡ s → behind_tried s tree text at ≡ option_and_then (λ (r : ℕ × ℕ). first_tried tree text r.1) (read text rightwards at)
-            → IsNextTry tree text (at + 1) (next_tried tree text at)
-        open-by s e q = subst (IsNextTry tree text (at + 1)) (sym (ap (λ s. behind_tried s tree text at) e ∙ q)) (after (read text rightwards at) refl)
+        open-by : (s : StartPredicate) → start_predicate tree ≡ s → filtered_start_after s tree text at ≡ option_and_then (λ (r : ℕ × ℕ). first_filtered_start tree text r.1) (read text rightwards at)
+            → IsNextCandidate tree text (at + 1) (next_filtered_start tree text at)
+        open-by s e q = subst (IsNextCandidate tree text (at + 1)) (sym (ap (λ s. filtered_start_after s tree text at) e ∙ q)) (after (read text rightwards at) refl)
 
-        by : (s : StartPredicate) → start_predicate tree ≡ s → IsNextTry tree text (at + 1) (next_tried tree text at)
+        by : (s : StartPredicate) → start_predicate tree ≡ s → IsNextCandidate tree text (at + 1) (next_filtered_start tree text at)
         by start_arbitrary e = open-by start_arbitrary e refl
         by (start_byte_set members) e = open-by (start_byte_set members) e refl
         by (start_byte_sequence bytes) e = open-by (start_byte_sequence bytes) e refl
-        by start_anchored e = subst (IsNextTry tree text (at + 1)) (sym (ap (λ s. behind_tried s tree text at) e)) (anchored-behind tree text is well_formed scalars e at)
+        by start_anchored e = subst (IsNextCandidate tree text (at + 1)) (sym (ap (λ s. filtered_start_after s tree text at) e)) (anchored-behind tree text is well_formed scalars e at)
 
 module _ (s : StartPredicate) (text : Text) (is : IsText text) (scalars : IsTrue (list_all is_scalar text.characters)) where
   -- by its predicate
-  pub is-first : (from : ℕ) (next : Option ℕ) → IsBoundary text from → ((tree : Tree) → start_predicate tree ≡ s → next ≡ first_tried tree text from) → IsFirstTried s text from next
+  pub is-first : (from : ℕ) (next : Option ℕ) → IsBoundary text from → ((tree : Tree) → start_predicate tree ≡ s → next ≡ first_filtered_start tree text from) → IsFirstTried s text from next
   is-first from next b e = λ tree p. record {
     counted = e tree p;
-    skips = λ w. subst (IsNextTry tree text from) (sym (e tree p)) (tried-is_next tree text is w scalars from b);
+    skips = λ w. subst (IsNextCandidate tree text from) (sym (e tree p)) (tried-is_next tree text is w scalars from b);
   }
 
-  is-next : (at : ℕ) (next : Option ℕ) → IsBoundary text at → ((tree : Tree) → start_predicate tree ≡ s → next ≡ next_tried tree text at) → IsNextTried s text at next
+  is-next : (at : ℕ) (next : Option ℕ) → IsBoundary text at → ((tree : Tree) → start_predicate tree ≡ s → next ≡ next_filtered_start tree text at) → IsNextTried s text at next
   is-next at next b e = λ tree p. record {
     counted = e tree p;
-    skips = λ w. subst (IsNextTry tree text (at + 1)) (sym (e tree p)) (behind-is_next tree text is w scalars at b);
+    skips = λ w. subst (IsNextCandidate tree text (at + 1)) (sym (e tree p)) (behind-is_next tree text is w scalars at b);
   }
 
   -- none where one place alone is tried
-  pub next-anchored : (at : ℕ) → IsBoundary text at → anchors s ≡ true → IsNextTried s text at None
-  next-anchored at b e = is-next at None b (λ tree p. sym (ap (λ s. behind_tried s tree text at) p ∙ behind-anchored s tree text at e))
+  pub next-anchored : (at : ℕ) → IsBoundary text at → is_anchored_predicate s ≡ true → IsNextTried s text at None
+  next-anchored at b e = is-next at None b (λ tree p. sym (ap (λ s. filtered_start_after s tree text at) p ∙ behind-anchored s tree text at e))
 
   -- none at the right end
-  pub next-none : (at : ℕ) → IsBoundary text at → anchors s ≡ false → option_map (λ (r : ℕ × ℕ). r.1) (read text rightwards at) ≡ None → IsNextTried s text at None
+  pub next-none : (at : ℕ) → IsBoundary text at → is_anchored_predicate s ≡ false → option_map (λ (r : ℕ × ℕ). r.1) (read text rightwards at) ≡ None → IsNextTried s text at None
   next-none at b e end = is-next at None b (λ tree p.
-      sym (ap (λ s. behind_tried s tree text at) p ∙ behind-open s tree text at e ∙ sym (and-then-mapped (λ (n : ℕ). n) (λ (r : ℕ × ℕ). r.1) (first_tried tree text) None (read text rightwards at) (sym end))))
+      sym (ap (λ s. filtered_start_after s tree text at) p ∙ behind-open s tree text at e ∙ sym (and-then-mapped (λ (n : ℕ). n) (λ (r : ℕ × ℕ). r.1) (first_filtered_start tree text) None (read text rightwards at) (sym end))))
 
   -- else the first one from one character on
-  pub next-open : (at to : ℕ) (next : Option ℕ) → IsBoundary text at → anchors s ≡ false → option_map (λ (r : ℕ × ℕ). r.1) (read text rightwards at) ≡ Some to → IsFirstTried s text to next
+  pub next-open : (at to : ℕ) (next : Option ℕ) → IsBoundary text at → is_anchored_predicate s ≡ false → option_map (λ (r : ℕ × ℕ). r.1) (read text rightwards at) ≡ Some to → IsFirstTried s text to next
       → IsNextTried s text at next
   next-open at to next b e on first = is-next at next b (λ tree p.
       (first tree p).counted
-      ∙ sym (ap (λ s. behind_tried s tree text at) p ∙ behind-open s tree text at e ∙ sym (and-then-mapped (λ (n : ℕ). n) (λ (r : ℕ × ℕ). r.1) (first_tried tree text) (Some to) (read text rightwards at) (sym on))))
+      ∙ sym (ap (λ s. filtered_start_after s tree text at) p ∙ behind-open s tree text at e ∙ sym (and-then-mapped (λ (n : ℕ). n) (λ (r : ℕ × ℕ). r.1) (first_filtered_start tree text) (Some to) (read text rightwards at) (sym on))))

@@ -1,25 +1,25 @@
-//! The executor that keeps one state and undoes its changes.
+//! The backtracking executor, which keeps one state and undoes the changes of failed threads.
 #![tactic(auto)]
 
+mod alternations_and_counted_loops;
 mod attempts;
-mod back;
+mod bulk_iterations;
+mod capture_group_ops;
+mod char_loops;
+mod choice_point_resumption;
 pub mod classicalbacktrack;
-mod frames;
-mod groups;
-pub mod here;
-mod limited;
-mod looks;
-mod loops;
-pub mod memory;
-pub mod memos;
-mod places;
-mod records;
-pub mod remembering;
-mod rounds;
-mod run;
-mod runs;
-pub mod search;
-mod starts;
-pub mod steps;
-mod tried;
-pub mod turn;
+pub mod control;
+pub mod dispatch;
+pub mod failure_memo;
+pub mod failures_in_memo_table;
+mod interpreter;
+mod lookaround_decisions;
+mod lookaround_frames;
+mod memoized_char_loops;
+mod memoized_execution;
+mod next_start;
+pub mod program_plan_and_text;
+mod starts_accepted_by_predicate;
+pub mod state;
+pub mod step_and_work_budgets;
+mod step_limited;

@@ -1,43 +1,43 @@
 -- The instruction that a run without a maximum reads by, behind it in the program.
 use Rattle.std.proofs.Common.{◌≡◌, ℕ, Bool, ◌+◌, ◌<◌, ◌^◌, Some, List, [], length, map, slice_get, get_or, sym, ap, subst, arith}
 use Rattle.std.specs.Prelude.{is_some, IsSome, IsTrue}
-use Rattle.regex_meaning.specs.Layout.{Program}
-use Rattle.regex_pattern_front.specs.TreeOf.{tree_of}
+use Rattle.regex_meaning.specs.CompilationRelation.{Program}
+use Rattle.regex_pattern_front.specs.AstToSpecTree.{tree_of}
 use Rattle.regex_pattern_front.specs.declared.ir.Regex.{Regex}
-use Rattle.regress_plan.specs.Insns.{insn_of}
+use Rattle.regress_plan.specs.InsnsAsSpecInsns.{spec_insn_of}
 use Rattle.regress_plan.specs.declared.insn.Insn.{Insn}
-use Rattle.regress_program.specs.Code.{compiled}
-use Rattle.regress_program.specs.Texts.{IsInBytes}
-use Rattle.regress_machine.specs.Bytes.{reads_bytes}
+use Rattle.regress_program.specs.CodeOfTrees.{compiled}
+use Rattle.regress_program.specs.SearchableTexts.{IsByteText}
+use Rattle.regress_machine.specs.TextsForBytePrograms.{reads_bytes}
 use Rattle.regex_meaning.specs.Text.{Text}
 use Rattle.regress_machine.specs.Machine.{Next, goes, with_some, test_of}
-use Rattle.regress_machine.specs.Turns.{CanTake}
+use Rattle.regress_machine.specs.InsnEffects.{IsNotStuck}
 use Rattle.regress_machine.proofs.Fetched.{test-some, fetched-some, fetched-below}
-use Rattle.regress_scan.specs.Passing.{IsSpelledFor}
+use Rattle.regress_scan.specs.InsnMatchers.{ByteInsnHasByteText}
 use Rattle.regress_scan.proofs.Literals.{literal-reads}
 use Rattle.regress_scan.proofs.Reach.{some-of}
 
 pub body-tested : (program : Program) (ip : ℕ) (test : ℕ → Bool) → test_of program (slice_get program.insns (ip + 1)) ≡ Some test → IsSome (test_of program (slice_get program.insns (ip + 1)))
 body-tested program ip test e = ap is_some e
 
-module _ (re : Regex) (insns : List Insn) (code : map insn_of insns ≡ (compiled (tree_of re)).insns) (ip : ℕ)
+module _ (re : Regex) (insns : List Insn) (code : map spec_insn_of insns ≡ (compiled (tree_of re)).insns) (ip : ℕ)
     (tested : IsSome (test_of (compiled (tree_of re)) (slice_get (compiled (tree_of re)).insns (ip + 1)))) where
   body-there : IsTrue (is_some (slice_get (compiled (tree_of re)).insns (ip + 1)))
   body-there =
       let t = some-of (test_of (compiled (tree_of re)) (slice_get (compiled (tree_of re)).insns (ip + 1))) tested in
       let f : (ℕ → Bool) → Next = λ t. goes [] in
-      test-some (compiled (tree_of re)) (slice_get (compiled (tree_of re)).insns (ip + 1)) f (subst (λ o. CanTake (with_some o f)) (sym t.1) tt)
+      test-some (compiled (tree_of re)) (slice_get (compiled (tree_of re)).insns (ip + 1)) f (subst (λ o. IsNotStuck (with_some o f)) (sym t.1) tt)
 
-  pub body-insn : (insn : Insn) → insn ≡ get_or insns (ip + 1) insn → slice_get (compiled (tree_of re)).insns (ip + 1) ≡ Some (insn_of insn)
-  body-insn insn is = fetched-some insn_of insns (compiled (tree_of re)).insns (ip + 1) insn is code body-there
+  pub body-insn : (insn : Insn) → insn ≡ get_or insns (ip + 1) insn → slice_get (compiled (tree_of re)).insns (ip + 1) ≡ Some (spec_insn_of insn)
+  body-insn insn is = fetched-some spec_insn_of insns (compiled (tree_of re)).insns (ip + 1) insn is code body-there
 
   pub body-below : ip + 1 < length insns
-  body-below = fetched-below insn_of insns (compiled (tree_of re)).insns (ip + 1) code body-there
+  body-below = fetched-below spec_insn_of insns (compiled (tree_of re)).insns (ip + 1) code body-there
 
   pub body-fits : length insns < 2 ^ 64 → ip + 2 < 2 ^ 64
   body-fits short = let below = body-below in omega (arith, below, short)
 
 -- it is spelled as the text is, where the program reads bytes in a text of them
-pub body-spelled : (re : Regex) {text : Text} {are_bytes : Bool} → (IsTrue (reads_bytes (tree_of re).root) → IsInBytes text are_bytes) → (ip : ℕ) (body : Insn)
-    → slice_get (compiled (tree_of re)).insns (ip + 1) ≡ Some (insn_of body) → IsSpelledFor body text are_bytes
-body-spelled re bytes ip body is = λ literal. bytes (literal-reads (tree_of re) (ip + 1) (insn_of body) is literal)
+pub body-spelled : (re : Regex) {text : Text} {are_bytes : Bool} → (IsTrue (reads_bytes (tree_of re).root) → IsByteText text are_bytes) → (ip : ℕ) (body : Insn)
+    → slice_get (compiled (tree_of re)).insns (ip + 1) ≡ Some (spec_insn_of body) → ByteInsnHasByteText body text are_bytes
+body-spelled re bytes ip body is = λ literal. bytes (literal-reads (tree_of re) (ip + 1) (spec_insn_of body) is literal)

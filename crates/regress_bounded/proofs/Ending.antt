@@ -4,40 +4,40 @@ use Rattle.std.specs.Prelude.{option_map, Result, Ok, Err, IsSome}
 use Rattle.std.proofs.Math.Logic.{∥∥₁_map, ∥∥₁_elim, ∥∥₁_prop}
 use Rattle.std.proofs.Props.{props}
 use Rattle.regex_meaning.specs.Text.{Text, rightwards}
-use Rattle.regex_meaning.specs.Offsets.{IsText, IsBoundary, units}
+use Rattle.regex_meaning.specs.CodeUnitOffsets.{IsText, IsBoundary, units}
 use Rattle.regex_meaning.specs.Tree.{Tree}
-use Rattle.regress_program.specs.Code.{compiled}
+use Rattle.regress_program.specs.CodeOfTrees.{compiled}
 use Rattle.regress_input.proofs.Places.{boundary_inside}
-use Rattle.regress_exec.specs.Attempts.{end_from, turns_from, search_from}
+use Rattle.regress_exec.specs.Attempts.{match_end_at, steps_for_attempt, search_from}
 use Rattle.regress_exec.proofs.Attempts.{begins}
-use Rattle.regex_meaning.specs.Layout.{Program}
-use Rattle.regress_machine.specs.Finds.{initial, end_of, CanSearch}
-use Rattle.regress_machine.specs.Turns.{end_of_search}
+use Rattle.regex_meaning.specs.CompilationRelation.{Program}
+use Rattle.regress_machine.specs.SearchResults.{state_before_first_insn, end_of, ProgramCanSearchText}
+use Rattle.regress_machine.specs.InsnEffects.{end_of_search}
 use Rattle.regress_machine.specs.Machine as machine
 use Rattle.regress_machine.specs.Machine.{running, ends, Found, search}
-use Rattle.regress_linear.specs.Account.{ReadsAsBytes}
-use Rattle.regress_linear.specs.Turns.{Key, Entry, tried, tries, Answers}
-use Rattle.regress_ledger.specs.declared.ledger.Ledger.{Ledger}
-use Rattle.regress_ledger.specs.Bound.{first_row, work_for_each, price_of_all}
-use Rattle.regress_ledger.specs.Ledger.{line_of}
+use Rattle.regress_memo_laws.specs.Liveness.{ReadsAsBytes}
+use Rattle.regress_memo_laws.specs.MemoSearch.{Key, Entry, tried, tries, Answers}
+use Rattle.regress_memo_analysis.specs.declared.analysis.MemoAnalysis.{MemoAnalysis}
+use Rattle.regress_memo_analysis.specs.WorkBound.{first_row, work_per_position, cost_of_all_keys}
+use Rattle.regress_memo_analysis.specs.AnalysisContents.{insn_analysis_of}
 use Rattle.regress_memo.specs.Laws.{Holds}
-use Rattle.regress_memo.specs.Memo.{has_failure, IsBegun}
-use Rattle.regress_memo.specs.Room.{Known}
+use Rattle.regress_memo.specs.MemoContents.{has_failure, IsEmptyMemo}
+use Rattle.regress_memo.specs.MemoContractView.{MemoView}
 use Rattle.regress_memo.proofs.LawLemmas.{memos-are-true}
 use Rattle.regress_scan.proofs.Reach.{some-of}
-use Rattle.regress_memo.specs.Search.{HasCome}
-use Rattle.regress_exec.specs.Worked.{further_on}
-use Rattle.regress_bounded.specs.declared.course.Course.{Course}
-use Rattle.regress_bounded.specs.declared.course.Refusal.{Refusal}
-use Rattle.regress_bounded.specs.declared.course.Refusal.TheVariants.{Work}
-use Rattle.regress_pikevm.specs.Acting.{end_with}
+use Rattle.regress_memo.specs.MemoSearchCosts.{HasCome}
+use Rattle.regress_exec.specs.WorkLimits.{next_attempt_offset}
+use Rattle.regress_bounded.specs.declared.work_budget.WorkBudget.{WorkBudget}
+use Rattle.regress_bounded.specs.declared.work_budget.AttemptAbortReason.{AttemptAbortReason}
+use Rattle.regress_bounded.specs.declared.work_budget.AttemptAbortReason.TheVariants.{Work}
+use Rattle.regress_pikevm.specs.InsnEffects.{end_and_groups}
 use Rattle.regress_pikevm.proofs.Remains.{map-end}
 use Rattle.regress_pikevm.specs.declared.pikevm.states.State.{State}
-use Rattle.regress_bounded.specs.Bounds.{HasBound, work_per_unit}
-use Rattle.regress_bounded.specs.Courses.{IsPaid, IsRight, KnowsRightly, Begin, Begins, Stands, IsStanding, IsOver, MayStop, EndsAt, Runs, front_of}
-use Rattle.regress_bounded.specs.Paying.{HasWalked, IsWalked, IsTrying}
+use Rattle.regress_bounded.specs.ProgramWorkBounds.{HasBound, work_per_unit}
+use Rattle.regress_bounded.specs.SearchStateEntries.{IsPaid, IsRight, IsMemoRight, AttemptBeginning, AttemptBeginsWith, Stands, IsStanding, IsOver, MayStop, EndsAt, Runs, front_of}
+use Rattle.regress_bounded.specs.WorkCosts.{HasWalked, IsWalked, IsTrying}
 use Rattle.regress_pikevm.specs.States.{state_of}
-use Rattle.regress_bounded.specs.Walks.{Walked, HasWalked as AreWalked}
+use Rattle.regress_bounded.specs.SuccessiveAttempts.{Walked, HasWalked as AreWalked}
 use Rattle.regress_bounded.proofs.Ends.{ends-itself}
 use Rattle.regress_bounded.proofs.PaidSearches.{memory-of, then-starts, in-hand, in-order, still-onward, so-far, behind-end, then-ends, then-none}
 use Rattle.regress_bounded.proofs.Standing.{row-none}
@@ -46,15 +46,15 @@ use Rattle.regress_bounded.proofs.Standing as standing
 -- ---- It begins
 
 module _ {P : Type 0} {offset : P → ℕ} {program : Program} {text : Text} where
-  pub begins-stands : {at : ℕ} {c : Course} {b : Begin} (start : State P) → IsText text → IsBoundary text at → state_of offset start ≡ initial program at → Begins program text at c b
+  pub begins-stands : {at : ℕ} {c : WorkBudget} {b : AttemptBeginning} (start : State P) → IsText text → IsBoundary text at → state_of offset start ≡ state_before_first_insn program at → AttemptBeginsWith program text at c b
       → Stands offset program text b (front_of offset (Some start)) [] c
   begins-stands {at} {c} {b} start is_text on is h =
       let right = h.right in
       let paid = right.paid in
-      let t = c.memo.ledger in
+      let t = c.memo.memo_analysis in
       let inside' : b.at ≤ units text = subst (λ n. n ≤ units text) (sym h.at) (boundary_inside text is_text at on) in
-      let same : initial program b.at ≡ state_of offset start = ap (initial program) h.at ∙ sym is in
-      let first = in-hand program t paid.ledger text paid.is_text paid.bytes paid.short b.at inside' b.memory in
+      let same : state_before_first_insn program b.at ≡ state_of offset start = ap (state_before_first_insn program) h.at ∙ sym is in
+      let first = in-hand program t paid.memo_analysis text paid.is_text paid.bytes paid.short b.at inside' b.memory in
       record {
         right = right;
         inside = inside';
@@ -71,12 +71,12 @@ module _ {P : Type 0} {offset : P → ℕ} {program : Program} {text : Text} whe
 
 module _ {P : Type 0} (offset : P → ℕ) (program : Program) (text : Text) where
   -- one that has what is known as its memory
-  record Attempt (at : ℕ) (c : Course) (searched : Option Found) : Type 0 where
-    begin : Begin
-    begins : Begins program text at c begin
+  record Attempt (at : ℕ) (c : WorkBudget) (searched : Option Found) : Type 0 where
+    begin : AttemptBeginning
+    begins : AttemptBeginsWith program text at c begin
     found : searched ≡ Some begin.found
 
-  attempt-begins : (at turns : ℕ) (c : Course) → IsRight program text c.memo → IsSome (search program text turns rightwards (first_row program at))
+  attempt-begins : (at turns : ℕ) (c : WorkBudget) → IsRight program text c.memo → IsSome (search program text turns rightwards (first_row program at))
       → Attempt at c (search program text turns rightwards (first_row program at))
   attempt-begins at turns c right answers =
       let f = some-of (search program text turns rightwards (first_row program at)) answers in
@@ -89,41 +89,41 @@ module _ {P : Type 0} (offset : P → ℕ) (program : Program) (text : Text) whe
 
   -- ---- What it finds
 
-  module _ (b : Begin) (c : Course) where
+  module _ (b : AttemptBeginning) (c : WorkBudget) where
     nothing-found : Stands offset program text b [] [] c → b.found.end ≡ None
     nothing-found h =
         let none : h.row ≡ [] = row-none offset program text h.row h.is in
-        standing.then-none program text c.memo.ledger h.right.paid b h.is_memory h.answers h.work h.now
-        (subst (HasCome program text c.memo.ledger rightwards b.memory (tries (first_row program b.at)) h.work h.now) none h.comes)
+        standing.then-none program text c.memo.memo_analysis h.right.paid b h.is_memory h.answers h.work h.now
+        (subst (HasCome program text c.memo.memo_analysis rightwards b.memory (tries (first_row program b.at)) h.work h.now) none h.comes)
 
     end-found : (end : State P) → EndsAt offset program text b end c → b.found.end ≡ Some (state_of offset end)
     end-found end h =
         let s = h.stands in
-        standing.then-ends program text c.memo.ledger s.right.paid b s.is_memory s.answers s.work s.now h.from (state_of offset end) s.row s.comes h.ends
+        standing.then-ends program text c.memo.memo_analysis s.right.paid b s.is_memory s.answers s.work s.now h.from (state_of offset end) s.row s.comes h.ends
 
   -- its end is inside the text
-  end-inside : (b : Begin) (c : Course) (end : State P) → EndsAt offset program text b end c → offset end.pos ≤ units text
+  end-inside : (b : AttemptBeginning) (c : WorkBudget) (end : State P) → EndsAt offset program text b end c → offset end.pos ≤ units text
   end-inside b c end h =
       let own : offset end.pos ≡ h.from.pos = ap (λ (u : machine.State). u.pos) (ends-itself program text rightwards h.from (state_of offset end) h.ends) in
       let within = h.stands.comes.keyed.0.sound.within in
       omega (arith, own, within)
 
-  runs-found : (b : Begin) (c : Course) (end : Option (State P)) → Runs offset program text b (Ok end) c → b.found.end ≡ option_map (λ e. state_of offset e) end
+  runs-found : (b : AttemptBeginning) (c : WorkBudget) (end : Option (State P)) → Runs offset program text b (Ok end) c → b.found.end ≡ option_map (λ e. state_of offset e) end
   runs-found b c None h = nothing-found b c h
   runs-found b c (Some e) h = end-found b c e h
 
   -- ---- What the next ones may do
 
-  module _ (at ahead : ℕ) (old new : Course) (same : new.memo.ledger ≡ old.memo.ledger) (walked : Walked program text old ahead) (le : ahead ≤ at) (inside : at ≤ units text)
+  module _ (at ahead : ℕ) (old new : WorkBudget) (same : new.memo.memo_analysis ≡ old.memo.memo_analysis) (walked : Walked program text old ahead) (le : ahead ≤ at) (inside : at ≤ units text)
       (answered : Answers program text rightwards (first_row program at)) where
-    abbrev t : Ledger
-    t = new.memo.ledger
+    abbrev t : MemoAnalysis
+    t = new.memo.memo_analysis
 
     -- the attempt from what was known
-    abbrev its : Begin
+    abbrev its : AttemptBeginning
     its = record { at = at; memory = walked.walked.memory; total = old.left; turns = answered.turns; found = answered.found }
 
-    its-begins : IsRight program text old.memo → Begins program text at old its
+    its-begins : IsRight program text old.memo → AttemptBeginsWith program text at old its
     its-begins right = record { right = right; at = refl; is_memory = walked.walked.has.is; holds = walked.walked.holds; total = refl; answers = answered.searches }
 
     has : HasWalked program text t ahead walked.done walked.walked.memory
@@ -135,7 +135,7 @@ module _ {P : Type 0} (offset : P → ℕ) (program : Program) (text : Text) whe
       trying known work now row h holds = record {
         memory = its.memory;
         now = now;
-        has = still-onward program t paid.ledger text paid.is_text paid.bytes paid.short ahead walked.done its.memory has at le;
+        has = still-onward program t paid.memo_analysis text paid.is_text paid.bytes paid.short ahead walked.done its.memory has at le;
         comes = h;
         holds = holds;
       }
@@ -153,22 +153,22 @@ module _ {P : Type 0} (offset : P → ℕ) (program : Program) (text : Text) whe
           let come = subst (HasCome program text t rightwards its.memory (tries (first_row program at)) h.work h.now) none h.comes in
           record {
             done = walked.done + h.work;
-            walked = then-none program t paid.ledger text paid.is_text paid.bytes paid.short (has_failure new.memo) at walked.done h.work answered (trying (has_failure new.memo) h.work h.now [] come h.holds);
+            walked = then-none program t paid.memo_analysis text paid.is_text paid.bytes paid.short (has_failure new.memo) at walked.done h.work answered (trying (has_failure new.memo) h.work h.now [] come h.holds);
             enough = still-enough h.work h.spent;
           }
 
       -- a match ends it
-      walked-found : (end : State P) → EndsAt offset program text its end new → Walked program text new (further_on at (offset end.pos))
+      walked-found : (end : State P) → EndsAt offset program text its end new → Walked program text new (next_attempt_offset at (offset end.pos))
       walked-found end h =
           let s = h.stands in
           let own : offset end.pos ≡ h.from.pos = ap (λ (u : machine.State). u.pos) (ends-itself program text rightwards h.from (state_of offset end) h.ends) in
-          let order : at ≤ h.from.pos = in-order program t paid.ledger text paid.is_text paid.bytes paid.short at its.memory s.work s.now (running h.from) s.row s.comes in
+          let order : at ≤ h.from.pos = in-order program t paid.memo_analysis text paid.is_text paid.bytes paid.short at its.memory s.work s.now (running h.from) s.row s.comes in
           let on = behind-end at (offset end.pos) (omega (arith, own, order)) in
           record {
             done = walked.done + s.work;
-            walked = then-ends program t paid.ledger text paid.is_text paid.bytes paid.short (has_failure new.memo) at walked.done s.work (running h.from) s.row answered
+            walked = then-ends program t paid.memo_analysis text paid.is_text paid.bytes paid.short (has_failure new.memo) at walked.done s.work (running h.from) s.row answered
                 (trying (has_failure new.memo) s.work s.now (tried (running h.from) ∷ s.row) s.comes s.holds)
-                (further_on at (offset end.pos)) (let a = on.0 in omega (arith, a, own)) on.1;
+                (next_attempt_offset at (offset end.pos)) (let a = on.0 in omega (arith, a, own)) on.1;
             enough = still-enough s.work s.spent;
           }
 
@@ -176,9 +176,9 @@ module _ {P : Type 0} (offset : P → ℕ) (program : Program) (text : Text) whe
       never-over : IsOver offset program text its new → ⊥
       never-over h =
           let all =
-          so-far program t paid.ledger text paid.is_text paid.bytes paid.short at walked.done its.memory
-          (still-onward program t paid.ledger text paid.is_text paid.bytes paid.short ahead walked.done its.memory has at le) answered h.work h.now h.row inside h.comes in
-          let third : work_per_unit t ≡ 1 + (work_for_each t + (price_of_all t + (line_of t 0).ready)) = omega arith in
+          so-far program t paid.memo_analysis text paid.is_text paid.bytes paid.short at walked.done its.memory
+          (still-onward program t paid.memo_analysis text paid.is_text paid.bytes paid.short ahead walked.done its.memory has at le) answered h.work h.now h.row inside h.comes in
+          let third : work_per_unit t ≡ 1 + (work_per_position t + (cost_of_all_keys t + (insn_analysis_of t 0).ready)) = omega arith in
           let same_all = ap (λ m. m * (units text + 1)) third in
           let u = ap (λ t. work_per_unit t * (units text + 1)) same in
           let e = walked.enough in
@@ -187,51 +187,51 @@ module _ {P : Type 0} (offset : P → ℕ) (program : Program) (text : Text) whe
 
 -- ---- Before the first one
 
-module _ (program : Program) (text : Text) (is_text : IsText text) (bytes : ReadsAsBytes program text) (short : units text < 2 ^ 63) (t : Ledger) (has : HasBound program t)
-    (m : Known) (begun : IsBegun t (units text + 1) false m) where
+module _ (program : Program) (text : Text) (is_text : IsText text) (bytes : ReadsAsBytes program text) (short : units text < 2 ^ 63) (t : MemoAnalysis) (has : HasBound program t)
+    (m : MemoView) (begun : IsEmptyMemo t (units text + 1) false m) where
   its-paid : IsPaid program text t
-  its-paid = record { ledger = has.ledger; bounded = has.bounded; no_look = has.no_look; is_text = is_text; bytes = bytes; short = short }
+  its-paid = record { memo_analysis = has.memo_analysis; bounded = has.bounded; no_look = has.no_look; is_text = is_text; bytes = bytes; short = short }
 
   pub begun-right : IsRight program text m
-  begun-right = record { paid = subst (IsPaid program text) (sym begun.ledger) its-paid; is_true = memos-are-true.begun program text t false m has.ledger begun }
+  begun-right = record { paid = subst (IsPaid program text) (sym begun.memo_analysis) its-paid; is_true = memos-are-true.begun program text t false m has.memo_analysis begun }
 
   pub begun-walked : (left : ℕ) → work_per_unit t * (units text + 1) ≤ left → Walked program text (record { memo = m; left = left }) 0
   begun-walked left enough = record {
     done = 0;
-    walked = subst (λ t. IsWalked program text t (has_failure m) 0 0) (sym begun.ledger)
-        (then-starts program t has.ledger text is_text bytes short (has_failure m) (memory-of t (units text + 1) false m begun) 0);
-    enough = (let same = ap (λ t. work_per_unit t * (units text + 1)) begun.ledger in omega (arith, same, enough));
+    walked = subst (λ t. IsWalked program text t (has_failure m) 0 0) (sym begun.memo_analysis)
+        (then-starts program t has.memo_analysis text is_text bytes short (has_failure m) (memory-of t (units text + 1) false m begun) 0);
+    enough = (let same = ap (λ t. work_per_unit t * (units text + 1)) begun.memo_analysis in omega (arith, same, enough));
   }
 
 -- the search of an attempt answers
-answered-at : (tree : Tree) (text : Text) → CanSearch (compiled tree) tree text → (at : ℕ) → IsBoundary text at → Answers (compiled tree) text rightwards (first_row (compiled tree) at)
+answered-at : (tree : Tree) (text : Text) → ProgramCanSearchText (compiled tree) tree text → (at : ℕ) → IsBoundary text at → Answers (compiled tree) text rightwards (first_row (compiled tree) at)
 answered-at tree text can at on =
-    let s = some-of (search_from tree text at rightwards (initial (compiled tree) at)) (begins tree text at can on).answers in
-    record { turns = turns_from tree text at; found = s.0; searches = s.1 }
+    let s = some-of (search_from tree text at rightwards (state_before_first_insn (compiled tree) at)) (begins tree text at can on).answers in
+    record { turns = steps_for_attempt tree text at; found = s.0; searches = s.1 }
 
 -- ---- What an attempt comes to, by all that begin so
 
-module _ {P : Type 0} (offset : P → ℕ) {tree : Tree} {text : Text} (can : CanSearch (compiled tree) tree text) (at : ℕ) (on : IsBoundary text at) (old : Course) where
-  first : IsRight (compiled tree) text old.memo → Attempt offset (compiled tree) text at old (search (compiled tree) text (turns_from tree text at) rightwards (first_row (compiled tree) at))
-  first right = attempt-begins offset (compiled tree) text at (turns_from tree text at) old right (begins tree text at can on).answers
+module _ {P : Type 0} (offset : P → ℕ) {tree : Tree} {text : Text} (can : ProgramCanSearchText (compiled tree) tree text) (at : ℕ) (on : IsBoundary text at) (old : WorkBudget) where
+  first : IsRight (compiled tree) text old.memo → Attempt offset (compiled tree) text at old (search (compiled tree) text (steps_for_attempt tree text at) rightwards (first_row (compiled tree) at))
+  first right = attempt-begins offset (compiled tree) text at (steps_for_attempt tree text at) old right (begins tree text at can on).answers
 
   -- it stands so at its start
-  pub attempt-stands : IsText text → KnowsRightly (compiled tree) text old.memo → (start : State P) → state_of offset start ≡ initial (compiled tree) at
+  pub attempt-stands : IsText text → IsMemoRight (compiled tree) text old.memo → (start : State P) → state_of offset start ≡ state_before_first_insn (compiled tree) at
       → IsStanding offset (compiled tree) text (front_of offset (Some start)) [] old
   attempt-stands is knows start begun = ∥∥₁_map knows (λ right. let x = first right in record { begin = x.begin; stands = begins-stands start is on begun x.begins })
 
-  module _ (new : Course) where
-    abbrev ByRuns : Result (Option (State P)) Refusal → Type 0
-    ByRuns r = (b : Begin) → Begins (compiled tree) text at old b → Runs offset (compiled tree) text b r new
+  module _ (new : WorkBudget) where
+    abbrev ByRuns : Result (Option (State P)) AttemptAbortReason → Type 0
+    ByRuns r = (b : AttemptBeginning) → AttemptBeginsWith (compiled tree) text at old b → Runs offset (compiled tree) text b r new
 
     -- an end that is found is inside the text
-    pub found-inside : {found : Option (State P)} {end : State P} → found ≡ Some end → KnowsRightly (compiled tree) text old.memo → ByRuns (Ok found) → offset end.pos ≤ units text
+    pub found-inside : {found : Option (State P)} {end : State P} → found ≡ Some end → IsMemoRight (compiled tree) text old.memo → ByRuns (Ok found) → offset end.pos ≤ units text
     found-inside {end = end} is knows runs =
         let by = subst (λ o. ByRuns (Ok o)) is runs in
         ∥∥₁_elim knows (Prim.hlevel props) (λ right. let x = first right in end-inside offset (compiled tree) text x.begin new end (by x.begin x.begins))
 
     -- what is found is what the tree finds
-    pub found-all : (end : Option (State P)) → KnowsRightly (compiled tree) text old.memo → ByRuns (Ok end) → end_with offset end ≡ end_from tree text at
+    pub found-all : (end : Option (State P)) → IsMemoRight (compiled tree) text old.memo → ByRuns (Ok end) → end_and_groups offset end ≡ match_end_at tree text at
     found-all end knows runs =
         ∥∥₁_elim knows (Prim.hlevel props) (λ right.
         let x = first right in
@@ -239,22 +239,22 @@ module _ {P : Type 0} (offset : P → ℕ) {tree : Tree} {text : Text} (can : Ca
         map-end offset end ∙ ap (option_map end_of) (sym e ∙ sym (ap end_of_search x.found)) ∙ (begins tree text at can on).end)
 
     -- where work was wanted, none is left
-    pub none-left : (e : Refusal) → KnowsRightly (compiled tree) text old.memo → ByRuns (Err e) → e ≡ Work → new.left ≡ 0
+    pub none-left : (e : AttemptAbortReason) → IsMemoRight (compiled tree) text old.memo → ByRuns (Err e) → e ≡ Work → new.left ≡ 0
     none-left e knows runs is =
         ∥∥₁_elim knows (Prim.hlevel props) (λ right.
         let x = first right in (subst (λ e. MayStop offset (compiled tree) text x.begin e new) is (runs x.begin x.begins)).none)
 
     -- ---- In turn
 
-    module _ {ahead : ℕ} (is : IsText text) (knows : KnowsRightly (compiled tree) text old.memo) (same : new.memo.ledger ≡ old.memo.ledger)
+    module _ {ahead : ℕ} (is : IsText text) (knows : IsMemoRight (compiled tree) text old.memo) (same : new.memo.memo_analysis ≡ old.memo.memo_analysis)
         (walked : AreWalked (compiled tree) text old ahead) (le : ahead ≤ at) where
       inside : at ≤ units text
       inside = boundary_inside text is at on
 
-      abbrev from : Walked (compiled tree) text old ahead → Begin
+      abbrev from : Walked (compiled tree) text old ahead → AttemptBeginning
       from w = its offset (compiled tree) text at ahead old new same w le inside (answered-at tree text can at on)
 
-      from-begins : (w : Walked (compiled tree) text old ahead) → IsRight (compiled tree) text old.memo → Begins (compiled tree) text at old (from w)
+      from-begins : (w : Walked (compiled tree) text old ahead) → IsRight (compiled tree) text old.memo → AttemptBeginsWith (compiled tree) text at old (from w)
       from-begins w right = its-begins offset (compiled tree) text at ahead old new same w le inside (answered-at tree text can at on) right
 
       -- none is found
@@ -266,7 +266,7 @@ module _ {P : Type 0} (offset : P → ℕ) {tree : Tree} {text : Text} (can : Ca
           walked-none offset (compiled tree) text at ahead old new same w le inside (answered-at tree text can at on) ends.right.paid ends))
 
       -- one is
-      pub on-by-found : {found : Option (State P)} {end : State P} → found ≡ Some end → ByRuns (Ok found) → AreWalked (compiled tree) text new (further_on at (offset end.pos))
+      pub on-by-found : {found : Option (State P)} {end : State P} → found ≡ Some end → ByRuns (Ok found) → AreWalked (compiled tree) text new (next_attempt_offset at (offset end.pos))
       on-by-found {end = end} found_is runs =
           let by = subst (λ o. ByRuns (Ok o)) found_is runs in
           ∥∥₁_elim knows ∥∥₁_prop (λ right. ∥∥₁_map walked (λ w.
@@ -274,7 +274,7 @@ module _ {P : Type 0} (offset : P → ℕ) {tree : Tree} {text : Text} (can : Ca
           walked-found offset (compiled tree) text at ahead old new same w le inside (answered-at tree text can at on) ends.stands.right.paid end ends))
 
       -- work is not wanted
-      pub never-wanted : (e : Refusal) → ByRuns (Err e) → e ≡ Work → ⊥
+      pub never-wanted : (e : AttemptAbortReason) → ByRuns (Err e) → e ≡ Work → ⊥
       never-wanted e runs is =
           ∥∥₁_elim knows (Prim.hlevel props) (λ right. ∥∥₁_elim walked (Prim.hlevel props) (λ w.
           let over = subst (λ e. MayStop offset (compiled tree) text (from w) e new) is (runs (from w) (from-begins w right)) in

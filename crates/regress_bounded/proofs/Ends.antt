@@ -2,14 +2,14 @@
 use Rattle.std.proofs.Common.{◌≡◌, ℕ, ◌+◌, Bool, true, false, ◌&&◌, Option, Some, None, refl, sym, ◌∙◌, subst, length, slice_get, List, []}
 use Rattle.std.specs.Prelude.{nat_lt, if◌then◌else◌, ◌==◌}
 use Rattle.regex_meaning.specs.Text.{Text, Direction, next_character, moved}
-use Rattle.regex_meaning.specs.Offsets.{place_at}
+use Rattle.regex_meaning.specs.CodeUnitOffsets.{place_at}
 use Rattle.regex_meaning.specs.Outcomes.{is_some_and}
-use Rattle.regex_meaning.specs.Layout.{Program, Insn, LoopFields, Goal, JustFail, Char, CharSet, ByteSet, ByteSeq, AsciiBracket, Bracket, MatchAny}
-use Rattle.regex_meaning.specs.Layout.{MatchAnyExceptLineTerminator, Alt, Jump, EnterLoop, LoopAgain, ResetCaptureGroup, Loop1CharBody}
-use Rattle.regex_meaning.specs.Layout.{BeginCaptureGroup, EndCaptureGroup, BackRef, Lookahead, Lookbehind}
-use Rattle.regress_machine.specs.Machine.{State, Thread, LoopData, Next, goes, scans, ends, asks, with_some, only_if, go, go_if, loop_turn}
-use Rattle.regress_machine.specs.Machine.{again_with, again_at, test_of, on_to, read_one, stay_if, read_again, read_group, scan, act, act_on}
-use Rattle.regress_linear.specs.Behind.{look_at}
+use Rattle.regex_meaning.specs.CompilationRelation.{Program, Insn, LoopFields, Goal, JustFail, Char, CharSet, ByteSet, ByteSeq, AsciiBracket, Bracket, MatchAny}
+use Rattle.regex_meaning.specs.CompilationRelation.{MatchAnyExceptLineTerminator, Alt, Jump, EnterLoop, LoopAgain, ResetCaptureGroup, Loop1CharBody}
+use Rattle.regex_meaning.specs.CompilationRelation.{BeginCaptureGroup, EndCaptureGroup, BackRef, Lookahead, Lookbehind}
+use Rattle.regress_machine.specs.Machine.{State, Thread, LoopData, Next, goes, scans, ends, asks, with_some, only_if, go, go_if, iteration_started}
+use Rattle.regress_machine.specs.Machine.{iteration_ended, loop_repeated, test_of, on_to, read_one, stay_if, backref_read, read_group, scan, act, act_on}
+use Rattle.regress_memo_laws.specs.LookaroundContinuations.{lookaround_at}
 
 -- an end is the state's own, nothing is asked where there is no lookaround, and nothing gone over where there is no run
 abbrev pub EndsAs : (looks run : Bool) → State → Next → Type 0
@@ -42,18 +42,18 @@ module _ (looks run : Bool) (s : State) where
   as-go_if true u = tt
   as-go_if false u = tt
 
-  as-loop_turn : (f : LoopFields) (begin k : ℕ) (u : State) → EndsAs looks run s (loop_turn f begin k u)
+  as-loop_turn : (f : LoopFields) (begin k : ℕ) (u : State) → EndsAs looks run s (iteration_started f begin k u)
   as-loop_turn f begin k u = as-only_if (nat_lt f.loop_id (length u.loops)) _ tt
 
-  as-again_with : (f : LoopFields) (begin : ℕ) (x : LoopData) (u : State) → EndsAs looks run s (again_with f begin x u)
+  as-again_with : (f : LoopFields) (begin : ℕ) (x : LoopData) (u : State) → EndsAs looks run s (iteration_ended f begin x u)
   as-again_with f begin x u = as-only_if (nat_lt x.iters f.max_iters) _ (by (x.entry == u.pos && nat_lt f.min_iters (x.iters + 1)))
     where
-      by : (b : Bool) → EndsAs looks run s (if b then goes [] else loop_turn f begin (x.iters + 1) u)
+      by : (b : Bool) → EndsAs looks run s (if b then goes [] else iteration_started f begin (x.iters + 1) u)
       by true = tt
       by false = as-loop_turn f begin (x.iters + 1) u
 
-  as-again_at : (o : Option Insn) (begin : ℕ) (u : State) → EndsAs looks run s (again_at o begin u)
-  as-again_at (Some (EnterLoop f)) begin u = as-with_some (slice_get u.loops f.loop_id) (λ x. again_with f begin x u) (λ x. as-again_with f begin x u)
+  as-again_at : (o : Option Insn) (begin : ℕ) (u : State) → EndsAs looks run s (loop_repeated o begin u)
+  as-again_at (Some (EnterLoop f)) begin u = as-with_some (slice_get u.loops f.loop_id) (λ x. iteration_ended f begin x u) (λ x. as-again_with f begin x u)
   as-again_at (Some _) begin u = tt
   as-again_at None begin u = tt
 
@@ -72,9 +72,9 @@ module _ (looks run : Bool) (s : State) where
   as-read_group text icase d None u = as-with_some (place_at text u.pos) (λ p. go (on_to text p u)) (λ p. tt)
   as-read_group text icase d (Some range) u =
       as-with_some (place_at text u.pos)
-      (λ p. with_some (place_at text range.0) (λ from. with_some (place_at text range.1) (λ to. read_again text icase d from to p u)))
-      (λ p. as-with_some (place_at text range.0) (λ from. with_some (place_at text range.1) (λ to. read_again text icase d from to p u))
-      (λ from. as-with_some (place_at text range.1) (λ to. read_again text icase d from to p u)
+      (λ p. with_some (place_at text range.0) (λ from. with_some (place_at text range.1) (λ to. backref_read text icase d from to p u)))
+      (λ p. as-with_some (place_at text range.0) (λ from. with_some (place_at text range.1) (λ to. backref_read text icase d from to p u))
+      (λ from. as-with_some (place_at text range.1) (λ to. backref_read text icase d from to p u)
       (λ to. as-go_if _ _)))
 
   as-scan : run ≡ true → (program : Program) (text : Text) (o : Option Insn) (least most : ℕ) (greedy : Bool) (d : Direction) (u : State)
@@ -126,14 +126,14 @@ module _ (program : Program) (text : Text) (d : Direction) (s : State) where
   pub ends-itself : (e : State) → act program text d s ≡ ends e → e ≡ s
   ends-itself e is = subst (EndsAs (is_look (slice_get program.insns s.ip)) (is_run (slice_get program.insns s.ip)) s) is (act-ends-as (slice_get program.insns s.ip))
 
-  looks-there : (o : Option Insn) → look_at o ≡ None → is_look o ≡ false
+  looks-there : (o : Option Insn) → lookaround_at o ≡ None → is_look o ≡ false
   looks-there None h = refl
   looks-there (Some (Lookahead negate start_group end_group continuation)) h = cc
   looks-there (Some (Lookbehind negate start_group end_group continuation)) h = cc
   looks-there (Some _) h = refl
 
   -- nothing is asked where no lookaround stands
-  pub asks-none : (inner : Direction) (negate : Bool) (u t : State) → act program text d s ≡ asks inner negate u t → look_at (slice_get program.insns s.ip) ≡ None → ⊥
+  pub asks-none : (inner : Direction) (negate : Bool) (u t : State) → act program text d s ≡ asks inner negate u t → lookaround_at (slice_get program.insns s.ip) ≡ None → ⊥
   asks-none inner negate u t is none =
       let yes : is_look (slice_get program.insns s.ip) ≡ true = subst (EndsAs (is_look (slice_get program.insns s.ip)) (is_run (slice_get program.insns s.ip)) s) is (act-ends-as (slice_get program.insns s.ip)) in
       let never : true ≡ false = sym yes ∙ looks-there (slice_get program.insns s.ip) none in

@@ -6,32 +6,32 @@ use Rattle.std.proofs.lemmas.Bool.{cases_lt}
 use Rattle.std.proofs.Math.Logic.{∥∥₁_elim}
 use Rattle.std.proofs.Props.{props}
 use Rattle.regex_meaning.specs.Text.{Text, rightwards, last_place, moved}
-use Rattle.regex_meaning.specs.Offsets.{IsText, IsBoundary, place_at, units, offset as text_offset}
-use Rattle.regex_meaning.specs.Layout.{Program}
+use Rattle.regex_meaning.specs.CodeUnitOffsets.{IsText, IsBoundary, place_at, units, offset as text_offset}
+use Rattle.regex_meaning.specs.CompilationRelation.{Program}
 use Rattle.regex_meaning.proofs.Options.{some-same}
 use Rattle.regex_meaning.proofs.TextLemmas.{IsBoundary-place, offset-IsBoundary, offset-less, offset-le}
-use Rattle.regress_input.specs.Reading.{led_to, past_if}
-use Rattle.regress_plan.specs.Insns.{insn_of}
+use Rattle.regress_input.specs.ReadsFromOffset.{end_if_matched, past_if}
+use Rattle.regress_plan.specs.InsnsAsSpecInsns.{spec_insn_of}
 use Rattle.regress_machine.specs.Machine as machine
 use Rattle.regress_machine.specs.Machine.{waiting, test_of}
-use Rattle.regress_machine.specs.Turns.{behind_at}
+use Rattle.regress_machine.specs.InsnEffects.{after_loop_at}
 use Rattle.regress_machine.proofs.Beside.{moved-zero}
-use Rattle.regress_simulation.specs.Runs.{behind}
-use Rattle.regress_linear.specs.Codes.{plan_code}
-use Rattle.regress_linear.specs.Turns.{Key, Entry, tried, noted}
-use Rattle.regress_ledger.specs.Ledger.{questions_of, way_of}
-use Rattle.regress_memo.specs.declared.memo.Key.{Key as Stored}
-use Rattle.regress_memo.specs.Memo.{as_key, key_at, has_failure}
-use Rattle.regress_memo.specs.Room.{Known}
+use Rattle.regress_simulation.specs.CharLoopExitStates.{behind}
+use Rattle.regress_memo_laws.specs.LoopDataKeyCodes.{plan_code}
+use Rattle.regress_memo_laws.specs.MemoSearch.{Key, Entry, tried, noted}
+use Rattle.regress_memo_analysis.specs.AnalysisContents.{key_code_questions_of, insn_direction}
+use Rattle.regress_memo.specs.declared.memo.MemoKey.{MemoKey as Stored}
+use Rattle.regress_memo.specs.MemoContents.{as_key, memo_key_at, has_failure}
+use Rattle.regress_memo.specs.MemoContractView.{MemoView}
 use Rattle.regress_scan.proofs.Reach.{some-of}
 use Rattle.regress_scan.proofs.StopSets.{places-few}
-use Rattle.regress_bounded.specs.declared.row.Endless.{Endless}
-use Rattle.regress_bounded.specs.declared.row.Waiting.{Waiting}
-use Rattle.regress_bounded.specs.declared.row.Waiting.TheVariants.{Thread as AsThread, Record as AsRecord}
+use Rattle.regress_bounded.specs.declared.pending_stack.UnboundedLoop.{UnboundedLoop}
+use Rattle.regress_bounded.specs.declared.pending_stack.StackEntry.{StackEntry}
+use Rattle.regress_bounded.specs.declared.pending_stack.StackEntry.TheVariants.{Thread as AsThread, Record as AsRecord}
 use Rattle.regress_pikevm.specs.declared.pikevm.states.State.{State}
 use Rattle.regress_pikevm.specs.States.{state_of}
-use Rattle.regress_bounded.specs.Courses.{IsRight, KnowsRightly, IsRow, IsRunHere, PlacesWait, HasMetPlaces, IsPast}
-use Rattle.regress_bounded.specs.Paying.{key_on, row_on, row_of_places}
+use Rattle.regress_bounded.specs.SearchStateEntries.{IsRight, IsMemoRight, IsRow, IsRunHere, PlacesWait, ScansWithMemo, IsPast}
+use Rattle.regress_bounded.specs.WorkCosts.{key_on, row_on, row_of_places}
 use Rattle.regress_bounded.proofs.Lazily.{endless-by}
 use Rattle.regress_bounded.proofs.Passed.{past-none, past-more, past-all}
 use Rattle.regress_bounded.proofs.PaidRuns.{key-is}
@@ -46,7 +46,7 @@ pub record OneFurther {P : Type 0} (offset : P → ℕ) (text : Text) (at next :
   pub inside : offset next ≤ units text
 
 module _ {P : Type 0} (offset : P → ℕ) (text : Text) (is : IsText text) where
-  one-further : (test : ℕ → Bool) (at next : P) (found : Bool) → IsBoundary text (offset at) → found ≡ true → led_to found (offset next) ≡ past_if text test rightwards (offset at)
+  one-further : (test : ℕ → Bool) (at next : P) (found : Bool) → IsBoundary text (offset at) → found ≡ true → end_if_matched found (offset next) ≡ past_if text test rightwards (offset at)
       → OneFurther offset text at next
   one-further test at next found h passes led =
       let p = IsBoundary-place text (offset at) is h in
@@ -66,7 +66,7 @@ module _ {P : Type 0} (offset : P → ℕ) (text : Text) (is : IsText text) wher
 
   -- the same by whatever the test is
   pub further-by : {tests : Option (ℕ → Bool)} → IsSome tests → (at next : P) (found : Bool) → IsBoundary text (offset at) → found ≡ true
-      → ((test : ℕ → Bool) → tests ≡ Some test → led_to found (offset next) ≡ past_if text test rightwards (offset at)) → OneFurther offset text at next
+      → ((test : ℕ → Bool) → tests ≡ Some test → end_if_matched found (offset next) ≡ past_if text test rightwards (offset at)) → OneFurther offset text at next
   further-by {tests} some at next found h passes led = let t = some-of tests some in one-further t.0 at next found h passes (led t.0 t.1)
 
   -- so many characters are no more than units before the place behind them
@@ -77,14 +77,14 @@ module _ {P : Type 0} (offset : P → ℕ) (text : Text) (is : IsText text) wher
       omega (arith, few, e)
 
 -- all characters up to a position pass, and the places before it wait
-pub record Furthest {P : Type 0} (offset : P → ℕ) (program : Program) (text : Text) (m : Known) (s : machine.State) (least : ℕ) (test : ℕ → Bool) (place : ℕ)
-    (old new : List (Waiting P)) (at : P) (n : ℕ) : Type 0 where
+pub record Furthest {P : Type 0} (offset : P → ℕ) (program : Program) (text : Text) (m : MemoView) (s : machine.State) (least : ℕ) (test : ℕ → Bool) (place : ℕ)
+    (old new : List (StackEntry P)) (at : P) (n : ℕ) : Type 0 where
   pub past : IsPast offset text test place n at
-  pub wait : PlacesWait offset program text m.ledger (has_failure m) test place s least old new n
+  pub wait : PlacesWait offset program text m.memo_analysis (has_failure m) test place s least old new n
 
 -- The same by whatever the test is, and from whatever place the characters begin that a run needs.
-pub record HasGoneOver {P : Type 0} (offset : P → ℕ) (program : Program) (text : Text) (m : Known) (s : machine.State) (tests : Option (ℕ → Bool)) (least : ℕ) (from : P)
-    (old new : List (Waiting P)) (at : P) (n : ℕ) : Type 0 where
+pub record HasGoneOver {P : Type 0} (offset : P → ℕ) (program : Program) (text : Text) (m : MemoView) (s : machine.State) (tests : Option (ℕ → Bool)) (least : ℕ) (from : P)
+    (old new : List (StackEntry P)) (at : P) (n : ℕ) : Type 0 where
   pub boundary : IsBoundary text (offset at)
   pub few : n ≤ offset at
   pub going : (test : ℕ → Bool) (place : ℕ) → tests ≡ Some test → IsPast offset text test place least from → Furthest offset program text m s least test place old new at n
@@ -99,46 +99,46 @@ same-keys j k ip at code =
     let c : record { ip = k.ip; at = k.at; code = j.code } ≡ k = ap (λ n. record { ip = k.ip; at = k.at; code = n }) code in
     a ∙ b ∙ c
 
-module _ {P : Type 0} {offset : P → ℕ} {program : Program} {text : Text} {run : Endless} (state : State P) (here : IsRunHere offset program text run true (state_of offset state)) where
+module _ {P : Type 0} {offset : P → ℕ} {program : Program} {text : Text} {run : UnboundedLoop} (state : State P) (here : IsRunHere offset program text run true (state_of offset state)) where
   abbrev s : machine.State
   s = state_of offset state
 
-  module _ {m : Known} (knows : KnowsRightly program text m) where
+  module _ {m : MemoView} (knows : IsMemoRight program text m) where
     abbrev key-of : (test : ℕ → Bool) (place n : ℕ) → Key
-    key-of test place n = key_on program text m.ledger rightwards test place s n
+    key-of test place n = key_on program text m.memo_analysis rightwards test place s n
 
     -- the way of a run's instruction is nothing to its keys
-    key-there : IsRight program text m → (test : ℕ → Bool) → test_of program (Some (insn_of run.body)) ≡ Some test → (place n : ℕ)
-        → key_at m.ledger (record s { ip = s.ip + 1; pos = text_offset text (moved text rightwards n place) }) ≡ Some (key-of test place n)
+    key-there : IsRight program text m → (test : ℕ → Bool) → test_of program (Some (spec_insn_of run.body)) ≡ Some test → (place n : ℕ)
+        → memo_key_at m.memo_analysis (record s { ip = s.ip + 1; pos = text_offset text (moved text rightwards n place) }) ≡ Some (key-of test place n)
     key-there r test e place n =
-        let d = way_of m.ledger s.ip in
+        let d = insn_direction m.memo_analysis s.ip in
         let q = moved text rightwards n place in
         let zero_on : moved text d 0 q ≡ q = moved-zero text d q in
         let its : (x y : ℕ) → Key = λ x y. record {
           ip = s.ip + 1;
           at = text_offset text x;
-          code = plan_code (questions_of m.ledger) (record s { ip = s.ip + 2; pos = text_offset text y });
+          code = plan_code (key_code_questions_of m.memo_analysis) (record s { ip = s.ip + 2; pos = text_offset text y });
         } in
-        let is : key_at m.ledger (record s { ip = s.ip + 1; pos = text_offset text (moved text d 0 q) }) ≡ Some (its (moved text d 0 q) (moved text d 0 (moved text d 0 q))) =
-        key-is program m.ledger r.paid.ledger r.paid.bounded text r.paid.is_text r.paid.bytes r.paid.short d s test run.least true (endless-by here test e) refl q 0 in
-        let there : key_at m.ledger (record s { ip = s.ip + 1; pos = text_offset text q }) ≡ Some (its q (moved text d 0 q)) =
-        subst (λ x. key_at m.ledger (record s { ip = s.ip + 1; pos = text_offset text x }) ≡ Some (its x (moved text d 0 x))) zero_on is in
+        let is : memo_key_at m.memo_analysis (record s { ip = s.ip + 1; pos = text_offset text (moved text d 0 q) }) ≡ Some (its (moved text d 0 q) (moved text d 0 (moved text d 0 q))) =
+        key-is program m.memo_analysis r.paid.memo_analysis r.paid.bounded text r.paid.is_text r.paid.bytes r.paid.short d s test run.least true (endless-by here test e) refl q 0 in
+        let there : memo_key_at m.memo_analysis (record s { ip = s.ip + 1; pos = text_offset text q }) ≡ Some (its q (moved text d 0 q)) =
+        subst (λ x. memo_key_at m.memo_analysis (record s { ip = s.ip + 1; pos = text_offset text x }) ≡ Some (its x (moved text d 0 x))) zero_on is in
         there ∙ ap (λ y. Some (its q y)) (zero_on ∙ sym (moved-zero text rightwards q))
 
     -- a key that is found is that of a place
-    pub key-found : (test : ℕ → Bool) → test_of program (Some (insn_of run.body)) ≡ Some test → (place n at : ℕ) (found : Option Stored) (key : Stored) → found ≡ Some key
-        → option_map as_key found ≡ key_at m.ledger (record s { ip = s.ip + 1; pos = at }) → at ≡ text_offset text (moved text rightwards n place) → as_key key ≡ key-of test place n
+    pub key-found : (test : ℕ → Bool) → test_of program (Some (spec_insn_of run.body)) ≡ Some test → (place n at : ℕ) (found : Option Stored) (key : Stored) → found ≡ Some key
+        → option_map as_key found ≡ memo_key_at m.memo_analysis (record s { ip = s.ip + 1; pos = at }) → at ≡ text_offset text (moved text rightwards n place) → as_key key ≡ key-of test place n
     key-found test e place n at found key is_key told same =
         same-keys (as_key key) (key-of test place n) (∥∥₁_elim knows (Prim.hlevel props) (λ r. ap (λ (k : Key). k.ip) (from r)))
         (∥∥₁_elim knows (Prim.hlevel props) (λ r. ap (λ (k : Key). k.at) (from r)))
         (∥∥₁_elim knows (Prim.hlevel props) (λ r. ap (λ (k : Key). k.code) (from r)))
       where
         from : IsRight program text m → as_key key ≡ key-of test place n
-        from r = some-same _ _ (sym (ap (option_map as_key) is_key) ∙ told ∙ ap (λ x. key_at m.ledger (record s { ip = s.ip + 1; pos = x })) same ∙ key-there r test e place n)
+        from r = some-same _ _ (sym (ap (option_map as_key) is_key) ∙ told ∙ ap (λ x. memo_key_at m.memo_analysis (record s { ip = s.ip + 1; pos = x })) same ∙ key-there r test e place n)
 
     -- there is one
-    pub key-some : (test : ℕ → Bool) → test_of program (Some (insn_of run.body)) ≡ Some test → IsText text → (at : ℕ) → IsBoundary text at → (found : Option Stored) → found ≡ None
-        → option_map as_key found ≡ key_at m.ledger (record s { ip = s.ip + 1; pos = at }) → ⊥
+    pub key-some : (test : ℕ → Bool) → test_of program (Some (spec_insn_of run.body)) ≡ Some test → IsText text → (at : ℕ) → IsBoundary text at → (found : Option Stored) → found ≡ None
+        → option_map as_key found ≡ memo_key_at m.memo_analysis (record s { ip = s.ip + 1; pos = at }) → ⊥
     key-some test e is at h found none told = ∥∥₁_elim knows (Prim.hlevel props) (λ r. never r)
       where
         p : (p : ℕ) × (place_at text at ≡ Some p) × (text_offset text p ≡ at) × (p ≤ last_place text)
@@ -147,7 +147,7 @@ module _ {P : Type 0} {offset : P → ℕ} {program : Program} {text : Text} {ru
         never : IsRight program text m → ⊥
         never r =
             let same : at ≡ text_offset text (moved text rightwards 0 p.0) = sym p.2 ∙ ap (text_offset text) (sym (moved-zero text rightwards p.0)) in
-            let no : None ≡ Some (key-of test p.0 0) = sym (ap (option_map as_key) none) ∙ told ∙ ap (λ x. key_at m.ledger (record s { ip = s.ip + 1; pos = x })) same ∙ key-there r test e p.0 0 in
+            let no : None ≡ Some (key-of test p.0 0) = sym (ap (option_map as_key) none) ∙ told ∙ ap (λ x. memo_key_at m.memo_analysis (record s { ip = s.ip + 1; pos = x })) same ∙ key-there r test e p.0 0 in
             let never : ⊥ = cc in never
 
     -- its place is one of the memory's
@@ -156,14 +156,14 @@ module _ {P : Type 0} {offset : P → ℕ} {program : Program} {text : Text} {ru
 
     -- ---- Places
 
-    abbrev Goes : (test : ℕ → Bool) (place : ℕ) (old new : List (Waiting P)) (at : P) (n : ℕ) → Type 0
+    abbrev Goes : (test : ℕ → Bool) (place : ℕ) (old new : List (StackEntry P)) (at : P) (n : ℕ) → Type 0
     Goes test place old new at n = Furthest offset program text m s run.least test place old new at n
 
     abbrev places-row : (test : ℕ → Bool) (place count : ℕ) → List Entry
-    places-row test place count = row_of_places program text m.ledger rightwards test place s run.least count
+    places-row test place count = row_of_places program text m.memo_analysis rightwards test place s run.least count
 
     -- so far none waits
-    pub furthest-none : (test : ℕ → Bool) (place : ℕ) (old : List (Waiting P)) (from : P) → IsPast offset text test place run.least from → Goes test place old old from run.least
+    pub furthest-none : (test : ℕ → Bool) (place : ℕ) (old : List (StackEntry P)) (from : P) → IsPast offset text test place run.least from → Goes test place old old from run.least
     furthest-none test place old from h =
         let none : run.least - run.least ≡ 0 = omega arith in
         let sum = h.sum in
@@ -178,20 +178,20 @@ module _ {P : Type 0} {offset : P → ℕ} {program : Program} {text : Text} {ru
         }
 
     -- from there on it is known to fail
-    pub furthest-known : (test : ℕ → Bool) → test_of program (Some (insn_of run.body)) ≡ Some test → (place : ℕ) (old mid : List (Waiting P)) (at : P) (n : ℕ)
-        (found : Option Stored) (key : Stored) → found ≡ Some key → option_map as_key found ≡ key_at m.ledger (record s { ip = s.ip + 1; pos = offset at }) → Goes test place old mid at n
-        → has_failure m (as_key key) ≡ true → HasMetPlaces offset program text m.ledger (has_failure m) test place s run.least old mid (None, n)
+    pub furthest-known : (test : ℕ → Bool) → test_of program (Some (spec_insn_of run.body)) ≡ Some test → (place : ℕ) (old mid : List (StackEntry P)) (at : P) (n : ℕ)
+        (found : Option Stored) (key : Stored) → found ≡ Some key → option_map as_key found ≡ memo_key_at m.memo_analysis (record s { ip = s.ip + 1; pos = offset at }) → Goes test place old mid at n
+        → has_failure m (as_key key) ≡ true → ScansWithMemo offset program text m.memo_analysis (has_failure m) test place s run.least old mid (None, n)
     furthest-known test e place old mid at n found key is_key told h known =
         (h.wait, subst (λ k. has_failure m k ≡ true) (key-found test e place n (offset at) found key is_key told h.past.at) known)
 
-    module _ (test : ℕ → Bool) (e : test_of program (Some (insn_of run.body)) ≡ Some test) (place : ℕ) (old mid : List (Waiting P)) (at : P) (n : ℕ)
-        (found : Option Stored) (key : Stored) (is_key : found ≡ Some key) (told : option_map as_key found ≡ key_at m.ledger (record s { ip = s.ip + 1; pos = offset at })) (h : Goes test place old mid at n) (unknown : has_failure m (as_key key) ≡ false)
-        (there : State P) (is_there : state_of offset there ≡ behind_at (offset at) s) where
+    module _ (test : ℕ → Bool) (e : test_of program (Some (spec_insn_of run.body)) ≡ Some test) (place : ℕ) (old mid : List (StackEntry P)) (at : P) (n : ℕ)
+        (found : Option Stored) (key : Stored) (is_key : found ≡ Some key) (told : option_map as_key found ≡ memo_key_at m.memo_analysis (record s { ip = s.ip + 1; pos = offset at })) (h : Goes test place old mid at n) (unknown : has_failure m (as_key key) ≡ false)
+        (there : State P) (is_there : state_of offset there ≡ after_loop_at (offset at) s) where
       its-key : as_key key ≡ key-of test place n
       its-key = key-found test e place n (offset at) found key is_key told h.past.at
 
       place-behind : state_of offset there ≡ behind text rightwards place s n
-      place-behind = is_there ∙ ap (λ x. behind_at x s) h.past.at
+      place-behind = is_there ∙ ap (λ x. after_loop_at x s) h.past.at
 
       more-unknown : (j : ℕ) → run.least ≤ j → j < n + 1 → has_failure m (key-of test place j) ≡ false
       more-unknown j le less = elim (cases_lt j n) [
@@ -202,18 +202,18 @@ module _ {P : Type 0} {offset : P → ℕ} {program : Program} {text : Text} {ru
       ]
 
       abbrev recorded-row : Entry
-      recorded-row = noted (key-of test place n) (row_on program text m.ledger rightwards test place s n)
+      recorded-row = noted (key-of test place n) (row_on program text m.memo_analysis rightwards test place s n)
 
       with-record : (row : List Entry) → IsRow offset program text old row
           → IsRow offset program text (mid ++ AsRecord key ∷ []) (recorded-row ∷ places-row test place (n - run.least) ++ row)
       with-record row r =
-          let threads = row_on program text m.ledger rightwards test place s n in
+          let threads = row_on program text m.memo_analysis rightwards test place s n in
           row-push offset program text mid (AsRecord key) recorded-row (places-row test place (n - run.least) ++ row)
           (record { threads = threads; is = ap (λ k. noted k threads) (sym its-key) }) (h.wait.rows row r)
 
       -- it is the last one
-      pub furthest-all : (next : P) (passes : Bool) → IsText text → passes ≡ false → led_to passes (offset next) ≡ past_if text test rightwards (offset at) → (new : List (Waiting P))
-          → new ≡ mid ++ AsRecord key ∷ [] → HasMetPlaces offset program text m.ledger (has_failure m) test place s run.least old new (Some there, n)
+      pub furthest-all : (next : P) (passes : Bool) → IsText text → passes ≡ false → end_if_matched passes (offset next) ≡ past_if text test rightwards (offset at) → (new : List (StackEntry P))
+          → new ≡ mid ++ AsRecord key ∷ [] → ScansWithMemo offset program text m.memo_analysis (has_failure m) test place s run.least old new (Some there, n)
       furthest-all next passes is_text fails led new same =
           let sum = h.past.sum in
           let none = past-all offset text is_text test place n at (offset next) passes h.past fails led in
@@ -226,7 +226,7 @@ module _ {P : Type 0} {offset : P → ℕ} {program : Program} {text : Text} {ru
           }
 
       -- it waits, and the next one is gone on from
-      pub furthest-more : (next : P) (passes : Bool) → IsText text → passes ≡ true → led_to passes (offset next) ≡ past_if text test rightwards (offset at) → (new : List (Waiting P))
+      pub furthest-more : (next : P) (passes : Bool) → IsText text → passes ≡ true → end_if_matched passes (offset next) ≡ past_if text test rightwards (offset at) → (new : List (StackEntry P))
           → new ≡ (mid ++ AsRecord key ∷ []) ++ AsThread there ∷ [] → Goes test place old new next (n + 1)
       furthest-more next passes is_text on_it led new same =
           let on = past-more offset text is_text test place n at next passes h.past on_it led in
@@ -247,7 +247,7 @@ module _ {P : Type 0} {offset : P → ℕ} {program : Program} {text : Text} {ru
                   (recorded-row ∷ places-row test place (n - run.least) ++ row) (ap (λ u. tried (waiting u)) (sym place-behind)) (with-record row r) in
                   let placed : IsRow offset program text ((mid ++ AsRecord key ∷ []) ++ AsThread there ∷ []) (places-row test place (suc (n - run.least)) ++ row) =
                   subst (λ i. IsRow offset program text ((mid ++ AsRecord key ∷ []) ++ AsThread there ∷ [])
-                  (tried (waiting (behind text rightwards place s i)) ∷ noted (key-of test place i) (row_on program text m.ledger rightwards test place s i)
+                  (tried (waiting (behind text rightwards place s i)) ∷ noted (key-of test place i) (row_on program text m.memo_analysis rightwards test place s i)
                   ∷ places-row test place (n - run.least) ++ row)) last both in
                   let counted : IsRow offset program text ((mid ++ AsRecord key ∷ []) ++ AsThread there ∷ []) (places-row test place (n + 1 - run.least) ++ row) =
                   subst (λ i. IsRow offset program text ((mid ++ AsRecord key ∷ []) ++ AsThread there ∷ []) (places-row test place i ++ row)) (sym count) placed in

@@ -5,33 +5,33 @@ use Rattle.std.specs.Prelude.{IsSome, is_some, option_map, slice_get}
 use Rattle.std.proofs.Math.Logic.{∥∥₁_elim}
 use Rattle.std.proofs.Props.{props}
 use Rattle.regex_meaning.specs.Text.{Text, rightwards, last_place, moved}
-use Rattle.regex_meaning.specs.Offsets.{IsText, IsBoundary, units, place_at, offset as text_offset}
-use Rattle.regex_meaning.specs.Layout.{Program, Loop1CharBody}
+use Rattle.regex_meaning.specs.CodeUnitOffsets.{IsText, IsBoundary, units, place_at, offset as text_offset}
+use Rattle.regex_meaning.specs.CompilationRelation.{Program, Loop1CharBody}
 use Rattle.regex_meaning.proofs.TextLemmas.{place_at-offset, offset-place_at, IsBoundary-place}
-use Rattle.regress_plan.specs.Insns.{insn_of}
+use Rattle.regress_plan.specs.InsnsAsSpecInsns.{spec_insn_of}
 use Rattle.regress_machine.specs.Machine as machine
 use Rattle.regress_machine.specs.Machine.{running, test_of}
-use Rattle.regress_machine.specs.Turns.{behind_at}
+use Rattle.regress_machine.specs.InsnEffects.{after_loop_at}
 use Rattle.regress_machine.proofs.Beside.{moved-zero}
-use Rattle.regress_simulation.specs.Runs.{behind}
-use Rattle.regress_linear.specs.Runs.{passing, waits_from}
-use Rattle.regress_linear.specs.Turns.{Key, Entry, tried, kept, noted, tries}
-use Rattle.regress_ledger.specs.Bound.{first_row}
-use Rattle.regress_ledger.specs.Checks.{unlimited}
-use Rattle.regress_memo.specs.declared.memo.Key.{Key as Stored}
-use Rattle.regress_memo.specs.Memo.{as_key, key_at, has_failure}
-use Rattle.regress_memo.specs.Search.{HasCome}
-use Rattle.regress_bounded.specs.declared.course.Course.{Course}
-use Rattle.regress_bounded.specs.declared.row.Endless.{Endless}
-use Rattle.regress_bounded.specs.declared.row.Waiting.{Waiting}
-use Rattle.regress_bounded.specs.declared.row.Waiting.TheVariants.{Run as AsRun, Record as AsRecord}
+use Rattle.regress_simulation.specs.CharLoopExitStates.{behind}
+use Rattle.regress_memo_laws.specs.CharLoopThreads.{passing, pending_loop_threads}
+use Rattle.regress_memo_laws.specs.MemoSearch.{Key, Entry, tried, kept, noted, tries}
+use Rattle.regress_memo_analysis.specs.WorkBound.{first_row}
+use Rattle.regress_memo_analysis.specs.AnalysisChecks.{unlimited}
+use Rattle.regress_memo.specs.declared.memo.MemoKey.{MemoKey as Stored}
+use Rattle.regress_memo.specs.MemoContents.{as_key, memo_key_at, has_failure}
+use Rattle.regress_memo.specs.MemoSearchCosts.{HasCome}
+use Rattle.regress_bounded.specs.declared.work_budget.WorkBudget.{WorkBudget}
+use Rattle.regress_bounded.specs.declared.pending_stack.UnboundedLoop.{UnboundedLoop}
+use Rattle.regress_bounded.specs.declared.pending_stack.StackEntry.{StackEntry}
+use Rattle.regress_bounded.specs.declared.pending_stack.StackEntry.TheVariants.{Run as AsRun, Record as AsRecord}
 use Rattle.regress_pikevm.specs.declared.pikevm.states.State.{State}
-use Rattle.regress_bounded.specs.Courses.{Begin, IsRow, IsRest, Stands, Standing, IsStanding, IsOver, front_of, IsRunHere, HasPassedOver, IsNearest}
-use Rattle.regress_bounded.specs.Paying.{IsEndless, key_on}
-use Rattle.regress_bounded.specs.Spending.{HasSpent, IsSpent}
+use Rattle.regress_bounded.specs.SearchStateEntries.{AttemptBeginning, IsRow, IsRest, Stands, Standing, IsStanding, IsOver, front_of, IsRunHere, HasPassedOver, IsNearest}
+use Rattle.regress_bounded.specs.WorkCosts.{IsEndless, key_on}
+use Rattle.regress_bounded.specs.BudgetSpending.{IsTakenFromBudget, IsBudgetExhausted}
 use Rattle.regress_pikevm.specs.States.{state_of}
 use Rattle.regress_bounded.proofs.Meeting.{ScansAt, scans-at, greedy-met-none, nearest-behind, with-behind}
-use Rattle.regress_linear.proofs.Runs.{passing-left}
+use Rattle.regress_memo_laws.proofs.Runs.{passing-left}
 use Rattle.regress_scan.proofs.Reach.{some-of}
 use Rattle.regress_scan.proofs.StopSets.{places-few}
 use Rattle.regress_bounded.proofs.PaidRuns.{lazy-first, lazy-none, lazy-known, lazy-again, lazy-key}
@@ -39,7 +39,7 @@ use Rattle.regress_bounded.proofs.Stopping.{some-key}
 use Rattle.regress_bounded.proofs.Standing.{Popped, popped, back-comes, row-push, on, can-turn, goes-on, is-over}
 use Rattle.regress_memo.specs.Laws.{KeyFails}
 use Rattle.regress_memo.proofs.LawLemmas.{memos-hold}
-use Rattle.regress_linear.specs.Distinct.{IsNew}
+use Rattle.regress_memo_laws.specs.DistinctLists.{IsNew}
 use Rattle.regress_input.proofs.Places.{boundary_inside}
 
 -- ---- What a run reads
@@ -52,24 +52,24 @@ few-passed text is test place inside =
     omega (arith, a, b, inside)
 
 -- its test and its place, and so many characters that are passed over
-pub record PassesOver {P : Type 0} (offset : P → ℕ) (program : Program) (text : Text) (run : Endless) (s : machine.State) (passed : ℕ) (pos : P) : Type 0 where
+pub record PassesOver {P : Type 0} (offset : P → ℕ) (program : Program) (text : Text) (run : UnboundedLoop) (s : machine.State) (passed : ℕ) (pos : P) : Type 0 where
   pub test : ℕ → Bool
-  pub tests : test_of program (Some (insn_of run.body)) ≡ Some test
+  pub tests : test_of program (Some (spec_insn_of run.body)) ≡ Some test
   pub place : ℕ
   pub at : place_at text s.pos ≡ Some place
   pub inside : place ≤ last_place text
   pub over : HasPassedOver offset text test run.least place passed pos
 
-module _ {P : Type 0} {offset : P → ℕ} {program : Program} {text : Text} {run : Endless} {greedy : Bool} {s : machine.State} (here : IsRunHere offset program text run greedy s) where
+module _ {P : Type 0} {offset : P → ℕ} {program : Program} {text : Text} {run : UnboundedLoop} {greedy : Bool} {s : machine.State} (here : IsRunHere offset program text run greedy s) where
   -- a test, at a place
   pub record Reads : Type 0 where
-    pub test : IsSome (test_of program (Some (insn_of run.body)))
+    pub test : IsSome (test_of program (Some (spec_insn_of run.body)))
     pub at : IsBoundary text s.pos
 
   reads-at : ScansAt program text s → Reads
   reads-at x = record { test = ap is_some (ap (test_of program) (sym here.body) ∙ x.body); at = ap is_some x.at }
 
-  module _ {stack : List (Waiting P)} {c : Course} (there : IsStanding offset program text (tried (running s) ∷ []) stack c) where
+  module _ {stack : List (StackEntry P)} {c : WorkBudget} (there : IsStanding offset program text (tried (running s) ∷ []) stack c) where
     pub reads-here : Reads
     reads-here =
         let by = λ (x : Standing offset program text (tried (running s) ∷ []) stack c).
@@ -80,31 +80,31 @@ module _ {P : Type 0} {offset : P → ℕ} {program : Program} {text : Text} {ru
         }
 
     pub passes-over : IsText text → (passed : ℕ) (pos : P)
-        → ((test : ℕ → Bool) (place : ℕ) → test_of program (Some (insn_of run.body)) ≡ Some test → place_at text s.pos ≡ Some place → HasPassedOver offset text test run.least place passed pos)
+        → ((test : ℕ → Bool) (place : ℕ) → test_of program (Some (spec_insn_of run.body)) ≡ Some test → place_at text s.pos ≡ Some place → HasPassedOver offset text test run.least place passed pos)
         → PassesOver offset program text run s passed pos
     passes-over is passed pos h =
-        let t = some-of (test_of program (Some (insn_of run.body))) reads-here.test in
+        let t = some-of (test_of program (Some (spec_insn_of run.body))) reads-here.test in
         let p = IsBoundary-place text s.pos is reads-here.at in
         record { test = t.0; tests = t.1; place = p.0; at = p.1; inside = p.3; over = h t.0 p.0 t.1 p.1 }
 
   -- the run by its test
-  pub endless-by : (test : ℕ → Bool) → test_of program (Some (insn_of run.body)) ≡ Some test → IsEndless program s test run.least greedy
+  pub endless-by : (test : ℕ → Bool) → test_of program (Some (spec_insn_of run.body)) ≡ Some test → IsEndless program s test run.least greedy
   endless-by test e = record { run = here.insn; body = ap (test_of program) here.body ∙ e }
 
 -- the number of what was passed fits
-pub passed-fits : {P : Type 0} {offset : P → ℕ} {program : Program} {text : Text} {run : Endless} {s : machine.State} {passed : ℕ} {pos : P} → PassesOver offset program text run s passed pos
+pub passed-fits : {P : Type 0} {offset : P → ℕ} {program : Program} {text : Text} {run : UnboundedLoop} {s : machine.State} {passed : ℕ} {pos : P} → PassesOver offset program text run s passed pos
     → IsText text → units text < 2 ^ 63 → passed + 2 < 2 ^ 64
 passed-fits p is short = let few = few-passed _ is p.test p.place p.inside in let sum = p.over.past.sum in omega (arith, few, sum, short)
 
 -- what is known of whether it is greedy
-pub run-which : {P : Type 0} {offset : P → ℕ} {program : Program} {text : Text} {run : Endless} {greedy which : Bool} {s : machine.State} → IsRunHere offset program text run greedy s → greedy ≡ which
+pub run-which : {P : Type 0} {offset : P → ℕ} {program : Program} {text : Text} {run : UnboundedLoop} {greedy which : Bool} {s : machine.State} → IsRunHere offset program text run greedy s → greedy ≡ which
     → IsRunHere offset program text run which s
 run-which {run = run} here same = record { insn = here.insn ∙ ap (λ b. Some (Loop1CharBody run.least unlimited b)) same; body = here.body }
 
 -- ---- Its turn, where there are too few characters
 
-module _ {P : Type 0} {offset : P → ℕ} {program : Program} {text : Text} {b : Begin} {s : machine.State} {stack : List (Waiting P)} {c : Course}
-    (h : Stands offset program text b (tried (running s) ∷ []) stack c) {run : Endless} {passed : ℕ} {pos : P} (p : PassesOver offset program text run s passed pos) where
+module _ {P : Type 0} {offset : P → ℕ} {program : Program} {text : Text} {b : AttemptBeginning} {s : machine.State} {stack : List (StackEntry P)} {c : WorkBudget}
+    (h : Stands offset program text b (tried (running s) ∷ []) stack c) {run : UnboundedLoop} {passed : ℕ} {pos : P} (p : PassesOver offset program text run s passed pos) where
   short-by : {greedy : Bool} → IsRunHere offset program text run greedy s → passed < run.least → on offset program text b s h (passed + 2) h.row
   short-by {greedy} here few =
       let all = p.over.all few in
@@ -117,20 +117,20 @@ module _ {P : Type 0} {offset : P → ℕ} {program : Program} {text : Text} {b 
       by true endless less = greedy-met-none offset program text b s h p.test run.least p.place endless p.at less
       by false endless less =
           let paid = h.right.paid in
-          lazy-none program c.memo.ledger paid.ledger paid.bounded text paid.is_text paid.bytes paid.short rightwards b.memory (tries (first_row program b.at)) h.work h.now h.row
+          lazy-none program c.memo.memo_analysis paid.memo_analysis paid.bounded text paid.is_text paid.bytes paid.short rightwards b.memory (tries (first_row program b.at)) h.work h.now h.row
           s p.test run.least p.place endless p.at less h.comes
 
-  module _ {greedy : Bool} (here : IsRunHere offset program text run greedy s) (few : passed < run.least) (c' : Course) (same : c'.memo ≡ c.memo) where
-    pub short-over : IsSpent (passed + 2) c.left c'.left → IsOver offset program text b c'
+  module _ {greedy : Bool} (here : IsRunHere offset program text run greedy s) (few : passed < run.least) (c' : WorkBudget) (same : c'.memo ≡ c.memo) where
+    pub short-over : IsBudgetExhausted (passed + 2) c.left c'.left → IsOver offset program text b c'
     short-over spent = is-over offset program text b h h.row (passed + 2) c' (short-by here few) same spent
 
-    pub short-goes : HasSpent (passed + 2) c.left c'.left → Stands offset program text b [] stack c'
+    pub short-goes : IsTakenFromBudget (passed + 2) c.left c'.left → Stands offset program text b [] stack c'
     short-goes spent = goes-on offset program text b h [] h.row stack (passed + 2) c' (short-by here few) h.is same spent
 
 -- ---- The turn of a lazy one
 
-module _ {P : Type 0} {offset : P → ℕ} {program : Program} {text : Text} {b : Begin} (state : State P) {stack : List (Waiting P)} {c : Course}
-    (h : Stands offset program text b (tried (running (state_of offset state)) ∷ []) stack c) {run : Endless} (here : IsRunHere offset program text run false (state_of offset state))
+module _ {P : Type 0} {offset : P → ℕ} {program : Program} {text : Text} {b : AttemptBeginning} (state : State P) {stack : List (StackEntry P)} {c : WorkBudget}
+    (h : Stands offset program text b (tried (running (state_of offset state)) ∷ []) stack c) {run : UnboundedLoop} (here : IsRunHere offset program text run false (state_of offset state))
     {passed : ℕ} {pos : P} (p : PassesOver offset program text run (state_of offset state) passed pos) (le : run.least ≤ passed) where
   abbrev s : machine.State
   s = state_of offset state
@@ -139,35 +139,35 @@ module _ {P : Type 0} {offset : P → ℕ} {program : Program} {text : Text} {b 
   endless = endless-by here p.test p.tests
 
   first : on offset program text b s h (passed + 2)
-      (tried (running (behind text rightwards p.place s passed)) ∷ kept (waits_from text p.test rightwards (passed + 1) p.place s) ∷ h.row)
+      (tried (running (behind text rightwards p.place s passed)) ∷ kept (pending_loop_threads text p.test rightwards (passed + 1) p.place s) ∷ h.row)
   first =
       let paid = h.right.paid in
       let same : run.least ≡ passed = (let few = p.over.few in omega (arith, le, few)) in
       let sum = p.over.past.sum in
-      subst (λ n. on offset program text b s h (n + 2) (tried (running (behind text rightwards p.place s n)) ∷ kept (waits_from text p.test rightwards (n + 1) p.place s) ∷ h.row)) same
-      (lazy-first program c.memo.ledger paid.ledger paid.bounded text paid.is_text paid.bytes paid.short rightwards b.memory (tries (first_row program b.at)) h.work h.now h.row
+      subst (λ n. on offset program text b s h (n + 2) (tried (running (behind text rightwards p.place s n)) ∷ kept (pending_loop_threads text p.test rightwards (n + 1) p.place s) ∷ h.row)) same
+      (lazy-first program c.memo.memo_analysis paid.memo_analysis paid.bounded text paid.is_text paid.bytes paid.short rightwards b.memory (tries (first_row program b.at)) h.work h.now h.row
       s p.test run.least p.place endless p.at (omega (arith, same, sum)) h.comes)
 
-  pub lazy-over : (c' : Course) → c'.memo ≡ c.memo → IsSpent (passed + 2) c.left c'.left → IsOver offset program text b c'
+  pub lazy-over : (c' : WorkBudget) → c'.memo ≡ c.memo → IsBudgetExhausted (passed + 2) c.left c'.left → IsOver offset program text b c'
   lazy-over c' same spent = is-over offset program text b h _ (passed + 2) c' first same spent
 
-  pub lazy-goes : (next : State P) (new : List (Waiting P))
-      → ((test : ℕ → Bool) (place : ℕ) → test_of program (Some (insn_of run.body)) ≡ Some test → place_at text (offset pos) ≡ Some place → IsNearest offset text test place pos state next stack new)
-      → (c' : Course) → c'.memo ≡ c.memo → HasSpent (passed + 2) c.left c'.left → Stands offset program text b (front_of offset (Some next)) new c'
+  pub lazy-goes : (next : State P) (new : List (StackEntry P))
+      → ((test : ℕ → Bool) (place : ℕ) → test_of program (Some (spec_insn_of run.body)) ≡ Some test → place_at text (offset pos) ≡ Some place → IsNearest offset text test place pos state next stack new)
+      → (c' : WorkBudget) → c'.memo ≡ c.memo → IsTakenFromBudget (passed + 2) c.left c'.left → Stands offset program text b (front_of offset (Some next)) new c'
   lazy-goes next new nearest c' same spent =
       let sum = p.over.past.sum in
       let there = moved text rightwards passed p.place in
       let near = nearest p.test there p.tests (ap (place_at text) p.over.past.at ∙ place_at-offset text there h.right.paid.is_text p.over.past.within) in
-      let is : behind text rightwards p.place s passed ≡ state_of offset next = sym (near.is_here ∙ ap (λ at. behind_at at s) p.over.past.at) in
-      let after = nearest-behind offset program text c.memo.ledger h.right.paid p.test run.least p.place state endless p.inside passed (omega (arith, sum)) there refl pos next stack new near in
-      let come = subst (λ r. on offset program text b s h (passed + 2) (tried (running r) ∷ kept (waits_from text p.test rightwards (passed + 1) p.place s) ∷ h.row)) is first in
-      let x = with-behind offset program text c.memo.ledger b.memory (tries (first_row program b.at)) (h.work + (passed + 2)) h.now (state_of offset next)
-      (waits_from text p.test rightwards (passed + 1) p.place s) h.row stack new come h.is after in
+      let is : behind text rightwards p.place s passed ≡ state_of offset next = sym (near.is_here ∙ ap (λ at. after_loop_at at s) p.over.past.at) in
+      let after = nearest-behind offset program text c.memo.memo_analysis h.right.paid p.test run.least p.place state endless p.inside passed (omega (arith, sum)) there refl pos next stack new near in
+      let come = subst (λ r. on offset program text b s h (passed + 2) (tried (running r) ∷ kept (pending_loop_threads text p.test rightwards (passed + 1) p.place s) ∷ h.row)) is first in
+      let x = with-behind offset program text c.memo.memo_analysis b.memory (tries (first_row program b.at)) (h.work + (passed + 2)) h.now (state_of offset next)
+      (pending_loop_threads text p.test rightwards (passed + 1) p.place s) h.row stack new come h.is after in
       goes-on offset program text b h (tried (running (state_of offset next)) ∷ []) x.row new (passed + 2) c' x.comes x.is same spent
 
 -- ---- The way back to one
 
-module _ {P : Type 0} {offset : P → ℕ} {program : Program} {text : Text} {b : Begin} (stack : List (Waiting P)) (state : State P) {c : Course}
+module _ {P : Type 0} {offset : P → ℕ} {program : Program} {text : Text} {b : AttemptBeginning} (stack : List (StackEntry P)) (state : State P) {c : WorkBudget}
     (h : Stands offset program text b [] (stack ++ AsRun state ∷ []) c) where
   abbrev its : machine.State
   its = state_of offset state
@@ -182,21 +182,21 @@ module _ {P : Type 0} {offset : P → ℕ} {program : Program} {text : Text} {b 
   its-inside = (offset-place_at text its.pos rest-of.place h.right.paid.is_text rest-of.at).1
 
   abbrev waits-at : List Entry
-  waits-at = kept (waits_from text rest-of.test rightwards 0 rest-of.place its) ∷ left-off.rest
+  waits-at = kept (pending_loop_threads text rest-of.test rightwards 0 rest-of.place its) ∷ left-off.rest
 
-  comes-back : HasCome program text c.memo.ledger rightwards b.memory (tries (first_row program b.at)) h.work h.now waits-at
-  comes-back = back-comes offset program text b stack (AsRun state) h (kept (waits_from text rest-of.test rightwards 0 rest-of.place its)) rest-of.is
+  comes-back : HasCome program text c.memo.memo_analysis rightwards b.memory (tries (first_row program b.at)) h.work h.now waits-at
+  comes-back = back-comes offset program text b stack (AsRun state) h (kept (pending_loop_threads text rest-of.test rightwards 0 rest-of.place its)) rest-of.is
 
   abbrev pub key-back : Key
-  key-back = key_on program text c.memo.ledger rightwards rest-of.test rest-of.place its 0
+  key-back = key_on program text c.memo.memo_analysis rightwards rest-of.test rest-of.place its 0
 
   -- its key
-  key-there : key_at c.memo.ledger (record its { ip = its.ip + 1; pos = its.pos }) ≡ Some key-back
+  key-there : memo_key_at c.memo.memo_analysis (record its { ip = its.ip + 1; pos = its.pos }) ≡ Some key-back
   key-there =
       let paid = h.right.paid in
       let same : text_offset text rest-of.place ≡ its.pos = (offset-place_at text its.pos rest-of.place paid.is_text rest-of.at).0 in
-      subst (λ q. key_at c.memo.ledger (record its { ip = its.ip + 1; pos = q }) ≡ Some key-back) same
-      (lazy-key program c.memo.ledger paid.ledger paid.bounded text paid.is_text paid.bytes paid.short rightwards b.memory (tries (first_row program b.at)) h.work h.now left-off.rest
+      subst (λ q. memo_key_at c.memo.memo_analysis (record its { ip = its.ip + 1; pos = q }) ≡ Some key-back) same
+      (lazy-key program c.memo.memo_analysis paid.memo_analysis paid.bounded text paid.is_text paid.bytes paid.short rightwards b.memory (tries (first_row program b.at)) h.work h.now left-off.rest
       its rest-of.test rest-of.least rest-of.place rest-of.run its-inside comes-back)
 
   place-in : its.pos < c.memo.places
@@ -206,7 +206,7 @@ module _ {P : Type 0} {offset : P → ℕ} {program : Program} {text : Text} {b 
       omega (arith, within, places)
 
   -- a key that is found is it
-  module _ {found : Option Stored} {stored : Stored} (found_is : found ≡ Some stored) (told : option_map as_key found ≡ key_at c.memo.ledger (record its { ip = its.ip + 1; pos = its.pos })) where
+  module _ {found : Option Stored} {stored : Stored} (found_is : found ≡ Some stored) (told : option_map as_key found ≡ memo_key_at c.memo.memo_analysis (record its { ip = its.ip + 1; pos = its.pos })) where
     abbrev k : Key
     k = as_key stored
 
@@ -214,48 +214,48 @@ module _ {P : Type 0} {offset : P → ℕ} {program : Program} {text : Text} {b 
     is = some-key (sym (ap (option_map as_key) found_is) ∙ told ∙ key-there)
 
     abbrev on-back : (work : ℕ) → List Entry → Type 0
-    on-back work row = HasCome program text c.memo.ledger rightwards b.memory (tries (first_row program b.at)) (h.work + work) h.now row
+    on-back work row = HasCome program text c.memo.memo_analysis rightwards b.memory (tries (first_row program b.at)) (h.work + work) h.now row
 
     -- it is known to fail
     back-known : has_failure c.memo k ≡ true → on-back 1 left-off.rest
     back-known fails =
         let paid = h.right.paid in
-        lazy-known program c.memo.ledger paid.ledger paid.bounded text paid.is_text paid.bytes paid.short rightwards b.memory (tries (first_row program b.at)) h.work h.now left-off.rest
-        its rest-of.test rest-of.least rest-of.place rest-of.run its-inside (subst (KeyFails program text c.memo.ledger) is (h.right.is_true.fails k fails)) comes-back
+        lazy-known program c.memo.memo_analysis paid.memo_analysis paid.bounded text paid.is_text paid.bytes paid.short rightwards b.memory (tries (first_row program b.at)) h.work h.now left-off.rest
+        its rest-of.test rest-of.least rest-of.place rest-of.run its-inside (subst (KeyFails program text c.memo.memo_analysis) is (h.right.is_true.fails k fails)) comes-back
 
-    pub back-known-over : has_failure c.memo k ≡ true → (c' : Course) → c'.memo ≡ c.memo → IsSpent 1 c.left c'.left → IsOver offset program text b c'
+    pub back-known-over : has_failure c.memo k ≡ true → (c' : WorkBudget) → c'.memo ≡ c.memo → IsBudgetExhausted 1 c.left c'.left → IsOver offset program text b c'
     back-known-over fails c' same spent = is-over offset program text b h left-off.rest 1 c' (back-known fails) same spent
 
-    pub back-known-goes : has_failure c.memo k ≡ true → (c' : Course) → c'.memo ≡ c.memo → HasSpent 1 c.left c'.left → Stands offset program text b [] stack c'
+    pub back-known-goes : has_failure c.memo k ≡ true → (c' : WorkBudget) → c'.memo ≡ c.memo → IsTakenFromBudget 1 c.left c'.left → Stands offset program text b [] stack c'
     back-known-goes fails c' same spent = goes-on offset program text b h [] left-off.rest stack 1 c' (back-known fails) left-off.below same spent
 
     -- it is not
     back-again : has_failure c.memo k ≡ false
-        → on-back 2 (tried (running (behind text rightwards rest-of.place its 0)) ∷ kept (waits_from text rest-of.test rightwards 1 rest-of.place its)
-        ∷ noted k (waits_from text rest-of.test rightwards 0 rest-of.place its) ∷ left-off.rest)
+        → on-back 2 (tried (running (behind text rightwards rest-of.place its 0)) ∷ kept (pending_loop_threads text rest-of.test rightwards 1 rest-of.place its)
+        ∷ noted k (pending_loop_threads text rest-of.test rightwards 0 rest-of.place its) ∷ left-off.rest)
     back-again unknown =
         let paid = h.right.paid in
-        subst (λ k. on-back 2 (tried (running (behind text rightwards rest-of.place its 0)) ∷ kept (waits_from text rest-of.test rightwards 1 rest-of.place its)
-        ∷ noted k (waits_from text rest-of.test rightwards 0 rest-of.place its) ∷ left-off.rest)) (sym is)
-        (lazy-again program c.memo.ledger paid.ledger paid.bounded text paid.is_text paid.bytes paid.short rightwards b.memory (tries (first_row program b.at)) h.work h.now left-off.rest
+        subst (λ k. on-back 2 (tried (running (behind text rightwards rest-of.place its 0)) ∷ kept (pending_loop_threads text rest-of.test rightwards 1 rest-of.place its)
+        ∷ noted k (pending_loop_threads text rest-of.test rightwards 0 rest-of.place its) ∷ left-off.rest)) (sym is)
+        (lazy-again program c.memo.memo_analysis paid.memo_analysis paid.bounded text paid.is_text paid.bytes paid.short rightwards b.memory (tries (first_row program b.at)) h.work h.now left-off.rest
         its rest-of.test rest-of.least rest-of.place rest-of.run its-inside
         (subst (λ k. IsNew k h.now) is (memos-hold.new (has_failure c.memo) h.now k h.holds unknown)) comes-back)
 
-    pub back-over : has_failure c.memo k ≡ false → (c' : Course) → c'.memo ≡ c.memo → IsSpent 2 c.left c'.left → IsOver offset program text b c'
+    pub back-over : has_failure c.memo k ≡ false → (c' : WorkBudget) → c'.memo ≡ c.memo → IsBudgetExhausted 2 c.left c'.left → IsOver offset program text b c'
     back-over unknown c' same spent = is-over offset program text b h _ 2 c' (back-again unknown) same spent
 
-    pub back-goes : has_failure c.memo k ≡ false → (next : State P) (mid new : List (Waiting P)) → mid ≡ stack ++ AsRecord stored ∷ []
+    pub back-goes : has_failure c.memo k ≡ false → (next : State P) (mid new : List (StackEntry P)) → mid ≡ stack ++ AsRecord stored ∷ []
         → IsNearest offset text rest-of.test rest-of.place state.pos state next mid new
-        → (c' : Course) → c'.memo ≡ c.memo → HasSpent 2 c.left c'.left → Stands offset program text b (front_of offset (Some next)) new c'
+        → (c' : WorkBudget) → c'.memo ≡ c.memo → IsTakenFromBudget 2 c.left c'.left → Stands offset program text b (front_of offset (Some next)) new c'
     back-goes unknown next mid new pushed near' c' same spent =
-        let t = c.memo.ledger in
+        let t = c.memo.memo_analysis in
         let near = subst (λ xs. IsNearest offset text rest-of.test rest-of.place state.pos state next xs new) pushed near' in
         let none : moved text rightwards 0 rest-of.place ≡ rest-of.place = moved-zero text rightwards rest-of.place in
         let at : text_offset text (moved text rightwards 0 rest-of.place) ≡ its.pos =
         ap (text_offset text) none ∙ (offset-place_at text its.pos rest-of.place h.right.paid.is_text rest-of.at).0 in
-        let nearest_is : behind text rightwards rest-of.place its 0 ≡ state_of offset next = ap (λ q. behind_at q its) at ∙ sym near.is_here in
-        let all = waits_from text rest-of.test rightwards 0 rest-of.place its in
-        let more = waits_from text rest-of.test rightwards 1 rest-of.place its in
+        let nearest_is : behind text rightwards rest-of.place its 0 ≡ state_of offset next = ap (λ q. after_loop_at q its) at ∙ sym near.is_here in
+        let all = pending_loop_threads text rest-of.test rightwards 0 rest-of.place its in
+        let more = pending_loop_threads text rest-of.test rightwards 1 rest-of.place its in
         let after = nearest-behind offset program text t h.right.paid rest-of.test rest-of.least rest-of.place state rest-of.run its-inside 0 (omega arith)
         rest-of.place (sym none) state.pos next (stack ++ AsRecord stored ∷ []) new near in
         let come = subst (λ r. on-back 2 (tried (running r) ∷ kept more ∷ noted k all ∷ left-off.rest)) nearest_is (back-again unknown) in
@@ -267,7 +267,7 @@ module _ {P : Type 0} {offset : P → ℕ} {program : Program} {text : Text} {b 
 
 -- ---- What there is to come back to
 
-module _ {P : Type 0} {offset : P → ℕ} {program : Program} {text : Text} (stack : List (Waiting P)) (state : State P) {c : Course}
+module _ {P : Type 0} {offset : P → ℕ} {program : Program} {text : Text} (stack : List (StackEntry P)) (state : State P) {c : WorkBudget}
     (there : IsStanding offset program text [] (stack ++ AsRun state ∷ []) c) where
   -- its place is one of the memory's
   pub back-place : offset state.pos < c.memo.places
@@ -280,7 +280,7 @@ module _ {P : Type 0} {offset : P → ℕ} {program : Program} {text : Text} (st
   back-tested = ∥∥₁_elim there (Prim.hlevel props) (λ x. ap is_some (rest-of stack state x.stands).run.body)
 
   -- it has a key
-  pub back-keyed : {found : Option Stored} → found ≡ None → option_map as_key found ≡ key_at c.memo.ledger (record (state_of offset state) { ip = state.ip + 1; pos = offset state.pos }) → ⊥
+  pub back-keyed : {found : Option Stored} → found ≡ None → option_map as_key found ≡ memo_key_at c.memo.memo_analysis (record (state_of offset state) { ip = state.ip + 1; pos = offset state.pos }) → ⊥
   back-keyed none told =
       ∥∥₁_elim there (Prim.hlevel props) (λ x.
       let never = sym (ap (option_map as_key) none) ∙ told ∙ key-there stack state x.stands in let no : ⊥ = cc in no)

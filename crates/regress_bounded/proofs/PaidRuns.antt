@@ -7,59 +7,59 @@ use Rattle.std.proofs.lemmas.Bool.{cases_lt}
 use Rattle.std.proofs.lemmas.List.{length-map, length-reverse, reverse-reverse, reverse-append}
 use Rattle.std.proofs.lemmas.List.Sums.{sum_by-cons}
 use Rattle.regex_meaning.specs.Laws.{Each}
-use Rattle.regex_meaning.specs.Lists.{numbers_from}
-use Rattle.regex_meaning.specs.Text.{Text, Direction, rightwards, leftwards, last_place, moved, characters_left}
-use Rattle.regex_meaning.specs.Offsets.{IsText, offset, place_at, units}
-use Rattle.regex_meaning.specs.Layout.{Program, Loop1CharBody}
+use Rattle.regex_meaning.specs.NumberListHelpers.{numbers_from}
+use Rattle.regex_meaning.specs.Text.{Text, Direction, rightwards, leftwards, last_place, moved, characters_ahead}
+use Rattle.regex_meaning.specs.CodeUnitOffsets.{IsText, offset, place_at, units}
+use Rattle.regex_meaning.specs.CompilationRelation.{Program, Loop1CharBody}
 use Rattle.regex_meaning.proofs.Each.{Each-append, Each-map, Each-reverse}
 use Rattle.regex_meaning.proofs.Lists.{length-numbers_from}
 use Rattle.regex_meaning.proofs.TextLemmas.{offset-place_at}
-use Rattle.regress_machine.specs.Machine.{State, Thread, running, waiting, scans, in_turn, run_states, test_of, act}
+use Rattle.regress_machine.specs.Machine.{State, Thread, running, waiting, scans, first_runs_others_wait, run_states, test_of, act}
 use Rattle.regress_machine.proofs.Beside.{moved-zero}
 use Rattle.regress_machine.proofs.Run.{numbers_between}
-use Rattle.regress_simulation.specs.Runs.{behind}
-use Rattle.regress_simulation.specs.Simulates.{FindNothing}
+use Rattle.regress_simulation.specs.CharLoopExitStates.{behind}
+use Rattle.regress_simulation.specs.ThreadSimulation.{FindNothing}
 use Rattle.regress_simulation.proofs.Runs.{behind-from, run-turn}
 use Rattle.regress_simulation.proofs.Simulates.{simulates-same}
-use Rattle.regress_linear.specs.Account.{Agree, outermost, ReadsAsBytes}
-use Rattle.regress_linear.specs.Alike.{Relation, AlikeThreads}
-use Rattle.regress_linear.specs.Beside.{ScanIsPaid, ScanGives}
-use Rattle.regress_linear.specs.Codes.{IsStateOf, plan_code, key_of}
-use Rattle.regress_linear.specs.Distinct.{IsNew}
-use Rattle.regress_linear.specs.LaidOut.{state_of_thread}
-use Rattle.regress_linear.specs.Paid.{weight_by, IsPaid, RunIsPaid, LazyRunIsPaid, RunTurnsArePaid, LazyTurnsArePaid}
-use Rattle.regress_linear.specs.Plans.{IsRecorded, plan_taken}
-use Rattle.regress_linear.specs.RunKeys.{run_at, RunRecords, run_key}
-use Rattle.regress_linear.specs.Runs.{passing, waits_from}
-use Rattle.regress_linear.specs.RunTurns.{placed, AreUnknown, AtRun, GreedyGives, LazyGives}
-use Rattle.regress_linear.specs.Turns.{Key, Entry, tried, kept, noted, tries, threads_in, weighs, GoesOnward, IsOf, AreSound, Gives, Comes, gives}
-use Rattle.regress_linear.specs.Weights.{each_noted}
-use Rattle.regress_linear.proofs.Beside.{others-paid, scans-give}
-use Rattle.regress_linear.proofs.Distinct.{Each-left, Each-right}
-use Rattle.regress_linear.proofs.Looks.{soundness-stays}
-use Rattle.regress_linear.proofs.Paid.{turns-paid, one-weighs}
-use Rattle.regress_linear.proofs.Plans.{plans-take}
-use Rattle.regress_linear.proofs.RunKeys.{runs-have-keys}
-use Rattle.regress_linear.proofs.Runs.{passing-left, passing-on, lazy-runs-go-on}
-use Rattle.regress_linear.proofs.RunTurns.{place-inside, row-next, row-last, runs-give}
-use Rattle.regress_linear.proofs.Turns.{threads-tries, turns-right}
-use Rattle.regress_linear.proofs.Weights.{turns-give}
-use Rattle.regress_ledger.specs.declared.ledger.Ledger.{Ledger}
-use Rattle.regress_ledger.specs.Bodies.{LeadsPast}
-use Rattle.regress_ledger.specs.Bound.{IsBounded}
-use Rattle.regress_ledger.specs.Checks.{StepIsRight, unlimited}
-use Rattle.regress_ledger.specs.Ledger.{line_of, account_of, questions_of, recorded, weights_of, price_of, way_of}
-use Rattle.regress_ledger.specs.Steps.{step_in}
-use Rattle.regress_ledger.specs.Whole.{IsLedgerOf, Serves}
-use Rattle.regress_ledger.proofs.WholeLemmas.{ledgers-serve}
-use Rattle.regress_memo.specs.Laws.{ledger_keys, KeyFails}
-use Rattle.regress_memo.specs.Memo.{key_at}
-use Rattle.regress_memo.specs.Search.{IsKeyed, AreKeyed, HasCome}
+use Rattle.regress_memo_laws.specs.Liveness.{Agree, outermost, ReadsAsBytes}
+use Rattle.regress_memo_laws.specs.Bisimulation.{Relation, AlikeThreads}
+use Rattle.regress_memo_laws.specs.BoundedLoopAndLookaroundCosts.{ScanIsPaid, ScanGives}
+use Rattle.regress_memo_laws.specs.LoopDataKeyCodes.{HasSlotsOfProgram, plan_code, key_of}
+use Rattle.regress_memo_laws.specs.DistinctLists.{IsNew}
+use Rattle.regress_memo_laws.specs.PreservedSlotCounts.{state_of_thread}
+use Rattle.regress_memo_laws.specs.AmortizedStepCosts.{potential_by, IsCostCovered, GreedyLoopIsCovered, LazyLoopIsCovered, RunTurnsArePaid, LazyTurnsArePaid}
+use Rattle.regress_memo_laws.specs.MemoPlans.{IsRecorded, plan_taken}
+use Rattle.regress_memo_laws.specs.CharLoopMemoKeys.{char_loop_greediness_at, CharLoopRecords, run_key}
+use Rattle.regress_memo_laws.specs.CharLoopThreads.{passing, pending_loop_threads}
+use Rattle.regress_memo_laws.specs.CharLoopSteps.{placed, AreUnknown, AtCharLoop, GreedyGives, LazyGives}
+use Rattle.regress_memo_laws.specs.MemoSearch.{Key, Entry, tried, kept, noted, tries, threads_in, entry_potential, GoesOnward, KeyStandsFor, AreSound, IsMemoStep, ReachesBySteps, gives}
+use Rattle.regress_memo_laws.specs.ThreadPotentials.{each_noted}
+use Rattle.regress_memo_laws.proofs.Beside.{others-paid, scans-give}
+use Rattle.regress_memo_laws.proofs.Distinct.{Each-left, Each-right}
+use Rattle.regress_memo_laws.proofs.Looks.{soundness-stays}
+use Rattle.regress_memo_laws.proofs.Paid.{turns-paid, one-weighs}
+use Rattle.regress_memo_laws.proofs.Plans.{plans-take}
+use Rattle.regress_memo_laws.proofs.RunKeys.{runs-have-keys}
+use Rattle.regress_memo_laws.proofs.Runs.{passing-left, passing-on, lazy-runs-go-on}
+use Rattle.regress_memo_laws.proofs.RunTurns.{place-inside, row-next, row-last, runs-give}
+use Rattle.regress_memo_laws.proofs.Turns.{threads-tries, turns-right}
+use Rattle.regress_memo_laws.proofs.Weights.{turns-give}
+use Rattle.regress_memo_analysis.specs.declared.analysis.MemoAnalysis.{MemoAnalysis}
+use Rattle.regress_memo_analysis.specs.UnreachedCharLoopBodies.{FlowsPastBodies}
+use Rattle.regress_memo_analysis.specs.WorkBound.{IsWorkBounded}
+use Rattle.regress_memo_analysis.specs.AnalysisChecks.{IsConsistentAt, unlimited}
+use Rattle.regress_memo_analysis.specs.AnalysisContents.{insn_analysis_of, liveness_of, key_code_questions_of, recorded, potentials_of, key_cost_of, insn_direction}
+use Rattle.regress_memo_analysis.specs.Successors.{successors_in}
+use Rattle.regress_memo_analysis.specs.CheckedAnalysis.{IsAnalysisOf, Serves}
+use Rattle.regress_memo_analysis.proofs.WholeLemmas.{ledgers-serve}
+use Rattle.regress_memo.specs.Laws.{analysis_keys, KeyFails}
+use Rattle.regress_memo.specs.MemoContents.{memo_key_at}
+use Rattle.regress_memo.specs.MemoSearchCosts.{IsKeyed, AreKeyed, HasCome}
 use Rattle.regress_memo.proofs.LawLemmas.{keys-are-there, records-there}
 use Rattle.regress_memo.proofs.SearchLemmas.{HasKey, has-key, no-key, keyed-joined}
 use Rattle.regress_scan.proofs.Reach.{numbers-last}
 use Rattle.regress_scan.proofs.StopSets.{places-few}
-use Rattle.regress_bounded.specs.Paying.{IsEndless, key_on, row_on, row_of_places}
+use Rattle.regress_bounded.specs.WorkCosts.{IsEndless, key_on, row_on, row_of_places}
 
 -- ---- Numbers
 
@@ -93,7 +93,7 @@ module _ (P : State → Type 0) (f : ℕ → State) where
   waits-so [] h = tt
   waits-so (n ∷ ns) h = (h.0, waits-so ns h.1)
 
-  turn-so : (ns : List ℕ) → Each (λ n. P (f n)) ns → AreSo (in_turn (map f ns))
+  turn-so : (ns : List ℕ) → Each (λ n. P (f n)) ns → AreSo (first_runs_others_wait (map f ns))
   turn-so [] h = tt
   turn-so (n ∷ ns) h = (h.0, waits-so ns h.1)
 
@@ -101,7 +101,7 @@ module _ (P : State → Type 0) (f : ℕ → State) where
   of-waits [] h = tt
   of-waits (n ∷ ns) h = (h.0, of-waits ns h.1)
 
-  of-turn : (ns : List ℕ) → AreSo (in_turn (map f ns)) → Each (λ n. P (f n)) ns
+  of-turn : (ns : List ℕ) → AreSo (first_runs_others_wait (map f ns)) → Each (λ n. P (f n)) ns
   of-turn [] h = tt
   of-turn (n ∷ ns) h = (h.0, of-waits ns h.1)
 
@@ -118,13 +118,13 @@ module _ (R : Relation) where
 
 -- ---- Texts
 
-pub left-few : (text : Text) (d : Direction) (p : ℕ) → p ≤ last_place text → characters_left text d p ≤ last_place text
+pub left-few : (text : Text) (d : Direction) (p : ℕ) → p ≤ last_place text → characters_ahead text d p ≤ last_place text
 left-few text rightwards p le = omega arith
 left-few text leftwards p le = le
 
 -- ---- Runs
 
-module _ (program : Program) (t : Ledger) (of : IsLedgerOf program t) (bounded : IsBounded t program) (text : Text) (is_text : IsText text) (bytes : ReadsAsBytes program text)
+module _ (program : Program) (t : MemoAnalysis) (of : IsAnalysisOf program t) (bounded : IsWorkBounded t program) (text : Text) (is_text : IsText text) (bytes : ReadsAsBytes program text)
     (less : units text < 2 ^ 63) (d : Direction) where
   abbrev Keyed : State → Type 0
   Keyed s = IsKeyed program text t d s
@@ -138,7 +138,7 @@ module _ (program : Program) (t : Ledger) (of : IsLedgerOf program t) (bounded :
   -- few threads, at states behind the run, which have keys
   record LeavesFew (s : State) (least most n : ℕ) (ts : List Thread) : Type 0 where
     states : List State
-    are : in_turn states ≡ ts
+    are : first_runs_others_wait states ≡ ts
     few : n ≤ most
     as_many : length states ≤ most + 1 - least
     there : Each (λ u. u.ip ≡ s.ip + 2) states
@@ -153,21 +153,21 @@ module _ (program : Program) (t : Ledger) (of : IsLedgerOf program t) (bounded :
     abbrev its-places : List ℕ
     its-places = numbers_from least (furthest + 1 - least)
 
-    turn : act program text d s ≡ scans (min most (passing text test d place + 1)) (in_turn (run_states text greedy d least furthest place s))
+    turn : act program text d s ≡ scans (min most (passing text test d place + 1)) (first_runs_others_wait (run_states text greedy d least furthest place s))
     turn = run-turn program text d place s least most greedy test run body at
 
-    each-sound : Each (λ n. Agree (account_of t) (units text) outermost d (behind text d place s n) (behind text d place s n)) its-places
+    each-sound : Each (λ n. Agree (liveness_of t) (units text) outermost d (behind text d place s n) (behind text d place s n)) its-places
     each-sound =
-        let R : Relation = λ u v. Agree (account_of t) (units text) outermost d u v in
-        let all = (soundness-stays program text (account_of t) served.plan.account d).scans outermost s _ _ keyed.sound turn in
+        let R : Relation = λ u v. Agree (liveness_of t) (units text) outermost d u v in
+        let all = (soundness-stays program text (liveness_of t) served.plan.account d).scans outermost s _ _ keyed.sound turn in
         of-either-way _ its-places greedy
         (of-turn (λ u. R u u) (behind text d place s) (if greedy then reverse its-places else its-places) (alike-each R _ all))
 
     -- a state that is keyed at a run stays keyed behind its characters
     pub scan-keyed : (n : ℕ) → least ≤ n → n ≤ most → n ≤ passing text test d place → Keyed (behind text d place s n)
     scan-keyed n le few passes =
-        let right = subst (λ o. StepIsRight t program (step_in s.ip o) s.ip) run (of.steps s.ip) in
-        let past = subst (λ o. LeadsPast program (step_in s.ip o) s.ip) run (bounded.past s.ip) in
+        let right = subst (λ o. IsConsistentAt t program (successors_in s.ip o) s.ip) run (of.steps s.ip) in
+        let past = subst (λ o. FlowsPastBodies program (successors_in s.ip o) s.ip) run (bounded.past s.ip) in
         record {
           of = record { groups = keyed.of.groups; starts = keyed.of.starts; loops = keyed.of.loops };
           sound = number-in _ least (furthest + 1 - least) each-sound n le (omega (arith, le, few, passes));
@@ -180,13 +180,13 @@ module _ (program : Program) (t : Ledger) (of : IsLedgerOf program t) (bounded :
       abbrev its-states : List State
       its-states = run_states text greedy d least furthest place s
 
-      same-turn : scans n ts ≡ scans (min most (passing text test d place + 1)) (in_turn its-states)
+      same-turn : scans n ts ≡ scans (min most (passing text test d place + 1)) (first_runs_others_wait its-states)
       same-turn = sym turned ∙ turn
 
       same-count : n ≡ min most (passing text test d place + 1)
       same-count = let same = same-turn in cc
 
-      same-threads : in_turn its-states ≡ ts
+      same-threads : first_runs_others_wait its-states ≡ ts
       same-threads = let same = same-turn in cc
 
       places-keyed : Each (λ m. Keyed (behind text d place s m)) its-places
@@ -221,20 +221,20 @@ module _ (program : Program) (t : Ledger) (of : IsLedgerOf program t) (bounded :
 
 -- ---- Runs without a maximum: their keys, and the places that they leave
 
-module _ (program : Program) (t : Ledger) (of : IsLedgerOf program t) (bounded : IsBounded t program) (text : Text) (is_text : IsText text) (bytes : ReadsAsBytes program text)
+module _ (program : Program) (t : MemoAnalysis) (of : IsAnalysisOf program t) (bounded : IsWorkBounded t program) (text : Text) (is_text : IsText text) (bytes : ReadsAsBytes program text)
     (less : units text < 2 ^ 63) (d : Direction) (s : State) (test : ℕ → Bool) (least : ℕ) (greedy : Bool) (endless : IsEndless program s test least greedy) where
   abbrev serves-here : Serves program t text
   serves-here = served program t of bounded text is_text bytes less d
 
   -- behind the run the way is the same
-  way-behind : way_of t (s.ip + 2) ≡ way_of t s.ip
-  way-behind = (subst (λ o. StepIsRight t program (step_in s.ip o) s.ip) endless.run (of.steps s.ip)).way
+  way-behind : insn_direction t (s.ip + 2) ≡ insn_direction t s.ip
+  way-behind = (subst (λ o. IsConsistentAt t program (successors_in s.ip o) s.ip) endless.run (of.steps s.ip)).way
 
-  run-records : way_of t s.ip ≡ d → RunRecords program (account_of t) (questions_of t) (way_of t) (recorded t) d test greedy s.ip
+  run-records : insn_direction t s.ip ≡ d → CharLoopRecords program (liveness_of t) (key_code_questions_of t) (insn_direction t) (recorded t) d test greedy s.ip
   run-records way =
       let written = of.runs s.ip least unlimited greedy endless.run in
       record {
-        run = ap run_at endless.run;
+        run = ap char_loop_greediness_at endless.run;
         body = endless.body;
         goes = written.way ∙ way;
         records = records-there t (s.ip + 1) (written.records refl);
@@ -243,8 +243,8 @@ module _ (program : Program) (t : Ledger) (of : IsLedgerOf program t) (bounded :
       }
 
   -- The state at the run's body has the key of what the run leaves from there.
-  pub key-is : way_of t s.ip ≡ d → (place n : ℕ)
-      → key_at t (record s { ip = s.ip + 1; pos = offset text (moved text d n place) }) ≡ Some (key_on program text t d test place s n)
+  pub key-is : insn_direction t s.ip ≡ d → (place n : ℕ)
+      → memo_key_at t (record s { ip = s.ip + 1; pos = offset text (moved text d n place) }) ≡ Some (key_on program text t d test place s n)
   key-is way place n = keys-are-there.run program text t d test greedy s (moved text d n place) (run-records way)
 
   module _ (place : ℕ) (inside : place ≤ last_place text) where
@@ -267,20 +267,20 @@ module _ (program : Program) (t : Ledger) (of : IsLedgerOf program t) (bounded :
 
     -- ---- What waits of a lazy run
 
-    pub lazy-waits : (n : ℕ) → n ≤ passes → waits_from text test d n place s ≡ waits_from text test d 0 (moved text d n place) s
+    pub lazy-waits : (n : ℕ) → n ≤ passes → pending_loop_threads text test d n place s ≡ pending_loop_threads text test d 0 (moved text d n place) s
     lazy-waits n few = (lazy-runs-go-on text test d place s inside).waits n few
 
     -- the next character is accepted
     pub lazy-later : (n : ℕ) → n ≤ passes → passing text test d (moved text d n place) ≡ 1 + passing text test d (moved text d (n + 1) place)
-        → waits_from text test d (n + 1) place s ≡ waits_from text test d 0 (moved text d (n + 1) place) s
+        → pending_loop_threads text test d (n + 1) place s ≡ pending_loop_threads text test d 0 (moved text d (n + 1) place) s
     lazy-later n few more = let sum = passing-on text test d n place inside few in lazy-waits (n + 1) (omega (arith, sum, more))
 
     -- or it is not, and none waits
-    pub lazy-last : (n : ℕ) → n ≤ passes → passing text test d (moved text d n place) ≡ 0 → waits_from text test d (n + 1) place s ≡ []
+    pub lazy-last : (n : ℕ) → n ≤ passes → passing text test d (moved text d n place) ≡ 0 → pending_loop_threads text test d (n + 1) place s ≡ []
     lazy-last n few none =
         let sum = passing-on text test d n place inside few in
         let same : n + 1 ≡ passes + 1 = omega (arith, sum, none) in
-        ap (λ m. waits_from text test d m place s) same ∙ (lazy-runs-go-on text test d place s inside).last
+        ap (λ m. pending_loop_threads text test d m place s) same ∙ (lazy-runs-go-on text test d place s inside).last
 
     -- ---- Rows of a greedy run
 
@@ -291,7 +291,7 @@ module _ (program : Program) (t : Ledger) (of : IsLedgerOf program t) (bounded :
     its-key n = key_on program text t d test place s n
 
     abbrev its-waiting : ℕ → List (Thread × Key)
-    its-waiting count = placed program text (account_of t) (questions_of t) (way_of t) (recorded t) (plan_taken program) d test s place least count
+    its-waiting count = placed program text (liveness_of t) (key_code_questions_of t) (insn_direction t) (recorded t) (plan_taken program) d test s place least count
 
     abbrev its-places-row : ℕ → List Entry
     its-places-row count = row_of_places program text t d test place s least count
@@ -338,7 +338,7 @@ module _ (program : Program) (t : Ledger) (of : IsLedgerOf program t) (bounded :
           (each-number _ 0 count (λ m first last.
           subst (IsKeyed program text t d) (behind-from text d place s n m) (place-keyed (n + m) (omega (arith, le)) (omega (arith, sum, last))))))
 
-      waits-keyed : (n : ℕ) → least ≤ n → AreKeyed program text t d (waits_from text test d n place s)
+      waits-keyed : (n : ℕ) → least ≤ n → AreKeyed program text t d (pending_loop_threads text test d n place s)
       waits-keyed n le =
           let count = passes + 1 - n in
           waits-so (IsKeyed program text t d) at-place (numbers_from n count)
@@ -350,7 +350,7 @@ module _ (program : Program) (t : Ledger) (of : IsLedgerOf program t) (bounded :
       places-keyed-over rest below (suc count) few =
           (place-keyed (least + count) (omega arith) (omega (arith, few)), places-keyed-over rest below count (omega (arith, few)))
 
-      at-run : AtRun program text (account_of t) (questions_of t) (way_of t) (recorded t) (plan_taken program) d test s greedy least unlimited place
+      at-run : AtCharLoop program text (liveness_of t) (key_code_questions_of t) (insn_direction t) (recorded t) (plan_taken program) d test s greedy least unlimited place
       at-run = record {
         run = endless.run;
         records = run-records keyed.way;
@@ -360,29 +360,29 @@ module _ (program : Program) (t : Ledger) (of : IsLedgerOf program t) (bounded :
         sound = keyed.sound;
       }
 
-module _ (program : Program) (text : Text) (t : Ledger) (d : Direction) where
-  keyed-sound : (ts : List Thread) → AreKeyed program text t d ts → AreSound program text (account_of t) (ledger_keys program text t) d ts
+module _ (program : Program) (text : Text) (t : MemoAnalysis) (d : Direction) where
+  keyed-sound : (ts : List Thread) → AreKeyed program text t d ts → AreSound program text (liveness_of t) (analysis_keys program text t) d ts
   keyed-sound ts h =
-      each-alike (Agree (account_of t) (units text) outermost d) ts
+      each-alike (Agree (liveness_of t) (units text) outermost d) ts
       (Each-map (λ u. IsKeyed program text t d (state_of_thread u)) _ (λ u k. k.sound) ts h)
 
 -- ---- Turns
 
-module _ (program : Program) (t : Ledger) (of : IsLedgerOf program t) (bounded : IsBounded t program) (text : Text) (is_text : IsText text) (bytes : ReadsAsBytes program text)
+module _ (program : Program) (t : MemoAnalysis) (of : IsAnalysisOf program t) (bounded : IsWorkBounded t program) (text : Text) (is_text : IsText text) (bytes : ReadsAsBytes program text)
     (less : units text < 2 ^ 63) (d : Direction) (memory : List Key) (first : List Entry) (work : ℕ) (now : List Key) (rest : List Entry) where
   abbrev Come : (work : ℕ) → List Key → List Entry → Type 0
   Come work now row = HasCome program text t d memory first work now row
 
   abbrev Steps : (work : ℕ) → List Entry → Type 0
   Steps work row =
-      Comes program text (account_of t) (ledger_keys program text t) d (λ k. price_of t k.ip) (weight_by program (weights_of t) (price_of t) (recorded t))
+      ReachesBySteps program text (liveness_of t) (analysis_keys program text t) d (λ k. key_cost_of t k.ip) (potential_by program (potentials_of t) (key_cost_of t) (recorded t))
       memory first work now row
 
   abbrev serves : Serves program t text
   serves = served program t of bounded text is_text bytes less d
 
   abbrev Paid : (more : ℕ) → (front entries : List Entry) → Type 0
-  Paid more front entries = IsPaid program (weights_of t) (price_of t) (recorded t) more front entries
+  Paid more front entries = IsCostCovered program (potentials_of t) (key_cost_of t) (recorded t) more front entries
 
   -- ---- A run with a maximum: one turn over characters
 
@@ -392,15 +392,15 @@ module _ (program : Program) (t : Ledger) (of : IsLedgerOf program t) (bounded :
     abbrev left : IsKeyed program text t d s → LeavesFew program t of bounded text is_text bytes less d s least most n ts
     left keyed = leaves-few program t of bounded text is_text bytes less d s keyed least most greedy run test body place at n ts turned
 
-    abbrev paid-for : ScanIsPaid program (weights_of t) (price_of t) (recorded t) (plan_code (questions_of t)) s least most
+    abbrev paid-for : ScanIsPaid program (potentials_of t) (key_cost_of t) (recorded t) (plan_code (key_code_questions_of t)) s least most
     paid-for =
-        others-paid.scans program (weights_of t) (price_of t) (recorded t) of.paid (plan_code (questions_of t)) s least most
+        others-paid.scans program (potentials_of t) (key_cost_of t) (recorded t) of.paid (plan_code (key_code_questions_of t)) s least most
         ((of.runs s.ip least most greedy run).limited limited)
 
-    abbrev given : ScanGives program text (account_of t) (questions_of t) (way_of t) (recorded t) (plan_taken program) d now s
-    given = scans-give program text (account_of t) (questions_of t) (way_of t) (recorded t) (plan_taken program) serves.plan d now s
+    abbrev given : ScanGives program text (liveness_of t) (key_code_questions_of t) (insn_direction t) (recorded t) (plan_taken program) d now s
+    given = scans-give program text (liveness_of t) (key_code_questions_of t) (insn_direction t) (recorded t) (plan_taken program) serves.plan d now s
 
-    pub limited-turned : key_at t s ≡ None → Come work now (tried (running s) ∷ rest) → Come (work + (n + 1)) now (tries ts ++ rest)
+    pub limited-turned : memo_key_at t s ≡ None → Come work now (tried (running s) ∷ rest) → Come (work + (n + 1)) now (tries ts ++ rest)
     limited-turned none h =
         let l = left h.keyed.0 in
         record {
@@ -409,15 +409,15 @@ module _ (program : Program) (t : Ledger) (of : IsLedgerOf program t) (bounded :
           keyed = keyed-joined program text t d (tries ts) rest l.keyed h.keyed.1;
         }
 
-    with-its-key : HasKey t s (key_of (plan_code (questions_of t)) s) → IsNew (key_of (plan_code (questions_of t)) s) now → Come work now (tried (running s) ∷ rest)
-        → Come (work + (n + 1)) now (tries ts ++ noted (key_of (plan_code (questions_of t)) s) (running s ∷ []) ∷ rest)
+    with-its-key : HasKey t s (key_of (plan_code (key_code_questions_of t)) s) → IsNew (key_of (plan_code (key_code_questions_of t)) s) now → Come work now (tried (running s) ∷ rest)
+        → Come (work + (n + 1)) now (tries ts ++ noted (key_of (plan_code (key_code_questions_of t)) s) (running s ∷ []) ∷ rest)
     with-its-key has new h =
-        let key = key_of (plan_code (questions_of t)) s in
+        let key = key_of (plan_code (key_code_questions_of t)) s in
         let its = noted key (running s ∷ []) in
         let keyed = h.keyed.0 in
         let l = left keyed in
         let there = records-there t s.ip has.records in
-        let rec : IsRecorded program text (account_of t) (questions_of t) (way_of t) (recorded t) (plan_taken program) d now s =
+        let rec : IsRecorded program text (liveness_of t) (key_code_questions_of t) (insn_direction t) (recorded t) (plan_taken program) d now s =
         record { records = there; goes = keyed.way; no_body = keyed.no_body; of = keyed.of; sound = keyed.sound; one = plans-take.threads program key keyed.no_body; new = new } in
         subst (Come (work + (n + 1)) now) (append_assoc (tries ts) (its ∷ []) rest) (record {
           comes = gives work (n + 1) now (tried (running s) ∷ []) (tries ts ++ its ∷ []) rest tt h.comes (given.recorded n ts turned rec)
@@ -427,7 +427,7 @@ module _ (program : Program) (t : Ledger) (of : IsLedgerOf program t) (bounded :
               (keyed-joined program text t d (tries ts) (its ∷ rest) l.keyed h.keyed.1);
         })
 
-    pub limited-recorded : (k : Key) → key_at t s ≡ Some k → IsNew k now → Come work now (tried (running s) ∷ rest)
+    pub limited-recorded : (k : Key) → memo_key_at t s ≡ Some k → IsNew k now → Come work now (tried (running s) ∷ rest)
         → Come (work + (n + 1)) now (tries ts ++ noted k (running s ∷ []) ∷ rest)
     limited-recorded k is new h =
         let has = has-key t s k is in
@@ -439,23 +439,23 @@ module _ (program : Program) (t : Ledger) (of : IsLedgerOf program t) (bounded :
   module _ (s : State) (test : ℕ → Bool) (least place : ℕ) (endless : IsEndless program s test least true) (at : place_at text s.pos ≡ Some place) where
     -- the keys of its places behind `least` characters up to before so many are new
     abbrev pub New : (n : ℕ) → Type 0
-    New n = AreUnknown program text (account_of t) (questions_of t) (way_of t) (recorded t) (plan_taken program) d test s now place least n
+    New n = AreUnknown program text (liveness_of t) (key_code_questions_of t) (insn_direction t) (recorded t) (plan_taken program) d test s now place least n
 
     on-text : place ≤ last_place text
     on-text = (offset-place_at text s.pos place is_text at).1
 
-    abbrev greedy-gives : IsKeyed program text t d s → GreedyGives program text (account_of t) (questions_of t) (way_of t) (recorded t) (plan_taken program) d test s now place least
+    abbrev greedy-gives : IsKeyed program text t d s → GreedyGives program text (liveness_of t) (key_code_questions_of t) (insn_direction t) (recorded t) (plan_taken program) d test s now place least
     greedy-gives keyed =
-        runs-give.greedy program text (account_of t) (questions_of t) (way_of t) (recorded t) (plan_taken program) d test s now place least unlimited serves.plan.account
+        runs-give.greedy program text (liveness_of t) (key_code_questions_of t) (insn_direction t) (recorded t) (plan_taken program) d test s now place least unlimited serves.plan.account
         (at-run program t of bounded text is_text bytes less d s test least true endless place on-text keyed at)
-        (λ n. let k = key_on program text t d test place s n in plans-take.greedy program s.ip k.at k.code (ap run_at endless.run))
+        (λ n. let k = key_on program text t d test place s n in plans-take.greedy program s.ip k.at k.code (ap char_loop_greediness_at endless.run))
 
-    abbrev greedy-ready : RunIsPaid program (weights_of t) (price_of t) (recorded t) least s.ip
+    abbrev greedy-ready : GreedyLoopIsCovered program (potentials_of t) (key_cost_of t) (recorded t) least s.ip
     greedy-ready = (of.runs s.ip least unlimited true endless.run).greedy refl refl
 
-    abbrev greedy-paid : RunTurnsArePaid program (weights_of t) (price_of t) (recorded t) text (account_of t) (questions_of t) (way_of t) (plan_taken program) d test s place least
+    abbrev greedy-paid : RunTurnsArePaid program (potentials_of t) (key_cost_of t) (recorded t) text (liveness_of t) (key_code_questions_of t) (insn_direction t) (plan_taken program) d test s place least
     greedy-paid =
-        turns-paid.runs program (weights_of t) (price_of t) (recorded t) text (account_of t) (questions_of t) (way_of t) (plan_taken program) d test s place least greedy-ready
+        turns-paid.runs program (potentials_of t) (key_cost_of t) (recorded t) text (liveness_of t) (key_code_questions_of t) (insn_direction t) (plan_taken program) d test s place least greedy-ready
 
     -- what is known to fail from a place on finds nothing
     row-fails : IsKeyed program text t d s → (n : ℕ) → least ≤ n → n ≤ passing text test d place → KeyFails program text t (key_on program text t d test place s n)
@@ -463,7 +463,7 @@ module _ (program : Program) (t : Ledger) (of : IsLedgerOf program t) (bounded :
     row-fails keyed n le few fails =
         let row = row_on program text t d test place s n in
         fails d row
-        ((runs-have-keys program text (account_of t) (questions_of t) (way_of t) (recorded t) (plan_taken program) d test (moved text d n place) s is_text
+        ((runs-have-keys program text (liveness_of t) (key_code_questions_of t) (insn_direction t) (recorded t) (plan_taken program) d test (moved text d n place) s is_text
         (further-inside program t of bounded text is_text bytes less d s test least true endless place on-text n few) keyed.of).greedy
         (run-records program t of bounded text is_text bytes less d s test least true endless keyed.way)
         (keyed-sound program text t d row (row-keyed program t of bounded text is_text bytes less d s test least true endless place on-text keyed at n le few)))
@@ -517,19 +517,19 @@ module _ (program : Program) (t : Ledger) (of : IsLedgerOf program t) (bounded :
     pub greedy-none : passing text test d place < least → Come work now (tried (running s) ∷ rest) → Come (work + (passing text test d place + 2)) now rest
     greedy-none few h = record {
       comes = gives work (passing text test d place + 2) now (tried (running s) ∷ []) [] rest tt h.comes ((greedy-gives h.keyed.0).none few)
-          ((others-paid.ends program (weights_of t) (price_of t) (recorded t) s).short least (passing text test d place) greedy-ready (omega (arith, few)));
+          ((others-paid.ends program (potentials_of t) (key_cost_of t) (recorded t) s).short least (passing text test d place) greedy-ready (omega (arith, few)));
       keyed = h.keyed.1;
     }
 
   -- ---- A lazy one
 
   module _ (s : State) (test : ℕ → Bool) (least place : ℕ) (endless : IsEndless program s test least false) where
-    abbrev lazy-ready : LazyRunIsPaid program (weights_of t) (price_of t) (recorded t) least s.ip
+    abbrev lazy-ready : LazyLoopIsCovered program (potentials_of t) (key_cost_of t) (recorded t) least s.ip
     lazy-ready = (of.runs s.ip least unlimited false endless.run).lazy refl refl
 
-    abbrev lazy-paid : LazyTurnsArePaid program (weights_of t) (price_of t) (recorded t) text (account_of t) (questions_of t) (way_of t) (plan_taken program) d test s place least
+    abbrev lazy-paid : LazyTurnsArePaid program (potentials_of t) (key_cost_of t) (recorded t) text (liveness_of t) (key_code_questions_of t) (insn_direction t) (plan_taken program) d test s place least
     lazy-paid =
-        turns-paid.lazy_runs program (weights_of t) (price_of t) (recorded t) text (account_of t) (questions_of t) (way_of t) (plan_taken program) d test s place least lazy-ready
+        turns-paid.lazy_runs program (potentials_of t) (key_cost_of t) (recorded t) text (liveness_of t) (key_code_questions_of t) (insn_direction t) (plan_taken program) d test s place least lazy-ready
 
     -- ---- It begins
 
@@ -537,17 +537,17 @@ module _ (program : Program) (t : Ledger) (of : IsLedgerOf program t) (bounded :
       abbrev on-its-text : place ≤ last_place text
       on-its-text = (offset-place_at text s.pos place is_text at).1
 
-      abbrev lazy-gives : IsKeyed program text t d s → LazyGives program text (account_of t) (questions_of t) (way_of t) (recorded t) (plan_taken program) d test s now place least
+      abbrev lazy-gives : IsKeyed program text t d s → LazyGives program text (liveness_of t) (key_code_questions_of t) (insn_direction t) (recorded t) (plan_taken program) d test s now place least
       lazy-gives keyed =
-          runs-give.lazy program text (account_of t) (questions_of t) (way_of t) (recorded t) (plan_taken program) d test s now place least unlimited serves.plan.account
+          runs-give.lazy program text (liveness_of t) (key_code_questions_of t) (insn_direction t) (recorded t) (plan_taken program) d test s now place least unlimited serves.plan.account
           (at-run program t of bounded text is_text bytes less d s test least false endless place on-its-text keyed at)
 
       -- the nearest place is taken, and the others wait
       pub lazy-first : least ≤ passing text test d place → Come work now (tried (running s) ∷ rest)
-          → Come (work + (least + 2)) now (tried (running (behind text d place s least)) ∷ kept (waits_from text test d (least + 1) place s) ∷ rest)
+          → Come (work + (least + 2)) now (tried (running (behind text d place s least)) ∷ kept (pending_loop_threads text test d (least + 1) place s) ∷ rest)
       lazy-first le h =
           let keyed = h.keyed.0 in
-          let waits = waits_from text test d (least + 1) place s in
+          let waits = pending_loop_threads text test d (least + 1) place s in
           record {
             comes = gives work (least + 2) now (tried (running s) ∷ []) (tried (running (behind text d place s least)) ∷ kept waits ∷ []) rest tt h.comes
                 ((lazy-gives keyed).first le) lazy-paid.taken_up;
@@ -562,7 +562,7 @@ module _ (program : Program) (t : Ledger) (of : IsLedgerOf program t) (bounded :
       pub lazy-none : passing text test d place < least → Come work now (tried (running s) ∷ rest) → Come (work + (passing text test d place + 2)) now rest
       lazy-none few h = record {
         comes = gives work (passing text test d place + 2) now (tried (running s) ∷ []) [] rest tt h.comes ((lazy-gives h.keyed.0).none few)
-            ((others-paid.ends program (weights_of t) (price_of t) (recorded t) s).short_lazy least (passing text test d place) lazy-ready (omega (arith, few)));
+            ((others-paid.ends program (potentials_of t) (key_cost_of t) (recorded t) s).short_lazy least (passing text test d place) lazy-ready (omega (arith, few)));
         keyed = h.keyed.1;
       }
 
@@ -570,10 +570,10 @@ module _ (program : Program) (t : Ledger) (of : IsLedgerOf program t) (bounded :
 
     module _ (inside : place ≤ last_place text) where
       abbrev its-waits : List Thread
-      its-waits = waits_from text test d 0 place s
+      its-waits = pending_loop_threads text test d 0 place s
 
       abbrev more-waits : List Thread
-      more-waits = waits_from text test d 1 place s
+      more-waits = pending_loop_threads text test d 1 place s
 
       abbrev nearest : State
       nearest = behind text d place s 0
@@ -602,44 +602,44 @@ module _ (program : Program) (t : Ledger) (of : IsLedgerOf program t) (bounded :
             below = Each-right (λ u. IsKeyed program text t d (state_of_thread u)) its-waits (threads_in rest) h.keyed;
           }
 
-      run-way : Waits → way_of t s.ip ≡ d
+      run-way : Waits → insn_direction t s.ip ≡ d
       run-way w = sym (way-behind program t of bounded text is_text bytes less d s test least false endless) ∙ w.nearest_keyed.way
 
-      run-state : Waits → IsStateOf program s
+      run-state : Waits → HasSlotsOfProgram program s
       run-state w = let k = w.nearest_keyed in record { groups = k.of.groups; starts = k.of.starts; loops = k.of.loops }
 
-      its-records : Waits → RunRecords program (account_of t) (questions_of t) (way_of t) (recorded t) d test false s.ip
+      its-records : Waits → CharLoopRecords program (liveness_of t) (key_code_questions_of t) (insn_direction t) (recorded t) d test false s.ip
       its-records w = run-records program t of bounded text is_text bytes less d s test least false endless (run-way w)
 
-      waits-sound : Waits → AreSound program text (account_of t) (ledger_keys program text t) d its-waits
+      waits-sound : Waits → AreSound program text (liveness_of t) (analysis_keys program text t) d its-waits
       waits-sound w = keyed-sound program text t d its-waits w.all_keyed
 
-      waits-of-key : Waits → IsOf program text (account_of t) (ledger_keys program text t) d its-first-key its-waits
+      waits-of-key : Waits → KeyStandsFor program text (liveness_of t) (analysis_keys program text t) d its-first-key its-waits
       waits-of-key w =
-          let here : run_key program text (account_of t) (questions_of t) (way_of t) (recorded t) (plan_taken program) d place s ≡ its-first-key =
-          ap (λ q. run_key program text (account_of t) (questions_of t) (way_of t) (recorded t) (plan_taken program) d q s) (sym (moved-zero text d place)) in
-          subst (λ k. IsOf program text (account_of t) (ledger_keys program text t) d k its-waits) here
-          ((runs-have-keys program text (account_of t) (questions_of t) (way_of t) (recorded t) (plan_taken program) d test place s is_text inside (run-state w)).lazy
+          let here : run_key program text (liveness_of t) (key_code_questions_of t) (insn_direction t) (recorded t) (plan_taken program) d place s ≡ its-first-key =
+          ap (λ q. run_key program text (liveness_of t) (key_code_questions_of t) (insn_direction t) (recorded t) (plan_taken program) d q s) (sym (moved-zero text d place)) in
+          subst (λ k. KeyStandsFor program text (liveness_of t) (analysis_keys program text t) d k its-waits) here
+          ((runs-have-keys program text (liveness_of t) (key_code_questions_of t) (insn_direction t) (recorded t) (plan_taken program) d test place s is_text inside (run-state w)).lazy
           (its-records w) (waits-sound w))
 
       alone : threads_in (kept its-waits ∷ []) ≡ its-waits
       alone = append-nil its-waits
 
       -- something stands ready for it
-      some-ready : 1 ≤ sum_by (weighs (weight_by program (weights_of t) (price_of t) (recorded t))) (kept its-waits ∷ [])
+      some-ready : 1 ≤ sum_by (entry_potential (potential_by program (potentials_of t) (key_cost_of t) (recorded t))) (kept its-waits ∷ [])
       some-ready =
-          let weight : List Thread → ℕ = λ ts. weight_by program (weights_of t) (price_of t) (recorded t) ts in
-          let x = one-weighs program (weights_of t) (price_of t) (recorded t) (kept its-waits) in
-          let y : weight its-waits ≡ (line_of t (s.ip + 2)).ready + 1 = ap weight nearest-first in
+          let weight : List Thread → ℕ = λ ts. potential_by program (potentials_of t) (key_cost_of t) (recorded t) ts in
+          let x = one-weighs program (potentials_of t) (key_cost_of t) (recorded t) (kept its-waits) in
+          let y : weight its-waits ≡ (insn_analysis_of t (s.ip + 2)).ready + 1 = ap weight nearest-first in
           omega (arith, x, y)
 
-      pub lazy-way : Come work now (kept its-waits ∷ rest) → way_of t s.ip ≡ d
+      pub lazy-way : Come work now (kept its-waits ∷ rest) → insn_direction t s.ip ≡ d
       lazy-way h = run-way (waits-known h)
 
       -- the state at the run's body has the key of what waits
-      pub lazy-key : Come work now (kept its-waits ∷ rest) → key_at t (record s { ip = s.ip + 1; pos = offset text place }) ≡ Some its-first-key
+      pub lazy-key : Come work now (kept its-waits ∷ rest) → memo_key_at t (record s { ip = s.ip + 1; pos = offset text place }) ≡ Some its-first-key
       lazy-key h =
-          ap (λ p. key_at t (record s { ip = s.ip + 1; pos = offset text p })) (sym (moved-zero text d place))
+          ap (λ p. memo_key_at t (record s { ip = s.ip + 1; pos = offset text p })) (sym (moved-zero text d place))
           ∙ key-is program t of bounded text is_text bytes less d s test least false endless (lazy-way h) place 0
 
       -- what waits is known to fail
@@ -648,8 +648,8 @@ module _ (program : Program) (t : Ledger) (of : IsLedgerOf program t) (bounded :
           let w = waits-known h in
           record {
             comes = gives work 1 now (kept its-waits ∷ []) [] rest tt h.comes
-                (subst (λ ts. Gives program text (account_of t) (ledger_keys program text t) d now ts []) (sym alone)
-                ((turns-right program text (account_of t) (ledger_keys program text t) serves.plan.account serves.serves.keys d).dropped now its-first-key its-waits fails (waits-of-key w)))
+                (subst (λ ts. IsMemoStep program text (liveness_of t) (analysis_keys program text t) d now ts []) (sym alone)
+                ((turns-right program text (liveness_of t) (analysis_keys program text t) serves.plan.account serves.serves.keys d).dropped now its-first-key its-waits fails (waits-of-key w)))
                 (let some = some-ready in omega (arith, some));
             keyed = w.below;
           }
@@ -662,16 +662,16 @@ module _ (program : Program) (t : Ledger) (of : IsLedgerOf program t) (bounded :
           let entries = tried (running nearest) ∷ kept more-waits ∷ noted its-first-key its-waits ∷ [] in
           record {
             comes = gives work 2 now (kept its-waits ∷ []) entries rest tt h.comes
-                (subst (λ ts. Gives program text (account_of t) (ledger_keys program text t) d now ts entries) (sym alone)
-                (runs-give.lazy_again program text (account_of t) (questions_of t) (way_of t) (recorded t) (plan_taken program) d test s now place serves.plan.account inside
-                (its-records w) (run-state w) (waits-sound w) (plans-take.lazy program s.ip its-first-key.at its-first-key.code (ap run_at endless.run)) new))
+                (subst (λ ts. IsMemoStep program text (liveness_of t) (analysis_keys program text t) d now ts entries) (sym alone)
+                (runs-give.lazy_again program text (liveness_of t) (key_code_questions_of t) (insn_direction t) (recorded t) (plan_taken program) d test s now place serves.plan.account inside
+                (its-records w) (run-state w) (waits-sound w) (plans-take.lazy program s.ip its-first-key.at its-first-key.code (ap char_loop_greediness_at endless.run)) new))
                 lazy-paid.again;
             keyed = (w.nearest_keyed, Each-append (λ u. IsKeyed program text t d (state_of_thread u)) more-waits (threads_in rest) w.more_keyed w.below);
           }
 
 -- ---- None waits
 
-module _ (program : Program) (t : Ledger) (text : Text) (memory : List Key) (first : List Entry) (work : ℕ) (now : List Key) (rest : List Entry) (r : State) where
+module _ (program : Program) (t : MemoAnalysis) (text : Text) (memory : List Key) (first : List Entry) (work : ℕ) (now : List Key) (rest : List Entry) (r : State) where
   stays-on : (d : Direction) → GoesOnward d (running r ∷ []) (tried (running r) ∷ [])
   stays-on rightwards = (omega arith, tt, tt)
   stays-on leftwards = tt
@@ -681,14 +681,14 @@ module _ (program : Program) (t : Ledger) (text : Text) (memory : List Key) (fir
       → HasCome program text t d memory first work now (tried (running r) ∷ rest)
   kept-none d h =
       let front = tried (running r) ∷ kept [] ∷ [] in
-      let weight : List Thread → ℕ = λ ts. weight_by program (weights_of t) (price_of t) (recorded t) ts in
-      let x = sum_by-cons (weighs weight) (tried (running r)) (kept [] ∷ []) in
-      let y = one-weighs program (weights_of t) (price_of t) (recorded t) (tried (running r)) in
+      let weight : List Thread → ℕ = λ ts. potential_by program (potentials_of t) (key_cost_of t) (recorded t) ts in
+      let x = sum_by-cons (entry_potential weight) (tried (running r)) (kept [] ∷ []) in
+      let y = one-weighs program (potentials_of t) (key_cost_of t) (recorded t) (tried (running r)) in
       let none : work + 0 ≡ work = omega arith in
       record {
-        comes = subst (λ n. Comes program text (account_of t) (ledger_keys program text t) d (λ k. price_of t k.ip) weight memory first n now (tried (running r) ∷ rest)) none
+        comes = subst (λ n. ReachesBySteps program text (liveness_of t) (analysis_keys program text t) d (λ k. key_cost_of t k.ip) weight memory first n now (tried (running r) ∷ rest)) none
             (gives work 0 now front (tried (running r) ∷ []) rest tt h.comes
-            ((turns-give program text (account_of t) (ledger_keys program text t) d now).passed 0 (tried (running r) ∷ []) (running r ∷ []) tt
+            ((turns-give program text (liveness_of t) (analysis_keys program text t) d now).passed 0 (tried (running r) ∷ []) (running r ∷ []) tt
             (simulates-same program text false d (running r ∷ [])) (stays-on d))
             (omega (arith, x, y)));
         keyed = h.keyed;

@@ -4,40 +4,40 @@ use Rattle.std.specs.Prelude.{nat_lt}
 use Rattle.std.proofs.lemmas.Bool.{ltb-true}
 use Rattle.std.proofs.Math.Nat.{add-mul, mul-add}
 use Rattle.regex_meaning.specs.Text.{Text, rightwards}
-use Rattle.regex_meaning.specs.Offsets.{IsText, units}
-use Rattle.regex_meaning.specs.Layout.{Program}
-use Rattle.regress_machine.specs.Finds.{initial}
+use Rattle.regex_meaning.specs.CodeUnitOffsets.{IsText, units}
+use Rattle.regex_meaning.specs.CompilationRelation.{Program}
+use Rattle.regress_machine.specs.SearchResults.{state_before_first_insn}
 use Rattle.regress_machine.specs.Machine.{Thread, running}
-use Rattle.regress_linear.specs.Account.{ReadsAsBytes}
-use Rattle.regress_linear.specs.Codes.{plan_codes}
-use Rattle.regress_linear.specs.Distinct.{IsIn}
-use Rattle.regress_linear.specs.Paid.{weight_by}
-use Rattle.regress_linear.specs.Starts.{at_first, passed, failed, found}
-use Rattle.regress_linear.specs.Turns.{Key, Entry, tried, tries, keys_in, at_of, AreOnward, Answers, IsMemory}
-use Rattle.regress_linear.specs.Turns as turns
-use Rattle.regress_linear.proofs.Distinct.{Each-right, distinct-right}
-use Rattle.regress_linear.proofs.Paid.{one-weighs}
-use Rattle.regress_linear.proofs.Turns.{turns-go-on, work-is-bounded}
-use Rattle.regress_linear.proofs.Weights.{places-keys}
-use Rattle.regress_ledger.specs.declared.ledger.Ledger.{Ledger}
-use Rattle.regress_ledger.specs.Bound.{price_of_all, work_for_each, first_row}
-use Rattle.regress_ledger.specs.Ledger.{line_of, account_of, questions_of, recorded, weights_of, price_of}
-use Rattle.regress_ledger.specs.Whole.{IsLedgerOf, Serves}
-use Rattle.regress_ledger.proofs.BoundLemmas.{ledgers-bound, prices-of-all}
-use Rattle.regress_ledger.proofs.WholeLemmas.{ledgers-serve}
-use Rattle.regress_memo.specs.Laws.{ledger_keys, Holds}
-use Rattle.regress_memo.specs.Memo.{has_failure, IsBegun}
-use Rattle.regress_memo.specs.Room.{Known}
-use Rattle.regress_memo.specs.Search.{HasCome}
+use Rattle.regress_memo_laws.specs.Liveness.{ReadsAsBytes}
+use Rattle.regress_memo_laws.specs.LoopDataKeyCodes.{plan_codes}
+use Rattle.regress_memo_laws.specs.DistinctLists.{IsIn}
+use Rattle.regress_memo_laws.specs.AmortizedStepCosts.{potential_by}
+use Rattle.regress_memo_laws.specs.AttemptCounts.{at_first, passed, failed, found}
+use Rattle.regress_memo_laws.specs.MemoSearch.{Key, Entry, tried, tries, keys_in, at_of, AreOnward, Answers, IsMemory}
+use Rattle.regress_memo_laws.specs.MemoSearch as turns
+use Rattle.regress_memo_laws.proofs.Distinct.{Each-right, distinct-right}
+use Rattle.regress_memo_laws.proofs.Paid.{one-weighs}
+use Rattle.regress_memo_laws.proofs.Turns.{turns-go-on, work-is-bounded}
+use Rattle.regress_memo_laws.proofs.Weights.{places-keys}
+use Rattle.regress_memo_analysis.specs.declared.analysis.MemoAnalysis.{MemoAnalysis}
+use Rattle.regress_memo_analysis.specs.WorkBound.{cost_of_all_keys, work_per_position, first_row}
+use Rattle.regress_memo_analysis.specs.AnalysisContents.{insn_analysis_of, liveness_of, key_code_questions_of, recorded, potentials_of, key_cost_of}
+use Rattle.regress_memo_analysis.specs.CheckedAnalysis.{IsAnalysisOf, Serves}
+use Rattle.regress_memo_analysis.proofs.BoundLemmas.{ledgers-bound, prices-of-all}
+use Rattle.regress_memo_analysis.proofs.WholeLemmas.{ledgers-serve}
+use Rattle.regress_memo.specs.Laws.{analysis_keys, Holds}
+use Rattle.regress_memo.specs.MemoContents.{has_failure, IsEmptyMemo}
+use Rattle.regress_memo.specs.MemoContractView.{MemoView}
+use Rattle.regress_memo.specs.MemoSearchCosts.{HasCome}
 use Rattle.regress_memo.proofs.LawLemmas.{memos-hold}
 use Rattle.regress_memo.proofs.SearchLemmas.{searches-are-paid}
-use Rattle.regress_bounded.specs.Paying.{HasWalked, IsWalked, IsTrying}
+use Rattle.regress_bounded.specs.WorkCosts.{HasWalked, IsWalked, IsTrying}
 
 -- ---- What is known
 
 -- at first nothing is
-pub memory-of : (t : Ledger) (places : ℕ) (with_ends : Bool) (m : Known) → IsBegun t places with_ends m → Holds (has_failure m) []
-memory-of t places with_ends m begun = (memos-hold.begun t places with_ends m begun).0
+pub memory-of : (t : MemoAnalysis) (places : ℕ) (records_successes : Bool) (m : MemoView) → IsEmptyMemo t places records_successes m → Holds (has_failure m) []
+memory-of t places records_successes m begun = (memos-hold.begun t places records_successes m begun).0
 
 -- ---- Places
 
@@ -51,7 +51,7 @@ behind-end at end le = by (nat_lt at end) refl
 
 -- ---- Attempts
 
-module _ (program : Program) (t : Ledger) (of : IsLedgerOf program t) (text : Text) (is_text : IsText text) (bytes : ReadsAsBytes program text) (less : units text < 2 ^ 63) where
+module _ (program : Program) (t : MemoAnalysis) (of : IsAnalysisOf program t) (text : Text) (is_text : IsText text) (bytes : ReadsAsBytes program text) (less : units text < 2 ^ 63) where
   abbrev Walked : (ahead done : ℕ) → List Key → Type 0
   Walked ahead done memory = HasWalked program text t ahead done memory
 
@@ -66,10 +66,10 @@ module _ (program : Program) (t : Ledger) (of : IsLedgerOf program t) (text : Te
   served = ledgers-serve program t of text is_text bytes less
 
   abbrev price : Key → ℕ
-  price k = price_of t k.ip
+  price k = key_cost_of t k.ip
 
   abbrev weight : List Thread → ℕ
-  weight ts = weight_by program (weights_of t) (price_of t) (recorded t) ts
+  weight ts = potential_by program (potentials_of t) (key_cost_of t) (recorded t) ts
 
   -- before the first attempt
   pub stands-still : (at : ℕ) → Walked at 0 []
@@ -103,28 +103,28 @@ module _ (program : Program) (t : Ledger) (of : IsLedgerOf program t) (text : Te
   -- it goes on from there
   pub in-order : (at : ℕ) (memory : List Key) (work : ℕ) (now : List Key) (u : Thread) (rest : List Entry) → Come at memory work now (tried u ∷ rest) → at ≤ at_of u
   in-order at memory work now u rest h =
-      (turns-go-on program text (account_of t) (ledger_keys program text t) rightwards price weight memory (first_row program at) at work now (tried u ∷ rest) refl (first-onward at) h.comes).0
+      (turns-go-on program text (liveness_of t) (analysis_keys program text t) rightwards price weight memory (first_row program at) at work now (tried u ∷ rest) refl (first-onward at) h.comes).0
 
   module _ (at done : ℕ) (memory : List Key) (walked : Walked at done memory) (answers : Answered at) (more : ℕ) (now : List Key) (row : List Entry) where
     -- what a search knows and owes after any number of turns
     stands-so : Come at memory more now row
-        → turns.HasCome program text (account_of t) (ledger_keys program text t) rightwards price weight memory (first_row program at) more now row answers.found
+        → turns.HasCome program text (liveness_of t) (analysis_keys program text t) rightwards price weight memory (first_row program at) more now row answers.found
     stands-so h =
-        work-is-bounded program text (account_of t) (ledger_keys program text t) served.plan.account served.serves.keys rightwards price weight memory (first_row program at)
+        work-is-bounded program text (liveness_of t) (analysis_keys program text t) served.plan.account served.serves.keys rightwards price weight memory (first_row program at)
         answers.turns answers.found walked.is answers.searches more now row h.comes
 
-    still-memory : Come at memory more now row → IsMemory program text (account_of t) (ledger_keys program text t) now
+    still-memory : Come at memory more now row → IsMemory program text (liveness_of t) (analysis_keys program text t) now
     still-memory h =
         let s = (stands-so h).stands in
         record {
           known = s.known;
           distinct = distinct-right (keys_in row) now s.distinct;
-          inside = Each-right (λ k. IsIn k (ledger_keys program text t).all) (keys_in row) now s.inside;
+          inside = Each-right (λ k. IsIn k (analysis_keys program text t).all) (keys_in row) now s.inside;
         }
 
     -- what the attempts so far may do, and this one, and one unit more for each place
     pub with-room : at ≤ units text → Come at memory more now row
-        → done + more + (units text + 1) ≤ (1 + (work_for_each t + (price_of_all t + (line_of t 0).ready))) * (units text + 1)
+        → done + more + (units text + 1) ≤ (1 + (work_per_position t + (cost_of_all_keys t + (insn_analysis_of t 0).ready))) * (units text + 1)
     with-room inside h =
         let n = units text + 1 in
         let order = walked.order in
@@ -143,21 +143,21 @@ module _ (program : Program) (t : Ledger) (of : IsLedgerOf program t) (text : Te
           all = refl;
         }) in
         let here = (stands-so h).bounded in
-        let first = one-weighs program (weights_of t) (price_of t) (recorded t) (tried (running (initial program at))) in
-        let cost = places-keys.cost (recorded t) (units text) (plan_codes (questions_of t)) (price_of t) in
+        let first = one-weighs program (potentials_of t) (key_cost_of t) (recorded t) (tried (running (state_before_first_insn program at))) in
+        let cost = places-keys.cost (recorded t) (units text) (plan_codes (key_code_questions_of t)) (key_cost_of t) in
         let prices = ap (λ p. p * n) (prices-of-all t of.coded) in
-        let some = mul-one (line_of t 0).ready (units text) in
-        let a = add-mul (1 + work_for_each t) (price_of_all t + (line_of t 0).ready) n in
-        let b = add-mul (price_of_all t) (line_of t 0).ready n in
-        let same : (1 + (work_for_each t + (price_of_all t + (line_of t 0).ready))) * n ≡ (1 + work_for_each t + (price_of_all t + (line_of t 0).ready)) * n = ap (λ m. m * n) (omega arith) in
-        let its : (0 + 1 + work_for_each t) * n ≡ (1 + work_for_each t) * n = ap (λ m. m * n) (omega arith) in
+        let some = mul-one (insn_analysis_of t 0).ready (units text) in
+        let a = add-mul (1 + work_per_position t) (cost_of_all_keys t + (insn_analysis_of t 0).ready) n in
+        let b = add-mul (cost_of_all_keys t) (insn_analysis_of t 0).ready n in
+        let same : (1 + (work_per_position t + (cost_of_all_keys t + (insn_analysis_of t 0).ready))) * n ≡ (1 + work_per_position t + (cost_of_all_keys t + (insn_analysis_of t 0).ready)) * n = ap (λ m. m * n) (omega arith) in
+        let its : (0 + 1 + work_per_position t) * n ≡ (1 + work_per_position t) * n = ap (λ m. m * n) (omega arith) in
         omega (arith, before, here, first, cost, prices, some, a, b, same, its)
       where
         mul-one : (r u : ℕ) → r ≤ r * (u + 1)
         mul-one r u = let m = mul-add r u 1 in omega (arith, m)
 
     pub so-far : at ≤ units text → Come at memory more now row
-        → done + more ≤ (1 + (work_for_each t + (price_of_all t + (line_of t 0).ready))) * (units text + 1)
+        → done + more ≤ (1 + (work_per_position t + (cost_of_all_keys t + (insn_analysis_of t 0).ready))) * (units text + 1)
     so-far inside h = let all = with-room inside h in omega (arith, all)
 
   -- ---- An attempt is done

@@ -1,13 +1,13 @@
 -- Characters that a run passes, one after another.
 use Rattle.std.proofs.Common.{◌≡◌, ◌≤◌, ℕ, ◌+◌, Bool, true, false, Option, Some, sym, ap, ◌∙◌, subst, arith}
 use Rattle.regex_meaning.specs.Text.{Text, rightwards, moved}
-use Rattle.regex_meaning.specs.Offsets.{IsText, IsBoundary, offset as text_offset, place_at}
+use Rattle.regex_meaning.specs.CodeUnitOffsets.{IsText, IsBoundary, offset as text_offset, place_at}
 use Rattle.regex_meaning.proofs.TextLemmas.{offset-place_at, offset-IsBoundary}
-use Rattle.regress_input.specs.Reading.{led_to, past_if}
-use Rattle.regress_linear.specs.Runs.{passing}
+use Rattle.regress_input.specs.ReadsFromOffset.{end_if_matched, past_if}
+use Rattle.regress_memo_laws.specs.CharLoopThreads.{passing}
 use Rattle.regress_machine.proofs.Beside.{moved-zero}
 use Rattle.regress_scan.proofs.Reach.{one-on, none-on}
-use Rattle.regress_bounded.specs.Courses.{IsPast}
+use Rattle.regress_bounded.specs.SearchStateEntries.{IsPast}
 
 module _ {P : Type 0} (offset : P → ℕ) (text : Text) (is : IsText text) (test : ℕ → Bool) (place : ℕ) where
   abbrev pub At : (count : ℕ) → P → Type 0
@@ -26,15 +26,15 @@ module _ {P : Type 0} (offset : P → ℕ) (text : Text) (is : IsText text) (tes
       }
 
   -- the next one passes
-  pub past-more : (count : ℕ) (pos next : P) (found : Bool) → At count pos → found ≡ true → led_to found (offset next) ≡ past_if text test rightwards (offset pos) → At (count + 1) next
+  pub past-more : (count : ℕ) (pos next : P) (found : Bool) → At count pos → found ≡ true → end_if_matched found (offset next) ≡ past_if text test rightwards (offset pos) → At (count + 1) next
   past-more count pos next found h passes led =
-      let on = one-on text is test rightwards place count (offset pos) h.at h.within (offset next) (ap (λ b. led_to b (offset next)) (sym passes) ∙ led) in
+      let on = one-on text is test rightwards place count (offset pos) h.at h.within (offset next) (ap (λ b. end_if_matched b (offset next)) (sym passes) ∙ led) in
       record { at = on.there; within = on.within; sum = (let s = h.sum in let l = on.left in omega (arith, s, l)) }
 
   -- it does not, or there is none
-  pub past-all : (count : ℕ) (pos : P) (to : ℕ) (found : Bool) → At count pos → found ≡ false → led_to found to ≡ past_if text test rightwards (offset pos)
+  pub past-all : (count : ℕ) (pos : P) (to : ℕ) (found : Bool) → At count pos → found ≡ false → end_if_matched found to ≡ past_if text test rightwards (offset pos)
       → passing text test rightwards (moved text rightwards count place) ≡ 0
-  past-all count pos to found h fails led = none-on text is test rightwards place count (offset pos) h.at h.within (ap (λ b. led_to b to) (sym fails) ∙ led)
+  past-all count pos to found h fails led = none-on text is test rightwards place count (offset pos) h.at h.within (ap (λ b. end_if_matched b to) (sym fails) ∙ led)
 
   pub past-boundary : (count : ℕ) (pos : P) → At count pos → IsBoundary text (offset pos)
   past-boundary count pos h = subst (IsBoundary text) (sym h.at) (offset-IsBoundary text (moved text rightwards count place) is h.within)

@@ -3,48 +3,48 @@ use Rattle.std.proofs.Common.{◌≡◌, ◌≤◌, ◌<◌, ℕ, ◌+◌, true,
 use Rattle.std.proofs.lemmas.List.{reverse-append}
 use Rattle.std.specs.Prelude.{reverse}
 use Rattle.regex_meaning.specs.Text.{Text, rightwards}
-use Rattle.regex_meaning.specs.Offsets.{units}
-use Rattle.regex_meaning.specs.Layout.{Program}
+use Rattle.regex_meaning.specs.CodeUnitOffsets.{units}
+use Rattle.regex_meaning.specs.CompilationRelation.{Program}
 use Rattle.regress_machine.specs.Machine as machine
-use Rattle.regress_machine.specs.Machine.{Thread, running, waiting, Next, goes, scans, ends, asks, stuck, act, Found, nothing, search}
-use Rattle.regress_machine.specs.Turns.{CanTake}
+use Rattle.regress_machine.specs.Machine.{Thread, running, waiting, Next, goes, scans, ends, asks, stuck, act, Found, result_without_threads, search}
+use Rattle.regress_machine.specs.InsnEffects.{IsNotStuck}
 use Rattle.regress_machine.proofs.Search.{ends-found, never_stuck}
-use Rattle.regress_linear.specs.Paid.{weight_by}
-use Rattle.regress_linear.specs.Distinct.{IsNew}
-use Rattle.regress_linear.specs.Turns.{Key, Keys, Entry, tried, noted, tries, threads_in, IsMemory, Stands as Finds}
-use Rattle.regress_linear.proofs.Turns.{work-is-bounded, reached-fail}
-use Rattle.regress_ledger.specs.declared.ledger.Ledger.{Ledger}
-use Rattle.regress_ledger.specs.Bound.{first_row}
-use Rattle.regress_ledger.specs.Ledger.{account_of, recorded, weights_of, price_of}
-use Rattle.regress_ledger.specs.Whole.{HasBit, Serves}
-use Rattle.regress_ledger.proofs.WholeLemmas.{ledgers-serve}
-use Rattle.regress_memo.specs.Laws.{ledger_keys, KeyFails}
-use Rattle.regress_memo.specs.Memo.{as_key, key_at, has_failure, NotesFailure}
-use Rattle.regress_memo.specs.Room.{Known}
-use Rattle.regress_memo.specs.Search.{HasCome, IsKeyed, ComesOn}
+use Rattle.regress_memo_laws.specs.AmortizedStepCosts.{potential_by}
+use Rattle.regress_memo_laws.specs.DistinctLists.{IsNew}
+use Rattle.regress_memo_laws.specs.MemoSearch.{Key, Keys, Entry, tried, noted, tries, threads_in, IsMemory, HoldsInvariant as Finds}
+use Rattle.regress_memo_laws.proofs.Turns.{work-is-bounded, reached-fail}
+use Rattle.regress_memo_analysis.specs.declared.analysis.MemoAnalysis.{MemoAnalysis}
+use Rattle.regress_memo_analysis.specs.WorkBound.{first_row}
+use Rattle.regress_memo_analysis.specs.AnalysisContents.{liveness_of, recorded, potentials_of, key_cost_of}
+use Rattle.regress_memo_analysis.specs.CheckedAnalysis.{HasBit, Serves}
+use Rattle.regress_memo_analysis.proofs.WholeLemmas.{ledgers-serve}
+use Rattle.regress_memo.specs.Laws.{analysis_keys, KeyFails}
+use Rattle.regress_memo.specs.MemoContents.{as_key, memo_key_at, has_failure, RecordsFailure}
+use Rattle.regress_memo.specs.MemoContractView.{MemoView}
+use Rattle.regress_memo.specs.MemoSearchCosts.{HasCome, IsKeyed, ComesOn}
 use Rattle.regress_memo.proofs.LawLemmas.{memos-hold, memos-are-true, keys-are-there}
-use Rattle.regress_memo.specs.declared.memo.Key.{Key as Stored}
+use Rattle.regress_memo.specs.declared.memo.MemoKey.{MemoKey as Stored}
 use Rattle.regress_memo.proofs.SearchLemmas.{searches-are-paid}
-use Rattle.regress_bounded.specs.declared.course.Course.{Course}
-use Rattle.regress_bounded.specs.declared.row.Waiting.{Waiting}
-use Rattle.regress_bounded.specs.declared.row.Waiting.TheVariants.{Thread as AsThread, Record as AsRecord}
+use Rattle.regress_bounded.specs.declared.work_budget.WorkBudget.{WorkBudget}
+use Rattle.regress_bounded.specs.declared.pending_stack.StackEntry.{StackEntry}
+use Rattle.regress_bounded.specs.declared.pending_stack.StackEntry.TheVariants.{Thread as AsThread, Record as AsRecord}
 use Rattle.regress_pikevm.specs.declared.pikevm.states.State.{State}
 use Rattle.std.proofs.Math.Logic.{∥∥₁_map, ∥∥₁_elim}
 use Rattle.std.proofs.Props.{props}
-use Rattle.regress_bounded.specs.Courses.{IsPaid, IsRight, KnowsRightly, IsStanding, Begin, HasKeyHere, IsRecordOf, StandsFor, AreFor, IsRow, Stands}
-use Rattle.regress_bounded.specs.Courses.{IsOver, front_of}
-use Rattle.regress_bounded.specs.Spending.{HasSpent, IsSpent}
+use Rattle.regress_bounded.specs.SearchStateEntries.{IsPaid, IsRight, IsMemoRight, IsStanding, AttemptBeginning, HasKeyNotKnownToFail, IsRecordOf, StandsFor, AreFor, IsRow, Stands}
+use Rattle.regress_bounded.specs.SearchStateEntries.{IsOver, front_of}
+use Rattle.regress_bounded.specs.BudgetSpending.{IsTakenFromBudget, IsBudgetExhausted}
 use Rattle.regress_pikevm.specs.States.{state_of}
 
 -- ---- Rows
 
 module _ {P : Type 0} (offset : P → ℕ) (program : Program) (text : Text) where
   -- one more waits
-  pub row-push : (stack : List (Waiting P)) (w : Waiting P) (e : Entry) (row : List Entry) → StandsFor offset program text w e → IsRow offset program text stack row
+  pub row-push : (stack : List (StackEntry P)) (w : StackEntry P) (e : Entry) (row : List Entry) → StandsFor offset program text w e → IsRow offset program text stack row
       → IsRow offset program text (stack ++ w ∷ []) (e ∷ row)
   row-push stack w e row s r = subst (λ l. AreFor offset program text l (e ∷ row)) (sym (reverse-append stack (w ∷ []))) (s, r)
 
-  pub record Popped (stack : List (Waiting P)) (w : Waiting P) (row : List Entry) : Type 0 where
+  pub record Popped (stack : List (StackEntry P)) (w : StackEntry P) (row : List Entry) : Type 0 where
     pub entry : Entry
     pub rest : List Entry
     pub is : row ≡ entry ∷ rest
@@ -52,7 +52,7 @@ module _ {P : Type 0} (offset : P → ℕ) (program : Program) (text : Text) whe
     pub below : IsRow offset program text stack rest
 
   -- the last one comes first
-  pub row-pop : (stack : List (Waiting P)) (w : Waiting P) (row : List Entry) → IsRow offset program text (stack ++ w ∷ []) row → Popped stack w row
+  pub row-pop : (stack : List (StackEntry P)) (w : StackEntry P) (row : List Entry) → IsRow offset program text (stack ++ w ∷ []) row → Popped stack w row
   row-pop stack w row r = by row (subst (λ l. AreFor offset program text l row) (reverse-append stack (w ∷ [])) r)
     where
       by : (row : List Entry) → AreFor offset program text (w ∷ reverse stack) row → Popped stack w row
@@ -65,30 +65,30 @@ module _ {P : Type 0} (offset : P → ℕ) (program : Program) (text : Text) whe
 
 -- ---- What a search finds
 
-module _ (program : Program) (text : Text) (t : Ledger) (paid : IsPaid program text t) where
+module _ (program : Program) (text : Text) (t : MemoAnalysis) (paid : IsPaid program text t) where
   abbrev pub served : Serves program t text
-  served = ledgers-serve program t paid.ledger text paid.is_text paid.bytes paid.short
+  served = ledgers-serve program t paid.memo_analysis text paid.is_text paid.bytes paid.short
 
-  module _ (b : Begin) (memory : IsMemory program text (account_of t) (ledger_keys program text t) b.memory)
+  module _ (b : AttemptBeginning) (memory : IsMemory program text (liveness_of t) (analysis_keys program text t) b.memory)
       (answers : search program text b.turns rightwards (first_row program b.at) ≡ Some b.found) where
     abbrev pub Come : (work : ℕ) → List Key → List Entry → Type 0
     Come work now row = HasCome program text t rightwards b.memory (tries (first_row program b.at)) work now row
 
     -- what is in hand finds what the attempt is to find
     pub finds : (work : ℕ) (now : List Key) (row : List Entry) → Come work now row
-        → Finds program text (account_of t) (ledger_keys program text t) rightwards now row b.found
+        → Finds program text (liveness_of t) (analysis_keys program text t) rightwards now row b.found
     finds work now row h =
-        (work-is-bounded program text (account_of t) (ledger_keys program text t) served.plan.account served.serves.keys rightwards (λ k. price_of t k.ip)
-        (weight_by program (weights_of t) (price_of t) (recorded t)) b.memory (first_row program b.at) b.turns b.found memory answers work now row h.comes).stands
+        (work-is-bounded program text (liveness_of t) (analysis_keys program text t) served.plan.account served.serves.keys rightwards (λ k. key_cost_of t k.ip)
+        (potential_by program (potentials_of t) (key_cost_of t) (recorded t)) b.memory (first_row program b.at) b.turns b.found memory answers work now row h.comes).stands
 
     -- the thread in hand is not stuck
-    pub then-can : (work : ℕ) (now : List Key) (s : machine.State) (rest : List Entry) → Come work now (tried (running s) ∷ rest) → CanTake (act program text rightwards s)
+    pub then-can : (work : ℕ) (now : List Key) (s : machine.State) (rest : List Entry) → Come work now (tried (running s) ∷ rest) → IsNotStuck (act program text rightwards s)
     then-can work now s rest h = by (act program text rightwards s) refl
       where
-        found : Finds program text (account_of t) (ledger_keys program text t) rightwards now (tried (running s) ∷ rest) b.found
+        found : Finds program text (liveness_of t) (analysis_keys program text t) rightwards now (tried (running s) ∷ rest) b.found
         found = finds work now (tried (running s) ∷ rest) h
 
-        by : (x : Next) → act program text rightwards s ≡ x → CanTake x
+        by : (x : Next) → act program text rightwards s ≡ x → IsNotStuck x
         by (goes ss) e = tt
         by (scans tries ss) e = tt
         by (ends t) e = tt
@@ -107,63 +107,63 @@ module _ (program : Program) (text : Text) (t : Ledger) (paid : IsPaid program t
     unfolding search
     then-none work now h = by f.turns refl
       where
-        f : Finds program text (account_of t) (ledger_keys program text t) rightwards now [] b.found
+        f : Finds program text (liveness_of t) (analysis_keys program text t) rightwards now [] b.found
         f = finds work now [] h
 
         by : (n : ℕ) → f.turns ≡ n → b.found.end ≡ None
         by n q =
-            let e : Some nothing ≡ Some f.within.found = f.within.searches in
-            let is : nothing ≡ f.within.found = cc in sym f.within.end ∙ sym (ap (λ (f : Found). f.end) is)
+            let e : Some result_without_threads ≡ Some f.within.found = f.within.searches in
+            let is : result_without_threads ≡ f.within.found = cc in sym f.within.end ∙ sym (ap (λ (f : Found). f.end) is)
 
 -- ---- The thread in hand, and a step on
 
 -- what the course of an attempt leads to
-module _ {P : Type 0} (offset : P → ℕ) (program : Program) (text : Text) (b : Begin) {front : List Entry} {stack : List (Waiting P)} {c : Course}
+module _ {P : Type 0} (offset : P → ℕ) (program : Program) (text : Text) (b : AttemptBeginning) {front : List Entry} {stack : List (StackEntry P)} {c : WorkBudget}
     (h : Stands offset program text b front stack c) where
   abbrev pub ComeTo : (work : ℕ) → List Key → List Entry → Type 0
-  ComeTo work now row = HasCome program text c.memo.ledger rightwards b.memory (tries (first_row program b.at)) work now row
+  ComeTo work now row = HasCome program text c.memo.memo_analysis rightwards b.memory (tries (first_row program b.at)) work now row
 
-  abbrev pub laws : (work : ℕ) (now : List Key) (rest : List Entry) → ComesOn program text c.memo.ledger rightwards b.memory (tries (first_row program b.at)) work now rest
+  abbrev pub laws : (work : ℕ) (now : List Key) (rest : List Entry) → ComesOn program text c.memo.memo_analysis rightwards b.memory (tries (first_row program b.at)) work now rest
   laws work now rest =
       let paid = h.right.paid in
-      searches-are-paid.comes_on program c.memo.ledger paid.ledger paid.bounded text paid.is_text paid.bytes paid.short rightwards b.memory (tries (first_row program b.at)) work now rest
+      searches-are-paid.comes_on program c.memo.memo_analysis paid.memo_analysis paid.bounded text paid.is_text paid.bytes paid.short rightwards b.memory (tries (first_row program b.at)) work now rest
 
   -- with what was known
-  pub stands-with : (front' row' : List Entry) (stack' : List (Waiting P)) (work' left' : ℕ) → ComeTo work' h.now (front' ++ row') → IsRow offset program text stack' row'
-      → work' + left' ≡ b.total → (memo' : Known) → memo' ≡ c.memo → Stands offset program text b front' stack' (record { memo = memo'; left = left' })
+  pub stands-with : (front' row' : List Entry) (stack' : List (StackEntry P)) (work' left' : ℕ) → ComeTo work' h.now (front' ++ row') → IsRow offset program text stack' row'
+      → work' + left' ≡ b.total → (memo' : MemoView) → memo' ≡ c.memo → Stands offset program text b front' stack' (record { memo = memo'; left = left' })
   stands-with front' row' stack' work' left' come is spent memo' same =
       subst (λ m. Stands offset program text b front' stack' (record { memo = m; left = left' })) (sym same)
       (record { right = h.right; inside = h.inside; is_memory = h.is_memory; answers = h.answers; work = work'; now = h.now; row = row'; comes = come; is = is; holds = h.holds; spent = spent })
 
   -- so much work is done
-  pub goes-on : (front' row' : List Entry) (stack' : List (Waiting P)) (work : ℕ) (c' : Course) → ComeTo (h.work + work) h.now (front' ++ row') → IsRow offset program text stack' row'
-      → c'.memo ≡ c.memo → HasSpent work c.left c'.left → Stands offset program text b front' stack' c'
+  pub goes-on : (front' row' : List Entry) (stack' : List (StackEntry P)) (work : ℕ) (c' : WorkBudget) → ComeTo (h.work + work) h.now (front' ++ row') → IsRow offset program text stack' row'
+      → c'.memo ≡ c.memo → IsTakenFromBudget work c.left c'.left → Stands offset program text b front' stack' c'
   goes-on front' row' stack' work c' come is same spent =
       stands-with front' row' stack' (h.work + work) c'.left come is (let e = h.spent in let s : c.left ≡ work + c'.left = spent in omega (arith, e, s)) c'.memo same
 
   -- there was not so much
-  pub is-over : (row' : List Entry) (work : ℕ) (c' : Course) → ComeTo (h.work + work) h.now row' → c'.memo ≡ c.memo → IsSpent work c.left c'.left → IsOver offset program text b c'
+  pub is-over : (row' : List Entry) (work : ℕ) (c' : WorkBudget) → ComeTo (h.work + work) h.now row' → c'.memo ≡ c.memo → IsBudgetExhausted work c.left c'.left → IsOver offset program text b c'
   is-over row' work c' come same spent =
       subst (λ m. IsOver offset program text b (record { memo = m; left = c'.left })) (sym same)
       (record { work = h.work + work; now = h.now; row = row'; comes = come; over = (let e = h.spent in let s : c.left < work = spent.0 in omega (arith, e, s)); none = spent.1 })
 
 -- the thread in hand
-module _ {P : Type 0} (offset : P → ℕ) (program : Program) (text : Text) (b : Begin) (s : machine.State) {stack : List (Waiting P)} {c : Course}
+module _ {P : Type 0} (offset : P → ℕ) (program : Program) (text : Text) (b : AttemptBeginning) (s : machine.State) {stack : List (StackEntry P)} {c : WorkBudget}
     (h : Stands offset program text b (tried (running s) ∷ []) stack c) where
   abbrev pub on : (work : ℕ) → List Entry → Type 0
-  on work row = HasCome program text c.memo.ledger rightwards b.memory (tries (first_row program b.at)) (h.work + work) h.now row
+  on work row = HasCome program text c.memo.memo_analysis rightwards b.memory (tries (first_row program b.at)) (h.work + work) h.now row
 
-  pub keyed : IsKeyed program text c.memo.ledger rightwards s
+  pub keyed : IsKeyed program text c.memo.memo_analysis rightwards s
   keyed = h.comes.keyed.0
 
   pub inside : s.pos ≤ units text
   inside = keyed.sound.within
 
-  pub can-turn : CanTake (act program text rightwards s)
-  can-turn = then-can program text c.memo.ledger h.right.paid b h.is_memory h.answers h.work h.now s h.row h.comes
+  pub can-turn : IsNotStuck (act program text rightwards s)
+  can-turn = then-can program text c.memo.memo_analysis h.right.paid b h.is_memory h.answers h.work h.now s h.row h.comes
 
   -- it is known to fail
-  pub known : (k : Key) → key_at c.memo.ledger s ≡ Some k → has_failure c.memo k ≡ true → on 1 h.row
+  pub known : (k : Key) → memo_key_at c.memo.memo_analysis s ≡ Some k → has_failure c.memo k ≡ true → on 1 h.row
   known k is fails = (laws offset program text b h h.work h.now h.row).known s k is (h.right.is_true.fails k fails) h.comes
 
   -- ---- What it leaves
@@ -176,26 +176,26 @@ module _ {P : Type 0} (offset : P → ℕ) (program : Program) (text : Text) (b 
   record_of None row = row
   record_of (Some k) row = noted (as_key k) (running s ∷ []) ∷ row
 
-  pub left-goes : (ts : List Thread) (key : Option Stored) → HasKeyHere c.memo s key → act program text rightwards s ≡ goes ts → on 1 (tries ts ++ record_of key h.row)
+  pub left-goes : (ts : List Thread) (key : Option Stored) → HasKeyNotKnownToFail c.memo s key → act program text rightwards s ≡ goes ts → on 1 (tries ts ++ record_of key h.row)
   left-goes ts None key e = (laws offset program text b h h.work h.now h.row).turned s ts e key.is h.comes
   left-goes ts (Some k) key e = (laws offset program text b h h.work h.now h.row).recorded s ts (as_key k) e key.is (new (as_key k) key.unknown) h.comes
 
 -- ---- What is come back to
 
-module _ {P : Type 0} (offset : P → ℕ) (program : Program) (text : Text) (b : Begin) (stack : List (Waiting P)) (w : Waiting P) {c : Course}
+module _ {P : Type 0} (offset : P → ℕ) (program : Program) (text : Text) (b : AttemptBeginning) (stack : List (StackEntry P)) (w : StackEntry P) {c : WorkBudget}
     (h : Stands offset program text b [] (stack ++ w ∷ []) c) where
   abbrev pub popped : Popped offset program text stack w h.row
   popped = row-pop offset program text stack w h.row h.is
 
   -- so much work later
   abbrev pub back-on : (work : ℕ) → List Key → List Entry → Type 0
-  back-on work now row = HasCome program text c.memo.ledger rightwards b.memory (tries (first_row program b.at)) (h.work + work) now row
+  back-on work now row = HasCome program text c.memo.memo_analysis rightwards b.memory (tries (first_row program b.at)) (h.work + work) now row
 
-  pub back-comes : (e : Entry) → popped.entry ≡ e → HasCome program text c.memo.ledger rightwards b.memory (tries (first_row program b.at)) h.work h.now (e ∷ popped.rest)
-  back-comes e is = subst (HasCome program text c.memo.ledger rightwards b.memory (tries (first_row program b.at)) h.work h.now) (popped.is ∙ ap (λ e. e ∷ popped.rest) is) h.comes
+  pub back-comes : (e : Entry) → popped.entry ≡ e → HasCome program text c.memo.memo_analysis rightwards b.memory (tries (first_row program b.at)) h.work h.now (e ∷ popped.rest)
+  back-comes e is = subst (HasCome program text c.memo.memo_analysis rightwards b.memory (tries (first_row program b.at)) h.work h.now) (popped.is ∙ ap (λ e. e ∷ popped.rest) is) h.comes
 
 -- to a thread
-module _ {P : Type 0} {offset : P → ℕ} {program : Program} {text : Text} {b : Begin} (stack : List (Waiting P)) (w : Waiting P) {c : Course}
+module _ {P : Type 0} {offset : P → ℕ} {program : Program} {text : Text} {b : AttemptBeginning} (stack : List (StackEntry P)) (w : StackEntry P) {c : WorkBudget}
     (h : Stands offset program text b [] (stack ++ w ∷ []) c) (s : State P) (is : w ≡ AsThread s) where
   taken-up : back-on offset program text b stack w h 1 h.now (tried (running (state_of offset s)) ∷ (popped offset program text b stack w h).rest)
   taken-up =
@@ -203,16 +203,16 @@ module _ {P : Type 0} {offset : P → ℕ} {program : Program} {text : Text} {b 
       let there : p.entry ≡ tried (waiting (state_of offset s)) = subst (λ w. StandsFor offset program text w p.entry) is p.stands in
       (laws offset program text b h h.work h.now p.rest).taken_up (state_of offset s) (back-comes offset program text b stack w h (tried (waiting (state_of offset s))) there)
 
-  pub thread-goes : (c' : Course) → c'.memo ≡ c.memo → HasSpent 1 c.left c'.left → Stands offset program text b (front_of offset (Some s)) stack c'
+  pub thread-goes : (c' : WorkBudget) → c'.memo ≡ c.memo → IsTakenFromBudget 1 c.left c'.left → Stands offset program text b (front_of offset (Some s)) stack c'
   thread-goes c' same spent =
       let p = popped offset program text b stack w h in
       goes-on offset program text b h (tried (running (state_of offset s)) ∷ []) p.rest stack 1 c' taken-up p.below same spent
 
-  pub thread-over : (c' : Course) → c'.memo ≡ c.memo → IsSpent 1 c.left c'.left → IsOver offset program text b c'
+  pub thread-over : (c' : WorkBudget) → c'.memo ≡ c.memo → IsBudgetExhausted 1 c.left c'.left → IsOver offset program text b c'
   thread-over c' same spent = is-over offset program text b h _ 1 c' taken-up same spent
 
 -- to a record
-module _ {P : Type 0} {offset : P → ℕ} {program : Program} {text : Text} {b : Begin} (stack : List (Waiting P)) (w : Waiting P) {c : Course}
+module _ {P : Type 0} {offset : P → ℕ} {program : Program} {text : Text} {b : AttemptBeginning} (stack : List (StackEntry P)) (w : StackEntry P) {c : WorkBudget}
     (h : Stands offset program text b [] (stack ++ w ∷ []) c) (k : Stored) (is : w ≡ AsRecord k) where
   abbrev pub below : Popped offset program text stack w h.row
   below = popped offset program text b stack w h
@@ -221,44 +221,44 @@ module _ {P : Type 0} {offset : P → ℕ} {program : Program} {text : Text} {b 
   stood = subst (λ w. StandsFor offset program text w below.entry) is below.stands
 
   abbrev keys : Keys
-  keys = ledger_keys program text c.memo.ledger
+  keys = analysis_keys program text c.memo.memo_analysis
 
-  at-record : HasCome program text c.memo.ledger rightwards b.memory (tries (first_row program b.at)) h.work h.now (noted (as_key k) stood.threads ∷ below.rest)
+  at-record : HasCome program text c.memo.memo_analysis rightwards b.memory (tries (first_row program b.at)) h.work h.now (noted (as_key k) stood.threads ∷ below.rest)
   at-record = back-comes offset program text b stack w h (noted (as_key k) stood.threads) stood.is
 
-  record-finds : Finds program text (account_of c.memo.ledger) keys rightwards h.now (noted (as_key k) stood.threads ∷ below.rest) b.found
-  record-finds = finds program text c.memo.ledger h.right.paid b h.is_memory h.answers h.work h.now _ at-record
+  record-finds : Finds program text (liveness_of c.memo.memo_analysis) keys rightwards h.now (noted (as_key k) stood.threads ∷ below.rest) b.found
+  record-finds = finds program text c.memo.memo_analysis h.right.paid b h.is_memory h.answers h.work h.now _ at-record
 
   -- it has a bit
-  pub record-bit : HasBit c.memo.ledger c.memo.places (as_key k)
+  pub record-bit : HasBit c.memo.memo_analysis c.memo.places (as_key k)
   record-bit =
-      subst (λ n. HasBit c.memo.ledger n (as_key k)) (sym h.right.is_true.places)
-      (keys-are-there.has_bit program text c.memo.ledger h.right.paid.ledger rightwards (as_key k) stood.threads record-finds.noted.0.is_of)
+      subst (λ n. HasBit c.memo.memo_analysis n (as_key k)) (sym h.right.is_true.places)
+      (keys-are-there.has_bit program text c.memo.memo_analysis h.right.paid.memo_analysis rightwards (as_key k) stood.threads record-finds.noted.0.is_of)
 
-  record-fails : KeyFails program text c.memo.ledger (as_key k)
+  record-fails : KeyFails program text c.memo.memo_analysis (as_key k)
   record-fails =
-      let s = served program text c.memo.ledger h.right.paid in
-      reached-fail program text (account_of c.memo.ledger) keys s.plan.account s.serves.keys rightwards h.now (as_key k) stood.threads below.rest b.found record-finds
+      let s = served program text c.memo.memo_analysis h.right.paid in
+      reached-fail program text (liveness_of c.memo.memo_analysis) keys s.plan.account s.serves.keys rightwards h.now (as_key k) stood.threads below.rest b.found record-finds
 
   reached : back-on offset program text b stack w h 1 (as_key k ∷ h.now) below.rest
   reached = (laws offset program text b h h.work h.now below.rest).reached (as_key k) stood.threads at-record
 
-  pub record-over : (c' : Course) → c'.memo ≡ c.memo → IsSpent 1 c.left c'.left → IsOver offset program text b c'
+  pub record-over : (c' : WorkBudget) → c'.memo ≡ c.memo → IsBudgetExhausted 1 c.left c'.left → IsOver offset program text b c'
   record-over c' same spent =
       subst (λ m. IsOver offset program text b (record { memo = m; left = c'.left })) (sym same)
       (record { work = h.work + 1; now = as_key k ∷ h.now; row = below.rest; comes = reached; over = (let e = h.spent in let s : c.left < 1 = spent.0 in omega (arith, e, s)); none = spent.1 })
 
   -- what is by a ledger
-  record ByLedger (t : Ledger) : Type 0 where
+  record ByLedger (t : MemoAnalysis) : Type 0 where
     paid : IsPaid program text t
-    memory : IsMemory program text (account_of t) (ledger_keys program text t) b.memory
+    memory : IsMemory program text (liveness_of t) (analysis_keys program text t) b.memory
     comes : HasCome program text t rightwards b.memory (tries (first_row program b.at)) (h.work + 1) (as_key k ∷ h.now) below.rest
 
-  noted-by : (m n : Known) → m ≡ c.memo → NotesFailure (as_key k) m n → (left : ℕ) → HasSpent 1 c.left left
+  noted-by : (m n : MemoView) → m ≡ c.memo → RecordsFailure (as_key k) m n → (left : ℕ) → IsTakenFromBudget 1 c.left left
       → IsRight program text n × Stands offset program text b [] stack (record { memo = n; left = left })
   noted-by m n is notes left spent =
-      let notes' : NotesFailure (as_key k) c.memo n = subst (λ m. NotesFailure (as_key k) m n) is notes in
-      let by : ByLedger n.ledger = subst ByLedger (sym notes'.same.ledger) (record { paid = h.right.paid; memory = h.is_memory; comes = reached }) in
+      let notes' : RecordsFailure (as_key k) c.memo n = subst (λ m. RecordsFailure (as_key k) m n) is notes in
+      let by : ByLedger n.memo_analysis = subst ByLedger (sym notes'.same.memo_analysis) (record { paid = h.right.paid; memory = h.is_memory; comes = reached }) in
       let right : IsRight program text n = record { paid = by.paid; is_true = memos-are-true.failure program text (as_key k) c.memo n notes' record-fails h.right.is_true } in (
         right,
         record {
@@ -276,35 +276,35 @@ module _ {P : Type 0} {offset : P → ℕ} {program : Program} {text : Text} {b 
         },
       )
 
-  pub record-right : (m n : Known) → m ≡ c.memo → NotesFailure (as_key k) m n → (left : ℕ) → HasSpent 1 c.left left → IsRight program text n
+  pub record-right : (m n : MemoView) → m ≡ c.memo → RecordsFailure (as_key k) m n → (left : ℕ) → IsTakenFromBudget 1 c.left left → IsRight program text n
   record-right m n is notes left spent = (noted-by m n is notes left spent).0
 
-  pub record-goes : (m : Known) (c' : Course) → m ≡ c.memo → NotesFailure (as_key k) m c'.memo → HasSpent 1 c.left c'.left → Stands offset program text b [] stack c'
+  pub record-goes : (m : MemoView) (c' : WorkBudget) → m ≡ c.memo → RecordsFailure (as_key k) m c'.memo → IsTakenFromBudget 1 c.left c'.left → Stands offset program text b [] stack c'
   record-goes m c' is notes spent = (noted-by m c'.memo is notes c'.left spent).1
 
 -- ---- What there is
 
-module _ {P : Type 0} {offset : P → ℕ} {program : Program} {text : Text} {front : List Entry} {stack : List (Waiting P)} {c : Course}
+module _ {P : Type 0} {offset : P → ℕ} {program : Program} {text : Text} {front : List Entry} {stack : List (StackEntry P)} {c : WorkBudget}
     (there : IsStanding offset program text front stack c) where
-  pub knows : KnowsRightly program text c.memo
+  pub knows : IsMemoRight program text c.memo
   knows = ∥∥₁_map there (λ s. s.stands.right)
 
   -- what is the same is known, too
-  pub still-knows : {n : Known} → n ≡ c.memo → KnowsRightly program text n
-  still-knows same = subst (KnowsRightly program text) (sym same) knows
+  pub still-knows : {n : MemoView} → n ≡ c.memo → IsMemoRight program text n
+  still-knows same = subst (IsMemoRight program text) (sym same) knows
 
   -- on from what there is
-  pub standing-on : {front' : List Entry} {stack' : List (Waiting P)} {c' : Course}
-      → ((b : Begin) → Stands offset program text b front stack c → Stands offset program text b front' stack' c') → IsStanding offset program text front' stack' c'
+  pub standing-on : {front' : List Entry} {stack' : List (StackEntry P)} {c' : WorkBudget}
+      → ((b : AttemptBeginning) → Stands offset program text b front stack c → Stands offset program text b front' stack' c') → IsStanding offset program text front' stack' c'
   standing-on f = ∥∥₁_map there (λ s. record { begin = s.begin; stands = f s.begin s.stands })
 
-  pub less-on : {n m : ℕ} → ((b : Begin) → Stands offset program text b front stack c → n < m) → n < m
+  pub less-on : {n m : ℕ} → ((b : AttemptBeginning) → Stands offset program text b front stack c → n < m) → n < m
   less-on f = ∥∥₁_elim there (Prim.hlevel props) (λ s. f s.begin s.stands)
 
 -- with what is the same
-module _ {P : Type 0} {offset : P → ℕ} {program : Program} {text : Text} {next next' : Option (State P)} (next_is : next ≡ next') {stack stack' : List (Waiting P)} (stack_is : stack ≡ stack')
-    {c : Course} where
-  pub stands-as : {b : Begin} → Stands offset program text b (front_of offset next) stack c → Stands offset program text b (front_of offset next') stack' c
+module _ {P : Type 0} {offset : P → ℕ} {program : Program} {text : Text} {next next' : Option (State P)} (next_is : next ≡ next') {stack stack' : List (StackEntry P)} (stack_is : stack ≡ stack')
+    {c : WorkBudget} where
+  pub stands-as : {b : AttemptBeginning} → Stands offset program text b (front_of offset next) stack c → Stands offset program text b (front_of offset next') stack' c
   stands-as {b} h =
       subst (λ xs. Stands offset program text b (front_of offset next') xs c) stack_is (subst (λ n. Stands offset program text b (front_of offset n) stack c) next_is h)
 

@@ -1,5 +1,5 @@
-pub mod Bounds
-pub mod Courses
-pub mod Paying
-pub mod Spending
-pub mod Walks
+pub mod ProgramWorkBounds
+pub mod SearchStateEntries
+pub mod WorkCosts
+pub mod BudgetSpending
+pub mod SuccessiveAttempts

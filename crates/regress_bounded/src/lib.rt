@@ -1,9 +1,9 @@
-//! Searches in no more than so much work, and how much is enough for all matches of a text.
+//! Searches with a work budget, and how much work is enough for all matches of a text.
 #![tactic(auto)]
 
-pub mod bounds;
-mod course;
 pub mod executor;
-mod places;
-mod row;
-mod turns;
+mod pending_stack;
+mod thread_steps;
+mod unbounded_loops;
+pub mod work_bound;
+mod work_budget;

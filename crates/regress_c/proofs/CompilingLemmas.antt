@@ -2,8 +2,8 @@
 use Rattle.std.proofs.Common.{◌≡◌, ◌⊎◌, inl, inr, refl, sym, subst, Err}
 use Rattle.regex_pattern_front.specs.declared.parse.ParseError.TheVariants as parse
 use Rattle.regress_program.specs.declared.emit.EmitError.TheVariants as emit
-use Rattle.regex_meaning.specs.Flags.{flags_of_text}
-use Rattle.regress_match.specs.Refusals.{Refuses}
+use Rattle.regex_meaning.specs.FlagLettersAndEscaping.{flags_from_letters}
+use Rattle.regress_match.specs.CompileErrors.{IsPatternRefusedWith}
 use Rattle.regress_match.specs.declared.api.error.Error.{Error}
 use Rattle.regress_match.specs.declared.api.error.Error.TheVariants as error
 use Rattle.regress_c.specs.Codes.{refused_as}
@@ -16,9 +16,9 @@ use Rattle.regress_c.specs.declared.refusal.Refusal.TheVariants.{NoGroup, NotOpe
 
 -- want of memory, or the pattern itself
 abbrev pub IsOfCompiling : Given → Refusal → Type 0
-IsOfCompiling g r = (r ≡ Memory) ⊎ RefusesPattern (flags_of_text g.flags) g.characters r
+IsOfCompiling g r = (r ≡ Memory) ⊎ RefusesPattern (flags_from_letters g.flags) g.characters r
 
-of-compiling : (g : Given) (e : Error) → Refuses (flags_of_text g.flags) g.characters e → IsOfCompiling g (refused_as e)
+of-compiling : (g : Given) (e : Error) → IsPatternRefusedWith (flags_from_letters g.flags) g.characters e → IsOfCompiling g (refused_as e)
 of-compiling g error.Memory refuses = inl refl
 of-compiling g (error.Parse parse.Syntax) refuses = inr refuses
 of-compiling g (error.Parse parse.Memory) refuses = absurd refuses
@@ -42,8 +42,8 @@ module _ (g : Given) (bounds : Bounds) (readable : IsReadable g) (within : IsWit
   refuses TooManyInstructions h = (readable, within, the-pattern h (λ e. cc))
   refuses _ h = absurd (the-pattern h (λ e. cc))
 
-  pub told-refuses : (e : Error) (r told : Refusal) → Refuses (flags_of_text g.flags) g.characters e → r ≡ refused_as e
-      → (r ≡ Memory → told ≡ Memory) → (RefusesPattern (flags_of_text g.flags) g.characters r → RefusesPattern (flags_of_text g.flags) g.characters told)
+  pub told-refuses : (e : Error) (r told : Refusal) → IsPatternRefusedWith (flags_from_letters g.flags) g.characters e → r ≡ refused_as e
+      → (r ≡ Memory → told ≡ Memory) → (RefusesPattern (flags_from_letters g.flags) g.characters r → RefusesPattern (flags_from_letters g.flags) g.characters told)
       → Compiles g bounds (Err told)
   told-refuses e r told can is kept same = refuses told (by (subst (IsOfCompiling g) (sym is) (of-compiling g e can)))
     where

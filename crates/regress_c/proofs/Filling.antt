@@ -8,19 +8,19 @@ use Rattle.std.proofs.lemmas.Grind.{flat_map-append}
 use Rattle.std.proofs.lemmas.List.{append-nil, length-append}
 use Rattle.std.specs.Prelude.{flat_map, if◌then◌else◌, Result, Err}
 use Rattle.regex_meaning.specs.Laws.{Each}
-use Rattle.regex_meaning.specs.Names.{Answer}
-use Rattle.regex_meaning.specs.Offsets.{IsText, units}
-use Rattle.regex_meaning.specs.Steps.{IsNoMore, answers_within, end_within}
+use Rattle.regex_meaning.specs.Captures.{Answer}
+use Rattle.regex_meaning.specs.CodeUnitOffsets.{IsText, units}
+use Rattle.regex_meaning.specs.StepBudget.{IsBudgetAtMost, answers_within, finishes_within}
 use Rattle.regex_meaning.specs.Text.{Text}
 use Rattle.regex_meaning.specs.Tree.{Tree}
 use Rattle.regex_meaning.proofs.Each.{Each-append}
-use Rattle.regress_exec.specs.Answers.{answer_of}
+use Rattle.regress_exec.specs.MatchAnswers.{answer_of}
 use Rattle.regress_exec.specs.declared.exec.SearchError.{SearchError}
 use Rattle.regress_exec.specs.declared.exec.SearchError.TheVariants.{Memory, StepLimit}
 use Rattle.regress_exec.proofs.Coming.{new-comes}
-use Rattle.regress_match.specs.Programs.{IsStart}
-use Rattle.regress_match.specs.Resuming.{GoesFrom, IsOver, StepsTo}
-use Rattle.regress_match.specs.declared.api.resuming.Step.{Step}
+use Rattle.regress_match.specs.RegexPrograms.{IsValidStart}
+use Rattle.regress_match.specs.Resuming.{ResumesFrom, IsExhaustedFrom, FindsNext}
+use Rattle.regress_match.specs.declared.api.resumable_searches.Step.{Step}
 use Rattle.regress_c.specs.Going.{Fills, Run, Stops, ranges_of}
 use Rattle.regress_c.specs.Replies.{spans_of, written_over}
 use Rattle.regress_c.specs.declared.going.Filled.{Filled}
@@ -28,7 +28,7 @@ use Rattle.regress_c.specs.declared.going.Stop.TheVariants.{Full, Over, Refused}
 use Rattle.regress_c.specs.declared.reply.Span.{Span}
 use Rattle.regress_c.proofs.Spans.{spans-count}
 
-no_more-trans : (a b c : Option ℕ) → IsNoMore a b → IsNoMore b c → IsNoMore a c
+no_more-trans : (a b c : Option ℕ) → IsBudgetAtMost a b → IsBudgetAtMost b c → IsBudgetAtMost a c
 no_more-trans None None None h k = tt
 no_more-trans (Some a) (Some b) (Some c) h k = omega arith
 no_more-trans None (Some b) c h k = absurd h
@@ -36,7 +36,7 @@ no_more-trans (Some a) None c h k = absurd h
 no_more-trans None None (Some c) h k = absurd k
 no_more-trans (Some a) (Some b) None h k = absurd k
 
-no_more-same : (a : Option ℕ) → IsNoMore a a
+no_more-same : (a : Option ℕ) → IsBudgetAtMost a a
 no_more-same None = tt
 no_more-same (Some n) = le_refl n
 
@@ -44,32 +44,32 @@ no_more-same (Some n) = le_refl n
 pub record Filling (tree : Tree) (text : Text) (steps : Option ℕ) (start : ℕ) (before now : List Span) (matches next at : ℕ) (left : Option ℕ) : Type 0 where
   pub found : List Answer
   pub answers : answers_within tree text steps start ≡ found ++ answers_within tree text left next
-  pub limit : end_within tree text steps start ≡ end_within tree text left next
-  pub starts : IsStart text next
-  pub fewer : IsNoMore left steps
+  pub limit : finishes_within tree text steps start ≡ finishes_within tree text left next
+  pub starts : IsValidStart text next
+  pub fewer : IsBudgetAtMost left steps
   pub ranges : Each (λ m. length (spans_of m) ≡ ranges_of tree) found
   pub count : matches ≡ length found
   pub at_is : at ≡ length found * ranges_of tree
   pub flat : length (flat_map spans_of found) ≡ at
   pub written : now ≡ written_over (flat_map spans_of found) before
 
-refusal-less : (tree : Tree) (text : Text) (e : SearchError) (next : ℕ) (left left' : Option ℕ) → GoesFrom tree text left next (Err e) left' → IsNoMore left' left
+refusal-less : (tree : Tree) (text : Text) (e : SearchError) (next : ℕ) (left left' : Option ℕ) → ResumesFrom tree text left next (Err e) left' → IsBudgetAtMost left' left
 refusal-less tree text Memory next left left' g = g
 refusal-less tree text StepLimit next None left' g = absurd (cc g.1)
-refusal-less tree text StepLimit next (Some n) left' g = subst (λ l. IsNoMore l (Some n)) (sym g.2) (omega arith)
+refusal-less tree text StepLimit next (Some n) left' g = subst (λ l. IsBudgetAtMost l (Some n)) (sym g.2) (omega arith)
 
-refusal-stops : (tree : Tree) (text : Text) (room : ℕ) (run : Run) (e : SearchError) → GoesFrom tree text run.steps run.next (Err e) run.left → Stops tree text room run (Refused e)
+refusal-stops : (tree : Tree) (text : Text) (room : ℕ) (run : Run) (e : SearchError) → ResumesFrom tree text run.steps run.next (Err e) run.left → Stops tree text room run (Refused e)
 refusal-stops tree text room run Memory g = g
 refusal-stops tree text room run StepLimit g = g
 
 -- what is said of a tree and a text that are the same
 pub goes-same : (tree tree' : Tree) (text text' : Text) (budget : Option ℕ) (start : ℕ) (r : Result (Option Step) SearchError) (left : Option ℕ)
-    → tree' ≡ tree → text' ≡ text → GoesFrom tree' text' budget start r left → GoesFrom tree text budget start r left
+    → tree' ≡ tree → text' ≡ text → ResumesFrom tree' text' budget start r left → ResumesFrom tree text budget start r left
 goes-same tree tree' text text' budget start r left e f h =
-    subst (λ t. GoesFrom tree t budget start r left) f (subst (λ t. GoesFrom t text' budget start r left) e h)
+    subst (λ t. ResumesFrom tree t budget start r left) f (subst (λ t. ResumesFrom t text' budget start r left) e h)
 
 module _ {tree : Tree} {text : Text} {steps : Option ℕ} {start : ℕ} {before : List Span} where
-  pub begun : IsStart text start → Filling tree text steps start before before 0 start 0 steps
+  pub begun : IsValidStart text start → Filling tree text steps start before before 0 start 0 steps
   begun at = record {
     found = [];
     answers = refl;
@@ -84,7 +84,7 @@ module _ {tree : Tree} {text : Text} {steps : Option ℕ} {start : ℕ} {before 
   }
 
   step_more : (now after : List Span) (matches next at ranges : ℕ) (left left' : Option ℕ) (step : Step)
-      → Filling tree text steps start before now matches next at left → StepsTo tree text left next step left' → ranges ≡ ranges_of tree
+      → Filling tree text steps start before now matches next at left → FindsNext tree text left next step left' → ranges ≡ ranges_of tree
       → after ≡ take at now ++ spans_of (answer_of step.found) ++ drop (at + ranges) now
       → Filling tree text steps start before after (matches + 1) step.next (at + ranges) left'
   step_more now after matches next at ranges left left' step f s r w =
@@ -116,7 +116,7 @@ module _ {tree : Tree} {text : Text} {steps : Option ℕ} {start : ℕ} {before 
 
   -- one match more, and then on from there
   pub one_more : (now after : List Span) (matches next at ranges next' : ℕ) (left left' : Option ℕ) (step : Step)
-      → Filling tree text steps start before now matches next at left → StepsTo tree text left next step left' → ranges ≡ ranges_of tree
+      → Filling tree text steps start before now matches next at left → FindsNext tree text left next step left' → ranges ≡ ranges_of tree
       → next' ≡ step.next → after ≡ take at now ++ spans_of (answer_of step.found) ++ drop (at + ranges) now
       → Filling tree text steps start before after (matches + 1) next' (at + ranges) left'
   one_more now after matches next at ranges next' left left' step f s r on w =
@@ -146,7 +146,7 @@ module _ {tree : Tree} {text : Text} {steps : Option ℕ} {start : ℕ} {before 
 
   -- there is no further match
   pub fills-over : (now : List Span) (filled : Filled) (next at : ℕ) (left left' : Option ℕ) → IsText text → units text < filled.next
-      → Filling tree text steps start before now filled.matches next at left → filled.stop ≡ Over → IsOver tree text left next × IsNoMore left' left
+      → Filling tree text steps start before now filled.matches next at left → filled.stop ≡ Over → IsExhaustedFrom tree text left next × IsBudgetAtMost left' left
       → Fills tree text steps start before now filled left'
   fills-over now filled next at left left' is past f stop over =
       let gone = new-comes tree text is left filled.next None (ap (λ b. if b then Some filled.next else None) (sym (lt-leb filled.next (units text) past))) in
@@ -169,7 +169,7 @@ module _ {tree : Tree} {text : Text} {steps : Option ℕ} {start : ℕ} {before 
 
   -- the search for one more was refused
   pub fills-refused : (now : List Span) (filled : Filled) (at : ℕ) (left left' : Option ℕ) (e : SearchError)
-      → Filling tree text steps start before now filled.matches filled.next at left → filled.stop ≡ Refused e → GoesFrom tree text left filled.next (Err e) left'
+      → Filling tree text steps start before now filled.matches filled.next at left → filled.stop ≡ Refused e → ResumesFrom tree text left filled.next (Err e) left'
       → Fills tree text steps start before now filled left'
   fills-refused now filled at left left' e f stop g =
       let run : Run = record { found = f.found; next = filled.next; stop = Refused e; steps = left; left = left' } in

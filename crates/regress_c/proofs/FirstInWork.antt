@@ -4,12 +4,12 @@ use Rattle.std.specs.Prelude.{Option, Some, None, Result, Ok, Err, IfSome, IsErr
 use Rattle.std.specs.Borrow.{Bor}
 use Rattle.std.specs.Option.{option_transpose}
 use Rattle.std.proofs.lemmas.Bool.Decides.{leb_tells}
-use Rattle.regress_exec.specs.Worked.{GivesInWork, InWork}
+use Rattle.regress_exec.specs.WorkLimits.{NextYieldsWithinWork, WorkView}
 use Rattle.regress_exec.specs.declared.exec.Match.{Match}
-use Rattle.regress_exec.specs.declared.exec.worked.WorkError.{WorkError}
-use Rattle.regress_exec.specs.declared.exec.worked.WorkError.TheVariants as worked
-use Rattle.regress_match.specs.Programs.{as_utf8, byte_tree}
-use Rattle.regress_match.specs.Work.{Bounded, IsEnoughEach, YieldsInWork, all_work}
+use Rattle.regress_exec.specs.declared.exec.work_matches.WorkError.{WorkError}
+use Rattle.regress_exec.specs.declared.exec.work_matches.WorkError.TheVariants as worked
+use Rattle.regress_match.specs.RegexPrograms.{as_utf8, byte_tree}
+use Rattle.regress_match.specs.WorkBounds.{BoundedView, IsWorkBoundOfBothPrograms, YieldsWithinWork, total_work}
 use Rattle.regress_match.specs.declared.api.regex.Regex.{Regex}
 use Rattle.regress_c.specs.Codes.{of_work}
 use Rattle.regress_c.specs.InWork.{FindsInWork, IsFirstInWork, Reckons}
@@ -27,7 +27,7 @@ module _ (re : Regex) (text : List ℕ) (start work left : ℕ) where
   started (Err _) is can first = absurd first
 
 -- of the pattern that a bound was reckoned for, and the text of these bytes
-pub found-by : (re : Regex) (bytes : List ℕ) (start work left : ℕ) (text : Bor (List ℕ)) (bounds : Option Bounded) (bounded : Bounded) (found : Result (Option Match) Refusal)
+pub found-by : (re : Regex) (bytes : List ℕ) (start work left : ℕ) (text : Bor (List ℕ)) (bounds : Option BoundedView) (bounded : BoundedView) (found : Result (Option Match) Refusal)
     → Starts bytes start (Ok text) → IfSome bounds (λ b. b.re ≡ re) → bounds ≡ Some bounded
     → IsFirstInWork bounded.re text.now start work found left → FindsInWork re bytes start work found left
 found-by re bytes start work left text bounds bounded found starts same is first =
@@ -36,17 +36,17 @@ found-by re bytes start work left text bounds bounded found starts same is first
     (subst (λ r. IsFirstInWork r bytes start work found left) of_re (subst (λ t. IsFirstInWork bounded.re t start work found left) starts.0 first))
 
 -- and its number is that of bounds
-pub enough-by : (re : Regex) (bounds : Option Bounded) (bounded : Bounded) → IfSome bounds (λ b. b.re ≡ re) → IfSome bounds (λ b. IsEnoughEach re b.per_unit) → bounds ≡ Some bounded
-    → IsEnoughEach bounded.re bounded.per_unit
+pub enough-by : (re : Regex) (bounds : Option BoundedView) (bounded : BoundedView) → IfSome bounds (λ b. b.re ≡ re) → IfSome bounds (λ b. IsWorkBoundOfBothPrograms re b.per_unit) → bounds ≡ Some bounded
+    → IsWorkBoundOfBothPrograms bounded.re bounded.per_unit
 enough-by re bounds bounded same each is =
     let of_re : bounded.re ≡ re = subst (λ o. IfSome o (λ b. b.re ≡ re)) is same in
-    subst (λ r. IsEnoughEach r bounded.per_unit) (sym of_re) (subst (λ o. IfSome o (λ b. IsEnoughEach re b.per_unit)) is each)
+    subst (λ r. IsWorkBoundOfBothPrograms r bounded.per_unit) (sym of_re) (subst (λ o. IfSome o (λ b. IsWorkBoundOfBothPrograms re b.per_unit)) is each)
 
 -- what was reckoned by the pattern of a handle
-pub reckoned-by : (held : Option Regex) (re at : Regex) (found : Option ℕ) (number : ℕ) → Some re ≡ held → at ≡ re → IfSome found (IsEnoughEach at) → found ≡ Some number
+pub reckoned-by : (held : Option Regex) (re at : Regex) (found : Option ℕ) (number : ℕ) → Some re ≡ held → at ≡ re → IfSome found (IsWorkBoundOfBothPrograms at) → found ≡ Some number
     → Reckons held (Ok number)
 reckoned-by held re at found number taken same each is =
-    subst (λ h. Reckons h (Ok number)) taken (subst (λ r. IsEnoughEach r number) same (subst (λ o. IfSome o (IsEnoughEach at)) is each))
+    subst (λ h. Reckons h (Ok number)) taken (subst (λ r. IsWorkBoundOfBothPrograms r number) same (subst (λ o. IfSome o (IsWorkBoundOfBothPrograms at)) is each))
 
 -- what a refusal is handed on as
 pub handed-on : {X : Type 0} (P : Result X Refusal → Type 0) (r : Result X Refusal) (e : Refusal) → IsErrAnd r (λ f. f ≡ e) → P (Err e) → P r
@@ -58,21 +58,21 @@ abbrev as_found : Result (Option Match) WorkError → Result (Option Match) Refu
 as_found (Ok m) = Ok m
 as_found (Err e) = Err (of_work e)
 
-module _ (re : Regex) (text : List ℕ) (start per_unit work : ℕ) (it behind : InWork)
-    (each : IsEnoughEach re per_unit) (yields : YieldsInWork (byte_tree re) (as_utf8 re text) start per_unit work it) where
-  no-more : (first : Option (Result Match WorkError)) → GivesInWork it first behind → behind.left ≤ work
+module _ (re : Regex) (text : List ℕ) (start per_unit work : ℕ) (it behind : WorkView)
+    (each : IsWorkBoundOfBothPrograms re per_unit) (yields : YieldsWithinWork (byte_tree re) (as_utf8 re text) start per_unit work it) where
+  no-more : (first : Option (Result Match WorkError)) → NextYieldsWithinWork it first behind → behind.left ≤ work
   no-more first gives = subst (λ l. behind.left ≤ l) yields.left gives.1
 
-  too-little : it.enough ≡ false → work < all_work per_unit (as_utf8 re text)
-  too-little e = by (leb_tells (all_work per_unit (as_utf8 re text)) work)
+  too-little : it.enough ≡ false → work < total_work per_unit (as_utf8 re text)
+  too-little e = by (leb_tells (total_work per_unit (as_utf8 re text)) work)
     where
-      by : ((nat_le (all_work per_unit (as_utf8 re text)) work ≡ true) × (all_work per_unit (as_utf8 re text) ≤ work))
-          ⊎ ((nat_le (all_work per_unit (as_utf8 re text)) work ≡ false) × (work < all_work per_unit (as_utf8 re text)))
-          → work < all_work per_unit (as_utf8 re text)
+      by : ((nat_le (total_work per_unit (as_utf8 re text)) work ≡ true) × (total_work per_unit (as_utf8 re text) ≤ work))
+          ⊎ ((nat_le (total_work per_unit (as_utf8 re text)) work ≡ false) × (work < total_work per_unit (as_utf8 re text)))
+          → work < total_work per_unit (as_utf8 re text)
       by (inl (t, l)) = let never : true ≡ false = sym (yields.enough l) ∙ e in absurd (cc)
       by (inr (t, l)) = l
 
-  is-first : (first : Option (Result Match WorkError)) → GivesInWork it first behind
+  is-first : (first : Option (Result Match WorkError)) → NextYieldsWithinWork it first behind
       → IsFirstInWork re text start work (as_found (option_transpose first)) behind.left
   is-first None gives = (ap (λ ms. slice_get ms 0) (sym gives.0.0 ∙ yields.answers), no-more None gives)
   is-first (Some (Ok m)) gives = (ap (λ ms. slice_get ms 0) (sym gives.0.0 ∙ yields.answers), no-more (Some (Ok m)) gives)
@@ -81,7 +81,7 @@ module _ (re : Regex) (text : List ℕ) (start per_unit work : ℕ) (it behind :
 
   -- the item that came, and how much work is left behind it
   module _ (first : Option (Result Match WorkError)) (r : Result (Option Match) WorkError) (left : ℕ)
-      (gives : GivesInWork it first behind) (transposed : r ≡ option_transpose first) (left_is : left ≡ behind.left) where
+      (gives : NextYieldsWithinWork it first behind) (transposed : r ≡ option_transpose first) (left_is : left ≡ behind.left) where
     came : IsFirstInWork re text start work (as_found r) left
     came = subst (λ l. IsFirstInWork re text start work (as_found r) l) (sym left_is)
         (subst (λ r. IsFirstInWork re text start work (as_found r) behind.left) (sym transposed) (is-first first gives))

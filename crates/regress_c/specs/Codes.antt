@@ -1,11 +1,11 @@
--- The codes of refusals, and which refusal of the crates below is which.
+-- The codes of refusals, and the refusals for the errors of the crates below.
 use Rattle.std.specs.Prelude.{ℕ}
 use Rattle.regex_pattern_front.specs.declared.parse.ParseError.TheVariants as parse
 use Rattle.regress_program.specs.declared.emit.EmitError.TheVariants as emit
 use Rattle.regress_exec.specs.declared.exec.SearchError.{SearchError}
 use Rattle.regress_exec.specs.declared.exec.SearchError.TheVariants as search
-use Rattle.regress_exec.specs.declared.exec.worked.WorkError.{WorkError}
-use Rattle.regress_exec.specs.declared.exec.worked.WorkError.TheVariants as worked
+use Rattle.regress_exec.specs.declared.exec.work_matches.WorkError.{WorkError}
+use Rattle.regress_exec.specs.declared.exec.work_matches.WorkError.TheVariants as worked
 use Rattle.regress_match.specs.declared.api.error.Error.{Error}
 use Rattle.regress_match.specs.declared.api.error.Error.TheVariants as error
 use Rattle.regress_c.specs.declared.refusal.Refusal.{Refusal}
@@ -13,13 +13,15 @@ use Rattle.regress_c.specs.declared.refusal.Refusal.TheVariants.{Empty, Full, No
 use Rattle.regress_c.specs.declared.refusal.Refusal.TheVariants.{TooManyGroups, TooManyLoops, TooManyInstructions, UnknownFlag, TooLong, TooDeep}
 use Rattle.regress_c.specs.declared.refusal.Refusal.TheVariants.{NoGroup, NotOpen, NotCounted, NoBound, WorkLimit}
 
--- a call did what it was called for
+-- The code of a call that succeeded.
 abbrev pub done : ℕ
 done = 0
 
+-- The code of a search without a match.
 abbrev pub no_match : ℕ
 no_match = 1
 
+-- The code of each refusal.
 abbrev pub code_of : Refusal → ℕ
 code_of Empty = 2
 code_of Full = 3
@@ -41,7 +43,7 @@ code_of NotCounted = 18
 code_of NoBound = 19
 code_of WorkLimit = 20
 
--- of the errors that a pattern can be refused with; what is left is want of memory
+-- The refusal for an error of compiling a pattern. Every other error is reported as `Memory`.
 abbrev pub refused_as : Error → Refusal
 refused_as (error.Parse parse.Syntax) = Syntax
 refused_as (error.Emit emit.TooManyGroups) = TooManyGroups
@@ -49,10 +51,12 @@ refused_as (error.Emit emit.TooManyLoops) = TooManyLoops
 refused_as (error.Emit emit.TooManyInstructions) = TooManyInstructions
 refused_as _ = Memory
 
+-- The refusal for an error of a search.
 abbrev pub of_search : SearchError → Refusal
 of_search search.Memory = Memory
 of_search search.StepLimit = StepLimit
 
+-- The refusal for an error of a search within a work budget.
 abbrev pub of_work : WorkError → Refusal
 of_work worked.Memory = Memory
 of_work worked.WorkLimit = WorkLimit

@@ -1,13 +1,13 @@
--- What a call writes of the matches of a search, and where the search goes on.
+-- The matches that one call writes, and the offset from which the search continues.
 use Rattle.std.specs.Prelude.{◌≡◌, ◌≢◌, ◌<◌, ◌+◌, ◌*◌, ℕ, false, List, [], ◌++◌, Option, Some, None, Result, Ok, Err, IsSome, flat_map, length}
 use Rattle.regex_meaning.specs.Laws.{Each}
-use Rattle.regex_meaning.specs.Names.{Answer}
-use Rattle.regex_meaning.specs.Steps.{IsNoMore, answers_within, end_within}
+use Rattle.regex_meaning.specs.Captures.{Answer}
+use Rattle.regex_meaning.specs.StepBudget.{IsBudgetAtMost, answers_within, finishes_within}
 use Rattle.regex_meaning.specs.Text.{Text}
 use Rattle.regex_meaning.specs.Tree.{Tree, group_ids}
 use Rattle.regress_exec.specs.declared.exec.SearchError.TheVariants.{Memory, StepLimit}
-use Rattle.regress_match.specs.Programs.{IsStart, as_ucs2, as_utf16, as_utf8, byte_tree, unit_tree}
-use Rattle.regress_match.specs.Resuming.{IsOver}
+use Rattle.regress_match.specs.RegexPrograms.{IsValidStart, as_ucs2, as_utf16, as_utf8, byte_tree, unit_tree}
+use Rattle.regress_match.specs.Resuming.{IsExhaustedFrom}
 use Rattle.regress_match.specs.declared.api.regex.Regex.{Regex}
 use Rattle.regress_c.specs.Codes.{code_of, done, no_match, of_search}
 use Rattle.regress_c.specs.Opening.{encoding_of}
@@ -24,10 +24,10 @@ use Rattle.regress_c.specs.declared.search.Encoding.{Encoding}
 use Rattle.regress_c.specs.declared.search.Encoding.TheVariants.{Utf8, Utf16, Ucs2}
 use Rattle.regress_c.specs.declared.search.Search.{Search}
 
--- ---- Matches that are written
+-- ---- Written matches
 
--- The matches that a call found, the offset from which the list goes on behind them, why there are no more, how many steps
--- there were when that was seen, and how many there are afterwards.
+-- One call: the matches found, the offset from which the list continues after them, why no more
+-- were found, the steps that were left when it stopped looking, and the steps left afterwards.
 pub record Run : Type 0 where
   pub found : List Answer
   pub next : ℕ
@@ -35,30 +35,33 @@ pub record Run : Type 0 where
   pub steps : Option ℕ
   pub left : Option ℕ
 
--- how many ranges a match has
+-- The number of ranges of a match: one for the whole, and one for each group.
 abbrev pub ranges_of : Tree → ℕ
 ranges_of tree = length (group_ids tree.root) + 1
 
+-- A search with the pattern's tree in a text.
 module _ (tree : Tree) (text : Text) where
-  -- there is no room for one more; there is none; there was no memory; or the steps are not enough for it
+  -- Why the call stopped: no room for one more match, no match remains, an allocation failed, or
+  -- the steps are not enough for the next match.
   abbrev pub Stops : (room : ℕ) → Run → Stop → Type 0
   Stops room run Full = (room < (length run.found + 1) * ranges_of tree) × (run.left ≡ run.steps)
-  Stops room run Over = IsOver tree text run.steps run.next × IsNoMore run.left run.steps
-  Stops room run (Refused Memory) = IsNoMore run.left run.steps
+  Stops room run Over = IsExhaustedFrom tree text run.steps run.next × IsBudgetAtMost run.left run.steps
+  Stops room run (Refused Memory) = IsBudgetAtMost run.left run.steps
   Stops room run (Refused StepLimit) =
-      (answers_within tree text run.steps run.next ≡ []) × (end_within tree text run.steps run.next ≡ false) × (run.left ≡ Some 0)
+      (answers_within tree text run.steps run.next ≡ []) × (finishes_within tree text run.steps run.next ≡ false) × (run.left ≡ Some 0)
 
-  -- What is to come from an offset is what was found, and then what is to come from where the list goes on. Each match has as
-  -- many ranges as the tree says.
+  -- The matches from `start` on within `steps` are those found, followed by those from `run.next`
+  -- on within `run.steps`. Each match has `ranges_of tree` ranges.
   pub record IsRun (steps : Option ℕ) (start room : ℕ) (run : Run) : Type 0 where
     pub answers : answers_within tree text steps start ≡ run.found ++ answers_within tree text run.steps run.next
-    pub limit : end_within tree text steps start ≡ end_within tree text run.steps run.next
-    pub starts : IsStart text run.next
-    pub fewer : IsNoMore run.left steps
+    pub limit : finishes_within tree text steps start ≡ finishes_within tree text run.steps run.next
+    pub starts : IsValidStart text run.next
+    pub fewer : IsBudgetAtMost run.left steps
     pub ranges : Each (λ m. length (spans_of m) ≡ ranges_of tree) run.found
     pub stops : Stops room run run.stop
 
-  -- The same of what code answers, and of the buffer. What it says of the steps that are left is not meant here.
+  -- The call's results and the buffer are those of a run. `left` is what remains of the step
+  -- budget; the field `filled.left` is not constrained.
   pub record Fills (steps : Option ℕ) (start : ℕ) (before after : List Span) (filled : Filled) (left : Option ℕ) : Type 0 where
     pub run : Run
     pub is : IsRun steps start (length before) run
@@ -68,102 +71,112 @@ module _ (tree : Tree) (text : Text) where
     pub left_is : left ≡ run.left
     pub written : after ≡ written_over (flat_map spans_of run.found) before
 
--- ---- By the pattern of a handle
+-- ---- With the pattern of a handle
 
+-- The tree of the program for texts in this encoding.
 abbrev pub tree_by : Regex → Encoding → Tree
 tree_by re Utf8 = byte_tree re
 tree_by re Utf16 = unit_tree re
 tree_by re Ucs2 = unit_tree re
 
+-- The text of a search, read in this encoding.
 abbrev pub text_by : Regex → Search → Encoding → Text
 text_by re s Utf8 = as_utf8 re s.bytes.now
 text_by re s Utf16 = as_utf16 re s.units.now
 text_by re s Ucs2 = as_ucs2 re s.units.now
 
--- it cuts no character where it goes on
+-- The offset from which the search continues splits no character.
 abbrev pub CanGoOn : Search → Encoding → Type 0
 CanGoOn s Utf8 = can_start_utf8 s.bytes.now s.next
 CanGoOn s Utf16 = can_start_utf16 s.units.now s.next
 CanGoOn s Ucs2 = Unit {0}
 
+-- The code that reports why a call stopped.
 abbrev pub code_of_stop : Stop → ℕ
 code_of_stop Full = done
 code_of_stop Over = no_match
 code_of_stop (Refused error) = code_of (of_search error)
 
--- steps are counted in UTF-8 alone
+-- Steps are counted in UTF-8 only.
 abbrev pub IsCounted : (steps : Option ℕ) → Encoding → Type 0
 IsCounted steps Utf8 = Unit {0}
 IsCounted steps Utf16 = steps ≡ None
 IsCounted steps Ucs2 = steps ≡ None
 
--- what refuses a search that is open, of which one match has room
+-- When an open search with room for one match is refused.
 abbrev pub RefusesSearch : Search → Encoding → (steps : Option ℕ) → Refusal → Type 0
 RefusesSearch s e steps refusal.NotBoundary = ¬ CanGoOn s e
 RefusesSearch s e steps refusal.NotCounted = (e ≢ Utf8) × IsSome steps
 RefusesSearch s e steps refusal.Memory = Unit {0}
 RefusesSearch s e steps _ = ⊥
 
--- what is written in an encoding, or what refuses it, and then nothing is
+-- The matches of a search in this encoding are written, or it is refused and the buffer is
+-- unchanged.
 abbrev pub FillsIn : Regex → Search → Encoding → (steps : Option ℕ) → (before after : List Span) → Result Filled Refusal → Type 0
 FillsIn re s e steps before after (Ok filled) = Fills (tree_by re e) (text_by re s e) steps s.next before after filled filled.left × IsCounted steps e
 FillsIn re s e steps before after (Err r) = RefusesSearch s e steps r × (after ≡ before)
 
--- the same of a tree, a text and a start
+-- The matches of a tree in a text from `start` on are written, or it is refused and the buffer is
+-- unchanged.
 abbrev pub FillsFrom : Tree → Text → (can_start : Type 0) → (steps : Option ℕ) → (start : ℕ) → (before after : List Span) → Result Filled Refusal → Type 0
 FillsFrom tree text can_start steps start before after (Ok filled) = Fills tree text steps start before after filled filled.left
 FillsFrom tree text can_start steps start before after (Err refusal.NotBoundary) = (¬ can_start) × (after ≡ before)
 FillsFrom tree text can_start steps start before after (Err refusal.Memory) = after ≡ before
 FillsFrom tree text can_start steps start before after (Err _) = ⊥
 
--- a call went on, had too little room for one match, which has so many ranges, or was refused
+-- The outcome of a call: it ran, had less room than the `ranges` of one match, or was refused.
 pub data Went : Type 0 where
   ran : Run → Went
   short : (ranges : ℕ) → Went
   refused : Refusal → Went
 
--- by a pattern, in an encoding
+-- The outcome for a search with this pattern in this encoding.
 abbrev pub GoesIn : Regex → Search → Encoding → (steps : Option ℕ) → (room : ℕ) → Went → Type 0
 GoesIn re s e steps room (ran run) = IsRun (tree_by re e) (text_by re s e) steps s.next room run × IsCounted steps e
 GoesIn re s e steps room (short ranges) = (ranges ≡ ranges_of (tree_by re e)) × (room < ranges)
 GoesIn re s e steps room (refused r) = RefusesSearch s e steps r
 
--- of a search, where it is open
+-- The outcome for a search with this pattern, which is refused if it is not open.
 abbrev pub GoesBy : Regex → Search → Option Encoding → (steps : Option ℕ) → (room : ℕ) → Went → Type 0
 GoesBy re s None steps room went = went ≡ refused refusal.NotOpen
 GoesBy re s (Some e) steps room went = GoesIn re s e steps room went
 
+-- The outcome for a search with the handle's pattern, which is refused if the handle is empty.
 abbrev pub Goes : (held : Option Regex) → Search → (steps : Option ℕ) → (room : ℕ) → Went → Type 0
 Goes None s steps room went = went ≡ refused refusal.Empty
 Goes (Some re) s steps room went = GoesBy re s (encoding_of s.encoding) steps room went
 
--- what went on, as a reply, in the search, in the buffer, and what it leaves of the steps
+-- The reply for an outcome.
 abbrev pub went_reply : Went → Reply
 went_reply (ran run) = record { code = code_of_stop run.stop; count = length run.found }
 went_reply (short ranges) = record { code = code_of refusal.ShortBuffer; count = ranges }
 went_reply (refused r) = record { code = code_of r; count = 0 }
 
+-- The offset from which the search continues after an outcome.
 abbrev pub next_after : Went → (next : ℕ) → ℕ
 next_after (ran run) next = run.next
 next_after (short ranges) next = next
 next_after (refused r) next = next
 
+-- The step budget after an outcome.
 abbrev pub left_after : Went → (steps : Option ℕ) → Option ℕ
 left_after (ran run) steps = run.left
 left_after (short ranges) steps = steps
 left_after (refused r) steps = steps
 
+-- The buffer after an outcome.
 abbrev pub spans_after : Went → (before : List Span) → List Span
 spans_after (ran run) before = written_over (flat_map spans_of run.found) before
 spans_after (short ranges) before = before
 spans_after (refused r) before = before
 
--- a search over the same text, read in the same way
+-- Both searches have the same text and read it in the same encoding.
 pub record HasSameText (s s' : Search) : Type 0 where
   pub bytes : s'.bytes ≡ s.bytes
   pub units : s'.units ≡ s.units
   pub encoding : s'.encoding ≡ s.encoding
 
+-- The reply, the search, the step budget and the buffer afterwards are those of an outcome.
 pub record RepliesNext (held : Option Regex) (s s' : Search) (steps left : Option ℕ) (before after : List Span) (reply : Reply) : Type 0 where
   pub went : Went
   pub goes : Goes held s steps (length before) went

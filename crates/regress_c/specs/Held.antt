@@ -1,4 +1,4 @@
--- What a handle owns: nothing at null, and else the value on the heap.
+-- What a handle owns: the pattern on the heap, or nothing if its pointer is null.
 use Rattle.std.specs.Prelude.{◌≡◌, Option, Some, None}
 use Rattle.std.specs.Box.Ownership.{box_owns}
 use Rattle.std.specs.declared.alloc.Global.{Global}
@@ -7,10 +7,11 @@ use base.Fml.{Fml, ftrue, fex}
 use denote.RattleType.{RattleType}
 use denote.RawPtr.{Ptr, null_ptr}
 
--- the one value of the allocator, whose token is the right to free a block
+-- The only value of the global allocator, whose token is the right to free a block.
 abbrev pub global : Global
 global = record { memory = record { seal = tt } }
 
+-- What a handle with this pointer and this content owns.
 abbrev pub held_owns : (R : RattleType) → Ptr → Option R.Denot → Fml
 held_owns R p (Some x) = box_owns (ghosts.dealloc_token global) R p x
 held_owns R p None = fex (p ≡ null_ptr) (λ _. ftrue)

@@ -1,10 +1,10 @@
--- What a search in so much work finds.
+-- The results of a search within a work budget.
 use Rattle.std.specs.Prelude.{◌≡◌, ◌<◌, ◌≤◌, ℕ, List, Option, Some, None, Result, Ok, Err, IsUtf8, length, option_map, slice_get}
-use Rattle.regex_meaning.specs.Names.{Answer}
-use Rattle.regress_exec.specs.Answers.{answer_of}
+use Rattle.regex_meaning.specs.Captures.{Answer}
+use Rattle.regress_exec.specs.MatchAnswers.{answer_of}
 use Rattle.regress_exec.specs.declared.exec.Match.{Match}
-use Rattle.regress_match.specs.Programs.{as_utf8, utf8_answers}
-use Rattle.regress_match.specs.Work.{IsEnoughEach, all_work}
+use Rattle.regress_match.specs.RegexPrograms.{as_utf8, utf8_answers}
+use Rattle.regress_match.specs.WorkBounds.{IsWorkBoundOfBothPrograms, total_work}
 use Rattle.regress_match.specs.declared.api.regex.Regex.{Regex}
 use Rattle.regress_c.specs.Codes.{code_of, done}
 use Rattle.regress_c.specs.Replies.{left_by, reply_to}
@@ -14,11 +14,11 @@ use Rattle.regress_c.specs.declared.refusal.Refusal.TheVariants.{Empty, NotUtf8,
 use Rattle.regress_c.specs.declared.reply.Reply.{Reply}
 use Rattle.regress_c.specs.declared.reply.Span.{Span}
 
--- none is left, and there was less than a bound says is enough
+-- No work is left, and the budget was less than the pattern's bound requires for the text.
 abbrev pub IsUsedUp : Regex → (text : List ℕ) → (work left : ℕ) → Type 0
-IsUsedUp re text work left = (left ≡ 0) × ((per_unit : ℕ) × IsEnoughEach re per_unit × (work < all_work per_unit (as_utf8 re text)))
+IsUsedUp re text work left = (left ≡ 0) × ((per_unit : ℕ) × IsWorkBoundOfBothPrograms re per_unit × (work < total_work per_unit (as_utf8 re text)))
 
--- the first of the answers from a start on, none exactly where there is none; or a refusal
+-- The result is the first match from `start` on, or `None` exactly if there is none; or a refusal.
 abbrev pub IsFirstInWork : Regex → (text : List ℕ) → (start work : ℕ) → Result (Option Match) Refusal → (left : ℕ) → Type 0
 IsFirstInWork re text start work (Ok m) left = (option_map answer_of m ≡ slice_get (utf8_answers re text start) 0) × (left ≤ work)
 IsFirstInWork re text start work (Err Memory) left = left ≤ work
@@ -26,38 +26,41 @@ IsFirstInWork re text start work (Err NoBound) left = left ≡ work
 IsFirstInWork re text start work (Err WorkLimit) left = IsUsedUp re text work left
 IsFirstInWork re text start work (Err _) left = ⊥
 
--- the same of a text that is tested first, and a start
+-- The result for bytes that are first checked to be UTF-8, and a start that is checked.
 abbrev pub FindsInWork : Regex → (text : List ℕ) → (start work : ℕ) → Result (Option Match) Refusal → (left : ℕ) → Type 0
 FindsInWork re text start work (Err NotUtf8) left = (¬ IsUtf8 text) × (left ≡ work)
 FindsInWork re text start work (Err NotBoundary) left = IsUtf8 text × (¬ can_start_utf8 text start) × (left ≡ work)
 FindsInWork re text start work found left = IsUtf8 text × can_start_utf8 text start × IsFirstInWork re text start work found left
 
--- the same by the pattern of a handle
+-- The result with the handle's pattern, which is refused if the handle is empty.
 abbrev pub FindsInWorkBy : (held : Option Regex) → (text : List ℕ) → (start work : ℕ) → Result (Option Match) Refusal → (left : ℕ) → Type 0
 FindsInWorkBy None text start work found left = (found ≡ Err Empty) × (left ≡ work)
 FindsInWorkBy (Some re) text start work found left = FindsInWork re text start work found left
 
--- what is found, as a reply, and in the buffer
+-- The reply and the buffer afterwards are those of a result, and `left` is the work that is left.
 abbrev pub RepliesInWork : (held : Option Regex) → (text : List ℕ) → (start work left : ℕ) → (before after : List Span) → Reply → Type 0
 RepliesInWork held text start work left before after reply = (found : Result (Option Match) Refusal)
     × FindsInWorkBy held text start work found left × (reply ≡ reply_to found (length before)) × (after ≡ left_by found before)
 
--- how much is enough for each unit of a text, and one; or why that is not told
+-- The result is the work bound of the handle's pattern, or why there is none.
 abbrev pub Reckons : (held : Option Regex) → Result ℕ Refusal → Type 0
 Reckons None result = result ≡ Err Empty
-Reckons (Some re) (Ok per_unit) = IsEnoughEach re per_unit
+Reckons (Some re) (Ok per_unit) = IsWorkBoundOfBothPrograms re per_unit
 Reckons (Some re) (Err NoBound) = Unit {0}
 Reckons (Some re) (Err Memory) = Unit {0}
 Reckons (Some re) (Err _) = ⊥
 
+-- The code of a result.
 abbrev pub code_of_reckoned : Result ℕ Refusal → ℕ
 code_of_reckoned (Ok per_unit) = done
 code_of_reckoned (Err refusal) = code_of refusal
 
+-- The number in the caller's variable after a result.
 abbrev pub left_by_reckoned : Result ℕ Refusal → (before : ℕ) → ℕ
 left_by_reckoned (Ok per_unit) before = per_unit
 left_by_reckoned (Err refusal) before = before
 
+-- The code and the caller's variable afterwards are those of a result.
 abbrev pub RepliesReckoned : (held : Option Regex) → (before after : ℕ) → (code : ℕ) → Type 0
 RepliesReckoned held before after code = (reckoned : Result ℕ Refusal)
     × Reckons held reckoned × (code ≡ code_of_reckoned reckoned) × (after ≡ left_by_reckoned reckoned before)

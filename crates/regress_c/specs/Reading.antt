@@ -1,26 +1,28 @@
--- Flags and patterns as they are given.
+-- Reading of flags and of the texts of patterns.
 use Rattle.std.specs.Prelude.{◌≡◌, ℕ, Bool, List, ◌||◌, ◌==◌, IsTrue, Result, Ok, Err, Vec}
 use Rattle.std.specs.List.{All}
-use Rattle.regex_meaning.specs.Flags.{flags_of_text}
+use Rattle.regex_meaning.specs.FlagLettersAndEscaping.{flags_from_letters}
 use Rattle.regress_match.specs.Flags.{flags_of}
 use Rattle.regress_match.specs.declared.api.flags.Flags.{Flags}
 use Rattle.regress_c.specs.declared.refusal.Refusal.{Refusal}
 use Rattle.regress_c.specs.declared.refusal.Refusal.TheVariants.{NotUtf8, Memory, UnknownFlag}
 
--- i, m, s, u or v
+-- The letter is `i`, `m`, `s`, `u` or `v`.
 abbrev pub is_flag_letter : ℕ → Bool
 is_flag_letter c = c == 105 || c == 109 || c == 115 || c == 117 || c == 118
 
+-- All letters are those of flags.
 abbrev pub AreFlags : (letters : List ℕ) → Type 0
 AreFlags letters = All (λ c. IsTrue (is_flag_letter c)) letters
 
--- the flags with these letters, where each is one of a flag
+-- The result is the flags with these letters, or `UnknownFlag` if one of them is not the letter of
+-- a flag.
 abbrev pub ReadsFlags : (letters : List ℕ) → Result Flags Refusal → Type 0
-ReadsFlags letters (Ok flags) = AreFlags letters × (flags_of flags ≡ flags_of_text letters)
+ReadsFlags letters (Ok flags) = AreFlags letters × (flags_of flags ≡ flags_from_letters letters)
 ReadsFlags letters (Err UnknownFlag) = ¬ AreFlags letters
 ReadsFlags letters (Err _) = ⊥
 
--- the characters of a text, where it is one
+-- The result is the code points of a pattern, or `NotUtf8` if it is not valid in its encoding.
 abbrev pub Reads : {Z : Type 0} → (is_text : Type 0) → (characters : List ℕ) → Result (Vec ℕ Z) Refusal → Type 0
 Reads is_text characters (Ok v) = is_text × (v.items ≡ characters)
 Reads is_text characters (Err NotUtf8) = ¬ is_text

@@ -1,8 +1,8 @@
--- The reply to what was found, and what it leaves in the caller's buffer.
+-- The reply to the result of a search, and the caller's buffer afterwards.
 use Rattle.std.specs.Prelude.{ℕ, ◌-◌, ◌^◌, ◌++◌, List, Option, Some, None, Result, Ok, Err, drop, length, map, nat_le, if◌then◌else◌}
-use Rattle.regex_meaning.specs.Names.{Answer}
-use Rattle.regress_exec.specs.Answers.{answer_of}
-use Rattle.regress_exec.specs.InTurn.{all_groups}
+use Rattle.regex_meaning.specs.Captures.{Answer}
+use Rattle.regress_exec.specs.MatchAnswers.{answer_of}
+use Rattle.regress_exec.specs.GroupIterators.{all_groups}
 use Rattle.regress_exec.specs.declared.exec.Match.{Match}
 use Rattle.regress_c.specs.Codes.{code_of, done, no_match}
 use Rattle.regress_c.specs.declared.refusal.Refusal.{Refusal}
@@ -10,29 +10,33 @@ use Rattle.regress_c.specs.declared.refusal.Refusal.TheVariants.{ShortBuffer}
 use Rattle.regress_c.specs.declared.reply.Reply.{Reply}
 use Rattle.regress_c.specs.declared.reply.Span.{Span}
 
+-- The greatest `u64`.
 abbrev pub greatest : ℕ
 greatest = 2 ^ 64 - 1
 
--- a range, or the greatest number twice where a group did not match
+-- The span of a range; both ends are `greatest` for a group that did not match.
 abbrev pub span_of : Option (ℕ × ℕ) → Span
 span_of (Some r) = record { start = r.0; end = r.1 }
 span_of None = record { start = greatest; end = greatest }
 
--- the whole match, and then each group by number
+-- The spans of the whole match and of each group by number.
 abbrev pub spans_of : Answer → List Span
 spans_of m = map span_of (all_groups m)
 
--- these in place of as many at the front
+-- The list `old`, with its front overwritten by `new`.
 abbrev pub written_over : {A : Type 0} → (new old : List A) → List A
 written_over new old = new ++ drop (length new) old
 
--- a match is a reply of its own only where there is room for its ranges
+-- The reply to the result of a search. Its code is `done` only if there is room for the ranges of
+-- the match.
 abbrev pub reply_to : Result (Option Match) Refusal → (room : ℕ) → Reply
 reply_to (Ok (Some m)) room = let count = length (spans_of (answer_of m)) in
     record { code = if nat_le count room then done else code_of ShortBuffer; count = count }
 reply_to (Ok None) room = record { code = no_match; count = 0 }
 reply_to (Err refusal) room = record { code = code_of refusal; count = 0 }
 
+-- The buffer after the result of a search. It is unchanged without a match, or without room for its
+-- ranges.
 abbrev pub left_by : Result (Option Match) Refusal → (before : List Span) → List Span
 left_by (Ok (Some m)) before = let spans = spans_of (answer_of m) in
     if nat_le (length spans) (length before) then written_over spans before else before

@@ -1,13 +1,13 @@
--- What a search finds, by the encoding of its text.
+-- The results of a search, in each encoding of its text.
 use Rattle.std.specs.Prelude.{◌≡◌, ◌<◌, ◌⊎◌, ℕ, Bool, true, false, List, [], Option, Some, None, Result, Ok, Err, IsCharBoundary, IsTrue, IsUtf8}
 use Rattle.std.specs.Prelude.{length, option_map, slice_get}
 use Rattle.std.specs.Option.{IfNone}
 use Rattle.std.specs.Borrow.{Bor}
-use Rattle.regex_meaning.specs.Names.{Answer}
+use Rattle.regex_meaning.specs.Captures.{Answer}
 use Rattle.regex_meaning.specs.Text.{is_unit_boundary}
-use Rattle.regress_exec.specs.Answers.{answer_of}
+use Rattle.regress_exec.specs.MatchAnswers.{answer_of}
 use Rattle.regress_exec.specs.declared.exec.Match.{Match}
-use Rattle.regress_match.specs.Programs.{utf8_answers, utf16_answers, ucs2_answers}
+use Rattle.regress_match.specs.RegexPrograms.{utf8_answers, utf16_answers, ucs2_answers}
 use Rattle.regress_match.specs.declared.api.regex.Regex.{Regex}
 use Rattle.regress_c.specs.Replies.{left_by, reply_to}
 use Rattle.regress_c.specs.declared.refusal.Refusal.{Refusal}
@@ -15,53 +15,58 @@ use Rattle.regress_c.specs.declared.refusal.Refusal.TheVariants.{Empty, NotUtf8,
 use Rattle.regress_c.specs.declared.reply.Reply.{Reply}
 use Rattle.regress_c.specs.declared.reply.Span.{Span}
 
--- the answers from the start on, and whether a limit of steps stands behind them in place of the end
+-- The remaining matches, and whether a step limit follows them in place of the end.
 pub record Coming : Type 0 where
   pub answers : List Answer
   pub limited : Bool
 
+-- The matches in a UTF-8 text from `start` on.
 abbrev pub utf8_coming : (text : List ℕ) → Regex → (start : ℕ) → Coming
 utf8_coming text re start = record { answers = utf8_answers re text start; limited = false }
 
+-- The matches in a UTF-16 text from `start` on.
 abbrev pub utf16_coming : (text : List ℕ) → Regex → (start : ℕ) → Coming
 utf16_coming text re start = record { answers = utf16_answers re text start; limited = false }
 
+-- The matches in a UCS-2 text from `start` on.
 abbrev pub ucs2_coming : (text : List ℕ) → Regex → (start : ℕ) → Coming
 ucs2_coming text re start = record { answers = ucs2_answers re text start; limited = false }
 
--- a start cuts no character, or is past the end
+-- A start in a UTF-8 text splits no character, or is past the end.
 abbrev pub can_start_utf8 : (text : List ℕ) → (start : ℕ) → Type 0
 can_start_utf8 text start = IsCharBoundary text start ⊎ (length text < start)
 
+-- A start in a UTF-16 text splits no surrogate pair, or is past the end.
 abbrev pub can_start_utf16 : (text : List ℕ) → (start : ℕ) → Type 0
 can_start_utf16 text start = IsTrue (is_unit_boundary text start) ⊎ (length text < start)
 
--- the first of the answers, none exactly where there is none and no limit; or a refusal: at the limit, or for want of memory
+-- The result is the first of the remaining matches, or `None` exactly if there is none and no step
+-- limit; or the search is refused, at the step limit or because an allocation failed.
 abbrev pub IsFirst : Coming → Result (Option Match) Refusal → Type 0
 IsFirst coming (Ok m) = (option_map answer_of m ≡ slice_get coming.answers 0) × IfNone m (coming.limited ≡ false)
 IsFirst coming (Err Memory) = Unit {0}
 IsFirst coming (Err StepLimit) = (coming.answers ≡ []) × (coming.limited ≡ true)
 IsFirst coming (Err _) = ⊥
 
--- the same of a text that is tested first, and a start
+-- The result for a text and a start that are checked first.
 abbrev pub Finds : (is_text can_start : Type 0) → Coming → Result (Option Match) Refusal → Type 0
 Finds is_text can_start coming (Err NotUtf8) = ¬ is_text
 Finds is_text can_start coming (Err NotBoundary) = is_text × ¬ can_start
 Finds is_text can_start coming found = is_text × can_start × IsFirst coming found
 
--- the text of these bytes, if it is one and a search may start there
+-- The result is the text of these bytes, if they are UTF-8 and a search may start at `start`.
 abbrev pub Starts : (bytes : List ℕ) → (start : ℕ) → Result (Bor (List ℕ)) Refusal → Type 0
 Starts bytes start (Ok text) = (text.now ≡ bytes) × IsUtf8 bytes × can_start_utf8 bytes start
 Starts bytes start (Err NotUtf8) = ¬ IsUtf8 bytes
 Starts bytes start (Err NotBoundary) = IsUtf8 bytes × ¬ can_start_utf8 bytes start
 Starts bytes start (Err _) = ⊥
 
--- the same by the pattern of a handle
+-- The result with the handle's pattern, which is refused if the handle is empty.
 abbrev pub FindsBy : (held : Option Regex) → (is_text can_start : Type 0) → (Regex → Coming) → Result (Option Match) Refusal → Type 0
 FindsBy None is_text can_start coming found = found ≡ Err Empty
 FindsBy (Some re) is_text can_start coming found = Finds is_text can_start (coming re) found
 
--- what is found, as a reply, and in the buffer
+-- The reply and the buffer afterwards are those of a result.
 abbrev pub Replies : (held : Option Regex) → (is_text can_start : Type 0) → (Regex → Coming) → (before after : List Span) → Reply → Type 0
 Replies held is_text can_start coming before after reply = (found : Result (Option Match) Refusal)
     × FindsBy held is_text can_start coming found × (reply ≡ reply_to found (length before)) × (after ≡ left_by found before)

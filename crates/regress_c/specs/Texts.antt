@@ -1,13 +1,13 @@
--- Texts that are written into a caller's buffer.
+-- Texts that are written into the caller's buffer.
 use Rattle.std.specs.Prelude.{◌≡◌, ◌≤◌, ◌+◌, ◌-◌, ℕ, List, [], Option, Some, None, Result, Ok, Err, IsUtf8, get_or, length, string_bytes, take}
 use Rattle.std.specs.Prelude.{nat_le, if◌then◌else◌}
 use Rattle.std.specs.List.{sum_by}
-use Rattle.regex_meaning.specs.Flags.{escape}
-use Rattle.regex_meaning.specs.Names.{Answer, names_by_id}
+use Rattle.regex_meaning.specs.FlagLettersAndEscaping.{escape}
+use Rattle.regex_meaning.specs.Captures.{Answer, group_names_by_id}
 use Rattle.regex_meaning.specs.Replace.{replaced}
 use Rattle.regex_meaning.specs.Tree.{group_ids}
-use Rattle.regress_match.specs.Programs.{byte_tree, utf8_answers}
-use Rattle.regress_match.specs.Replacements.{expanded}
+use Rattle.regress_match.specs.RegexPrograms.{byte_tree, utf8_answers}
+use Rattle.regress_match.specs.Replacements.{expansion_of_each_match}
 use Rattle.regress_match.specs.declared.api.regex.Regex.{Regex}
 use Rattle.regress_c.specs.Codes.{code_of, done}
 use Rattle.regress_c.specs.Compiling.{Given, IsReadable}
@@ -22,78 +22,88 @@ use Rattle.regress_c.specs.declared.reply.Reply.{Reply}
 
 -- ---- A text, and a buffer for it
 
--- the code is one of its own only where there is room; how long the text is, is told in any case
+-- The reply for a text. Its code is `code` only if there is room for the text; its count is the
+-- length of the text in any case.
 abbrev pub text_reply : (code : ℕ) → (text : List ℕ) → (room : ℕ) → Reply
 text_reply code text room = record { code = if nat_le (length text) room then code else code_of ShortBuffer; count = length text }
 
+-- The buffer after a text. It is unchanged without room for the text.
 abbrev pub left_by_text : (text before : List ℕ) → List ℕ
 left_by_text text before = if nat_le (length text) (length before) then written_over text before else before
 
+-- The reply for a produced text or a refusal.
 abbrev pub made_reply : Result (List ℕ) Refusal → (room : ℕ) → Reply
 made_reply (Ok text) room = text_reply done text room
 made_reply (Err refusal) room = record { code = code_of refusal; count = 0 }
 
+-- The buffer after a produced text or a refusal.
 abbrev pub left_by_made : Result (List ℕ) Refusal → (before : List ℕ) → List ℕ
 left_by_made (Ok text) before = left_by_text text before
 left_by_made (Err refusal) before = before
 
--- what is made, as a reply, and in the buffer
+-- The reply and the buffer afterwards are those of a produced text or a refusal.
 abbrev pub RepliesText : (Result (List ℕ) Refusal → Type 0) → (before after : List ℕ) → Reply → Type 0
 RepliesText Makes before after reply = (made : Result (List ℕ) Refusal)
     × Makes made × (reply ≡ made_reply made (length before)) × (after ≡ left_by_made made before)
 
--- ---- What is made
+-- ---- Produced texts
 
--- which of the matches are replaced
+-- The matches that are replaced.
 abbrev pub replaced_ones : Which → List Answer → List Answer
 replaced_ones First ms = take 1 ms
 replaced_ones All ms = ms
 
--- the text with the replacement in place of matches
+-- The result is the text with the first match or all matches replaced, or a refusal.
 abbrev pub Replaces : Regex → (text replacement : List ℕ) → Which → Result (List ℕ) Refusal → Type 0
 Replaces re text replacement which (Ok made) =
-    (IsUtf8 text × IsUtf8 replacement) × (made ≡ replaced text 0 (expanded text replacement (replaced_ones which (utf8_answers re text 0))))
+    (IsUtf8 text × IsUtf8 replacement) × (made ≡ replaced text 0 (expansion_of_each_match text replacement (replaced_ones which (utf8_answers re text 0))))
 Replaces re text replacement which (Err NotUtf8) = ¬ (IsUtf8 text × IsUtf8 replacement)
 Replaces re text replacement which (Err Memory) = IsUtf8 text × IsUtf8 replacement
 Replaces re text replacement which (Err _) = ⊥
 
+-- The result with the handle's pattern, which is refused if the handle is empty.
 abbrev pub ReplacesBy : (held : Option Regex) → (text replacement : List ℕ) → Which → Result (List ℕ) Refusal → Type 0
 ReplacesBy None text replacement which made = made ≡ Err Empty
 ReplacesBy (Some re) text replacement which made = Replaces re text replacement which made
 
--- the text as it stands in a pattern for itself
+-- The result is the text with its syntax characters escaped, or a refusal.
 abbrev pub Escapes : (text : List ℕ) → Result (List ℕ) Refusal → Type 0
 Escapes text (Ok made) = IsUtf8 text × (made ≡ escape text)
 Escapes text (Err NotUtf8) = ¬ IsUtf8 text
 Escapes text (Err Memory) = IsUtf8 text
 Escapes text (Err _) = ⊥
 
--- ---- What a pattern knows
+-- ---- Properties of a pattern
 
+-- The number of ranges of a match: one for the whole, and one for each group.
 abbrev pub range_count : Regex → ℕ
 range_count re = length (group_ids (byte_tree re).root) + 1
 
+-- The reply with the number of ranges, which is refused if the handle is empty.
 abbrev pub count_reply : (held : Option Regex) → Reply
 count_reply None = record { code = code_of Empty; count = 0 }
 count_reply (Some re) = record { code = done; count = range_count re }
 
--- the name of a group, which is empty where it has none
+-- The result is the name of a group, which is empty if it has none, or `NoGroup` if there is no
+-- such group.
 abbrev pub Names : Regex → (number : ℕ) → Result (List ℕ) Refusal → Type 0
-Names re number (Ok name) = (1 ≤ number) × (number ≤ length (group_ids (byte_tree re).root)) × (name ≡ get_or (names_by_id (byte_tree re).root) (number - 1) [])
+Names re number (Ok name) = (1 ≤ number) × (number ≤ length (group_ids (byte_tree re).root)) × (name ≡ get_or (group_names_by_id (byte_tree re).root) (number - 1) [])
 Names re number (Err NoGroup) = ¬ ((1 ≤ number) × (number ≤ length (group_ids (byte_tree re).root)))
 Names re number (Err _) = ⊥
 
+-- The result with the handle's pattern, which is refused if the handle is empty.
 abbrev pub NamesBy : (held : Option Regex) → (number : ℕ) → Result (List ℕ) Refusal → Type 0
 NamesBy None number made = made ≡ Err Empty
 NamesBy (Some re) number made = Names re number made
 
--- ---- What is wrong with a text that is no pattern
+-- ---- Diagnoses
 
--- how many units the first so many characters have
+-- `at` is the offset in units of a code point of the pattern, or of its end.
 abbrev pub IsPlaceIn : (width : ℕ → ℕ) → (characters : List ℕ) → (at : ℕ) → Type 0
 IsPlaceIn width characters at = (n : ℕ) × (n ≤ length characters) × (at ≡ sum_by width (take n characters))
 
--- Something wrong that begins at a character, or at the end; or nothing. Which of them, and in which words, is not said.
+-- The result is a diagnosis with an offset in the pattern, none, or a refusal. Which diagnosis it
+-- is, in which words, and whether there is one, is not specified.
 abbrev pub Diagnoses : Given → (width : ℕ → ℕ) → Result (Option Told) Refusal → Type 0
 Diagnoses given width (Ok (Some told)) = IsReadable given × IsPlaceIn width given.characters told.at
 Diagnoses given width (Ok None) = IsReadable given
@@ -102,22 +112,25 @@ Diagnoses given width (Err NotUtf8) = ¬ given.is_text
 Diagnoses given width (Err Memory) = IsReadable given
 Diagnoses given width (Err _) = ⊥
 
+-- The reply for a diagnosis, for none, or for a refusal.
 abbrev pub told_reply : Result (Option Told) Refusal → (room : ℕ) → Reply
 told_reply (Ok (Some told)) room = text_reply (code_of Syntax) (string_bytes told.cause) room
 told_reply (Ok None) room = record { code = done; count = 0 }
 told_reply (Err refusal) room = record { code = code_of refusal; count = 0 }
 
+-- The buffer after a diagnosis, after none, or after a refusal.
 abbrev pub left_by_told : Result (Option Told) Refusal → (before : List ℕ) → List ℕ
 left_by_told (Ok (Some told)) before = left_by_text (string_bytes told.cause) before
 left_by_told (Ok None) before = before
 left_by_told (Err refusal) before = before
 
+-- The caller's variable for the offset after a diagnosis, after none, or after a refusal.
 abbrev pub place_after : Result (Option Told) Refusal → (at : ℕ) → ℕ
 place_after (Ok (Some told)) at = told.at
 place_after (Ok None) at = at
 place_after (Err refusal) at = at
 
--- what is told, as a reply, a place, and in the buffer
+-- The reply, the caller's variable for the offset and the buffer afterwards are those of a result.
 abbrev pub RepliesTold : Given → (width : ℕ → ℕ) → (at : ℕ) → (before : List ℕ) → (at' : ℕ) → (after : List ℕ) → Reply → Type 0
 RepliesTold given width at before at' after reply = (told : Result (Option Told) Refusal)
     × Diagnoses given width told × (reply ≡ told_reply told (length before)) × (at' ≡ place_after told at) × (after ≡ left_by_told told before)

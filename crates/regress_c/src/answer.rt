@@ -1,4 +1,4 @@
-//! Texts that are written into a caller's buffer, with how long they are.
+//! Calls that write a text into the caller's buffer and return its length.
 
 ghost use Rattle.std.specs.Prelude.{◌≡◌, ◌≤◌, get_or, length, map, string_bytes, take, []};
 ghost use Rattle.std.specs.List.{sum_by};
@@ -22,7 +22,8 @@ pub(crate) enum Which {
     All,
 }
 
-// Writes a text over the first of the buffer, if there is room for all of it. The reply says how long it is.
+// Writes a text to the front of the buffer if there is room for all of it. The reply has its
+// length.
 fn copied(text: &[u8], buffer: &mut [u8], code: u32) -> Reply
     ensures reply { result ≡ text_reply code text.now (length buffer.old) }
     ensures written { buffer.new ≡ left_by_text text.now buffer.old }
@@ -36,7 +37,7 @@ fn copied(text: &[u8], buffer: &mut [u8], code: u32) -> Reply
     Reply { code, count }
 }
 
-// The same of a text that was made, unless it was refused.
+// Writes a produced text like `copied`, or replies with the refusal.
 fn answered(made: Result<String, Refusal>, buffer: &mut [u8]) -> Reply
     ensures reply { result ≡ made_reply (result_map_both string_bytes (λ e. e) made) (length buffer.old) }
     ensures written { buffer.new ≡ left_by_made (result_map_both string_bytes (λ e. e) made) buffer.old }
@@ -47,7 +48,7 @@ fn answered(made: Result<String, Refusal>, buffer: &mut [u8]) -> Reply
     }
 }
 
-/// Writes the text with the replacement in place of matches.
+/// Writes the text with the first match or all matches replaced.
 pub(crate) fn replace(
     alloc: Global,
     pattern: &mut Pattern,
@@ -68,6 +69,7 @@ pub(crate) fn replace(
     answered(made, buffer)
 }
 
+// Returns the text with the first match or all matches replaced.
 fn replaced(re: &Regex, text: &[u8], replacement: &[u8], which: Which) -> Result<String, Refusal>
     ensures { Replaces re.now text.now replacement.now which (result_map_both string_bytes (λ e. e) result) }
 {
@@ -79,20 +81,22 @@ fn replaced(re: &Regex, text: &[u8], replacement: &[u8], which: Which) -> Result
     }
 }
 
-/// Writes the text as it stands in a pattern for itself.
+/// Writes the text with its syntax characters escaped, so that a pattern matches it literally.
 pub(crate) fn escaped(alloc: Global, text: &[u8], buffer: &mut [u8]) -> Reply
     ensures { RepliesText (Escapes text.now) buffer.old buffer.new result }
 {
     answered(escaped_text(alloc, text), buffer)
 }
 
+// Returns the text with its syntax characters escaped.
 fn escaped_text(alloc: Global, text: &[u8]) -> Result<String, Refusal>
     ensures { Escapes text.now (result_map_both string_bytes (λ e. e) result) }
 {
     Ok(escape(alloc, str::from_utf8(text)?)?)
 }
 
-/// How many ranges a match by the pattern of the handle has.
+/// Replies with the number of ranges of a match of the handle's pattern: one more than it has
+/// groups.
 pub(crate) fn range_count(alloc: Global, pattern: &mut Pattern) -> Reply
     ensures reply { result ≡ count_reply pattern.old.held }
     ensures kept { pattern.new.held ≡ pattern.old.held }
@@ -105,7 +109,7 @@ pub(crate) fn range_count(alloc: Global, pattern: &mut Pattern) -> Reply
     Reply { code: DONE, count }
 }
 
-/// Writes the name of a group, nothing where it has none.
+/// Writes the name of a group, which is empty if it has none.
 pub(crate) fn named(re: &Regex, number: usize, buffer: &mut [u8]) -> Reply
     ensures { RepliesText (Names re.now number) buffer.old buffer.new result }
 {
@@ -116,7 +120,7 @@ pub(crate) fn named(re: &Regex, number: usize, buffer: &mut [u8]) -> Reply
     copied(name.as_bytes(), buffer, DONE)
 }
 
-// The name with this index; the empty one where there are not so many.
+// Returns the name at this index, or the empty name if the list is shorter.
 fn name_at(names: &[String], index: usize) -> &str
     ensures { result.now ≡ get_or (map string_bytes names.now) index [] }
 {
@@ -126,7 +130,7 @@ fn name_at(names: &[String], index: usize) -> &str
     }
 }
 
-/// Writes what is wrong with a text that is no pattern, and where.
+/// Writes what is wrong with a pattern that has a syntax error, and sets `at` to where.
 pub(crate) fn diagnosis<S: Source>(
     alloc: Global,
     source: &S,
@@ -150,13 +154,14 @@ pub(crate) fn diagnosis<S: Source>(
     }
 }
 
-// What is wrong, and the offset in units of the pattern at which it begins.
+// A diagnosis: the cause in words, and the offset in units of the pattern at which it begins.
 #[derive(Drop)]
 struct Told {
     cause: String,
     at: usize,
 }
 
+// Returns the diagnosis of a pattern, or `None` if there is nothing wrong.
 fn diagnosed<S: Source>(alloc: Global, source: &S, flags: &[u8]) -> Result<Option<Told>, Refusal>
     ensures { Diagnoses (given (S.is_text source.now) (S.characters source.now) flags.now) S.width_of result }
 {
@@ -171,7 +176,7 @@ fn diagnosed<S: Source>(alloc: Global, source: &S, flags: &[u8]) -> Result<Optio
     }))
 }
 
-// How many units the first so many code points of a pattern have.
+// Returns the number of units of the first `count` code points of a pattern.
 fn units_before<S: Source>(code_points: &[u32], count: usize) -> usize
     requires { count ≤ length code_points.now }
     ensures { result ≡ sum_by S.width_of (take count code_points.now) }

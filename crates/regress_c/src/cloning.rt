@@ -1,4 +1,4 @@
-//! Patterns that are copied from one handle into another.
+//! Copying a pattern from one handle into another.
 
 ghost use Rattle.std.specs.Prelude.{◌≡◌, Some, None};
 ghost use Rattle.std.specs.Result.{result_map_both};
@@ -9,7 +9,7 @@ use crate::refusal::{DONE, Refusal};
 use regress_match::Regex;
 use std::alloc::Global;
 
-/// Puts an equal pattern into an empty handle, and answers the code.
+/// Puts an equal pattern into an empty handle, and returns the code.
 pub(crate) fn clone(alloc: Global, pattern: &mut Pattern, into: &mut Pattern) -> u32
     ensures replies { RepliesCloned pattern.old.held into.old.held into.new.held result }
     ensures kept { pattern.new.held ≡ pattern.old.held }
@@ -22,6 +22,7 @@ pub(crate) fn clone(alloc: Global, pattern: &mut Pattern, into: &mut Pattern) ->
     code
 }
 
+// Puts a copy of a pattern into a handle, and returns the code.
 fn clone_of(alloc: Global, re: &Regex, into: &mut Pattern) -> u32
     ensures { RepliesCloned (Some re.now) into.old.held into.new.held result }
 {
@@ -38,6 +39,7 @@ fn clone_of(alloc: Global, re: &Regex, into: &mut Pattern) -> u32
     }
 }
 
+// Returns a copy of a pattern on the heap.
 fn boxed_clone(alloc: Global, re: &Regex) -> Result<Box<Regex>, Refusal>
     ensures { ClonesInto (Some re.now) None (result_map_both (λ b. b.value) (λ e. e) result) }
 {

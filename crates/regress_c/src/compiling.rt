@@ -1,4 +1,4 @@
-//! Compiling into a handle.
+//! Compiling a pattern into a handle.
 
 ghost use Rattle.std.specs.Prelude.{◌≡◌, ℕ, List, None};
 ghost use Rattle.regex_meaning.specs.Tree.{Flags as Asked};
@@ -15,25 +15,25 @@ use regex_pattern_front::parse::diagnose;
 use regress_match::{Flags, Regex, nesting};
 use std::alloc::Global;
 
-/// How long a pattern may be, and how deep it may nest.
+/// The maximum length and nesting depth of a pattern.
 #[repr(C)]
 #[derive(Clone, Copy)]
 pub struct Bounds {
-    /// In code points.
+    /// The maximum length in code points.
     pub length: usize,
-    /// In parentheses that are open at once, outside of classes.
+    /// The maximum number of parentheses open at once, outside of classes.
     pub nesting: usize,
 }
 
 impl Bounds {
-    /// Any pattern.
+    /// The bounds that every pattern is within.
     pub(crate) const NONE: Bounds = Bounds {
         length: usize::MAX,
         nesting: usize::MAX,
     };
 }
 
-/// Compiles a pattern into an empty handle, and answers the code.
+/// Compiles a pattern into an empty handle, and returns the code.
 pub(crate) fn compile<S: Source>(
     alloc: Global,
     pattern: &mut Pattern,
@@ -53,7 +53,7 @@ pub(crate) fn compile<S: Source>(
     }
 }
 
-// Puts what was compiled into a handle, which is empty.
+// Puts a compiled pattern into a handle, which must be empty, and returns the code.
 fn fill(pattern: &mut Pattern, made: Result<Box<Regex>, Refusal>) -> u32
     requires { pattern.old.held ≡ None }
     ensures code { result ≡ code_of_made (result_map_both (λ b. b.value) (λ e. e) made) }
@@ -68,7 +68,7 @@ fn fill(pattern: &mut Pattern, made: Result<Box<Regex>, Refusal>) -> u32
     }
 }
 
-// The pattern with these flags.
+// Compiles a pattern with the flags of these letters, if it is within the bounds.
 fn compiled<S: Source>(
     alloc: Global,
     source: &S,
@@ -92,7 +92,8 @@ fn compiled<S: Source>(
     }
 }
 
-// Too many groups are refused by the parser, as no pattern: what is wrong with it tells.
+// Distinguishes too many groups from other syntax errors by a diagnosis, since the parser refuses
+// too many groups as a syntax error.
 fn told(alloc: Global, pattern: &[u32], flags: Flags, refusal: Refusal) -> Refusal
     ensures kept { refusal ≡ Memory → result ≡ Memory }
     ensures refuses { (flags : Asked) (characters : List ℕ)

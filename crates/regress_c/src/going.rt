@@ -1,34 +1,35 @@
-//! The next matches of a search that is open.
+//! The next matches of an open search.
 
 ghost use Rattle.std.specs.Prelude.{◌≡◌, ◌<◌, ◌≤◌, ◌+◌, ◌++◌, None, Some, drop, length, take};
 ghost use Rattle.regress_c.specs.Codes.{code_of as number_of};
 ghost use Rattle.regress_c.specs.Going.{Fills, FillsFrom, FillsIn, RepliesNext, code_of_stop, ranges_of as ranges_by, tree_by};
 ghost use Rattle.regress_c.specs.{Searching.{can_start_utf8, can_start_utf16}, Replies.{spans_of}};
-ghost use Rattle.regex_meaning.specs.Offsets.{units};
-ghost use Rattle.regress_exec.specs.Answers.{answer_of};
-ghost use Rattle.regress_match.specs.Programs.{IsStart, as_ucs2, as_utf16, as_utf8, byte_tree, unit_tree};
+ghost use Rattle.regex_meaning.specs.CodeUnitOffsets.{units};
+ghost use Rattle.regress_exec.specs.MatchAnswers.{answer_of};
+ghost use Rattle.regress_match.specs.RegexPrograms.{IsValidStart, as_ucs2, as_utf16, as_utf8, byte_tree, unit_tree};
 
 use crate::opening::{cuts_utf8, cuts_utf16};
 use crate::pattern::Pattern;
 use crate::refusal::{DONE, NO_MATCH, Refusal};
 use crate::reply::{Reply, Span, write_at};
 use crate::search::{Encoding, Search};
-use regress_exec::places::Attempts;
+use regress_exec::search_loop::AnchoredSearch;
 use regress_match::{Regex, SearchError, Step, next_from};
 use std::alloc::Global;
 
 /// Why no further match was written.
 #[derive(Clone, Copy)]
 pub(crate) enum Stop {
-    /// There is no room for one more.
+    /// There is no room for one more match.
     Full,
-    /// There is none.
+    /// No match remains.
     Over,
-    /// The search for it was refused.
+    /// The search for the next match was refused.
     Refused(SearchError),
 }
 
 impl Stop {
+    // Returns the code that reports it.
     fn code(self) -> u32
         ensures { result ≡ code_of_stop self }
     {
@@ -40,25 +41,26 @@ impl Stop {
     }
 }
 
-/// What was written: so many matches, where the list goes on behind them, and why no more.
+/// The result of writing matches: how many were written, the offset from which the list continues
+/// after them, and why no more were written.
 #[derive(Clone, Copy)]
 pub(crate) struct Filled {
     pub(crate) matches: usize,
     pub(crate) next: usize,
     pub(crate) stop: Stop,
-    /// How many steps are left, where they are counted.
+    /// How many steps are left, if they are counted.
     pub(crate) left: Option<u64>,
 }
 
-/// What a call answers, and how many steps are left, where they are counted.
+/// The reply of a call, and how many steps are left, if they are counted.
 #[derive(Clone, Copy)]
 pub(crate) struct Went {
     pub(crate) reply: Reply,
     pub(crate) left: Option<u64>,
 }
 
-/// Writes the next matches of a search by the pattern of the handle, as many as there is room for. Where steps are counted,
-/// it answers how many are left.
+/// Writes the next matches of a search with the handle's pattern, as many as there is room for. If
+/// steps are counted, returns how many are left.
 pub(crate) fn go_on(
     alloc: Global,
     pattern: &mut Pattern,
@@ -78,6 +80,7 @@ pub(crate) fn go_on(
     went
 }
 
+// Writes the next matches of a search with this pattern.
 fn go_on_by(re: &Regex, search: &mut Search<'_>, steps: Option<u64>, spans: &mut [Span]) -> Went
     ensures { RepliesNext (Some re.now) search.old search.new steps result.left spans.old spans.new result.reply }
 {
@@ -109,6 +112,7 @@ fn go_on_by(re: &Regex, search: &mut Search<'_>, steps: Option<u64>, spans: &mut
     }
 }
 
+// Returns the result of a refused call, which uses no steps.
 fn refused(refusal: Refusal, steps: Option<u64>) -> Went
     ensures { result ≡ record { reply = record { code = number_of refusal; count = 0 }; left = steps } }
 {
@@ -116,7 +120,7 @@ fn refused(refusal: Refusal, steps: Option<u64>) -> Went
     Went { reply, left: steps }
 }
 
-// How many ranges a match has.
+// Returns the number of ranges of a match.
 fn ranges_of(re: &Regex, encoding: Encoding) -> usize
     ensures { result ≡ ranges_by (tree_by re.now encoding) }
 {
@@ -126,7 +130,7 @@ fn ranges_of(re: &Regex, encoding: Encoding) -> usize
     }
 }
 
-// What is written of a search. Steps are counted in UTF-8 alone.
+// Writes the next matches of a search in this encoding. Steps are counted in UTF-8 only.
 fn filled_in(
     re: &Regex,
     search: &Search<'_>,
@@ -146,6 +150,7 @@ fn filled_in(
     }
 }
 
+// Writes the next matches in a UTF-8 text.
 fn in_utf8(re: &Regex, text: &str, start: usize, spans: &mut [Span]) -> Result<Filled, Refusal>
     ensures { FillsFrom (byte_tree re.now) (as_utf8 re.now text.now) (can_start_utf8 text.now start) None
         start spans.old spans.new result }
@@ -157,6 +162,7 @@ fn in_utf8(re: &Regex, text: &str, start: usize, spans: &mut [Span]) -> Result<F
     Ok(fill(&mut executor, start, re.group_count() + 1, spans))
 }
 
+// Writes the next matches in a UTF-8 text, with at most `steps` steps.
 fn in_utf8_within(
     re: &Regex,
     text: &str,
@@ -176,6 +182,7 @@ fn in_utf8_within(
     Ok(filled)
 }
 
+// Writes the next matches in a UTF-16 text.
 fn in_utf16(re: &Regex, units: &[u16], start: usize, spans: &mut [Span]) -> Result<Filled, Refusal>
     ensures { FillsFrom (unit_tree re.now) (as_utf16 re.now units.now) (can_start_utf16 units.now start)
         None start spans.old spans.new result }
@@ -187,6 +194,7 @@ fn in_utf16(re: &Regex, units: &[u16], start: usize, spans: &mut [Span]) -> Resu
     Ok(fill(&mut executor, start, re.unit_group_count() + 1, spans))
 }
 
+// Writes the next matches in a UCS-2 text.
 fn in_ucs2(re: &Regex, units: &[u16], start: usize, spans: &mut [Span]) -> Result<Filled, Refusal>
     ensures { FillsFrom (unit_tree re.now) (as_ucs2 re.now units.now) (Unit {0}) None start spans.old spans.new result }
 {
@@ -194,9 +202,14 @@ fn in_ucs2(re: &Regex, units: &[u16], start: usize, spans: &mut [Span]) -> Resul
     Ok(fill(&mut executor, start, re.unit_group_count() + 1, spans))
 }
 
-// Writes matches from an offset on, as many as there is room for, each with so many ranges.
-fn fill<E: Attempts>(search: &mut E, start: usize, ranges: usize, spans: &mut [Span]) -> Filled
-    requires starts { IsStart (E.text search.old) start }
+// Writes matches from an offset on, as many as there is room for, each with `ranges` ranges.
+fn fill<E: AnchoredSearch>(
+    search: &mut E,
+    start: usize,
+    ranges: usize,
+    spans: &mut [Span],
+) -> Filled
+    requires starts { IsValidStart (E.text search.old) start }
     requires ranges { ranges ≡ ranges_by (E.tree search.old) }
     ensures fills { Fills (E.tree search.old) (E.text search.old) (E.budget search.old) start spans.old
         spans.new result (E.budget search.new) }
@@ -230,7 +243,8 @@ fn fill<E: Attempts>(search: &mut E, start: usize, ranges: usize, spans: &mut [S
     filled
 }
 
-// Writes a match over so many of the buffer from an index on, and answers from where the list goes on.
+// Writes the `count` ranges of a match to the buffer from index `at` on. Returns the offset from
+// which the list of matches continues.
 fn write_step(step: Step, count: usize, at: usize, spans: &mut [Span]) -> usize
     requires all { count ≡ length (spans_of (answer_of step.found)) }
     requires room { at + count ≤ length spans.old }
@@ -241,8 +255,8 @@ fn write_step(step: Step, count: usize, at: usize, spans: &mut [Span]) -> usize
     step.next
 }
 
-// The greatest number, which is past the end of each text.
-fn past_end<E: Attempts>(search: &E) -> usize
+// Returns `usize::MAX`, which is past the end of every text.
+fn past_end<E: AnchoredSearch>(search: &E) -> usize
     ensures greatest { result ≡ usize.MAX }
     ensures past { units (E.text search.now) < result }
 {

@@ -1,8 +1,9 @@
-//! Regular expressions for C: what `c/regress_c.h` declares, over `regress_match`.
+//! Regular expressions for C: the functions that `c/regress_c.h` declares, over `regress_match`.
 //!
-//! No prover checks a C caller, so no function here asks more of what is passed than its types say: a condition of
-//! `regress_match` is tested, and answered by a code where it does not hold. `Global` takes no bytes, so C passes nothing
-//! for it, and a slice is a pointer and then a length.
+//! C callers are not verified, so no function here requires more of its arguments than their types
+//! do. Each precondition of `regress_match` is checked at run time, and a violation is reported by
+//! a code. `Global` has size zero, so C passes nothing for it. A slice is passed as a pointer
+//! followed by a length.
 #![tactic(auto)]
 
 ghost use Rattle.std.specs.Prelude.{◌≡◌, IsUtf8, None, Some, chars};
@@ -44,10 +45,10 @@ use crate::subject::{Ucs2, Utf8, Utf16};
 use crate::worked::{find, reckon};
 use std::alloc::Global;
 
-/// The version, as the header has it: of `1.2.3` 10203.
+/// The version, encoded as in the header: 10203 for `1.2.3`.
 const VERSION: u32 = 200;
 
-/// The version of the library.
+/// Returns the version of the library.
 #[unsafe(no_mangle)]
 pub extern "C" fn regress_c_version() -> u32
     ensures { result ≡ VERSION }
@@ -57,8 +58,8 @@ pub extern "C" fn regress_c_version() -> u32
 
 // ---- Patterns
 
-/// Compiles a pattern in UTF-8 into an empty handle, with the flags of these letters, and answers a code. On a refusal the
-/// handle stays as it was.
+/// Compiles a UTF-8 pattern with the flags of these letters into an empty handle, and returns a
+/// code. If it is refused, the handle is unchanged.
 #[unsafe(no_mangle)]
 pub extern "C" fn regress_c_compile_utf8(
     alloc: Global,
@@ -78,7 +79,7 @@ pub extern "C" fn regress_c_compile_utf8(
     )
 }
 
-/// The same of a pattern that is within bounds.
+/// Compiles a UTF-8 pattern that is within bounds, like `regress_c_compile_utf8`.
 #[unsafe(no_mangle)]
 pub extern "C" fn regress_c_compile_utf8_within(
     alloc: Global,
@@ -93,7 +94,7 @@ pub extern "C" fn regress_c_compile_utf8_within(
     compile(alloc, pattern, &Utf8Source { bytes: text }, flags, *bounds)
 }
 
-/// Compiles a pattern in UTF-16.
+/// Compiles a UTF-16 pattern, like `regress_c_compile_utf8`.
 #[unsafe(no_mangle)]
 pub extern "C" fn regress_c_compile_utf16(
     alloc: Global,
@@ -113,7 +114,7 @@ pub extern "C" fn regress_c_compile_utf16(
     )
 }
 
-/// The same of a pattern that is within bounds.
+/// Compiles a UTF-16 pattern that is within bounds, like `regress_c_compile_utf8`.
 #[unsafe(no_mangle)]
 pub extern "C" fn regress_c_compile_utf16_within(
     alloc: Global,
@@ -128,7 +129,8 @@ pub extern "C" fn regress_c_compile_utf16_within(
     compile(alloc, pattern, &Utf16Source { units: text }, flags, *bounds)
 }
 
-/// What is wrong with a pattern in UTF-8, and the offset in bytes at which it begins.
+/// Writes what is wrong with a UTF-8 pattern, and sets `at` to the offset in bytes at which it
+/// begins.
 #[unsafe(no_mangle)]
 pub extern "C" fn regress_c_diagnose_utf8(
     alloc: Global,
@@ -143,7 +145,8 @@ pub extern "C" fn regress_c_diagnose_utf8(
     answer::diagnosis(alloc, &Utf8Source { bytes: text }, flags, at, cause)
 }
 
-/// What is wrong with a pattern in UTF-16, and the offset in units at which it begins.
+/// Writes what is wrong with a UTF-16 pattern, and sets `at` to the offset in code units at which
+/// it begins.
 #[unsafe(no_mangle)]
 pub extern "C" fn regress_c_diagnose_utf16(
     alloc: Global,
@@ -158,7 +161,7 @@ pub extern "C" fn regress_c_diagnose_utf16(
     answer::diagnosis(alloc, &Utf16Source { units: text }, flags, at, cause)
 }
 
-/// Compiles nothing anew: an equal pattern, in an empty handle.
+/// Puts an equal pattern into an empty handle, without compiling it again, and returns a code.
 #[unsafe(no_mangle)]
 pub extern "C" fn regress_c_clone(alloc: Global, pattern: &mut Pattern, into: &mut Pattern) -> u32
     ensures replies { RepliesCloned pattern.old.held into.old.held into.new.held result }
@@ -167,7 +170,7 @@ pub extern "C" fn regress_c_clone(alloc: Global, pattern: &mut Pattern, into: &m
     cloning::clone(alloc, pattern, into)
 }
 
-/// Frees what the handle holds, if anything. It is empty then.
+/// Frees the pattern of the handle, if it holds one. The handle is empty afterwards.
 #[unsafe(no_mangle)]
 pub extern "C" fn regress_c_free(alloc: Global, pattern: &mut Pattern)
     ensures { pattern.new.held ≡ None }
@@ -175,7 +178,7 @@ pub extern "C" fn regress_c_free(alloc: Global, pattern: &mut Pattern)
     drop(pattern.take(alloc));
 }
 
-/// How many ranges a match has: one for the whole, and one for each group.
+/// Replies with the number of ranges of a match: one for the whole match, and one for each group.
 #[unsafe(no_mangle)]
 pub extern "C" fn regress_c_range_count(alloc: Global, pattern: &mut Pattern) -> Reply
     ensures reply { result ≡ count_reply pattern.old.held }
@@ -184,7 +187,7 @@ pub extern "C" fn regress_c_range_count(alloc: Global, pattern: &mut Pattern) ->
     answer::range_count(alloc, pattern)
 }
 
-/// The name of a group, in UTF-8.
+/// Writes the name of a group, in UTF-8.
 #[unsafe(no_mangle)]
 pub extern "C" fn regress_c_group_name(
     alloc: Global,
@@ -205,7 +208,7 @@ pub extern "C" fn regress_c_group_name(
 
 // ---- The first match
 
-/// The first match in a text in UTF-8 from an offset in bytes on.
+/// Finds the first match in a UTF-8 text from `start` on, an offset in bytes.
 #[unsafe(no_mangle)]
 pub extern "C" fn regress_c_find_utf8(
     alloc: Global,
@@ -221,7 +224,7 @@ pub extern "C" fn regress_c_find_utf8(
     search(alloc, pattern, &Utf8 { bytes: text }, start, spans)
 }
 
-/// The first match in a text in UTF-16 from an offset in units on.
+/// Finds the first match in a UTF-16 text from `start` on, an offset in code units.
 #[unsafe(no_mangle)]
 pub extern "C" fn regress_c_find_utf16(
     alloc: Global,
@@ -237,7 +240,7 @@ pub extern "C" fn regress_c_find_utf16(
     search(alloc, pattern, &Utf16 { units: text }, start, spans)
 }
 
-/// The first match in a text in UCS-2 from an offset in units on.
+/// Finds the first match in a UCS-2 text from `start` on, an offset in code units.
 #[unsafe(no_mangle)]
 pub extern "C" fn regress_c_find_ucs2(
     alloc: Global,
@@ -253,9 +256,10 @@ pub extern "C" fn regress_c_find_ucs2(
     search(alloc, pattern, &Ucs2 { units: text }, start, spans)
 }
 
-// ---- In so much work
+// ---- Within a work budget
 
-/// How much work is enough for each byte of a text, and one, by this pattern; a code is answered.
+/// Sets `per_unit` to the work bound of the pattern: on a text of n bytes, `per_unit` × (n + 1)
+/// work is enough. Returns a code.
 #[unsafe(no_mangle)]
 pub extern "C" fn regress_c_work_per_unit(
     alloc: Global,
@@ -268,7 +272,8 @@ pub extern "C" fn regress_c_work_per_unit(
     reckon(alloc, pattern, per_unit)
 }
 
-/// The first match in a text in UTF-8 from an offset in bytes on, in at most so much work, which becomes what is left.
+/// Finds the first match in a UTF-8 text from `start` on, an offset in bytes, with at most `work`
+/// work. Sets `work` to the work that is left.
 #[unsafe(no_mangle)]
 pub extern "C" fn regress_c_find_utf8_in_work(
     alloc: Global,
@@ -286,7 +291,8 @@ pub extern "C" fn regress_c_find_utf8_in_work(
 
 // ---- All matches
 
-/// Opens a search over a text in UTF-8 from an offset in bytes on. On a refusal it stays as it was.
+/// Opens a search in a UTF-8 text from `start` on, an offset in bytes, and returns a code. If it is
+/// refused, `search` is unchanged.
 #[unsafe(no_mangle)]
 pub extern "C" fn regress_c_search_utf8<'t>(
     search: &mut Search<'t>,
@@ -298,7 +304,7 @@ pub extern "C" fn regress_c_search_utf8<'t>(
     open(search, Search::in_utf8(text, start))
 }
 
-/// Opens a search over a text in UTF-16 from an offset in units on.
+/// Opens a search in a UTF-16 text from `start` on, an offset in code units, and returns a code.
 #[unsafe(no_mangle)]
 pub extern "C" fn regress_c_search_utf16<'t>(
     search: &mut Search<'t>,
@@ -310,7 +316,7 @@ pub extern "C" fn regress_c_search_utf16<'t>(
     open(search, Search::in_utf16(text, start))
 }
 
-/// Opens a search over a text in UCS-2 from an offset in units on.
+/// Opens a search in a UCS-2 text from `start` on, an offset in code units, and returns a code.
 #[unsafe(no_mangle)]
 pub extern "C" fn regress_c_search_ucs2<'t>(
     search: &mut Search<'t>,
@@ -322,7 +328,7 @@ pub extern "C" fn regress_c_search_ucs2<'t>(
     open(search, Ok(Search::in_ucs2(text, start)))
 }
 
-/// The next matches of a search, as many as there is room for.
+/// Writes the next matches of a search, as many as there is room for.
 #[unsafe(no_mangle)]
 pub extern "C" fn regress_c_next(
     alloc: Global,
@@ -336,7 +342,8 @@ pub extern "C" fn regress_c_next(
     go_on(alloc, pattern, search, None, spans).reply
 }
 
-/// The same in at most so many steps, which become those that are left.
+/// Writes the next matches of a search, with at most `steps` steps. Sets `steps` to the steps that
+/// are left.
 #[unsafe(no_mangle)]
 pub extern "C" fn regress_c_next_within(
     alloc: Global,
@@ -364,9 +371,9 @@ pub extern "C" fn regress_c_close(search: &mut Search<'_>)
     *search = Search::closed();
 }
 
-// ---- Texts that are made
+// ---- Produced texts
 
-/// Writes a text in UTF-8 with the replacement in place of the first match.
+/// Writes a UTF-8 text with the first match replaced by the replacement.
 #[unsafe(no_mangle)]
 pub extern "C" fn regress_c_replace_utf8(
     alloc: Global,
@@ -382,7 +389,7 @@ pub extern "C" fn regress_c_replace_utf8(
     answer::replace(alloc, pattern, text, replacement, Which::First, made)
 }
 
-/// Writes a text in UTF-8 with the replacement in place of each match.
+/// Writes a UTF-8 text with each match replaced by the replacement.
 #[unsafe(no_mangle)]
 pub extern "C" fn regress_c_replace_all_utf8(
     alloc: Global,
@@ -397,7 +404,7 @@ pub extern "C" fn regress_c_replace_all_utf8(
     answer::replace(alloc, pattern, text, replacement, Which::All, made)
 }
 
-/// Writes a text in UTF-8 as it stands in a pattern for itself.
+/// Writes a UTF-8 text with its syntax characters escaped, so that a pattern matches it literally.
 #[unsafe(no_mangle)]
 pub extern "C" fn regress_c_escape_utf8(alloc: Global, text: &[u8], escaped: &mut [u8]) -> Reply
     ensures { RepliesText (Escapes text.now) escaped.old escaped.new result }

@@ -1,4 +1,4 @@
-//! Where searches may start, and how they are put in their place.
+//! Opening a search, and the offsets at which it may start.
 
 ghost use Rattle.std.specs.Prelude.{◌≡◌, true, false};
 ghost use Rattle.regress_c.specs.{Opening.{code_of_opened, search_after}, Searching.{can_start_utf8, can_start_utf16}};
@@ -7,7 +7,8 @@ use crate::refusal::{DONE, Refusal};
 use crate::search::Search;
 use regress_match::is_unit_boundary;
 
-/// Puts a search that was opened in its place, and answers the code. On a refusal the one that was there stays.
+/// Stores an opened search in `search`, and returns the code. If opening was refused, `search` is
+/// unchanged.
 pub(crate) fn open<'t>(search: &mut Search<'t>, opened: Result<Search<'t>, Refusal>) -> u32
     ensures code { result ≡ code_of_opened opened.entry }
     ensures after { search.new ≡ search_after search.old opened.entry }
@@ -21,7 +22,7 @@ pub(crate) fn open<'t>(search: &mut Search<'t>, opened: Result<Search<'t>, Refus
     }
 }
 
-/// Whether a start is within a text in UTF-8 and cuts a character.
+/// Checks whether a start is within a UTF-8 text and splits a character.
 pub(crate) fn cuts_utf8(text: &str, start: usize) -> bool
     ensures cut { result ≡ true → ¬ can_start_utf8 text.now start }
     ensures whole { result ≡ false → can_start_utf8 text.now start }
@@ -29,7 +30,7 @@ pub(crate) fn cuts_utf8(text: &str, start: usize) -> bool
     start <= text.len() && !text.is_char_boundary(start)
 }
 
-/// Whether a start is within a text in UTF-16 and cuts a pair of surrogates.
+/// Checks whether a start is within a UTF-16 text and splits a surrogate pair.
 pub(crate) fn cuts_utf16(units: &[u16], start: usize) -> bool
     ensures cut { result ≡ true → ¬ can_start_utf16 units.now start }
     ensures whole { result ≡ false → can_start_utf16 units.now start }

@@ -1,4 +1,4 @@
-//! The handle of a C caller: a pointer to a pattern on the heap, or null.
+//! The pattern handle of a C caller: a pointer to a pattern on the heap, or null.
 
 ghost use Rattle.std.specs.Prelude.{◌≡◌, None, Option, Some, option_map};
 ghost use Rattle.std.specs.Coded.{coded_option};
@@ -13,8 +13,8 @@ use std::marker::Model;
 use std::mem::replace;
 use std::ptr::null_mut;
 
-/// A pattern that a C caller holds, or none, where the pointer is null. It is dropped by `take` alone, since that asks for
-/// the allocator.
+/// A handle that holds a pattern, or nothing if the pointer is null. Only `take` gives the pattern
+/// back to be freed, since that needs the allocator.
 #[repr(C)]
 #[derive(Drop)]
 pub struct Pattern {
@@ -27,6 +27,7 @@ impl Model for Pattern {
 }
 
 impl Pattern {
+    // Returns a handle that holds a pattern, from its pointer.
     fn of(loose: Loose<Regex, Global>) -> Pattern
         ensures { result.held ≡ Some loose.value }
     {
@@ -34,13 +35,14 @@ impl Pattern {
         Pattern { at: at as *mut u8 }
     }
 
-    /// A handle that holds nothing.
+    /// Returns a handle that holds nothing.
     pub(crate) fn empty() -> Pattern
         ensures { result.held ≡ None }
     {
         Pattern { at: null_mut() }
     }
 
+    // Returns the pointer and the allocator of the pattern, or `None` if the handle is empty.
     fn into_loose(self, alloc: Global) -> Option<Loose<Regex, Global>>
         ensures { MatchOption result (self.held ≡ None) (λ l. self.held ≡ Some l.value) }
     {
@@ -55,7 +57,8 @@ impl Pattern {
         }
     }
 
-    /// Takes out what it holds.
+    /// Takes the pattern out of the handle, which is empty afterwards. Returns `None` if it was
+    /// empty.
     pub(crate) fn take(&mut self, alloc: Global) -> Option<Box<Regex>>
         ensures taken { option_map (λ b. b.value) result ≡ self.old.held }
         ensures empty { self.new.held ≡ None }
@@ -66,7 +69,7 @@ impl Pattern {
         }
     }
 
-    /// Puts a pattern into an empty handle.
+    /// Puts a pattern into a handle, which must be empty.
     pub(crate) fn put(&mut self, re: Box<Regex>)
         requires { self.old.held ≡ None }
         ensures { self.new.held ≡ Some re.value }

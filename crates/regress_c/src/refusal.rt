@@ -1,4 +1,4 @@
-//! Why a call is refused, and the codes that C sees.
+//! Why a call is refused, and the codes that are returned to C.
 
 ghost use Rattle.std.specs.Prelude.{◌≡◌};
 ghost use Rattle.regress_c.specs.Codes.{code_of, refused_as};
@@ -10,10 +10,10 @@ use regress_program::emit::EmitError;
 use std::alloc::{AllocError, AllocFailed};
 use std::str::Utf8Error;
 
-/// The code of a call that did what it was called for: a pattern is compiled, or a match is found.
+/// The code of a call that succeeded, for example one that compiled a pattern or found a match.
 pub(crate) const DONE: u32 = 0;
 
-/// The code of a search that came to the end of the text without a match.
+/// The code of a search that reached the end of the text without a match.
 pub(crate) const NO_MATCH: u32 = 1;
 
 /// Why a call is refused.
@@ -21,19 +21,19 @@ pub(crate) const NO_MATCH: u32 = 1;
 pub(crate) enum Refusal {
     /// The handle holds no pattern.
     Empty,
-    /// The handle holds a pattern already.
+    /// The handle already holds a pattern.
     Full,
     /// A text is not UTF-8.
     NotUtf8,
-    /// The start cuts a character.
+    /// The start splits a character.
     NotBoundary,
-    /// The buffer has less room than is needed.
+    /// The buffer is too short.
     ShortBuffer,
-    /// There was no memory.
+    /// An allocation failed.
     Memory,
-    /// The steps that were allowed are used up.
+    /// The step budget is used up.
     StepLimit,
-    /// The text is no pattern.
+    /// The text is not a valid pattern.
     Syntax,
     /// The pattern has too many groups.
     TooManyGroups,
@@ -41,26 +41,26 @@ pub(crate) enum Refusal {
     TooManyLoops,
     /// The program of the pattern has too many instructions.
     TooManyInstructions,
-    /// A flag is none of those that there are.
+    /// A letter is not that of a flag.
     UnknownFlag,
-    /// The pattern is longer than was allowed.
+    /// The pattern is longer than the bounds allow.
     TooLong,
-    /// The pattern nests deeper than was allowed.
+    /// The pattern is nested deeper than the bounds allow.
     TooDeep,
     /// The pattern has no group of this number.
     NoGroup,
-    /// No text is open.
+    /// No search is open.
     NotOpen,
     /// Steps are not counted in this encoding.
     NotCounted,
-    /// No bound of the pattern's work is known.
+    /// No work bound of the pattern is known.
     NoBound,
-    /// The work that was allowed is done.
+    /// The work budget is used up.
     WorkLimit,
 }
 
 impl Refusal {
-    /// Its code, as the header has it.
+    /// Returns the code, as in the header.
     pub(crate) fn code(self) -> u32
         ensures { result ≡ code_of self }
     {
@@ -87,7 +87,7 @@ impl Refusal {
         }
     }
 
-    /// The reply of a call that is refused, which has nothing to count.
+    /// Returns the reply of a refused call, whose count is 0.
     pub(crate) fn reply(self) -> Reply
         ensures { result ≡ record { code = code_of self; count = 0 } }
     {
@@ -97,7 +97,7 @@ impl Refusal {
         }
     }
 
-    /// What a pattern is refused for.
+    /// Returns the refusal for an error of compiling a pattern.
     pub(crate) fn of_error(error: Error) -> Refusal
         ensures { result ≡ refused_as error }
     {

@@ -1,13 +1,13 @@
-//! What a search answers, and what it writes into the caller's buffer.
+//! The reply of a search, and the ranges that it writes into the caller's buffer.
 
 ghost use Rattle.std.specs.Prelude.{◌≡◌, ◌≤◌, ◌+◌, ◌++◌, Ok, Some, drop, length, option_map, take};
 ghost use Rattle.regress_c.specs.Replies.{left_by, reply_to, span_of, spans_of, written_over};
-ghost use Rattle.regress_exec.specs.Answers.{answer_of, range_of};
+ghost use Rattle.regress_exec.specs.MatchAnswers.{answer_of, range_of};
 
 use crate::refusal::{DONE, NO_MATCH, Refusal};
 use regress_match::{Match, Range};
 
-/// A range of the text in units. Both ends are the greatest number where a group did not match.
+/// A range of the text in units. Both ends are `usize::MAX` for a group that did not match.
 #[repr(C)]
 #[derive(Clone, Copy)]
 pub struct Span {
@@ -15,7 +15,8 @@ pub struct Span {
     pub end: usize,
 }
 
-/// The code of a search, and how many ranges the match has, 0 where there is none.
+/// A code and a count. For a search, the count is the number of ranges of the match, or 0 without
+/// one.
 #[repr(C)]
 #[derive(Clone, Copy)]
 pub struct Reply {
@@ -23,6 +24,7 @@ pub struct Reply {
     pub count: usize,
 }
 
+// Returns the span of a range, or that of a group that did not match.
 fn to_span(range: Option<Range<usize>>) -> Span
     ensures { result ≡ span_of (option_map range_of range) }
 {
@@ -38,7 +40,7 @@ fn to_span(range: Option<Range<usize>>) -> Span
     }
 }
 
-// Writes the ranges of a match over the first of the buffer.
+// Writes the `count` ranges of a match to the front of the buffer.
 fn write(found: &Match, count: usize, spans: &mut [Span])
     requires all { count ≡ length (spans_of (answer_of found.now)) }
     requires room { count ≤ length spans.old }
@@ -49,7 +51,7 @@ fn write(found: &Match, count: usize, spans: &mut [Span])
     }
 }
 
-/// Writes the ranges of a match over so many of the buffer from an index on.
+/// Writes the `count` ranges of a match to the buffer from index `at` on.
 pub(crate) fn write_at(found: &Match, count: usize, at: usize, spans: &mut [Span])
     requires all { count ≡ length (spans_of (answer_of found.now)) }
     requires room { at + count ≤ length spans.old }
@@ -58,7 +60,8 @@ pub(crate) fn write_at(found: &Match, count: usize, at: usize, spans: &mut [Span
     write(found, count, &mut spans[at..]);
 }
 
-/// The reply to what was found, whose ranges are written into the buffer if there is room for all.
+/// Returns the reply to the result of a search, and writes the ranges of a match into the buffer if
+/// there is room for all of them.
 pub(crate) fn reply_with(found: Result<Option<Match>, Refusal>, spans: &mut [Span]) -> Reply
     ensures reply { result ≡ reply_to found (length spans.old) }
     ensures written { spans.new ≡ left_by found spans.old }
@@ -73,6 +76,7 @@ pub(crate) fn reply_with(found: Result<Option<Match>, Refusal>, spans: &mut [Spa
     }
 }
 
+// Replies to a match.
 #[tactic(auto, using(crate::proofs::Spans::count_is, crate::proofs::Spans::done_reply, crate::proofs::Spans::short_reply, crate::proofs::Spans::done_left, crate::proofs::Spans::short_left))]
 fn matched(found: &Match, spans: &mut [Span]) -> Reply
     ensures reply { result ≡ reply_to (Ok (Some found.now)) (length spans.old) }

@@ -1,4 +1,5 @@
-//! A search over a text that is tested once: where the text lies, and from where the list of matches goes on.
+//! An open search: its text, which is validated once, and the offset from which the list of matches
+//! continues.
 
 ghost use Rattle.std.specs.Prelude.{◌≡◌, IsUtf8};
 ghost use Rattle.std.proofs.Props.{props};
@@ -14,17 +15,19 @@ pub(crate) enum Encoding {
     Ucs2,
 }
 
-/// A search over a text that is borrowed from whoever opens it.
+/// A search in a text that is borrowed from the caller who opened it.
 #[repr(C)]
 #[derive(Drop)]
 pub struct Search<'t> {
-    /// The text in UTF-8; empty where it is one of 16-bit units.
+    /// The UTF-8 text; empty if the text is one of 16-bit code units.
     pub bytes: &'t [u8],
-    /// The text of 16-bit units; empty where it is in UTF-8.
+    /// The text of 16-bit code units; empty if the text is UTF-8.
     pub units: &'t [u16],
-    /// The offset in units of the text from which it goes on; past the end where it is over.
+    /// The offset in units of the text from which the search continues; past the end once it is
+    /// over.
     pub next: usize,
-    /// How its text is read: 1 for UTF-8, 2 for UTF-16, 3 for UCS-2; any other number where nothing is open.
+    /// How the text is read: 1 for UTF-8, 2 for UTF-16, 3 for UCS-2. Any other number means that no
+    /// search is open.
     pub encoding: usize,
     pub ghost utf8: { IsUtf8 bytes.now } by { Prim.hlevel props },
 }
@@ -32,7 +35,7 @@ pub struct Search<'t> {
 impl<'t> Search<'t> {
     ghost use Rattle.regress_c.specs.Opening.{OpensUtf8, OpensUtf16, SearchesUcs2, encoding_of};
 
-    /// Nothing is open.
+    /// Returns a search that is not open.
     pub(crate) fn closed() -> Self
         ensures { result.encoding ≡ 0 }
     {
@@ -44,7 +47,7 @@ impl<'t> Search<'t> {
         }
     }
 
-    /// How its text is read; none where nothing is open.
+    /// Returns how the text is read, or `None` if no search is open.
     pub(crate) fn encoding(&self) -> Option<Encoding>
         ensures { result ≡ encoding_of self.now.encoding }
     {
@@ -56,14 +59,15 @@ impl<'t> Search<'t> {
         }
     }
 
-    /// The text in UTF-8.
+    /// Returns the text as UTF-8.
     pub(crate) fn text(&self) -> &'t str
         ensures { result.now ≡ self.now.bytes.now }
     {
         unsafe { str::from_utf8_unchecked(self.bytes) }
     }
 
-    /// Of a text in UTF-8, from an offset on.
+    /// Returns a search in a UTF-8 text from an offset in bytes on. Refuses a text that is not
+    /// UTF-8, and a start that splits a character.
     pub(crate) fn in_utf8(bytes: &'t [u8], start: usize) -> Result<Self, Refusal>
         ensures { OpensUtf8 bytes.now start result }
     {
@@ -79,7 +83,8 @@ impl<'t> Search<'t> {
         })
     }
 
-    /// Of a text in UTF-16, from an offset on.
+    /// Returns a search in a UTF-16 text from an offset in code units on. Refuses a start that
+    /// splits a surrogate pair.
     pub(crate) fn in_utf16(units: &'t [u16], start: usize) -> Result<Self, Refusal>
         ensures { OpensUtf16 units.now start result }
     {
@@ -94,7 +99,7 @@ impl<'t> Search<'t> {
         })
     }
 
-    /// Of a text in UCS-2, from an offset on.
+    /// Returns a search in a UCS-2 text from an offset in code units on.
     pub(crate) fn in_ucs2(units: &'t [u16], start: usize) -> Self
         ensures { SearchesUcs2 units.now start result }
     {

@@ -1,4 +1,4 @@
-//! Searches by a handle.
+//! The search for the first match with the pattern of a handle.
 
 ghost use Rattle.std.specs.Prelude.{◌≡◌};
 ghost use Rattle.regress_c.specs.Searching.{FindsBy, Replies};
@@ -10,7 +10,7 @@ use crate::subject::Subject;
 use regress_match::Match;
 use std::alloc::Global;
 
-/// The reply to a search: the ranges of the first match are written, if there is room.
+/// Searches for the first match, writes its ranges if there is room, and returns the reply.
 pub(crate) fn search<S: Subject>(
     alloc: Global,
     pattern: &mut Pattern,
@@ -25,7 +25,7 @@ pub(crate) fn search<S: Subject>(
     reply_with(find(alloc, pattern, subject, start), spans)
 }
 
-// The first match by the pattern of the handle, which holds it again afterwards.
+// Finds the first match with the pattern of the handle, which holds the pattern again afterwards.
 fn find<S: Subject>(
     alloc: Global,
     pattern: &mut Pattern,

@@ -1,14 +1,15 @@
-//! The texts of patterns, as code points.
+//! Texts of patterns, and their code points.
 
 ghost use Rattle.std.specs.Prelude.{◌≡◌, ◌+◌, ◌<◌, ◌≤◌, ◌&&◌, ◌∷◌, ℕ, List, IfOk, IsUtf8, chars, drop, length};
 ghost use Rattle.std.specs.Char.{len_utf8};
-ghost use Rattle.regex_meaning.specs.Text.{character_of_pair, is_high_surrogate, is_low_surrogate, utf16_characters, utf16_width};
+ghost use Rattle.regex_meaning.specs.Text.{decode_surrogate_pair, is_high_surrogate, is_low_surrogate, utf16_characters, utf16_width};
 ghost use Rattle.regress_c.specs.Reading.{Reads};
 
 use crate::refusal::Refusal;
 use std::alloc::{AllocError, Global};
 
-/// What a pattern is given as. Contracts see whether it is a text, and which code points it has.
+/// The text of a pattern in some encoding. Contracts see whether it is valid in that encoding, and
+/// its code points.
 pub(crate) trait Source {
     ghost is_text: { Self → Type 0 };
 
@@ -16,12 +17,12 @@ pub(crate) trait Source {
 
     ghost width_of: { ℕ → ℕ };
 
-    /// How many units a code point has.
+    /// Returns the number of units of a code point.
     fn width(c: u32) -> usize
         ensures width { result ≡ width_of c }
         ensures few { result ≤ 4 };
 
-    /// The code points.
+    /// Returns the code points.
     fn code_points(&self, alloc: Global) -> Result<Vec<u32>, Refusal>
         ensures { Reads (is_text self.now) (characters self.now) result };
 }
@@ -57,7 +58,7 @@ impl Source for Utf8Source<'_> {
     }
 }
 
-/// A pattern in UTF-16, in which a surrogate without its other half is a code point.
+/// A pattern in UTF-16, in which an unpaired surrogate is a code point.
 #[derive(Clone, Copy)]
 pub(crate) struct Utf16Source<'p> {
     pub(crate) units: &'p [u16],
@@ -82,19 +83,21 @@ impl Source for Utf16Source<'_> {
     }
 }
 
+// Checks whether two code units are a surrogate pair.
 fn is_pair(high: u16, low: u16) -> bool
     ensures { result ≡ (is_high_surrogate high && is_low_surrogate low) }
 {
     matches!(high, 0xD800..=0xDBFF) && matches!(low, 0xDC00..=0xDFFF)
 }
 
+// Returns the code point of a surrogate pair.
 fn character_of(high: u16, low: u16) -> u32
-    ensures { result ≡ character_of_pair high low }
+    ensures { result ≡ decode_surrogate_pair high low }
 {
     0x1_0000 + (u32::from(high) % 0x400 * 0x400 + u32::from(low) % 0x400)
 }
 
-// The first character of these units, and how many units it has.
+// Returns the first code point of these code units, and the number of its code units.
 fn first_of(first: u16, behind: &[u16]) -> (u32, usize)
     ensures characters { utf16_characters (first ∷ behind.now)
         ≡ result.0 ∷ utf16_characters (drop result.1 (first ∷ behind.now)) }
@@ -108,6 +111,7 @@ fn first_of(first: u16, behind: &[u16]) -> (u32, usize)
     }
 }
 
+// Returns the code points of a UTF-16 text.
 fn characters_of(alloc: Global, units: &[u16]) -> Result<Vec<u32>, AllocError>
     ensures { IfOk result (λ v. v.items ≡ utf16_characters units.now) }
 {

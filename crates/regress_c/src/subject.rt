@@ -1,4 +1,4 @@
-//! What is searched: a text in an encoding, with a limit of steps or without.
+//! Texts to be searched, in each encoding.
 
 ghost use Rattle.std.specs.Prelude.{◌≡◌, ◌<◌, ◌↔◌, ◌⊎◌, ℕ, IsTrue, IsUtf8, length};
 ghost use Rattle.regex_meaning.specs.Text.{is_unit_boundary as is_boundary_of};
@@ -9,7 +9,8 @@ use crate::refusal::Refusal;
 use regress_exec::exec::{MatchProducer, Matches};
 use regress_match::{Match, Regex, is_unit_boundary};
 
-/// What is searched. Contracts see whether it is a text, where a search may start, and what is to come from there.
+/// A text to be searched. Contracts see whether it is valid in its encoding, where a search may
+/// start, and the matches from there on.
 pub(crate) trait Subject {
     ghost is_text: { Self → Type 0 };
 
@@ -17,19 +18,20 @@ pub(crate) trait Subject {
 
     ghost coming: { Self → Compiled → ℕ → Coming };
 
-    /// The first match from an offset in units on. What is no text is refused, and a start that cuts a character.
+    /// Returns the first match from an offset in units on. Refuses a text that is not valid, and a
+    /// start that splits a character.
     fn first(&self, re: &Regex, start: usize) -> Result<Option<Match>, Refusal>
         ensures { Finds (is_text self.now) (can_start self.now start) (coming self.now re.now start) result };
 }
 
-// The first of the matches to come.
+// Returns the first of the remaining matches.
 fn first_of<P: MatchProducer + Drop>(mut matches: Matches<P>) -> Result<Option<Match>, Refusal>
     ensures { IsFirst (record { answers = matches.answers; limited = matches.limited }) result }
 {
     Ok(matches.next().transpose()?)
 }
 
-/// The text of these bytes, in which a search may start there.
+/// Returns these bytes as UTF-8 text, if they are valid and a search may start at `start`.
 pub(crate) fn text_from(bytes: &[u8], start: usize) -> Result<&str, Refusal>
     ensures { Starts bytes.now start result }
 {
@@ -60,7 +62,7 @@ impl Subject for Utf8<'_> {
     }
 }
 
-/// A text in UTF-16. Any units are one: a surrogate without its other half is a character.
+/// A text in UTF-16. Any code units are one: an unpaired surrogate is a character.
 #[derive(Drop)]
 pub(crate) struct Utf16<'t> {
     pub(crate) units: &'t [u16],
@@ -81,7 +83,7 @@ impl Subject for Utf16<'_> {
     }
 }
 
-/// A text in UCS-2, in which each unit is a character.
+/// A text in UCS-2, in which each code unit is a character.
 #[derive(Drop)]
 pub(crate) struct Ucs2<'t> {
     pub(crate) units: &'t [u16],

@@ -1,8 +1,8 @@
-//! Searches in so much work, by a handle.
+//! Searches within a work budget, with the pattern of a handle.
 
 ghost use Rattle.std.specs.Prelude.{◌≡◌};
 ghost use Rattle.regress_c.specs.{InWork.{FindsInWork, FindsInWorkBy, IsFirstInWork, Reckons, RepliesReckoned}, Searching.{can_start_utf8}};
-ghost use Rattle.regress_match.specs.Work.{IsEnoughEach};
+ghost use Rattle.regress_match.specs.WorkBounds.{IsWorkBoundOfBothPrograms};
 
 use crate::pattern::Pattern;
 use crate::refusal::{DONE, Refusal};
@@ -10,8 +10,8 @@ use crate::subject::text_from;
 use regress_match::{BoundedRegex, Match, Regex};
 use std::alloc::Global;
 
-/// The first match by the pattern of the handle, which holds it again afterwards, in at most so much work, which becomes what
-/// is left.
+/// Finds the first match with the pattern of the handle, which holds the pattern again afterwards,
+/// with at most `work` work. Sets `work` to the work that is left.
 pub(crate) fn find(
     alloc: Global,
     pattern: &mut Pattern,
@@ -30,7 +30,7 @@ pub(crate) fn find(
     found
 }
 
-// The same by a pattern.
+// Finds the first match with a pattern, with at most `work` work.
 fn find_by(re: &Regex, bytes: &[u8], start: usize, work: &mut u64) -> Result<Option<Match>, Refusal>
     ensures { FindsInWork re.now bytes.now start work.old result work.new }
 {
@@ -41,7 +41,7 @@ fn find_by(re: &Regex, bytes: &[u8], start: usize, work: &mut u64) -> Result<Opt
     first_in_work(&bounded, text, start, work)
 }
 
-// The first match in a text.
+// Returns the first match in a text, with at most `work` work.
 fn first_in_work(
     bounded: &BoundedRegex<'_>,
     text: &str,
@@ -49,7 +49,7 @@ fn first_in_work(
     work: &mut u64,
 ) -> Result<Option<Match>, Refusal>
     requires start { can_start_utf8 text.now start }
-    requires enough { IsEnoughEach bounded.now.re bounded.now.per_unit }
+    requires enough { IsWorkBoundOfBothPrograms bounded.now.re bounded.now.per_unit }
     ensures { IsFirstInWork bounded.now.re text.now start work.old result work.new }
 {
     let mut matches = bounded.find_from(text, start, *work)?;
@@ -58,7 +58,8 @@ fn first_in_work(
     Ok(first.transpose()?)
 }
 
-/// How much work is enough for each unit of a text, and one, by the pattern of the handle. It answers a code.
+/// Sets `per_unit` to the work bound of the handle's pattern: on a text of n units, `per_unit`
+/// × (n + 1) work is enough. Returns a code.
 pub(crate) fn reckon(alloc: Global, pattern: &mut Pattern, per_unit: &mut u64) -> u32
     ensures replies { RepliesReckoned pattern.old.held per_unit.old per_unit.new result }
     ensures kept { pattern.new.held ≡ pattern.old.held }
@@ -72,7 +73,7 @@ pub(crate) fn reckon(alloc: Global, pattern: &mut Pattern, per_unit: &mut u64) -
     }
 }
 
-// The number.
+// Returns the work bound, or why there is none.
 fn reckoned(alloc: Global, pattern: &mut Pattern) -> Result<u64, Refusal>
     ensures reckons { Reckons pattern.old.held result }
     ensures kept { pattern.new.held ≡ pattern.old.held }

@@ -45,7 +45,7 @@ fn write_remembering_at_once(
     text: &str,
 ) -> Result<(), SearchError> {
     let mut executor = DefaultExecutor::new(re, text)?;
-    executor.remember();
+    executor.always_memoize();
     write_utf8(line, &mut Matches::new(executor, 0), false)
 }
 

@@ -4,22 +4,22 @@ use Rattle.std.specs.Prelude.{option_map, option_and_then, is_some, IsTrue, IsSo
 use Rattle.std.specs.Option.{option_map_or}
 use Rattle.regex_meaning.specs.Tree.{Tree}
 use Rattle.regex_meaning.specs.Text.{Text, rightwards}
-use Rattle.regex_meaning.specs.Offsets.{IsBoundary, place_at}
-use Rattle.regex_meaning.specs.Ticks.{items_at}
+use Rattle.regex_meaning.specs.CodeUnitOffsets.{IsBoundary, place_at}
+use Rattle.regex_meaning.specs.OutcomesWithStepTicks.{items_at}
 use Rattle.regex_meaning.proofs.TextLemmas.{offset-place_at}
-use Rattle.regress_program.specs.Code.{compiled}
+use Rattle.regress_program.specs.CodeOfTrees.{compiled}
 use Rattle.regress_machine.specs.Machine.{running, search}
-use Rattle.regress_machine.specs.Finds.{initial, end_of, first_pair, end_in_offsets, CanSearch, turns_at}
+use Rattle.regress_machine.specs.SearchResults.{state_before_first_insn, end_of, first_pair, end_in_offsets, ProgramCanSearchText, turns_at}
 use Rattle.regress_machine.proofs.Whole.{searches-find}
-use Rattle.regress_machine.specs.Turns.{end_of_search}
-use Rattle.regress_exec.specs.Attempts.{end_from, turns_from, search_from}
+use Rattle.regress_machine.specs.InsnEffects.{end_of_search}
+use Rattle.regress_exec.specs.Attempts.{match_end_at, steps_for_attempt, search_from}
 
 -- the search from the first state of an attempt ends with the first outcome
 pub record Begins (tree : Tree) (text : Text) (at : ℕ) : Type 0 where
-  pub answers : IsSome (search_from tree text at rightwards (initial (compiled tree) at))
-  pub end : option_map end_of (end_of_search (search_from tree text at rightwards (initial (compiled tree) at))) ≡ end_from tree text at
+  pub answers : IsSome (search_from tree text at rightwards (state_before_first_insn (compiled tree) at))
+  pub end : option_map end_of (end_of_search (search_from tree text at rightwards (state_before_first_insn (compiled tree) at))) ≡ match_end_at tree text at
 
-pub begins : (tree : Tree) (text : Text) (at : ℕ) → CanSearch (compiled tree) tree text → IsBoundary text at → Begins tree text at
+pub begins : (tree : Tree) (text : Text) (at : ℕ) → ProgramCanSearchText (compiled tree) tree text → IsBoundary text at → Begins tree text at
 begins tree text at can on = by (place_at text at) refl on
   where
     by : (o : Option ℕ) → place_at text at ≡ o → IsTrue (is_some o) → Begins tree text at
@@ -27,10 +27,10 @@ begins tree text at can on = by (place_at text at) refl on
     by (Some p) e on =
         let place = offset-place_at text at p can.is_text e in
         let first = searches-find (compiled tree) tree text can p place.1 in
-        let n : turns_at tree text p ≡ turns_from tree text at = sym (ap (λ o. option_map_or (turns_at tree text) o 0) e) in
-        let searches : search_from tree text at rightwards (initial (compiled tree) at) ≡ Some first.found =
-        ap (λ n. search (compiled tree) text n rightwards (running (initial (compiled tree) at) ∷ [])) (sym n)
-        ∙ ap (λ at. search (compiled tree) text (turns_at tree text p) rightwards (running (initial (compiled tree) at) ∷ [])) (sym place.0) ∙ first.searches in
+        let n : turns_at tree text p ≡ steps_for_attempt tree text at = sym (ap (λ o. option_map_or (turns_at tree text) o 0) e) in
+        let searches : search_from tree text at rightwards (state_before_first_insn (compiled tree) at) ≡ Some first.found =
+        ap (λ n. search (compiled tree) text n rightwards (running (state_before_first_insn (compiled tree) at) ∷ [])) (sym n)
+        ∙ ap (λ at. search (compiled tree) text (turns_at tree text p) rightwards (running (state_before_first_insn (compiled tree) at) ∷ [])) (sym place.0) ∙ first.searches in
         record {
           answers = ap is_some searches;
           end =

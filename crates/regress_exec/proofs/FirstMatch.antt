@@ -7,29 +7,29 @@ use Rattle.std.specs.Prelude.{option_map, option_and_then, if◌then◌else◌, 
 use Rattle.std.specs.Option.{option_or}
 use Rattle.regex_meaning.specs.Tree.{Tree, Flags}
 use Rattle.regex_meaning.specs.Text.{Text, rightwards, last_place}
-use Rattle.regex_meaning.specs.Offsets.{IsText, IsBoundary, offset, place_at, read, read_at, units}
+use Rattle.regex_meaning.specs.CodeUnitOffsets.{IsText, IsBoundary, offset, place_at, read, read_at, units}
 use Rattle.regex_meaning.specs.Outcomes.{Groups, Outcome}
-use Rattle.regex_meaning.specs.Find.{Found, first_of, match_at, first_match, place_behind, no_groups}
-use Rattle.regex_meaning.specs.Names.{Answer, answer, names_by_id}
-use Rattle.regex_meaning.specs.Answers.{first_found, first_answer, next_start}
-use Rattle.regex_meaning.specs.Ticks.{Item, tick, pair, pairs, items_at}
+use Rattle.regex_meaning.specs.FirstAndAllMatches.{Found, first_outcome, match_at, first_match, place_behind, no_groups}
+use Rattle.regex_meaning.specs.Captures.{Answer, answer, group_names_by_id}
+use Rattle.regex_meaning.specs.SearchAnswers.{first_found, first_answer, next_start}
+use Rattle.regex_meaning.specs.OutcomesWithStepTicks.{TickOrOutcome, tick, pair, outcomes_without_ticks, items_at}
 use Rattle.regex_meaning.proofs.Ticked.{pairs-ticked}
 use Rattle.regex_meaning.proofs.Matches.{first-unfolds, first-past, stands-first, StandsFrom}
 use Rattle.regex_meaning.proofs.TextLemmas.{place_at-offset, offset-place_at, offset-IsBoundary, offset-less, offset-le}
-use Rattle.regex_pattern_front.specs.TreeOf.{tree_of}
+use Rattle.regex_pattern_front.specs.AstToSpecTree.{tree_of}
 use Rattle.regex_pattern_front.specs.declared.ir.Regex.{Regex}
-use Rattle.regress_program.specs.Code.{compiled}
-use Rattle.regress_machine.specs.Finds.{first_pair, end_in_offsets, groups_in_offsets}
-use Rattle.regress_exec.specs.Answers.{answer_by}
-use Rattle.regress_exec.specs.Attempts.{end_from, offset_behind}
+use Rattle.regress_program.specs.CodeOfTrees.{compiled}
+use Rattle.regress_machine.specs.SearchResults.{first_pair, end_in_offsets, groups_in_offsets}
+use Rattle.regress_exec.specs.MatchAnswers.{answer_from_parts}
+use Rattle.regress_exec.specs.Attempts.{match_end_at, next_search_offset}
 
 -- ---- Records
 
 pub same-answer : (a b c d : ℕ) (xs ys : Groups) (ns ms : List (List ℕ)) → a ≡ c → b ≡ d → xs ≡ ys → ns ≡ ms
-    → answer_by a b xs ns ≡ answer_by c d ys ms
+    → answer_from_parts a b xs ns ≡ answer_from_parts c d ys ms
 same-answer a b c d xs ys ns ms p q r s = rw (p, q, r, s) refl
 
-pub names-compiled : (tree : Tree) → (compiled tree).group_names ≡ names_by_id tree.root
+pub names-compiled : (tree : Tree) → (compiled tree).group_names ≡ group_names_by_id tree.root
 unfolding compiled
 names-compiled tree = refl
 
@@ -48,7 +48,7 @@ read-as {run = run} is said told same =
 abbrev pub found_by : (place : ℕ) → Outcome → Found
 found_by p o = record { start = p; end = o.end; groups = o.groups }
 
-first-pairs : (p : ℕ) (items : List Item) → first_of p (pairs items) ≡ option_map (found_by p) (first_pair items)
+first-pairs : (p : ℕ) (items : List TickOrOutcome) → first_outcome p (outcomes_without_ticks items) ≡ option_map (found_by p) (first_pair items)
 first-pairs p [] = refl
 first-pairs p (tick ∷ items) = first-pairs p items
 first-pairs p (pair o ∷ items) = refl
@@ -61,11 +61,11 @@ module _ (tree : Tree) (text : Text) where
 
 module _ (tree : Tree) (text : Text) (is : IsText text) where
   pub match-first : (p : ℕ) → match_at tree.root text p ≡ option_map (found_by p) (first_pair (items_at tree text p))
-  match-first p = ap (first_of p) (sym (pairs-ticked text tree.root rightwards p (no_groups tree.root))) ∙ first-pairs p (items_at tree text p)
+  match-first p = ap (first_outcome p) (sym (pairs-ticked text tree.root rightwards p (no_groups tree.root))) ∙ first-pairs p (items_at tree text p)
 
   -- ---- At an offset of a place
 
-  end-at : (at p : ℕ) → place_at text at ≡ Some p → end_from tree text at ≡ option_map (end_in_offsets text) (first_pair (items_at tree text p))
+  end-at : (at p : ℕ) → place_at text at ≡ Some p → match_end_at tree text at ≡ option_map (end_in_offsets text) (first_pair (items_at tree text p))
   end-at at p e = ap (option_and_then (λ place. option_map (end_in_offsets text) (first_pair (items_at tree text place)))) e
 
   pub found-at : (at p : ℕ) → place_at text at ≡ Some p → first_found tree.root text at ≡ first_match tree.root text p
@@ -73,8 +73,8 @@ module _ (tree : Tree) (text : Text) (is : IsText text) where
 
   -- what an attempt that found an end says of the list
   pub record IsFoundAt (at e : ℕ) (gs : Groups) : Type 0 where
-    pub first : first_answer tree.root text at ≡ Some (record { range = (at, e); captures = gs; names = names_by_id tree.root })
-    pub behind : next_start tree.root text at ≡ offset_behind text at e
+    pub first : first_answer tree.root text at ≡ Some (record { range = (at, e); captures = gs; names = group_names_by_id tree.root })
+    pub behind : next_start tree.root text at ≡ next_search_offset text at e
     pub boundary : IsBoundary text e
 
   read-place : (p : ℕ) → p ≤ last_place text → read text rightwards (offset text p) ≡ read_at text rightwards p
@@ -99,12 +99,12 @@ module _ (tree : Tree) (text : Text) (is : IsText text) where
       by false q = let past = nltb→le e (last_place text) (rw q tt) in sym (ap (option_map (λ (r : ℕ × ℕ). r.1)) (read-end e inside past))
 
   behind-is : (m : Found) → m.start ≤ m.end → m.end ≤ last_place text
-      → option_map (offset text) (place_behind tree.root text m) ≡ offset_behind text (offset text m.start) (offset text m.end)
+      → option_map (offset text) (place_behind tree.root text m) ≡ next_search_offset text (offset text m.start) (offset text m.end)
   behind-is m le inside = by (nat_lt m.start m.end) refl
     where
       by : (b : Bool) → nat_lt m.start m.end ≡ b
           → option_map (offset text) (if b then Some m.end else if nat_lt m.end (last_place text) then Some (m.end + 1) else None)
-          ≡ offset_behind text (offset text m.start) (offset text m.end)
+          ≡ next_search_offset text (offset text m.start) (offset text m.end)
       by true q =
           let less = offset-less text m.start m.end is (ltb→lt m.start m.end (rw q tt)) inside in
           sym (ap (λ b. if b then Some (offset text m.end) else option_map (λ (r : ℕ × ℕ). r.1) (read text rightwards (offset text m.end))) (lt-ltb (offset text m.start) (offset text m.end) less))
@@ -129,13 +129,13 @@ module _ (tree : Tree) (text : Text) (is : IsText text) where
       let groups_are : groups_in_offsets text o.groups ≡ gs = ap (λ (x : ℕ × Groups). x.1) same in
       record {
         first = ap (option_map (answer tree.root text)) here
-            ∙ ap Some (same-answer (offset text p) (offset text o.end) at e (groups_in_offsets text o.groups) gs (names_by_id tree.root) (names_by_id tree.root) place.0 end_is groups_are refl);
+            ∙ ap Some (same-answer (offset text p) (offset text o.end) at e (groups_in_offsets text o.groups) gs (group_names_by_id tree.root) (group_names_by_id tree.root) place.0 end_is groups_are refl);
         behind = ap (λ x. option_map (offset text) (option_and_then (place_behind tree.root text) x)) here
-            ∙ behind-is m stands.1 stands.2 ∙ ap₂ (offset_behind text) place.0 end_is;
+            ∙ behind-is m stands.1 stands.2 ∙ ap₂ (next_search_offset text) place.0 end_is;
         boundary = subst (IsBoundary text) end_is (offset-IsBoundary text o.end is stands.2);
       }
 
-  pub found-here : (at e : ℕ) (gs : Groups) → IsBoundary text at → end_from tree text at ≡ Some (e, gs) → IsFoundAt at e gs
+  pub found-here : (at e : ℕ) (gs : Groups) → IsBoundary text at → match_end_at tree text at ≡ Some (e, gs) → IsFoundAt at e gs
   found-here at e gs on end = by (place_at text at) refl on
     where
       by_first : (p : ℕ) → place_at text at ≡ Some p → (fp : Option Outcome) → first_pair (items_at tree text p) ≡ fp → option_map (end_in_offsets text) fp ≡ Some (e, gs) → IsFoundAt at e gs
@@ -148,7 +148,7 @@ module _ (tree : Tree) (text : Text) (is : IsText text) where
           by_first p q (first_pair (items_at tree text p)) refl (sym (end-at at p q) ∙ end)
 
   -- no match at a place where the list has no pair
-  pub none-at : (at p : ℕ) → place_at text at ≡ Some p → end_from tree text at ≡ None → match_at tree.root text p ≡ None
+  pub none-at : (at p : ℕ) → place_at text at ≡ Some p → match_end_at tree text at ≡ None → match_at tree.root text p ≡ None
   none-at at p q none = match-first p ∙ by (first_pair (items_at tree text p)) (sym (end-at at p q) ∙ none)
     where
       by : (fp : Option Outcome) → option_map (end_in_offsets text) fp ≡ None → option_map (found_by p) fp ≡ None
@@ -156,14 +156,14 @@ module _ (tree : Tree) (text : Text) (is : IsText text) where
       by (Some o) e = cc
 
   -- no attempt succeeds where no match begins
-  pub vain-at : (at p : ℕ) → place_at text at ≡ Some p → match_at tree.root text p ≡ None → end_from tree text at ≡ None
+  pub vain-at : (at p : ℕ) → place_at text at ≡ Some p → match_at tree.root text p ≡ None → match_end_at tree text at ≡ None
   vain-at at p q none = end-at at p q ∙ by (first_pair (items_at tree text p)) (sym (match-first p) ∙ none)
     where
       by : (fp : Option Outcome) → option_map (found_by p) fp ≡ None → option_map (end_in_offsets text) fp ≡ None
       by None e = refl
       by (Some o) e = cc
 
-  pub on-from : (at p : ℕ) → place_at text at ≡ Some p → end_from tree text at ≡ None → first_found tree.root text at ≡ first_match tree.root text (p + 1)
+  pub on-from : (at p : ℕ) → place_at text at ≡ Some p → match_end_at tree text at ≡ None → first_found tree.root text at ≡ first_match tree.root text (p + 1)
   on-from at p q none =
       let place = offset-place_at text at p is q in
       found-at at p q ∙ first-unfolds tree.root text p place.1 ∙ ap (λ x. option_or x (first_match tree.root text (p + 1))) (none-at at p q none)
@@ -178,7 +178,7 @@ module _ (tree : Tree) (text : Text) (is : IsText text) where
   later : (at p next : ℕ) → offset text p ≡ at → offset text p < offset text (p + 1) → offset text (p + 1) ≡ next → at < next
   later at p next a less b = omega (arith, a, b)
 
-  pub found-on : (at next c : ℕ) → end_from tree text at ≡ None → read text rightwards at ≡ Some (c, next) → GoesOnAt at next
+  pub found-on : (at next c : ℕ) → match_end_at tree text at ≡ None → read text rightwards at ≡ Some (c, next) → GoesOnAt at next
   found-on at next c none on = by (place_at text at) refl
     where
       by : (o : Option ℕ) → place_at text at ≡ o → GoesOnAt at next
@@ -199,15 +199,15 @@ module _ (tree : Tree) (text : Text) (is : IsText text) where
               sym (ap (option_map (λ (c : ℕ). (c, offset text (p + 1)))) (slice_get-get_or text.characters p 0 less)) ∙ here in
               let pair_is : (get_or text.characters p 0, offset text (p + 1)) ≡ (c, next) = cc in
               let next_is : offset text (p + 1) ≡ next = ap (λ (x : ℕ × ℕ). x.1) pair_is in
-              let next_place : place_at text next ≡ Some (p + 1) = ap (place_at text) (sym next_is) ∙ place_at-offset text (p + 1) is inside in
+              let next_candidate_start : place_at text next ≡ Some (p + 1) = ap (place_at text) (sym next_is) ∙ place_at-offset text (p + 1) is inside in
               record {
-                same = on-from at p q none ∙ sym (found-at next (p + 1) next_place);
-                boundary = ap is_some next_place;
+                same = on-from at p q none ∙ sym (found-at next (p + 1) next_candidate_start);
+                boundary = ap is_some next_candidate_start;
                 ahead = later at p next place.0 (offset-less text p (p + 1) is (let e : p < p + 1 = omega arith in e) inside) next_is;
                 inside = let le = offset-le text (p + 1) (last_place text) is inside (le_refl (last_place text)) in omega (arith, le, next_is);
               }
 
-  pub found-none : (at : ℕ) → IsBoundary text at → end_from tree text at ≡ None → read text rightwards at ≡ None → first_found tree.root text at ≡ None
+  pub found-none : (at : ℕ) → IsBoundary text at → match_end_at tree text at ≡ None → read text rightwards at ≡ None → first_found tree.root text at ≡ None
   found-none at on none past = by (place_at text at) refl on
     where
       by : (o : Option ℕ) → place_at text at ≡ o → IsTrue (is_some o) → first_found tree.root text at ≡ None
@@ -227,7 +227,7 @@ module _ (tree : Tree) (text : Text) (is : IsText text) where
   goes-from_itself at on = record { same = refl; boundary = on }
 
   -- one place on
-  pub goes-on : (first at next : ℕ) → GoesFrom tree text first at → end_from tree text at ≡ None → Some next ≡ option_map (λ (r : ℕ × ℕ). r.1) (read text rightwards at)
+  pub goes-on : (first at next : ℕ) → GoesFrom tree text first at → match_end_at tree text at ≡ None → Some next ≡ option_map (λ (r : ℕ × ℕ). r.1) (read text rightwards at)
       → GoesFrom tree text first next × (units text - next < units text - at)
   goes-on first at next g none e = by (read text rightwards at) refl e
     where
@@ -240,8 +240,8 @@ module _ (tree : Tree) (text : Text) (is : IsText text) where
             omega (arith, f.ahead, f.inside, same),
           )
 
-  pub found-first : (first at e : ℕ) (gs : Groups) → GoesFrom tree text first at → end_from tree text at ≡ Some (e, gs)
-      → (Some (answer_by at e gs (names_by_id tree.root)) ≡ first_answer tree.root text first) × (offset_behind text at e ≡ next_start tree.root text first) × IsBoundary text e
+  pub found-first : (first at e : ℕ) (gs : Groups) → GoesFrom tree text first at → match_end_at tree text at ≡ Some (e, gs)
+      → (Some (answer_from_parts at e gs (group_names_by_id tree.root)) ≡ first_answer tree.root text first) × (next_search_offset text at e ≡ next_start tree.root text first) × IsBoundary text e
   found-first first at e gs g end =
       let f = found-here at e gs g.boundary end in (
         sym (ap (option_map (answer tree.root text)) g.same ∙ f.first),
@@ -249,7 +249,7 @@ module _ (tree : Tree) (text : Text) (is : IsText text) where
         f.boundary,
       )
 
-  pub found-last : (first at : ℕ) → GoesFrom tree text first at → end_from tree text at ≡ None → None ≡ option_map (λ (r : ℕ × ℕ). r.1) (read text rightwards at)
+  pub found-last : (first at : ℕ) → GoesFrom tree text first at → match_end_at tree text at ≡ None → None ≡ option_map (λ (r : ℕ × ℕ). r.1) (read text rightwards at)
       → None ≡ first_answer tree.root text first
   found-last first at g none past =
       sym (ap (option_map (answer tree.root text)) (g.same ∙ found-none at g.boundary none (by (read text rightwards at) past)))

@@ -6,8 +6,8 @@ use Rattle.std.proofs.lemmas.List.{drop_more, map_more, take-map}
 use Rattle.std.proofs.lemmas.List.Folds.{list_any-append}
 use Rattle.std.proofs.lemmas.Option.{unwrap_or-slice_get}
 use Rattle.std.proofs.lemmas.Slice.Eq.{bytes_eq-Decides}
-use Rattle.regex_meaning.specs.Names.{Answer, first_appearances, group}
-use Rattle.regress_exec.specs.InTurn.{all_groups, is_new, new_names}
+use Rattle.regex_meaning.specs.Captures.{Answer, first_appearances, group}
+use Rattle.regress_exec.specs.GroupIterators.{all_groups, is_new, distinct_names_from}
 use Rattle.regress_exec.proofs.Groups.{images-here}
 
 module _ (m : Answer) where
@@ -95,11 +95,11 @@ module _ {X : Type 0} (f : X → List ℕ) (xs : List X) (i : ℕ) (x : X) (h : 
 
   -- the new names from an id on, by whether the one there is new
   pub names-here : (b : Bool) → is_new (f x) (map f (take i xs)) ≡ b
-      → new_names (map f xs) i ≡ (if b then f x ∷ new_names (map f xs) (i + 1) else new_names (map f xs) (i + 1))
+      → distinct_names_from (map f xs) i ≡ (if b then f x ∷ distinct_names_from (map f xs) (i + 1) else distinct_names_from (map f xs) (i + 1))
   names-here b new =
       let before = take i (map f xs) in
       let rest = drop (i + 1) (map f xs) in
       ap (first_appearances before) (images-here f xs i x h e) ∙ appear-here before (f x) rest
       ∙ ap (λ ys. if is_new (f x) before then f x ∷ first_appearances ys rest else first_appearances ys rest) images-before
-      ∙ ap (λ t. if t then f x ∷ new_names (map f xs) (i + 1) else new_names (map f xs) (i + 1))
+      ∙ ap (λ t. if t then f x ∷ distinct_names_from (map f xs) (i + 1) else distinct_names_from (map f xs) (i + 1))
       (ap (is_new (f x)) (take-map f i xs) ∙ new)

@@ -5,10 +5,10 @@ use Rattle.std.proofs.lemmas.Bool.{cases_lt, le-ltb, ltb-false, ne_eqb}
 use Rattle.std.specs.Prelude.{◌==◌, ◌⊎◌, if◌then◌else◌, nat_lt, is_none}
 use Rattle.regex_meaning.specs.Tree.{Node}
 use Rattle.regex_meaning.specs.Text.{Text, last_place}
-use Rattle.regex_meaning.specs.Offsets.{IsText, offset, place_at, units}
-use Rattle.regex_meaning.specs.Find.{Found, first_match, place_behind}
-use Rattle.regex_meaning.specs.Names.{Answer, answer}
-use Rattle.regex_meaning.specs.Answers.{first_answer, next_start}
+use Rattle.regex_meaning.specs.CodeUnitOffsets.{IsText, offset, place_at, units}
+use Rattle.regex_meaning.specs.FirstAndAllMatches.{Found, first_match, place_behind}
+use Rattle.regex_meaning.specs.Captures.{Answer, answer}
+use Rattle.regex_meaning.specs.SearchAnswers.{first_answer, next_start}
 use Rattle.regex_meaning.proofs.Matches.{StandsFrom, stands-first}
 use Rattle.regex_meaning.proofs.TextLemmas.{offset-less}
 

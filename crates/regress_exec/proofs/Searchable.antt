@@ -4,16 +4,16 @@ use Rattle.std.specs.Prelude.{IsTrue, IsAscii, nat_lt}
 use Rattle.std.specs.List.{list_all}
 use Rattle.regex_meaning.specs.Tree.{Tree}
 use Rattle.regex_meaning.specs.Text.{Text}
-use Rattle.regex_meaning.specs.Offsets.{IsText}
-use Rattle.regex_meaning.specs.WellFormed.{is_well_formed}
-use Rattle.regress_program.specs.Code.{compiled}
+use Rattle.regex_meaning.specs.CodeUnitOffsets.{IsText}
+use Rattle.regex_meaning.specs.WellFormedTrees.{is_well_formed}
+use Rattle.regress_program.specs.CodeOfTrees.{compiled}
 use Rattle.regress_program.proofs.CodeLemmas.{compiled-is_code}
-use Rattle.regress_machine.specs.Bytes.{ReadsBytes, reads_bytes}
-use Rattle.regress_machine.specs.Finds.{CanSearch}
+use Rattle.regress_machine.specs.TextsForBytePrograms.{ReadsBytes, reads_bytes}
+use Rattle.regress_machine.specs.SearchResults.{ProgramCanSearchText}
 use Rattle.std.proofs.lemmas.Bool.{and_from, lt-ltb}
 
 pub can-search : (tree : Tree) (text : Text) → IsTrue (is_well_formed tree.root) → IsText text → text.unicode ≡ tree.flags.unicode
-    → (IsTrue (reads_bytes tree.root) → ReadsBytes text) → CanSearch (compiled tree) tree text
+    → (IsTrue (reads_bytes tree.root) → ReadsBytes text) → ProgramCanSearchText (compiled tree) tree text
 can-search tree text w is u b = record {
   code = (compiled-is_code tree w).code;
   well_formed = w;

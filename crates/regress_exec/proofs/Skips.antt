@@ -5,12 +5,12 @@ use Rattle.std.specs.Prelude.{is_some, IsTrue}
 use Rattle.std.specs.Option.{option_or, option_map_or}
 use Rattle.regex_meaning.specs.Tree.{Tree}
 use Rattle.regex_meaning.specs.Text.{Text, last_place}
-use Rattle.regex_meaning.specs.Offsets.{IsText, IsBoundary, offset, units}
-use Rattle.regex_meaning.specs.Find.{match_at, first_match}
-use Rattle.regex_meaning.specs.Answers.{first_found}
+use Rattle.regex_meaning.specs.CodeUnitOffsets.{IsText, IsBoundary, offset, units}
+use Rattle.regex_meaning.specs.FirstAndAllMatches.{match_at, first_match}
+use Rattle.regex_meaning.specs.SearchAnswers.{first_found}
 use Rattle.regex_meaning.proofs.Matches.{first-unfolds, first-past}
 use Rattle.regex_meaning.proofs.TextLemmas.{IsBoundary-place, offset-IsBoundary, offset-le, offset-less, place-le, place_at-offset}
-use Rattle.regress_exec.specs.Attempts.{IsNextTry, IsVain, NoneBetween}
+use Rattle.regress_exec.specs.Attempts.{IsNextCandidate, NoMatchAt, NoMatchStartsBetween}
 use Rattle.regress_exec.proofs.FirstMatch.{GoesFrom, found-at, none-at}
 
 module _ (tree : Tree) (text : Text) where
@@ -34,13 +34,13 @@ module _ (tree : Tree) (text : Text) (is : IsText text) where
       ∙ skip-places n (a + 1) (omega (arith, inside)) (λ q le less. none q (omega (arith, le)) (omega (arith, less)))
       ∙ ap (first_match tree.root text) e
 
-  none-between : (from to a q : ℕ) → NoneBetween tree text from to → offset text a ≡ from → a ≤ q → q ≤ last_place text → offset text q < to → match_at tree.root text q ≡ None
+  none-between : (from to a q : ℕ) → NoMatchStartsBetween tree text from to → offset text a ≡ from → a ≤ q → q ≤ last_place text → offset text q < to → match_at tree.root text q ≡ None
   none-between from to a q none here le inside less =
       let rising = offset-le text a q is le inside in
       none-at tree text is (offset text q) q (place_at-offset text q is inside)
       (none (offset text q) (offset-IsBoundary text q is inside) (omega (arith, here, rising)) less)
 
-  next-some : (from to : ℕ) → IsBoundary text from → IsNextTry tree text from (Some to) → first_found tree.root text from ≡ first_found tree.root text to
+  next-some : (from to : ℕ) → IsBoundary text from → IsNextCandidate tree text from (Some to) → first_found tree.root text from ≡ first_found tree.root text to
   next-some from to on next =
       let a = IsBoundary-place text from is on in
       let b = IsBoundary-place text to is next.0 in
@@ -54,7 +54,7 @@ module _ (tree : Tree) (text : Text) (is : IsText text) where
       ∙ ap (first_match tree.root text) end
       ∙ sym (found-at tree text is to b.0 b.1)
 
-  next-none : (from : ℕ) → IsBoundary text from → IsNextTry tree text from None → first_found tree.root text from ≡ None
+  next-none : (from : ℕ) → IsBoundary text from → IsNextCandidate tree text from None → first_found tree.root text from ≡ None
   next-none from on none =
       let a = IsBoundary-place text from is on in
       let n = last_place text + 1 - a.0 in
@@ -67,18 +67,18 @@ module _ (tree : Tree) (text : Text) (is : IsText text) where
       ∙ first-past tree.root text (a.0 + n) (omega (arith, end))
 
   -- the first offset to try
-  pub walk-begins : (first : ℕ) (next : Option ℕ) → IsBoundary text first → IsNextTry tree text first next → Walks tree text first next
+  pub walk-begins : (first : ℕ) (next : Option ℕ) → IsBoundary text first → IsNextCandidate tree text first next → Walks tree text first next
   walk-begins first None on n = next-none first on n
   walk-begins first (Some at) on n = record { same = next-some first at on n; boundary = n.0 }
 
-  with-tried : (at to : ℕ) → IsVain tree text at → NoneBetween tree text (at + 1) to → NoneBetween tree text at to
+  with-tried : (at to : ℕ) → NoMatchAt tree text at → NoMatchStartsBetween tree text (at + 1) to → NoMatchStartsBetween tree text at to
   with-tried at to vain none = λ x on le less. elim (cases_lt at x) [
     | inl past ↦ none x on (omega (arith, past)) less
-    | inr within ↦ let same : at ≡ x = omega (arith, within, le) in subst (IsVain tree text) same vain
+    | inr within ↦ let same : at ≡ x = omega (arith, within, le) in subst (NoMatchAt tree text) same vain
   ]
 
   -- the next one behind an offset that was tried in vain
-  pub walk-goes : (first at : ℕ) (next : Option ℕ) → GoesFrom tree text first at → IsVain tree text at → IsNextTry tree text (at + 1) next
+  pub walk-goes : (first at : ℕ) (next : Option ℕ) → GoesFrom tree text first at → NoMatchAt tree text at → IsNextCandidate tree text (at + 1) next
       → Walks tree text first next × (untried text next < untried text (Some at))
   walk-goes first at None g vain n =
       let inside = boundary-inside at g.boundary in

@@ -1,8 +1,8 @@
-pub mod Answers
-pub mod ToCome
+pub mod MatchAnswers
+pub mod RemainingAnswers
 pub mod Attempts
-pub mod InTurn
-pub mod Positions
-pub mod Spends
-pub mod Worked
+pub mod GroupIterators
+pub mod PositionOffsets
+pub mod StepCosts
+pub mod WorkLimits
 pub mod Executors

@@ -1,13 +1,13 @@
-//! Finding matches in turn.
+//! Finding matches one after another.
 
 ghost use Rattle.std.specs.Prelude.{◌≡◌, ◌<◌, ◌≤◌, ◌⊎◌, ℕ, Bool, true, false, Option, map, option_map, IfOk, IfErr, OnErr, OnSome, IfNone, if◌then◌else◌, nat_le, not, Some, None, string_bytes};
 ghost use Rattle.std.specs.Iterator.{at_most};
 ghost use Rattle.std.specs.Option.{ForSome};
-ghost use Rattle.regex_meaning.specs.{Tree.{Tree}, Text.{Text}, Offsets.{IsText, IsBoundary, units}, Answers.{first_answer}};
-ghost use Rattle.regex_meaning.specs.Steps.{answers_within, end_within, need_from};
-ghost use Rattle.regex_pattern_front.specs.TreeOf.{tree_of};
-ghost use Rattle.regress_exec.specs.{Spends.{GoesOn, Spends, cause_of}, ToCome.{ToCome, coming, Gives, LastMatchEnds, items_left}};
-ghost use Rattle.regress_exec.specs.Worked.{CallGoesOn, SearchGoesOn, is_enough};
+ghost use Rattle.regex_meaning.specs.{Tree.{Tree}, Text.{Text}, CodeUnitOffsets.{IsText, IsBoundary, units}, SearchAnswers.{first_answer}};
+ghost use Rattle.regex_meaning.specs.StepBudget.{answers_within, finishes_within, need_from};
+ghost use Rattle.regex_pattern_front.specs.AstToSpecTree.{tree_of};
+ghost use Rattle.regress_exec.specs.{StepCosts.{ListContinuesAt, CostsSteps, refusal_cause}, RemainingAnswers.{RemainingView, remaining_answers_from, NextYields, EndsAfterMatchAtTextEnd, items_left}};
+ghost use Rattle.regress_exec.specs.WorkLimits.{CallStaysWithinWork, SearchStaysWithinWork, is_work_enough};
 
 use regress_input::position::PositionType;
 use regress_program::insn::{CompiledRegex, GroupNames};
@@ -16,20 +16,20 @@ use std::marker::Model;
 use std::ops::Range;
 use thiserror::Error;
 
-mod in_turn;
-mod parts;
-mod worked;
+mod group_iterators;
+mod match_methods;
+mod work_matches;
 
-pub use self::in_turn::{Groups, NamedGroups};
-pub use self::worked::{WorkError, WorkMatches, Worker};
+pub use self::group_iterators::{Groups, NamedGroups};
+pub use self::work_matches::{BoundedProducer, WorkError, WorkMatches};
 
-/// Why a search was refused.
+/// Why a search failed.
 #[derive(Clone, Copy, Debug, PartialEq, Eq, Error)]
 pub enum SearchError {
-    /// There was no memory.
+    /// An allocation failed.
     #[error("out of memory")]
     Memory,
-    /// The steps that were allowed are used up. Without a limit this never comes.
+    /// The step limit is reached. This never occurs without a limit.
     #[error("the steps are used up")]
     StepLimit,
 }
@@ -44,20 +44,21 @@ impl From<AllocError> for SearchError {
     }
 }
 
-/// A match: a range of the text in units, and those of its groups.
+/// A match: its range in the text and the ranges of its groups, in code units.
 #[derive(Debug, Drop)]
 pub struct Match {
-    /// The whole match.
+    /// The range of the whole match.
     pub range: Range<usize>,
-    /// The ranges of the groups by id, `None` where a group did not match.
+    /// The ranges of the groups by id, `None` for a group that did not match.
     pub captures: Vec<Option<Range<usize>>>,
     names: GroupNames,
 }
 
 impl Match {
-    ghost use Rattle.regress_exec.specs.Answers.{answer_of, range_of};
+    ghost use Rattle.regress_exec.specs.MatchAnswers.{answer_of, range_of};
 
-    /// The match with this range and these groups, and the names by id, as they are given.
+    /// Makes a match from its range, the ranges of its groups and the names by id, as they are
+    /// given.
     pub fn from_parts(
         range: Range<usize>,
         captures: Vec<Option<Range<usize>>>,
@@ -72,7 +73,7 @@ impl Match {
         Match::with_names(range, captures, GroupNames::owned(names))
     }
 
-    // The same with names that others may hold too.
+    // Makes a match from its parts, with names that others may share.
     pub(crate) fn with_names(
         range: Range<usize>,
         captures: Vec<Option<Range<usize>>>,
@@ -92,12 +93,13 @@ impl Match {
     }
 }
 
-/// What finds the matches of a pattern in a text, one at a time. Contracts see the pattern's tree, the text, the steps
-/// that it may still take, none where there is no limit, and whether steps were refused in its last search.
+/// A searcher for the matches of a pattern in a text, one at a time. Contracts see the pattern's
+/// tree, the text, the steps that it may still take (none if there is no limit), and whether its
+/// last search reached the step limit.
 pub trait MatchProducer {
-    ghost use Rattle.regress_exec.specs.Answers.{answer_of};
+    ghost use Rattle.regress_exec.specs.MatchAnswers.{answer_of};
 
-    /// Where a search may go on.
+    /// A position at which a search can continue.
     type Position: PositionType;
 
     ghost tree: { Self → Tree };
@@ -108,29 +110,31 @@ pub trait MatchProducer {
 
     ghost out_of_steps: { Self → Bool } = { λ _. false };
 
-    // the work that may be done is enough for attempts in turn, each as far as `ahead` or further
+    // the work limit is enough for attempts in ascending order of offsets, each at `ahead` or later
     ghost enough: { Self → Bool } = { λ _. true };
 
     ghost ahead: { Self → ℕ } = { λ _. 0 };
 
     ghost out_of_work: { Self → Bool } = { λ _. false };
 
-    // how much work may still be done, where it is counted
+    // the amount of work that may still be done, where work is counted
     ghost left: { Self → ℕ } = { λ _. 0 };
 
-    /// The position of an offset in units, which is a boundary or past the end; none where it is past the end.
+    /// Returns the position of an offset in code units, which is a boundary or past the end.
+    /// Returns `None` if it is past the end.
     fn initial_position(&self, offset: usize) -> Option<Self::Position>
         requires { IsBoundary (text self.now) offset ⊎ (units (text self.now) < offset) }
         ensures { option_map Self.Position.offset result
             ≡ (if nat_le offset (units (text self.now)) then Some offset else None) };
 
-    /// The first match from a position on. `next_start` becomes the position from which the list of matches
-    /// goes on, none where it does not; without a match, and on a refusal, it stays as it was.
+    /// Finds the first match from a position on. `next_start` becomes the position at which the
+    /// list of matches continues, or `None` if it ends. It is unchanged if there is no match or an
+    /// error occurs.
     ///
     /// # Errors
     ///
-    /// `StepLimit` where more steps are needed than are left, and then none is; and `Memory`, behind which the steps
-    /// that were taken stay taken.
+    /// Returns `StepLimit` if more steps are needed than are left, and then none are left. Returns
+    /// `Memory` if an allocation fails, and the steps taken until then stay spent.
     fn next_match(
         &mut self,
         pos: Self::Position,
@@ -139,13 +143,13 @@ pub trait MatchProducer {
         requires { IsBoundary (text self.old) (Self.Position.offset pos) }
         ensures found { let at = Self.Position.offset in IfOk result (λ m.
             (option_map answer_of m ≡ first_answer (tree self.old).root (text self.old) (at pos))
-            × OnSome m (GoesOn (tree self.old) (text self.old) (at pos) (option_map at next_start.new))) }
+            × OnSome m (ListContinuesAt (tree self.old) (text self.old) (at pos) (option_map at next_start.new))) }
         ensures stays { IfOk result (λ m. IfNone m (next_start.new ≡ next_start.old))
             × OnErr result (next_start.new ≡ next_start.old) }
-        ensures steps { Spends (need_from (tree self.old) (text self.old) (Self.Position.offset pos))
+        ensures steps { CostsSteps (need_from (tree self.old) (text self.old) (Self.Position.offset pos))
             (budget self.old) result (budget self.new) }
-        ensures cause { IfErr result (λ e. e ≡ cause_of (out_of_steps self.new)) }
-        ensures work { let at = Self.Position.offset in SearchGoesOn (enough self.old) (ahead self.old) (at pos)
+        ensures cause { IfErr result (λ e. e ≡ refusal_cause (out_of_steps self.new)) }
+        ensures work { let at = Self.Position.offset in SearchStaysWithinWork (enough self.old) (ahead self.old) (at pos)
             result (enough self.new) (ahead self.new) (option_map at next_start.new) (out_of_work self.new) }
         ensures left { left self.new ≤ left self.old }
         ensures same { (tree self.new ≡ tree self.old) × (text self.new ≡ text self.old) };
@@ -153,8 +157,8 @@ pub trait MatchProducer {
     ghost is_text: { (it : Self) → IsText (text it) };
 }
 
-/// A producer of matches that is made of a program and a text. `can_search` says which texts it takes, and `text_of`
-/// what characters it reads in one, by the flag `unicode`.
+/// A producer of matches that is made of a program and a text. `can_search` says which texts it
+/// takes. `text_of` gives the characters that it reads in a text, depending on the flag `unicode`.
 pub trait Searcher<'r>: MatchProducer {
     /// The text as it is given, with its lifetime.
     type Text;
@@ -167,7 +171,7 @@ pub trait Searcher<'r>: MatchProducer {
     ///
     /// # Errors
     ///
-    /// Where there is no memory for what the producer holds from the start on.
+    /// Returns `Err` if the allocation of what the producer holds from the start fails.
     fn new(re: &'r CompiledRegex, text: Self::Text) -> Result<Self, AllocError>
     where
         Self: Sized,
@@ -177,13 +181,15 @@ pub trait Searcher<'r>: MatchProducer {
         ensures unlimited { IfOk result (λ e. Self.budget e ≡ None) };
 }
 
-/// Runs a program for bytes over a `str`. What makes one is `new` of `Searcher`.
+/// An executor that runs a program for bytes over a `str`. `new` of `Searcher` makes one.
 pub trait Executor<'r, 't>: Searcher<'r, Text = &'t str> {
-    /// The executor of this kind over texts of ASCII. Where a function needs that it is one, its bounds say so.
+    /// The executor of this kind over ASCII texts. A function that needs it to be an executor says
+    /// so in its bounds.
     type AsAscii;
 }
 
-/// The matches of a pattern in a text from a start on. Contracts see the answers still to come.
+/// An iterator over the matches of a pattern in a text from a start on. Contracts see the answers
+/// still to come.
 #[derive(Drop)]
 pub struct Matches<P: MatchProducer> {
     mp: P,
@@ -191,20 +197,21 @@ pub struct Matches<P: MatchProducer> {
 }
 
 impl<P: MatchProducer> Model for Matches<P> {
-    ghost Value = { ToCome };
+    ghost Value = { RemainingView };
 
-    ghost view = { λ m. coming (P.tree m.mp) (P.text m.mp) (P.budget m.mp)
+    ghost view = { λ m. remaining_answers_from (P.tree m.mp) (P.text m.mp) (P.budget m.mp)
         (option_map P.Position.offset m.position) (P.out_of_steps m.mp) };
 
     ghost invariant = { λ m. ForSome m.position (λ p. IsBoundary (P.text m.mp) (P.Position.offset p)) };
 }
 
 impl<P: MatchProducer> Matches<P> {
-    /// The matches from an offset in units on, which is a boundary or past the end; past the end there are none.
+    /// Iterates over the matches from an offset in code units on, which is a boundary or past the
+    /// end. Past the end there are none.
     pub fn new(mp: P, start: usize) -> Self
         requires { IsBoundary (P.text mp) start ⊎ (units (P.text mp) < start) }
         ensures answers { result.answers ≡ answers_within (P.tree mp) (P.text mp) (P.budget mp) start }
-        ensures limited { result.limited ≡ not (end_within (P.tree mp) (P.text mp) (P.budget mp) start) }
+        ensures limited { result.limited ≡ not (finishes_within (P.tree mp) (P.text mp) (P.budget mp) start) }
         ensures ended { result.ended ≡ not (nat_le start (units (P.text mp))) }
         ensures text_end { result.text_end ≡ units (P.text mp) }
     {
@@ -216,33 +223,35 @@ impl<P: MatchProducer> Matches<P> {
 impl<P: MatchProducer + Drop> Iterator for Matches<P> {
     type Item = Result<Match, SearchError>;
 
-    ghost next_gives = { Gives };
+    ghost next_gives = { NextYields };
 
     ghost remaining = { λ s. at_most (items_left s) };
 
-    /// The next match; none for good once there is no other, or after a refusal.
+    /// Returns the next match. Once there is no other match, or after an error, it always returns
+    /// `None`.
     fn next(&mut self) -> Option<Result<Match, SearchError>> {
-        next_of(&mut self.mp, &mut self.position)
+        advance_matches(&mut self.mp, &mut self.position)
     }
 }
 
-// The next match from a position on, if there is one, which becomes that from which the list goes on.
-fn next_of<P: MatchProducer>(
+// Returns the next match from a position on, if there is one. The position becomes the one at which
+// the list continues, or `None` if it ends.
+fn advance_matches<P: MatchProducer>(
     mp: &mut P,
     position: &mut Option<P::Position>,
 ) -> Option<Result<Match, SearchError>>
     requires at { ForSome position.old (λ p. IsBoundary (P.text mp.old) (P.Position.offset p)) }
     ensures at { ForSome position.new (λ p. IsBoundary (P.text mp.new) (P.Position.offset p)) }
     ensures gives { let offset = option_map P.Position.offset in
-        let before = coming (P.tree mp.old) (P.text mp.old) (P.budget mp.old) (offset position.old)
+        let before = remaining_answers_from (P.tree mp.old) (P.text mp.old) (P.budget mp.old) (offset position.old)
         (P.out_of_steps mp.old) in
-        let behind = coming (P.tree mp.new) (P.text mp.new) (P.budget mp.new) (offset position.new)
+        let behind = remaining_answers_from (P.tree mp.new) (P.text mp.new) (P.budget mp.new) (offset position.new)
         (P.out_of_steps mp.new) in
-        Gives before result behind }
+        NextYields before result behind }
     ensures work { let offset = option_map P.Position.offset in
-        let before = is_enough (P.enough mp.old) (P.ahead mp.old) (offset position.old) in
-        let behind = is_enough (P.enough mp.new) (P.ahead mp.new) (offset position.new) in
-        CallGoesOn before result behind (P.out_of_work mp.new) }
+        let before = is_work_enough (P.enough mp.old) (P.ahead mp.old) (offset position.old) in
+        let behind = is_work_enough (P.enough mp.new) (P.ahead mp.new) (offset position.new) in
+        CallStaysWithinWork before result behind (P.out_of_work mp.new) }
     ensures left { P.left mp.new ≤ P.left mp.old }
 {
     let pos = (*position)?;
@@ -259,8 +268,8 @@ fn next_of<P: MatchProducer>(
     }
 }
 
-/// Behind a match at the end of the text, which is empty, nothing is searched any more: the next call answers none, and takes
-/// no memory for it.
+/// After a match at the end of the text, which is empty, nothing more is searched: the next call
+/// returns `None` and allocates no memory.
 pub fn last_match_ends_the_list()
-    ensures { LastMatchEnds }
+    ensures { EndsAfterMatchAtTextEnd }
 {}

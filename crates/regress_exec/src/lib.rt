@@ -1,6 +1,6 @@
-//! What all executors share: the iterator over matches, the walk over places, and what is searched.
+//! The parts that all executors share: the iterator over matches, the search loop, and the input.
 #![tactic(auto)]
 
 pub mod exec;
-pub mod places;
-pub mod searched;
+pub mod program_and_input;
+pub mod search_loop;

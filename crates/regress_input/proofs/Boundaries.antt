@@ -7,12 +7,12 @@ use Rattle.std.proofs.lemmas.List.{append-nil}
 use Rattle.std.proofs.lemmas.List.Concat.{flat_map-append}
 use Rattle.std.specs.List.{position_or_len, list_any}
 use lib.Utf8.{encode, next}
-use Rattle.regex_meaning.specs.Lists.{contains}
+use Rattle.regex_meaning.specs.NumberListHelpers.{contains}
 use Rattle.regex_meaning.specs.Text.{Text, rightwards, leftwards, offsets_from}
-use Rattle.regex_meaning.specs.Offsets.{IsText, offset, units, place_at, read}
-use Rattle.regex_meaning.specs.Units.{Encoding, utf8, utf16, ucs2, spelled_in, units_in, IsSpelledIn}
-use Rattle.regress_input.specs.Utf8.{continues}
-use Rattle.regress_input.specs.Spellings.{sized_utf8, sized_utf16}
+use Rattle.regex_meaning.specs.CodeUnitOffsets.{IsText, offset, units, place_at, read}
+use Rattle.regex_meaning.specs.CodeUnits.{Encoding, utf8, utf16, ucs2, spelled_in, units_in, IsSpelledIn}
+use Rattle.regress_input.specs.Utf8.{is_continuation_byte}
+use Rattle.regress_input.specs.ValidlyEncodedTexts.{sized_utf8, sized_utf16}
 use Rattle.regress_input.proofs.Lists.{get-cons, get-front, get-behind}
 use Rattle.regress_input.proofs.Places.{HasPlace, step_right, step_left}
 use Rattle.regress_input.proofs.Spelled.{offset-spelling, offset-behind}
@@ -87,13 +87,13 @@ module _ (e : Encoding) (text : Text) (s : IsSpelledIn e text) where
 
 -- ---- In UTF-8: the bytes that continue a character stand where there is no boundary
 
-false_below : (b : ℕ) → b < 128 → continues b ≡ false
+false_below : (b : ℕ) → b < 128 → is_continuation_byte b ≡ false
 false_below b l = ap (λ (t : Bool). t && nat_le b 0xBF) (lt-leb 128 b l)
 
-false_above : (b : ℕ) → 192 ≤ b → continues b ≡ false
+false_above : (b : ℕ) → 192 ≤ b → is_continuation_byte b ≡ false
 false_above b l = ap₂ (λ (t u : Bool). t && u) (le-leb 128 b (omega arith)) (lt-leb b 0xBF (omega arith))
 
-next-continues : (x : ℕ) → continues (next x) ≡ true
+next-continues : (x : ℕ) → is_continuation_byte (next x) ≡ true
 next-continues x = ap₂ (λ (t u : Bool). t && u) (le-leb 128 (next x) (omega arith)) (le-leb (next x) 0xBF (omega arith))
 
 -- whether a byte continues the character, by its number among the character's
@@ -101,38 +101,38 @@ abbrev is_further : ℕ → Bool
 is_further zero = false
 is_further (suc i) = true
 
-byte-of : (c i b : ℕ) → slice_get (encode c) i ≡ Some b → continues b ≡ is_further i
+byte-of : (c i b : ℕ) → slice_get (encode c) i ≡ Some b → is_continuation_byte b ≡ is_further i
 byte-of c i b g = by (cases_lt c 128) (cases_lt c 2048) (cases_lt c 65536)
   where
-    is : (x : ℕ) (t : Bool) → Some x ≡ Some b → continues x ≡ t → continues b ≡ t
-    is x t e h = let same : x ≡ b = cc in ap continues (sym same) ∙ h
+    is : (x : ℕ) (t : Bool) → Some x ≡ Some b → is_continuation_byte x ≡ t → is_continuation_byte b ≡ t
+    is x t e h = let same : x ≡ b = cc in ap is_continuation_byte (sym same) ∙ h
 
     seen : (p : List ℕ) → encode c ≡ p → slice_get p i ≡ Some b
     seen p e = ap (λ l. slice_get l i) (sym e) ∙ g
 
-    one : (i : ℕ) → c < 128 → slice_get (c ∷ []) i ≡ Some b → continues b ≡ is_further i
+    one : (i : ℕ) → c < 128 → slice_get (c ∷ []) i ≡ Some b → is_continuation_byte b ≡ is_further i
     one zero l e = is c false e (false_below c l)
     one (suc i) l e = absurd (cc)
 
-    two : (i x y : ℕ) → 192 ≤ x → slice_get (x ∷ next y ∷ []) i ≡ Some b → continues b ≡ is_further i
+    two : (i x y : ℕ) → 192 ≤ x → slice_get (x ∷ next y ∷ []) i ≡ Some b → is_continuation_byte b ≡ is_further i
     two zero x y l e = is x false e (false_above x l)
     two (suc zero) x y l e = is (next y) true e (next-continues y)
     two (suc (suc i)) x y l e = absurd (cc)
 
-    three : (i x y z : ℕ) → 192 ≤ x → slice_get (x ∷ next y ∷ next z ∷ []) i ≡ Some b → continues b ≡ is_further i
+    three : (i x y z : ℕ) → 192 ≤ x → slice_get (x ∷ next y ∷ next z ∷ []) i ≡ Some b → is_continuation_byte b ≡ is_further i
     three zero x y z l e = is x false e (false_above x l)
     three (suc zero) x y z l e = is (next y) true e (next-continues y)
     three (suc (suc zero)) x y z l e = is (next z) true e (next-continues z)
     three (suc (suc (suc i))) x y z l e = absurd (cc)
 
-    four : (i x y z v : ℕ) → 192 ≤ x → slice_get (x ∷ next y ∷ next z ∷ next v ∷ []) i ≡ Some b → continues b ≡ is_further i
+    four : (i x y z v : ℕ) → 192 ≤ x → slice_get (x ∷ next y ∷ next z ∷ next v ∷ []) i ≡ Some b → is_continuation_byte b ≡ is_further i
     four zero x y z v l e = is x false e (false_above x l)
     four (suc zero) x y z v l e = is (next y) true e (next-continues y)
     four (suc (suc zero)) x y z v l e = is (next z) true e (next-continues z)
     four (suc (suc (suc zero))) x y z v l e = is (next v) true e (next-continues v)
     four (suc (suc (suc (suc i)))) x y z v l e = absurd (cc)
 
-    by : (c < 128) ⊎ (128 ≤ c) → (c < 2048) ⊎ (2048 ≤ c) → (c < 65536) ⊎ (65536 ≤ c) → continues b ≡ is_further i
+    by : (c < 128) ⊎ (128 ≤ c) → (c < 2048) ⊎ (2048 ≤ c) → (c < 65536) ⊎ (65536 ≤ c) → is_continuation_byte b ≡ is_further i
     by (inl l) _ _ = one i l (seen _ (encode-1 c l))
     by (inr l) (inl h) _ = two i _ c (omega arith) (seen _ (encode_two c l h))
     by (inr _) (inr l) (inl h) = three i _ (c / 64) c (omega arith) (seen _ (encode_three c l h))
@@ -145,7 +145,7 @@ none-before (w ∷ ws) at i less = rw (ne_eqb i at (omega arith)) (none-before w
 
 -- among the offsets of characters are those of the bytes that continue none
 among : (cs : List ℕ) (a i b : ℕ) → slice_get (flat_map (spelled_in utf8) cs) i ≡ Some b
-    → contains (offsets_from a (map (λ c. length (spelled_in utf8 c)) cs)) (a + i) ≡ not (continues b)
+    → contains (offsets_from a (map (λ c. length (spelled_in utf8 c)) cs)) (a + i) ≡ not (is_continuation_byte b)
 among [] a i b g = absurd (cc)
 among (c ∷ cs) a i b g = by (cases_lt i (length (spelled_in utf8 c))) (λ j rest. among cs (a + length (spelled_in utf8 c)) j b rest)
   where
@@ -155,7 +155,7 @@ among (c ∷ cs) a i b g = by (cases_lt i (length (spelled_in utf8 c))) (λ j re
     behind : List ℕ
     behind = offsets_from (a + w) (map (λ c. length (spelled_in utf8 c)) cs)
 
-    here : (i : ℕ) → i < w → slice_get (spelled_in utf8 c) i ≡ Some b → contains (a ∷ behind) (a + i) ≡ not (continues b)
+    here : (i : ℕ) → i < w → slice_get (spelled_in utf8 c) i ≡ Some b → contains (a ∷ behind) (a + i) ≡ not (is_continuation_byte b)
     here zero l e =
         rw (eq-eqb (a + 0) a (omega arith)) (sym (ap not (byte-of c 0 b (ap (λ x. slice_get x 0) (sym (append-nil (encode c))) ∙ e))))
     here (suc i) l e =
@@ -163,8 +163,8 @@ among (c ∷ cs) a i b g = by (cases_lt i (length (spelled_in utf8 c))) (λ j re
         (none-before (map (λ c. length (spelled_in utf8 c)) cs) (a + w) (a + suc i) (omega arith)
         ∙ sym (ap not (byte-of c (suc i) b (ap (λ x. slice_get x (suc i)) (sym (append-nil (encode c))) ∙ e))))
 
-    by : (i < w) ⊎ (w ≤ i) → ((j : ℕ) → slice_get (flat_map (spelled_in utf8) cs) j ≡ Some b → contains behind (a + w + j) ≡ not (continues b))
-        → contains (a ∷ behind) (a + i) ≡ not (continues b)
+    by : (i < w) ⊎ (w ≤ i) → ((j : ℕ) → slice_get (flat_map (spelled_in utf8) cs) j ≡ Some b → contains behind (a + w + j) ≡ not (is_continuation_byte b))
+        → contains (a ∷ behind) (a + i) ≡ not (is_continuation_byte b)
     by (inl l) more = here i l (sym (get-front (spelled_in utf8 c) (flat_map (spelled_in utf8) cs) i l) ∙ g)
     by (inr l) more =
         let back : i ≡ w + (i - w) = omega arith in
@@ -198,7 +198,7 @@ some-position test xs = some-is (nat_lt (position_or_len test xs) (length xs)) _
 
 -- an offset at which a byte stands is a boundary exactly where the byte continues no character
 pub boundary-byte : (text : Text) → IsSpelledIn utf8 text → (at b : ℕ) → slice_get (units_in utf8 text) at ≡ Some b
-    → is_some (place_at text at) ≡ not (continues b)
+    → is_some (place_at text at) ≡ not (is_continuation_byte b)
 boundary-byte text s at b g =
     let zero_on : at ≡ 0 + at = omega arith in
     some-position (nat_eq at) text.offsets ∙ ap (λ os. contains os at) s.offsets

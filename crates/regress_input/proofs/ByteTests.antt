@@ -12,13 +12,13 @@ use Rattle.std.specs.List.{list_any}
 use Rattle.std.proofs.lemmas.Option.{slice_get_past, slice_get-get_or}
 use Rattle.std.proofs.lemmas.List.Folds.{drop_split}
 use Rattle.std.proofs.lemmas.Str.{encodes_same, encode_same, length-encode, len_utf8_ascii, chars-encodes}
-use Rattle.regex_meaning.specs.Lists.{contains}
+use Rattle.regex_meaning.specs.NumberListHelpers.{contains}
 use Rattle.regex_meaning.specs.Text.{Text, Direction, rightwards, leftwards}
 use Rattle.regex_meaning.specs.Tree.{byte_sequence}
 use Rattle.regex_meaning.specs.Outcomes.{accepts}
-use Rattle.regex_meaning.specs.Offsets.{IsText, IsBoundary, units, read}
-use Rattle.regress_input.specs.Reading.{IsInUtf8, bytes_of, byte_beside, one_on, led_to, past_if, past_bytes}
-use Rattle.regress_input.specs.Utf8.{StandsAt, EndsAt}
+use Rattle.regex_meaning.specs.CodeUnitOffsets.{IsText, IsBoundary, units, read}
+use Rattle.regress_input.specs.ReadsFromOffset.{IsInUtf8, bytes_of, adjacent_byte, moved_by_unit, end_if_matched, past_if, past_bytes}
+use Rattle.regress_input.specs.Utf8.{IsEncodedAt, IsEncodedBefore}
 use Rattle.regress_input.proofs.Spelled.{ReadsRight, ReadsLeft, reads_right, reads_left, at_end, before_character, at_start, behind_character}
 use Rattle.regress_input.proofs.Spelled.{text_of, length-units}
 use Rattle.regress_input.proofs.Slices.{same_option, StandBehind, StandBefore, past_bytes-right, right-past_bytes, past_bytes-left, left-past_bytes}
@@ -46,7 +46,7 @@ module _ (literal : List ℕ) (c : ℕ) (is_scalar : IsScalar c) (spells : liter
   bare = spells ∙ sym (append-nil (encode c))
 
   -- they stand at the start of themselves
-  pub stands_alone : StandsAt literal 0 c
+  pub stands_alone : IsEncodedAt literal 0 c
   stands_alone = record { scalar = is_scalar; rest = []; spelled = bare }
 
   -- such bytes accept this character alone
@@ -57,7 +57,7 @@ module _ (literal : List ℕ) (c : ℕ) (is_scalar : IsScalar c) (spells : liter
 
 -- ---- Only one character ends at an offset
 
-pub ends_same : (bytes : List ℕ) (end s c t d : ℕ) → EndsAt bytes end s c → EndsAt bytes end t d → (s ≡ t) × (c ≡ d)
+pub ends_same : (bytes : List ℕ) (end s c t d : ℕ) → IsEncodedBefore bytes end s c → IsEncodedBefore bytes end t d → (s ≡ t) × (c ≡ d)
 ends_same bytes end s c t d a b = by (cases_lt (get_or bytes (end - 1) 0) 128) (cases_lt (get_or bytes (end - 2) 0) 192) (cases_lt (get_or bytes (end - 3) 0) 192)
   where
     by : (get_or bytes (end - 1) 0 < 128) ⊎ (128 ≤ get_or bytes (end - 1) 0)
@@ -77,7 +77,7 @@ ends_same bytes end s c t d a b = by (cases_lt (get_or bytes (end - 1) 0) 128) (
         let y = back_four bytes end t d b h i j in (omega arith, omega arith)
 
 -- the last byte of a character, where it is one of ASCII and where not
-last_byte : (bytes : List ℕ) (end start c : ℕ) → EndsAt bytes end start c
+last_byte : (bytes : List ℕ) (end start c : ℕ) → IsEncodedBefore bytes end start c
     → ((get_or bytes (end - 1) 0 ≡ c) × (end - 1 ≡ start)) ⊎ ((128 ≤ get_or bytes (end - 1) 0) × (128 ≤ c))
 last_byte bytes end start c s = by (cases_lt (get_or bytes (end - 1) 0) 128)
   where
@@ -136,7 +136,7 @@ module _ (text : Text) (is_text : IsText text) (w : IsInUtf8 text) where
   none_at f d at r = ap (option_and_then (λ (r : ℕ × ℕ). if f r.0 then Some r.1 else None)) r
 
   -- no byte is there only at the end
-  pub no_byte : (f : ℕ → Bool) (d : Direction) (at : ℕ) → IsBoundary text at → byte_beside bytes d at ≡ None → past_if text f d at ≡ None
+  pub no_byte : (f : ℕ → Bool) (d : Direction) (at : ℕ) → IsBoundary text at → adjacent_byte bytes d at ≡ None → past_if text f d at ≡ None
   no_byte f rightwards at b e = elim (right at b) [
     | at_end z r ↦ none_at f rightwards at r
     | before_character k c rest g s l r ↦
@@ -159,11 +159,11 @@ module _ (text : Text) (is_text : IsText text) (w : IsInUtf8 text) where
 
   -- a byte of a set of ASCII stands there just where such a character does
   pub byte_in_set : (members : List ℕ) → All (λ b. b < 128) members → (d : Direction) (at byte to : ℕ) → IsBoundary text at
-      → Some byte ≡ byte_beside bytes d at → to ≡ one_on d at → led_to (contains members byte) to ≡ past_if text (contains members) d at
+      → Some byte ≡ adjacent_byte bytes d at → to ≡ moved_by_unit d at → end_if_matched (contains members byte) to ≡ past_if text (contains members) d at
   byte_in_set members h rightwards at byte to b e t = elim (right at b) [
     | at_end z r ↦ absurd (none z)
     | before_character k c rest g s l r ↦
-        let stands : StandsAt bytes at c = record { scalar = scalar_among cs k c in_scalars g; rest = rest; spelled = s } in
+        let stands : IsEncodedAt bytes at c = record { scalar = scalar_among cs k c in_scalars g; rest = rest; spelled = s } in
         both c r (bytes_at bytes at c stands)
   ]
     where
@@ -174,17 +174,17 @@ module _ (text : Text) (is_text : IsText text) (w : IsInUtf8 text) where
       byte_is l = let got = slice_get-get_or bytes at 0 l in cc
 
       high : (c : ℕ) → read text rightwards at ≡ Some (c, at + len_utf8 c) → at < length bytes → 128 ≤ get_or bytes at 0 → 2 ≤ len_utf8 c
-          → led_to (contains members byte) to ≡ past_if text (contains members) rightwards at
+          → end_if_matched (contains members byte) to ≡ past_if text (contains members) rightwards at
       high c r l m n =
           let no_b : contains members byte ≡ false = contains-high members h byte (omega (arith, byte_is l)) in
           let no_c : contains members c ≡ false = contains-high members h c (wide c n) in
-          ap (λ t. led_to t to) no_b ∙ sym (accepted_at (contains members) rightwards at c (at + len_utf8 c) r ∙ ap (λ t. led_to t (at + len_utf8 c)) no_c)
+          ap (λ t. end_if_matched t to) no_b ∙ sym (accepted_at (contains members) rightwards at c (at + len_utf8 c) r ∙ ap (λ t. end_if_matched t (at + len_utf8 c)) no_c)
 
-      both : (c : ℕ) → read text rightwards at ≡ Some (c, at + len_utf8 c) → Bytes bytes at c → led_to (contains members byte) to ≡ past_if text (contains members) rightwards at
+      both : (c : ℕ) → read text rightwards at ≡ Some (c, at + len_utf8 c) → Bytes bytes at c → end_if_matched (contains members byte) to ≡ past_if text (contains members) rightwards at
       both c r (one l n m e') =
           let is : byte ≡ c = byte_is (omega arith) ∙ e' in
           let past : to ≡ at + len_utf8 c = omega arith in
-          ap₂ (λ x y. led_to (contains members x) y) is past ∙ sym (accepted_at (contains members) rightwards at c (at + len_utf8 c) r)
+          ap₂ (λ x y. end_if_matched (contains members x) y) is past ∙ sym (accepted_at (contains members) rightwards at c (at + len_utf8 c) r)
       both c r (two l n m o f e') = high c r (omega arith) (omega arith) (omega arith)
       both c r (three l n m o f g e') = high c r (omega arith) (omega arith) (omega arith)
       both c r (four l n m o f g k e') = high c r (omega arith) (omega arith) (omega arith)
@@ -192,7 +192,7 @@ module _ (text : Text) (is_text : IsText text) (w : IsInUtf8 text) where
   byte_in_set members h leftwards (suc n) byte to b e t = elim (left (suc n) b) [
     | at_start z r ↦ absurd (omega arith)
     | behind_character k c start rest g s m l r ↦
-        let ends : EndsAt bytes (suc n) start c = record { stands = record { scalar = scalar_among cs k c in_scalars g; rest = rest; spelled = s }; ends = m } in
+        let ends : IsEncodedBefore bytes (suc n) start c = record { stands = record { scalar = scalar_among cs k c in_scalars g; rest = rest; spelled = s }; ends = m } in
         both c start r l (last_byte bytes (suc n) start c ends)
   ]
     where
@@ -204,15 +204,15 @@ module _ (text : Text) (is_text : IsText text) (w : IsInUtf8 text) where
 
       both : (c start : ℕ) → read text leftwards (suc n) ≡ Some (c, start) → suc n ≤ length bytes
           → ((get_or bytes (suc n - 1) 0 ≡ c) × (suc n - 1 ≡ start)) ⊎ ((128 ≤ get_or bytes (suc n - 1) 0) × (128 ≤ c))
-          → led_to (contains members byte) to ≡ past_if text (contains members) leftwards (suc n)
+          → end_if_matched (contains members byte) to ≡ past_if text (contains members) leftwards (suc n)
       both c start r l (inl (i, j)) =
           let is : byte ≡ c = byte_is l ∙ i in
           let past : to ≡ start = omega arith in
-          ap₂ (λ x y. led_to (contains members x) y) is past ∙ sym (accepted_at (contains members) leftwards (suc n) c start r)
+          ap₂ (λ x y. end_if_matched (contains members x) y) is past ∙ sym (accepted_at (contains members) leftwards (suc n) c start r)
       both c start r l (inr (i, j)) =
           let no_b : contains members byte ≡ false = contains-high members h byte (omega (arith, byte_is l)) in
           let no_c : contains members c ≡ false = contains-high members h c j in
-          ap (λ t. led_to t to) no_b ∙ sym (accepted_at (contains members) leftwards (suc n) c start r ∙ ap (λ t. led_to t start) no_c)
+          ap (λ t. end_if_matched t to) no_b ∙ sym (accepted_at (contains members) leftwards (suc n) c start r ∙ ap (λ t. end_if_matched t start) no_c)
 
   -- ---- The bytes of one character
 
@@ -241,7 +241,7 @@ module _ (text : Text) (is_text : IsText text) (w : IsInUtf8 text) where
             let is : d ≡ c = (encode_same d c rest (drop (at + length literal) bytes) parts).0 in
             let test : accepts (byte_sequence literal) d ≡ true = test_is literal c is_scalar spells d ∙ eq-eqb c d (sym is) in
             let end : at + len_utf8 d ≡ to = omega (arith, h.to_is, long, ap len_utf8 is) in
-            accepted_at (accepts (byte_sequence literal)) rightwards at d (at + len_utf8 d) r ∙ ap (λ (t : Bool). led_to t (at + len_utf8 d)) test ∙ ap Some end
+            accepted_at (accepts (byte_sequence literal)) rightwards at d (at + len_utf8 d) r ∙ ap (λ (t : Bool). end_if_matched t (at + len_utf8 d)) test ∙ ap Some end
 
         back : (d : ℕ) (rest : List ℕ) → drop at bytes ≡ encode d ++ rest → at + len_utf8 d ≤ length bytes → (to : ℕ)
             → (if accepts (byte_sequence literal) d then Some (at + len_utf8 d) else None) ≡ Some to → past_bytes bytes literal rightwards at ≡ Some to
@@ -261,7 +261,7 @@ module _ (text : Text) (is_text : IsText text) (w : IsInUtf8 text) where
           (λ to e. let h = past_bytes-left bytes literal at to e in absurd (omega (arith, h.fits, long, len_utf8-positive c)))
           (λ to e. absurd (none to (sym (none_at (accepts (byte_sequence literal)) leftwards at r) ∙ e)))
       | behind_character k d start rest g s m l r ↦
-          let ends : EndsAt bytes at start d = record { stands = record { scalar = scalar_among cs k d in_scalars g; rest = rest; spelled = s }; ends = m } in
+          let ends : IsEncodedBefore bytes at start d = record { stands = record { scalar = scalar_among cs k d in_scalars g; rest = rest; spelled = s }; ends = m } in
           same_option (past_bytes bytes literal leftwards at) (past_if text (accepts (byte_sequence literal)) leftwards at)
           (λ to e. there d start ends l r to (past_bytes-left bytes literal at to e))
           (λ to e. back d start rest s m to (sym (accepted_at (accepts (byte_sequence literal)) leftwards at d start r) ∙ e))
@@ -270,15 +270,15 @@ module _ (text : Text) (is_text : IsText text) (w : IsInUtf8 text) where
         none : (to : ℕ) → None ≡ Some to → ⊥
         none to e = cc
 
-        there : (d start : ℕ) → EndsAt bytes at start d → at ≤ length bytes → read text leftwards at ≡ Some (d, start) → (to : ℕ) → StandBefore bytes literal at to
+        there : (d start : ℕ) → IsEncodedBefore bytes at start d → at ≤ length bytes → read text leftwards at ≡ Some (d, start) → (to : ℕ) → StandBefore bytes literal at to
             → past_if text (accepts (byte_sequence literal)) leftwards at ≡ Some to
         there d start ends l r to h =
             let parts : drop to bytes ≡ encode c ++ drop at bytes =
             drop_split bytes to at (omega (arith, h.to_is)) ∙ ap (λ l. l ++ drop at bytes) (ap (λ n. slice_range bytes n at) h.to_is ∙ h.are ∙ spells) in
-            let also : EndsAt bytes at to c = record { stands = record { scalar = is_scalar; rest = drop at bytes; spelled = parts }; ends = omega (arith, h.to_is, h.fits, long) } in
+            let also : IsEncodedBefore bytes at to c = record { stands = record { scalar = is_scalar; rest = drop at bytes; spelled = parts }; ends = omega (arith, h.to_is, h.fits, long) } in
             let is = ends_same bytes at start d to c ends also in
             let test : accepts (byte_sequence literal) d ≡ true = test_is literal c is_scalar spells d ∙ eq-eqb c d (sym is.1) in
-            accepted_at (accepts (byte_sequence literal)) leftwards at d start r ∙ ap (λ (t : Bool). led_to t start) test ∙ ap Some is.0
+            accepted_at (accepts (byte_sequence literal)) leftwards at d start r ∙ ap (λ (t : Bool). end_if_matched t start) test ∙ ap Some is.0
 
         back : (d start : ℕ) (rest : List ℕ) → drop start bytes ≡ encode d ++ rest → start + len_utf8 d ≡ at → (to : ℕ)
             → (if accepts (byte_sequence literal) d then Some start else None) ≡ Some to → past_bytes bytes literal leftwards at ≡ Some to

@@ -6,10 +6,10 @@ use Rattle.std.proofs.Math.Bool.{and-false}
 use Rattle.std.proofs.lemmas.Bool.{lt-leb}
 use lib.Pointwise.{pointwise}
 use Rattle.std.proofs.lemmas.Option.{slice_get_within}
-use Rattle.regex_meaning.specs.Text.{Text, Direction, rightwards, leftwards, next_character, moved, characters_left, characters_beside}
-use Rattle.regex_meaning.specs.Offsets.{IsText, IsBoundary, offset, read}
+use Rattle.regex_meaning.specs.Text.{Text, Direction, rightwards, leftwards, next_character, moved, characters_ahead, next_characters}
+use Rattle.regex_meaning.specs.CodeUnitOffsets.{IsText, IsBoundary, offset, read}
 use Rattle.regex_meaning.proofs.TextLemmas.{offset-injective, offset-less, offset-le, place-le}
-use Rattle.regress_input.specs.Reading.{heading, place, characters_between, past_spelled}
+use Rattle.regress_input.specs.ReadsFromOffset.{reading_direction, place, characters_between, past_spelled}
 use Rattle.regress_input.proofs.Places.{HasPlace, place_of_boundary, pair, step_right, step_left, read-place}
 use Rattle.regress_input.proofs.Slices.{place_is}
 use Rattle.regress_input.proofs.Lists.{slice-first, slice-last, pointwise-snoc, le_same}
@@ -34,7 +34,7 @@ module _ (text : Text) (same : ℕ → ℕ → Bool) where
   -- the same at once
   abbrev at_once : Direction → (n a k : ℕ) → Option ℕ
   at_once d n a k =
-      if nat_le n (characters_left text d k) && pointwise same (characters_beside text d n a) (characters_beside text d n k)
+      if nat_le n (characters_ahead text d k) && pointwise same (next_characters text d n a) (next_characters text d n k)
       then Some (moved text d n k) else None
 
   nothing : (m : ℕ) → slice_range cs m (m + 0) ≡ []
@@ -177,12 +177,12 @@ module _ (text : Text) (same : ℕ → ℕ → Bool) where
     pub there : ℕ
     pub pos_there : HasPlace text pos there
     pub stops : HasPlace text stop (moved text d count from)
-    pub fits : count ≤ characters_left text d from
+    pub fits : count ≤ characters_ahead text d from
     pub found_is : found ≡ option_map (λ p. offset text p) (run d count from there)
 
   module _ (is_text : IsText text) where
-    at_boundary : (at : ℕ) → IsBoundary text at → HasPlace text at (place text at)
-    at_boundary at b =
+    if_at_boundary : (at : ℕ) → IsBoundary text at → HasPlace text at (place text at)
+    if_at_boundary at b =
         let p = place_of_boundary text is_text at b in
         subst (HasPlace text at) (sym (place_is text at p.0 p.1.found)) p.1
 
@@ -205,10 +205,10 @@ module _ (text : Text) (same : ℕ → ℕ → Bool) where
       here_place = place text at
 
       stop_place : HasPlace text to end_place
-      stop_place = at_boundary to t
+      stop_place = if_at_boundary to t
 
       in_order : first_place ≤ end_place
-      in_order = places_in_order from to first_place end_place (at_boundary from f) stop_place l
+      in_order = places_in_order from to first_place end_place (if_at_boundary from f) stop_place l
 
       long : length (slice_range cs first_place end_place) ≡ end_place - first_place
       long = omega (arith, length-take (end_place - first_place) (drop first_place cs), length-drop first_place cs, stop_place.within)
@@ -223,9 +223,9 @@ module _ (text : Text) (same : ℕ → ℕ → Bool) where
           record {
             count = q - p;
             from = p;
-            at_from = at_boundary from f;
+            at_from = if_at_boundary from f;
             there = k;
-            pos_there = at_boundary at b;
+            pos_there = if_at_boundary at b;
             stops = subst (HasPlace text to) end stop_place;
             fits = omega (arith, in_order, stop_place.within);
             found_is =
@@ -246,19 +246,19 @@ module _ (text : Text) (same : ℕ → ℕ → Bool) where
             from = q;
             at_from = stop_place;
             there = k;
-            pos_there = at_boundary at b;
-            stops = subst (HasPlace text from) begin (at_boundary from f);
+            pos_there = if_at_boundary at b;
+            stops = subst (HasPlace text from) begin (if_at_boundary from f);
             fits = omega arith;
             found_is =
                 ap₂ (λ (n : ℕ) (xs : List ℕ). if nat_le n k && pointwise same xs (slice_range cs (k - n) k) then Some (offset text (k - n)) else None) long list
                 ∙ sym (option_offset (nat_le (q - p) k && pointwise same (slice_range cs (q - (q - p)) q) (slice_range cs (k - (q - p)) k)) (k - (q - p)))
-                ∙ ap (option_map (λ p. offset text p)) (sym (run-left (q - p) q k (omega arith) (stop_place.within) ((at_boundary at b).within)));
+                ∙ ap (option_map (λ p. offset text p)) (sym (run-left (q - p) q k (omega arith) (stop_place.within) ((if_at_boundary at b).within)));
           }
 
     same_place : (a b p q : ℕ) → HasPlace text a p → HasPlace text b q → a ≡ b → p ≡ q
     same_place a b p q f g e = offset-injective text p q is_text f.within g.within (f.offset_is ∙ e ∙ sym g.offset_is)
 
-    none_left : (d : Direction) (n p : ℕ) → n ≤ characters_left text d p → p ≡ moved text d n p → n ≡ 0
+    none_left : (d : Direction) (n p : ℕ) → n ≤ characters_ahead text d p → p ≡ moved text d n p → n ≡ 0
     none_left rightwards n p l e = omega arith
     none_left leftwards n p l e = omega arith
 
@@ -344,11 +344,11 @@ module _ (text : Text) (same : ℕ → ℕ → Bool) where
         found_run d at stop pos found c n.0 n.1 None
         (run-some d n.0 c.from c.there x y a.0 k.0 ∙ ap (λ (b : Bool). if b then run d n.0 (moved text d 1 c.from) (moved text d 1 c.there) else None) f)
 
-    moved_on : (d : Direction) (n p : ℕ) → suc n ≤ characters_left text d p → moved text d (suc n) p ≡ moved text d n (moved text d 1 p)
+    moved_on : (d : Direction) (n p : ℕ) → suc n ≤ characters_ahead text d p → moved text d (suc n) p ≡ moved text d n (moved text d 1 p)
     moved_on rightwards n p l = omega arith
     moved_on leftwards n p l = omega arith
 
-    fits_on : (d : Direction) (n p : ℕ) → suc n ≤ characters_left text d p → n ≤ characters_left text d (moved text d 1 p)
+    fits_on : (d : Direction) (n p : ℕ) → suc n ≤ characters_ahead text d p → n ≤ characters_ahead text d (moved text d 1 p)
     fits_on rightwards n p l = omega arith
     fits_on leftwards n p l = omega arith
 
@@ -358,7 +358,7 @@ module _ (text : Text) (same : ℕ → ℕ → Bool) where
         let n = more d at stop pos found c ne in
         let a = read_next d at x at' c.from c.at_from r in
         let k = read_next d pos y pos' c.there c.pos_there s in
-        let l : suc n.0 ≤ characters_left text d c.from = omega (arith, c.fits, n.1) in
+        let l : suc n.0 ≤ characters_ahead text d c.from = omega (arith, c.fits, n.1) in
         record {
           count = n.0;
           from = moved text d 1 c.from;
@@ -374,14 +374,14 @@ module _ (text : Text) (same : ℕ → ℕ → Bool) where
     -- where a loop in either direction begins
     pub starts : (forward : Bool) (at from to a stop : ℕ) → IsBoundary text at → IsBoundary text from → IsBoundary text to → from ≤ to
         → ((a ≡ from) × (stop ≡ to) × (forward ≡ true)) ⊎ ((a ≡ to) × (stop ≡ from) × (forward ≡ false))
-        → Comparing (heading forward) a stop at (past_spelled text same (characters_between text from to) (heading forward) at)
+        → Comparing (reading_direction forward) a stop at (past_spelled text same (characters_between text from to) (reading_direction forward) at)
     starts forward at from to a stop b f t l (inl (x, y, z)) =
-        subst (λ d. Comparing (heading d) a stop at (past_spelled text same (characters_between text from to) (heading d) at)) (sym z)
+        subst (λ d. Comparing (reading_direction d) a stop at (past_spelled text same (characters_between text from to) (reading_direction d) at)) (sym z)
         (subst (λ m. Comparing rightwards m stop at (past_spelled text same (characters_between text from to) rightwards at)) (sym x)
         (subst (λ m. Comparing rightwards from m at (past_spelled text same (characters_between text from to) rightwards at)) (sym y)
         (start_right at from to b f t l)))
     starts forward at from to a stop b f t l (inr (x, y, z)) =
-        subst (λ d. Comparing (heading d) a stop at (past_spelled text same (characters_between text from to) (heading d) at)) (sym z)
+        subst (λ d. Comparing (reading_direction d) a stop at (past_spelled text same (characters_between text from to) (reading_direction d) at)) (sym z)
         (subst (λ m. Comparing leftwards m stop at (past_spelled text same (characters_between text from to) leftwards at)) (sym x)
         (subst (λ m. Comparing leftwards to m at (past_spelled text same (characters_between text from to) leftwards at)) (sym y)
         (start_left at from to b f t l)))

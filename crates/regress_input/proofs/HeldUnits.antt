@@ -5,10 +5,10 @@ use Rattle.std.proofs.lemmas.List.{length-map, map-id, take-map, drop-map}
 use Rattle.std.proofs.lemmas.Option.{slice_get-map, slice_get-get_or}
 use lib.Pointwise.{pointwise}
 use Rattle.regex_meaning.specs.Text.{Text, Direction, rightwards, leftwards}
-use Rattle.regex_meaning.specs.Offsets.{units, IsBoundary}
-use Rattle.regex_meaning.specs.Units.{Encoding, utf8, utf16, ucs2, units_in, IsSpelledIn}
-use Rattle.regress_input.specs.Reading.{is_of_bytes, bytes_if, past_units, past_bytes, past_range}
-use Rattle.regress_input.specs.Held.{as_bytes, if_whole, StandAsCharacters}
+use Rattle.regex_meaning.specs.CodeUnitOffsets.{units, IsBoundary}
+use Rattle.regex_meaning.specs.CodeUnits.{Encoding, utf8, utf16, ucs2, units_in, IsSpelledIn}
+use Rattle.regress_input.specs.ReadsFromOffset.{has_byte_units, bytes_if, past_units, past_bytes, past_range}
+use Rattle.regress_input.specs.TextCodeUnits.{as_bytes, unless_splitting_pair, UnitsMatchCharacters}
 use Rattle.regress_input.proofs.Boundaries.{units-length}
 use Rattle.regress_input.proofs.UnitsIn.{utf8-units}
 
@@ -16,19 +16,19 @@ use Rattle.regress_input.proofs.UnitsIn.{utf8-units}
 pub numbers : (e : Encoding) (text : Text) (held us : List ℕ) → held ≡ us → units_in e text ≡ us → map (λ u. u) held ≡ units_in e text
 numbers e text held us h w = map-id held ∙ h ∙ sym w
 
-pub stand : (e : Encoding) (text : Text) (held us : List ℕ) → held ≡ us → StandAsCharacters e us text → StandAsCharacters e (map (λ u. u) held) text
-stand e text held us h all = subst (λ l. StandAsCharacters e l text) (sym (map-id held ∙ h)) all
+pub stand : (e : Encoding) (text : Text) (held us : List ℕ) → held ≡ us → UnitsMatchCharacters e us text → UnitsMatchCharacters e (map (λ u. u) held) text
+stand e text held us h all = subst (λ l. UnitsMatchCharacters e l text) (sym (map-id held ∙ h)) all
 
 module _ {Unit : Type 0} (number : Unit → ℕ) where
   pub count-is : (e : Encoding) (text : Text) → IsSpelledIn e text → (held : List Unit) → map number held ≡ units_in e text → length held ≡ units text
   count-is e text s held h = sym (length-map held number) ∙ ap length h ∙ sym (units-length e text s)
 
-  bytes-by : (e : Encoding) (text : Text) (held : List Unit) → map number held ≡ units_in e text → as_bytes (is_of_bytes e) number held ≡ bytes_if (is_of_bytes e) text
+  bytes-by : (e : Encoding) (text : Text) (held : List Unit) → map number held ≡ units_in e text → as_bytes (has_byte_units e) number held ≡ bytes_if (has_byte_units e) text
   bytes-by utf8 text held h = ap Some (h ∙ utf8-units text.characters)
   bytes-by utf16 text held h = refl
   bytes-by ucs2 text held h = refl
 
-  pub bytes-are : (e : Encoding) (is are : Bool) → is ≡ is_of_bytes e → are ≡ is_of_bytes e → (text : Text) (held : List Unit) → map number held ≡ units_in e text
+  pub bytes-are : (e : Encoding) (is are : Bool) → is ≡ has_byte_units e → are ≡ has_byte_units e → (text : Text) (held : List Unit) → map number held ≡ units_in e text
       → as_bytes is number held ≡ bytes_if are text
   bytes-are e is are a b text held h = ap (λ x. as_bytes x number held) a ∙ bytes-by e text held h ∙ ap (λ x. bytes_if x text) (sym b)
 
@@ -65,14 +65,14 @@ module _ {Unit : Type 0} (number : Unit → ℕ) where
       ∙ ap (option_map number) (slice_get-get_or held to x l ∙ ap Some (sym is)) ∙ ap Some (sym m)
 
   -- where a range of them was found once more, its characters stand
-  pub again-is : (e : Encoding) (text : Text) (held : List Unit) → StandAsCharacters e (map number held) text
+  pub again-is : (e : Encoding) (text : Text) (held : List Unit) → UnitsMatchCharacters e (map number held) text
       → (same : Unit → Unit → Bool) → ((a b : Unit) → same a b ≡ nat_eq (number a) (number b))
       → (d d' : Direction) → d' ≡ d → (at at' a a' b b' : ℕ) → at' ≡ at → a' ≡ a → b' ≡ b
       → IsBoundary text at → IsBoundary text a → IsBoundary text b → a ≤ b
-      → (to : Option ℕ) → to ≡ past_units same held (slice_range held a' b') d' at' → if_whole e (map number held) to ≡ past_range text a b d at
+      → (to : Option ℕ) → to ≡ past_units same held (slice_range held a' b') d' at' → unless_splitting_pair e (map number held) to ≡ past_range text a b d at
   again-is e text held again same equal d d' ed at at' a a' b b' eat ea eb f g h l to found =
       let us = map number held in
-      ap (if_whole e us)
+      ap (unless_splitting_pair e us)
       (found ∙ stand-as same equal held (slice_range held a' b') d' at'
       ∙ ap (λ these. past_bytes us these d' at') (sym (range-map held a' b'))
       ∙ ap (λ x. past_bytes us (slice_range us x b') d' at') ea

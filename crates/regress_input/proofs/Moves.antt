@@ -1,12 +1,12 @@
 -- What is read in bytes.
 use Rattle.std.proofs.Common.{◌≡◌, ℕ, ◌≤◌, Bool, true, false, List, length, Option, Some, IsTrue, refl, ap, arith}
 use Rattle.regex_meaning.specs.Text.{Text}
-use Rattle.regex_meaning.specs.Offsets.{IsText, units}
-use Rattle.regress_input.specs.Reading.{where_bytes, bytes_if, IsInUtf8}
+use Rattle.regex_meaning.specs.CodeUnitOffsets.{IsText, units}
+use Rattle.regress_input.specs.ReadsFromOffset.{if_byte_units, bytes_if, IsInUtf8}
 use Rattle.regress_input.proofs.ByteTests.{units-bytes_of}
 
 -- a byte is read only where units are bytes
-pub are_bytes : (are : Bool) (read : Option ℕ) (byte : ℕ) → where_bytes are read ≡ Some byte → (are ≡ true) × (read ≡ Some byte)
+pub are_bytes : (are : Bool) (read : Option ℕ) (byte : ℕ) → if_byte_units are read ≡ Some byte → (are ≡ true) × (read ≡ Some byte)
 are_bytes true read byte e = (refl, e)
 are_bytes false read byte e = absurd (cc)
 

@@ -3,9 +3,9 @@ use Rattle.std.proofs.Common.{◌≡◌, ◌≢◌, ℕ, zero, suc, ◌+◌, ◌
 use Rattle.std.proofs.Common.{Some, None, option_map, refl, sym, ◌∙◌, ap, ap₂, subst, arith}
 use Rattle.std.proofs.lemmas.Option.{slice_get-get_or, slice_get_past}
 use Rattle.regex_meaning.specs.Text.{Text, Direction, rightwards, leftwards, one_unit}
-use Rattle.regex_meaning.specs.Offsets.{IsText, IsBoundary, offset, units, place_at, read}
+use Rattle.regex_meaning.specs.CodeUnitOffsets.{IsText, IsBoundary, offset, units, place_at, read}
 use Rattle.regex_meaning.proofs.TextLemmas.{place_at-offset, offset-IsBoundary}
-use Rattle.regress_input.specs.Reading.{part, characters_between, past_spelled, past_bytes}
+use Rattle.regress_input.specs.ReadsFromOffset.{part, characters_between, past_spelled, past_bytes}
 use Rattle.regress_input.proofs.Places.{place_of_boundary, pair, read-place}
 use Rattle.regress_input.proofs.Spelled.{text_of, is_text, offset-spelling}
 use Rattle.regress_input.proofs.Slices.{part-is, literal-right, literal-left, IsInjective, place_is}

@@ -4,7 +4,7 @@ use Rattle.std.proofs.Common.{refl, sym, ◌∙◌, ap, subst, arith, add-one, l
 use Rattle.std.proofs.lemmas.Option.{slice_get_within, slice_get_past, some_pair_parts}
 use Rattle.regex_meaning.proofs.TextLemmas.{offset-less, offset-le, place_at-offset, offset-place_at}
 use Rattle.regex_meaning.specs.Text.{Text, Direction, rightwards, leftwards, last_place}
-use Rattle.regex_meaning.specs.Offsets.{IsText, offset, units, place_at, IsBoundary, read_at, read}
+use Rattle.regex_meaning.specs.CodeUnitOffsets.{IsText, offset, units, place_at, IsBoundary, read_at, read}
 
 -- a boundary has a place, which has its offset
 pub record HasPlace (text : Text) (at place : ℕ) : Type 0 where

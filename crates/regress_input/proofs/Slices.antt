@@ -5,10 +5,10 @@ use Rattle.std.proofs.Common.{length-append, length-drop, length-take, take-add,
 use Rattle.std.proofs.lemmas.Bool.{and_parts, and_from}
 use Rattle.std.proofs.lemmas.List.Concat.{flat_map-append}
 use lib.Pointwise.{pointwise, bytes_decides}
-use Rattle.regex_meaning.specs.Text.{Text, Direction, rightwards, leftwards, offsets_from, moved, characters_left, characters_beside}
-use Rattle.regex_meaning.specs.Offsets.{offset, IsBoundary, place_at}
+use Rattle.regex_meaning.specs.Text.{Text, Direction, rightwards, leftwards, offsets_from, moved, characters_ahead, next_characters}
+use Rattle.regex_meaning.specs.CodeUnitOffsets.{offset, IsBoundary, place_at}
 use Rattle.regex_meaning.proofs.TextLemmas.{place-le, offset-IsBoundary}
-use Rattle.regress_input.specs.Reading.{place, part, characters_between, past_spelled, past_bytes}
+use Rattle.regress_input.specs.ReadsFromOffset.{place, part, characters_between, past_spelled, past_bytes}
 use Rattle.regress_input.proofs.Places.{HasPlace}
 use Rattle.regress_input.proofs.Spelled.{text_of, is_text, spelling, Cut, cut, cut_at, offset-spelling}
 
@@ -79,7 +79,7 @@ left-past_bytes us ys at to h =
 
 abbrev past_place : (text : Text) → List ℕ → Direction → (k : ℕ) → Option ℕ
 past_place text xs d k =
-    if nat_le (length xs) (characters_left text d k) && pointwise nat_eq xs (characters_beside text d (length xs) k)
+    if nat_le (length xs) (characters_ahead text d k) && pointwise nat_eq xs (next_characters text d (length xs) k)
     then Some (offset text (moved text d (length xs) k)) else None
 
 past_spelled-place : (text : Text) (xs : List ℕ) (d : Direction) (at k : ℕ) → place_at text at ≡ Some k → past_spelled text nat_eq xs d at ≡ past_place text xs d k
@@ -87,19 +87,19 @@ past_spelled-place text xs d at k e = ap (past_place text xs d) (place_is text a
 
 record Spelt (text : Text) (xs : List ℕ) (d : Direction) (k to : ℕ) : Type 0 where
   pub to_is : to ≡ offset text (moved text d (length xs) k)
-  pub fits : length xs ≤ characters_left text d k
-  pub are : xs ≡ characters_beside text d (length xs) k
+  pub fits : length xs ≤ characters_ahead text d k
+  pub are : xs ≡ next_characters text d (length xs) k
 
 past_place-spelt : (text : Text) (xs : List ℕ) (d : Direction) (k to : ℕ) → past_place text xs d k ≡ Some to → Spelt text xs d k to
 past_place-spelt text xs d k to e =
-    let made = chosen (nat_le (length xs) (characters_left text d k) && pointwise nat_eq xs (characters_beside text d (length xs) k)) (offset text (moved text d (length xs) k)) to e in
-    let tests = and_parts (nat_le (length xs) (characters_left text d k)) (pointwise nat_eq xs (characters_beside text d (length xs) k)) made.0 in
-    record { to_is = made.1; fits = leb-true _ _ tests.0; are = (bytes_decides xs (characters_beside text d (length xs) k)).0 tests.1 }
+    let made = chosen (nat_le (length xs) (characters_ahead text d k) && pointwise nat_eq xs (next_characters text d (length xs) k)) (offset text (moved text d (length xs) k)) to e in
+    let tests = and_parts (nat_le (length xs) (characters_ahead text d k)) (pointwise nat_eq xs (next_characters text d (length xs) k)) made.0 in
+    record { to_is = made.1; fits = leb-true _ _ tests.0; are = (bytes_decides xs (next_characters text d (length xs) k)).0 tests.1 }
 
 spelt-past_place : (text : Text) (xs : List ℕ) (d : Direction) (k to : ℕ) → Spelt text xs d k to → past_place text xs d k ≡ Some to
 spelt-past_place text xs d k to h =
-    choose (nat_le (length xs) (characters_left text d k) && pointwise nat_eq xs (characters_beside text d (length xs) k)) (offset text (moved text d (length xs) k))
-    (and_from _ _ (le-leb _ _ h.fits) ((bytes_decides xs (characters_beside text d (length xs) k)).1 h.are)) ∙ ap Some (sym h.to_is)
+    choose (nat_le (length xs) (characters_ahead text d k) && pointwise nat_eq xs (next_characters text d (length xs) k)) (offset text (moved text d (length xs) k))
+    (and_from _ _ (le-leb _ _ h.fits) ((bytes_decides xs (next_characters text d (length xs) k)).1 h.are)) ∙ ap Some (sym h.to_is)
 
 -- ---- Ranges of units and of characters
 

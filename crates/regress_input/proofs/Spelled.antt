@@ -4,7 +4,7 @@ use Rattle.std.proofs.Common.{Option, Some, None, option_map, refl, sym, ◌∙�
 use Rattle.std.proofs.Common.{length-take, length-drop, add-one}
 use Rattle.std.proofs.lemmas.List.Concat.{flat_map-append}
 use Rattle.regex_meaning.specs.Text.{Text, rightwards, leftwards, offsets_from}
-use Rattle.regex_meaning.specs.Offsets.{IsText, offset, IsBoundary, read}
+use Rattle.regex_meaning.specs.CodeUnitOffsets.{IsText, offset, IsBoundary, read}
 use Rattle.regex_meaning.proofs.TextLemmas.{offsets-rise, length-offsets, first-offset}
 use Rattle.regress_input.proofs.Lists.{get-cons}
 use Rattle.regress_input.proofs.Places.{HasPlace, place_of_boundary, read-place}

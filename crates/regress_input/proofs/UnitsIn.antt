@@ -4,8 +4,8 @@ use Rattle.std.proofs.lemmas.List.{append-nil}
 use Rattle.std.proofs.lemmas.Str.{encodes-chars, encodes-IsAscii, IsUtf8-had}
 use lib.Utf8.{encode, encodes}
 use Rattle.regex_meaning.specs.Text.{utf8_text, ascii_text, utf16_text, ucs2_text}
-use Rattle.regex_meaning.specs.Units.{utf8, utf16, ucs2, spelled_in, units_in}
-use Rattle.regress_input.specs.Utf16.{AreUnits}
+use Rattle.regex_meaning.specs.CodeUnits.{utf8, utf16, ucs2, spelled_in, units_in}
+use Rattle.regress_input.specs.Utf16.{AreU16Units}
 use Rattle.regress_input.proofs.OneUnit.{all_single}
 use Rattle.regress_input.proofs.Utf16Reads.{spell, spelled}
 
@@ -19,7 +19,7 @@ utf8_text-units_in bytes unicode u = utf8-units (chars bytes) ∙ encodes-chars 
 pub ascii_text-units_in : (bytes : List ℕ) (unicode : Bool) → IsAscii bytes → units_in utf8 (ascii_text bytes unicode) ≡ bytes
 ascii_text-units_in bytes unicode h = utf8-units bytes ∙ encodes-IsAscii bytes h
 
-pub utf16_text-units_in : (us : List ℕ) (unicode : Bool) → AreUnits us → units_in utf16 (utf16_text us unicode) ≡ us
+pub utf16_text-units_in : (us : List ℕ) (unicode : Bool) → AreU16Units us → units_in utf16 (utf16_text us unicode) ≡ us
 unfolding spell
 utf16_text-units_in us unicode small = spelled us small
 

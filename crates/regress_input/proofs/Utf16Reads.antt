@@ -4,15 +4,15 @@ use Rattle.std.proofs.Common.{List, [], ◌∷◌, ◌++◌, length, get_or, tak
 use Rattle.std.proofs.Common.{sym, ◌∙◌, ap, ap₂, subst, arith, add-one, eq-eqb, ne_eqb, le-leb, leb-true, lt-ltb, le-ltb, get_or-drop}
 use Rattle.std.proofs.Math.Bool.{and-true, and-false}
 use Rattle.std.proofs.lemmas.Bool.{and_parts, lt-leb, and_from, false_from_ne_true, cases_lt}
-use Rattle.regex_meaning.specs.Text.{Text, rightwards, leftwards, is_high_surrogate, is_low_surrogate, character_of_pair, utf16_width}
+use Rattle.regex_meaning.specs.Text.{Text, rightwards, leftwards, is_high_surrogate, is_low_surrogate, decode_surrogate_pair, utf16_width}
 use Rattle.regex_meaning.specs.Text.{utf16_characters, utf16_text, is_unit_boundary, fold_code_point}
-use Rattle.regex_meaning.specs.Offsets.{IsBoundary, units, read}
-use Rattle.regex_meaning.specs.Units.{utf16, spelled_in}
+use Rattle.regex_meaning.specs.CodeUnitOffsets.{IsBoundary, units, read}
+use Rattle.regex_meaning.specs.CodeUnits.{utf16, spelled_in}
 use Rattle.regex_meaning.specs.Laws.{is_within_pair}
 use Rattle.regex_meaning.proofs.TextLemmas.{utf16_text-IsText}
 use Rattle.regex_meaning.proofs.UnitLemmas.{unit_boundary-place_at, unit_boundary-between, units-utf16}
-use Rattle.regress_input.specs.Spellings.{sized_utf16}
-use Rattle.regress_input.specs.Utf16.{AreUnits, is_pair_at, pair_at, character_behind, character_before}
+use Rattle.regress_input.specs.ValidlyEncodedTexts.{sized_utf16}
+use Rattle.regress_input.specs.Utf16.{AreU16Units, is_surrogate_pair_at, pair_at, character_starting_at, character_before}
 use Rattle.regress_input.proofs.Places.{pair, right_boundary, left_boundary, boundary_inside}
 use Rattle.regress_input.proofs.Spelled.{ReadsRight, ReadsLeft, reads_right, reads_left, at_end, before_character, at_start, behind_character}
 
@@ -92,32 +92,32 @@ low_apart u v h = false_from_ne_true (is_pair u v) (λ e. let r = pair_parts u v
 pub units_are_pair : (c : ℕ) → 0x1_0000 ≤ c → c < 0x11_0000 → is_pair (high_of c) (low_of c) ≡ true
 units_are_pair c l m = pair_of (high_of c) (low_of c) (omega arith) (omega arith) (omega arith) (omega arith)
 
-pub pair_of_units : (c : ℕ) → 0x1_0000 ≤ c → c < 0x11_0000 → character_of_pair (high_of c) (low_of c) ≡ c
+pub pair_of_units : (c : ℕ) → 0x1_0000 ≤ c → c < 0x11_0000 → decode_surrogate_pair (high_of c) (low_of c) ≡ c
 pair_of_units c l m = omega arith
 
-pub pair_range : (u v : ℕ) → (0x1_0000 ≤ character_of_pair u v) × (character_of_pair u v < 0x11_0000)
+pub pair_range : (u v : ℕ) → (0x1_0000 ≤ decode_surrogate_pair u v) × (decode_surrogate_pair u v < 0x11_0000)
 pair_range u v = (omega arith, omega arith)
 
-spell-pair : (u v : ℕ) → is_pair u v ≡ true → spell (character_of_pair u v) ≡ u ∷ v ∷ []
+spell-pair : (u v : ℕ) → is_pair u v ≡ true → spell (decode_surrogate_pair u v) ≡ u ∷ v ∷ []
 spell-pair u v e =
     let r = pair_parts u v e in
-    let h : high_of (character_of_pair u v) ≡ u = omega (arith, r.0, r.1, r.2, r.3) in
-    let l : low_of (character_of_pair u v) ≡ v = omega (arith, r.0, r.1, r.2, r.3) in
-    spell-two (character_of_pair u v) (pair_range u v).0 ∙ ap₂ (λ x y. x ∷ y ∷ []) h l
+    let h : high_of (decode_surrogate_pair u v) ≡ u = omega (arith, r.0, r.1, r.2, r.3) in
+    let l : low_of (decode_surrogate_pair u v) ≡ v = omega (arith, r.0, r.1, r.2, r.3) in
+    spell-two (decode_surrogate_pair u v) (pair_range u v).0 ∙ ap₂ (λ x y. x ∷ y ∷ []) h l
 
 -- ---- Units as characters
 
-pub decode-pair : (u v : ℕ) (us : List ℕ) → is_pair u v ≡ true → utf16_characters (u ∷ v ∷ us) ≡ character_of_pair u v ∷ utf16_characters us
-decode-pair u v us e = ap (λ (b : Bool). cond b (character_of_pair u v ∷ utf16_characters us) (u ∷ utf16_characters (v ∷ us))) e
+pub decode-pair : (u v : ℕ) (us : List ℕ) → is_pair u v ≡ true → utf16_characters (u ∷ v ∷ us) ≡ decode_surrogate_pair u v ∷ utf16_characters us
+decode-pair u v us e = ap (λ (b : Bool). cond b (decode_surrogate_pair u v ∷ utf16_characters us) (u ∷ utf16_characters (v ∷ us))) e
 
 pub decode-apart : (u v : ℕ) (us : List ℕ) → is_pair u v ≡ false → utf16_characters (u ∷ v ∷ us) ≡ u ∷ utf16_characters (v ∷ us)
-decode-apart u v us e = ap (λ (b : Bool). cond b (character_of_pair u v ∷ utf16_characters us) (u ∷ utf16_characters (v ∷ us))) e
+decode-apart u v us e = ap (λ (b : Bool). cond b (decode_surrogate_pair u v ∷ utf16_characters us) (u ∷ utf16_characters (v ∷ us))) e
 
-behind : (u : ℕ) (us : List ℕ) → AreUnits (u ∷ us) → AreUnits us
+behind : (u : ℕ) (us : List ℕ) → AreU16Units (u ∷ us) → AreU16Units us
 behind u us small k inside = small (suc k) (omega arith)
 
 -- the units of the characters of units are these
-pub spelled : (us : List ℕ) → AreUnits us → flat_map spell (utf16_characters us) ≡ us
+pub spelled : (us : List ℕ) → AreU16Units us → flat_map spell (utf16_characters us) ≡ us
 spelled [] small = refl
 spelled (u ∷ []) small = ap (λ (l : List ℕ). l ++ []) (spell-one u (small 0 (omega arith)))
 spelled (u ∷ v ∷ us) small =
@@ -149,10 +149,10 @@ apart-units u v [] e = e
 apart-units u v (w ∷ us) e = by (is_pair v w) refl
   where
     by : (b : Bool) → is_pair v w ≡ b → Apart u (utf16_characters (v ∷ w ∷ us))
-    by true f = subst (Apart u) (sym (decode-pair v w us f)) (low_apart u (character_of_pair v w) (inr (let r = pair_range v w in omega (arith, r.0))))
+    by true f = subst (Apart u) (sym (decode-pair v w us f)) (low_apart u (decode_surrogate_pair v w) (inr (let r = pair_range v w in omega (arith, r.0))))
     by false f = subst (Apart u) (sym (decode-apart v w us f)) e
 
-pub decoded : (us : List ℕ) → AreUnits us → Decoded (utf16_characters us)
+pub decoded : (us : List ℕ) → AreU16Units us → Decoded (utf16_characters us)
 decoded [] small = tt
 decoded (u ∷ []) small = (omega (arith, small 0 (omega arith)), tt, tt)
 decoded (u ∷ v ∷ us) small =
@@ -160,7 +160,7 @@ decoded (u ∷ v ∷ us) small =
   where
     by : (b : Bool) → is_pair u v ≡ b → Decoded (utf16_characters us) → Decoded (utf16_characters (v ∷ us)) → Decoded (utf16_characters (u ∷ v ∷ us))
     by true e two one =
-        subst Decoded (sym (decode-pair u v us e)) ((pair_range u v).1, wide-apart (character_of_pair u v) (utf16_characters us) (pair_range u v).0, two)
+        subst Decoded (sym (decode-pair u v us e)) ((pair_range u v).1, wide-apart (decode_surrogate_pair u v) (utf16_characters us) (pair_range u v).0, two)
     by false e two one =
         subst Decoded (sym (decode-apart u v us e)) (omega (arith, small 0 (omega arith)), apart-units u v us e, one)
 
@@ -216,10 +216,10 @@ decode (c ∷ cs) d = by (cases_lt c 0x1_0000) (decode cs d.2)
 
 -- ---- Boundaries
 
-within-pair : (us : List ℕ) (i : ℕ) → is_within_pair us (i + 1) ≡ is_pair_at us i
+within-pair : (us : List ℕ) (i : ℕ) → is_within_pair us (i + 1) ≡ is_surrogate_pair_at us i
 within-pair us i = ap (is_within_pair us) (add-one i) ∙ ap (λ k. is_high_surrogate (slice_index us i) && is_low_surrogate (slice_index us k)) (sym (add-one i))
 
-module _ (us : List ℕ) (small : AreUnits us) where
+module _ (us : List ℕ) (small : AreU16Units us) where
   pub boundary-start : (i : ℕ) → i ≡ 0 → is_unit_boundary us i ≡ true
   boundary-start i e = ap (is_unit_boundary us) e ∙ unit_boundary-between us 0 small ∙ ap (λ (b : Bool). b && true) (le-leb 0 (length us) (omega arith))
 
@@ -242,12 +242,12 @@ module _ (us : List ℕ) (small : AreUnits us) where
       same (inl m) = lt-leb i (length us) m ∙ sym (ne_eqb i (length us) (λ e. absurd (omega arith)))
       same (inr m) = le-leb i (length us) m ∙ sym (eq-eqb i (length us) (omega arith))
 
-  pub boundary-inside : (i : ℕ) → i ≢ 0 → i < length us → is_unit_boundary us i ≡ not (is_pair_at us (i - 1))
+  pub boundary-inside : (i : ℕ) → i ≢ 0 → i < length us → is_unit_boundary us i ≡ not (is_surrogate_pair_at us (i - 1))
   boundary-inside zero n l = absurd (n refl)
   boundary-inside (suc j) n l =
       let back : suc j - 1 ≡ j = omega arith in
       unit_boundary-between us (suc j) small ∙ ap (λ (b : Bool). b && not (is_within_pair us (suc j))) (le-leb (suc j) (length us) (omega arith))
-      ∙ ap (λ n. not (is_within_pair us n)) (sym (add-one j)) ∙ ap not (within-pair us j) ∙ ap (λ n. not (is_pair_at us n)) (sym back)
+      ∙ ap (λ n. not (is_within_pair us n)) (sym (add-one j)) ∙ ap not (within-pair us j) ∙ ap (λ n. not (is_surrogate_pair_at us n)) (sym back)
 
   module _ (unicode : Bool) where
     abbrev text : Text
@@ -266,8 +266,8 @@ module _ (us : List ℕ) (small : AreUnits us) where
     inside at b = omega (arith, boundary_inside text (utf16_text-IsText us unicode) at b, units-length)
 
     -- no pair stands around a boundary
-    none_around : (at : ℕ) → IsBoundary text (at + 1) → is_pair_at us at ≡ false
-    none_around at b = false_from_ne_true (is_pair_at us at) (λ e.
+    none_around : (at : ℕ) → IsBoundary text (at + 1) → is_surrogate_pair_at us at ≡ false
+    none_around at b = false_from_ne_true (is_surrogate_pair_at us at) (λ e.
         true_not_false (is_unit_boundary us (at + 1)) (unit_boundary (at + 1) b)
         (unit_boundary-between us (at + 1) small ∙ ap (λ (t : Bool). nat_le (at + 1) (length us) && not t) (within-pair us at ∙ e) ∙ and-false (nat_le (at + 1) (length us))))
 
@@ -293,12 +293,12 @@ module _ (us : List ℕ) (small : AreUnits us) where
     is_one : (at c : ℕ) (rest : List ℕ) → c < 0x1_0000 → drop at us ≡ spell c ++ rest → slice_index us at ≡ c
     is_one at c rest l e = seen_first at (c ∷ []) rest (e ∙ ap (λ (p : List ℕ). p ++ rest) (spell-one c l))
 
-    is_two : (at c : ℕ) (rest : List ℕ) → 0x1_0000 ≤ c → c < 0x11_0000 → drop at us ≡ spell c ++ rest → (is_pair_at us at ≡ true) × (pair_at us at ≡ c)
+    is_two : (at c : ℕ) (rest : List ℕ) → 0x1_0000 ≤ c → c < 0x11_0000 → drop at us ≡ spell c ++ rest → (is_surrogate_pair_at us at ≡ true) × (pair_at us at ≡ c)
     is_two at c rest l m e =
         let spells : drop at us ≡ (high_of c ∷ low_of c ∷ []) ++ rest = e ∙ ap (λ (p : List ℕ). p ++ rest) (spell-two c l) in
         let h : slice_index us at ≡ high_of c = seen_first at (high_of c ∷ low_of c ∷ []) rest spells in
         let o : slice_index us (at + 1) ≡ low_of c = seen at 1 (high_of c ∷ low_of c ∷ []) rest spells in
-        (ap₂ is_pair h o ∙ units_are_pair c l m, ap₂ character_of_pair h o ∙ pair_of_units c l m)
+        (ap₂ is_pair h o ∙ units_are_pair c l m, ap₂ decode_surrogate_pair h o ∙ pair_of_units c l m)
 
     code_point : (k c : ℕ) → slice_get (utf16_characters us) k ≡ Some c → c < 0x11_0000
     code_point k c g = decoded-get (utf16_characters us) k c (decoded us small) g
@@ -312,24 +312,24 @@ module _ (us : List ℕ) (small : AreUnits us) where
       | before_character k c rest g s l r ↦ absurd (omega (arith, positive c))
     ]
 
-    pub read-right : (at : ℕ) → IsBoundary text at → at ≢ length us → read text rightwards at ≡ Some (character_behind us at)
+    pub read-right : (at : ℕ) → IsBoundary text at → at ≢ length us → read text rightwards at ≡ Some (character_starting_at us at)
     read-right at b n = elim (right at b) [
       | at_end z r ↦ absurd (n z)
       | before_character k c rest g s l r ↦ by k c rest g s r (cases_lt c 0x1_0000)
     ]
       where
         by : (k c : ℕ) (rest : List ℕ) → slice_get (utf16_characters us) k ≡ Some c → drop at us ≡ spell c ++ rest
-            → read text rightwards at ≡ Some (pair c (at + utf16_width c)) → (c < 0x1_0000) ⊎ (0x1_0000 ≤ c) → read text rightwards at ≡ Some (character_behind us at)
+            → read text rightwards at ≡ Some (pair c (at + utf16_width c)) → (c < 0x1_0000) ⊎ (0x1_0000 ≤ c) → read text rightwards at ≡ Some (character_starting_at us at)
         by k c rest g s r (inl l) =
             let to : at + utf16_width c ≡ at + 1 = ap (λ w. at + w) (width-one c l) in
-            let none : is_pair_at us at ≡ false = none_around at (subst (IsBoundary text) to (right_boundary text (utf16_text-IsText us unicode) at c (at + utf16_width c) r)) in
+            let none : is_surrogate_pair_at us at ≡ false = none_around at (subst (IsBoundary text) to (right_boundary text (utf16_text-IsText us unicode) at c (at + utf16_width c) r)) in
             r ∙ ap₂ (λ x y. Some (pair x y)) (sym (is_one at c rest l s)) to
-            ∙ ap Some (sym (choice (is_pair_at us at) false (pair_at us at, at + 2) (slice_index us at, at + 1) none))
+            ∙ ap Some (sym (choice (is_surrogate_pair_at us at) false (pair_at us at, at + 2) (slice_index us at, at + 1) none))
         by k c rest g s r (inr l) =
             let to : at + utf16_width c ≡ at + 2 = ap (λ w. at + w) (width-two c l) in
             let two = is_two at c rest l (code_point k c g) s in
             r ∙ ap₂ (λ x y. Some (pair x y)) (sym two.1) to
-            ∙ ap Some (sym (choice (is_pair_at us at) true (pair_at us at, at + 2) (slice_index us at, at + 1) two.0))
+            ∙ ap Some (sym (choice (is_surrogate_pair_at us at) true (pair_at us at, at + 2) (slice_index us at, at + 1) two.0))
 
     pub read-start : (at : ℕ) → IsBoundary text at → at ≡ 0 → read text leftwards at ≡ None
     read-start at b e = elim (left at b) [
@@ -350,25 +350,25 @@ module _ (us : List ℕ) (small : AreUnits us) where
             let there : IsBoundary text start = left_boundary text (utf16_text-IsText us unicode) at c start r in
             let value : c ≡ slice_index us (at - 1) = sym (is_one start c rest l s) ∙ ap (slice_index us) from in
             r ∙ ap₂ (λ x y. Some (pair x y)) value from
-            ∙ ap Some (sym (choice (nat_le 2 at && is_pair_at us (at - 2)) false (pair_at us (at - 2), at - 2) (slice_index us (at - 1), at - 1) (none there from (cases_lt at 2))))
+            ∙ ap Some (sym (choice (nat_le 2 at && is_surrogate_pair_at us (at - 2)) false (pair_at us (at - 2), at - 2) (slice_index us (at - 1), at - 1) (none there from (cases_lt at 2))))
           where
-            none : IsBoundary text start → start ≡ at - 1 → (at < 2) ⊎ (2 ≤ at) → (nat_le 2 at && is_pair_at us (at - 2)) ≡ false
-            none there from (inl o) = ap (λ (t : Bool). t && is_pair_at us (at - 2)) (lt-leb 2 at o)
+            none : IsBoundary text start → start ≡ at - 1 → (at < 2) ⊎ (2 ≤ at) → (nat_le 2 at && is_surrogate_pair_at us (at - 2)) ≡ false
+            none there from (inl o) = ap (λ (t : Bool). t && is_surrogate_pair_at us (at - 2)) (lt-leb 2 at o)
             none there from (inr o) =
                 let back : start ≡ at - 2 + 1 = omega arith in
                 ap₂ (λ (s t : Bool). s && t) (le-leb 2 at o) (none_around (at - 2) (subst (IsBoundary text) back there))
         by k c start rest g s m r (inr l) =
             let from : start ≡ at - 2 = omega (arith, m, width-two c l) in
             let two = is_two start c rest l (code_point k c g) s in
-            let stands : is_pair_at us (at - 2) ≡ true = ap (is_pair_at us) (sym from) ∙ two.0 in
+            let stands : is_surrogate_pair_at us (at - 2) ≡ true = ap (is_surrogate_pair_at us) (sym from) ∙ two.0 in
             let value : c ≡ pair_at us (at - 2) = sym two.1 ∙ ap (pair_at us) from in
             let far : 2 ≤ at = omega (arith, m, width-two c l) in
             r ∙ ap₂ (λ x y. Some (pair x y)) value from
-            ∙ ap Some (sym (choice (nat_le 2 at && is_pair_at us (at - 2)) true (pair_at us (at - 2), at - 2) (slice_index us (at - 1), at - 1) (and_from _ _ (le-leb 2 at far) stands)))
+            ∙ ap Some (sym (choice (nat_le 2 at && is_surrogate_pair_at us (at - 2)) true (pair_at us (at - 2), at - 2) (slice_index us (at - 1), at - 1) (and_from _ _ (le-leb 2 at far) stands)))
 
     -- ---- As what readers answer
 
-    pub right-is : (at : ℕ) → IsBoundary text at → at ≢ length us → (r : ℕ × ℕ) → r ≡ character_behind us at → read text rightwards at ≡ Some (pair r.0 r.1)
+    pub right-is : (at : ℕ) → IsBoundary text at → at ≢ length us → (r : ℕ × ℕ) → r ≡ character_starting_at us at → read text rightwards at ≡ Some (pair r.0 r.1)
     right-is at b n r e = read-right at b n ∙ ap Some (sym e)
 
     pub left-is : (at : ℕ) → IsBoundary text at → at ≢ 0 → (r : ℕ × ℕ) → r ≡ character_before us at → read text leftwards at ≡ Some (pair r.0 r.1)

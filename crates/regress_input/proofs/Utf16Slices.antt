@@ -2,9 +2,9 @@
 use Rattle.std.proofs.Common.{◌≡◌, ℕ, ◌-◌, ◌≤◌, List, drop, slice_range, Bool, true, cond, nat_eq, Option, Some, None, sym, ◌∙◌, ap}
 use Rattle.regex_meaning.specs.Text.{Text, Direction, rightwards, leftwards, utf16_width, utf16_characters, utf16_text, is_unit_boundary}
 use Rattle.regex_meaning.specs.Text.{fold_code_point}
-use Rattle.regex_meaning.specs.Offsets.{IsBoundary}
-use Rattle.regress_input.specs.Reading.{part, characters_between, past_spelled, past_bytes}
-use Rattle.regress_input.specs.Utf16.{AreUnits, if_boundary}
+use Rattle.regex_meaning.specs.CodeUnitOffsets.{IsBoundary}
+use Rattle.regress_input.specs.ReadsFromOffset.{part, characters_between, past_spelled, past_bytes}
+use Rattle.regress_input.specs.Utf16.{AreU16Units, if_boundary}
 use Rattle.regress_input.proofs.Spelled.{text_of}
 use Rattle.regress_input.proofs.Slices.{range-units, part-is, found-right, found-left, IsInjective, past_bytes-right, right-past_bytes}
 use Rattle.regress_input.proofs.Slices.{past_bytes-left, left-past_bytes, chosen}
@@ -20,7 +20,7 @@ kept us (Some x) to e = let made = chosen (is_unit_boundary us x) x to e in (ap 
 keeps : (us : List ℕ) (o : Option ℕ) (to : ℕ) → o ≡ Some to → is_unit_boundary us to ≡ true → if_boundary us o ≡ Some to
 keeps us o to e b = ap (if_boundary us) e ∙ ap (λ (t : Bool). cond t (Some to) None) b
 
-module _ (us : List ℕ) (small : AreUnits us) (unicode : Bool) where
+module _ (us : List ℕ) (small : AreU16Units us) (unicode : Bool) where
   abbrev cs : List ℕ
   cs = utf16_characters us
 

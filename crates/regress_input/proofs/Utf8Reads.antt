@@ -7,8 +7,8 @@ use Rattle.std.specs.Char.{IsScalar, len_utf8}
 use Rattle.std.proofs.lemmas.Str.{encodes-chars, scalars-chars, IsUtf8-had, length-encode, len_utf8_bounds}
 use lib.Utf8.{scalar, scalars, encode, encodes, next, scalar_cases}
 use Rattle.regex_meaning.specs.Text.{Text, utf8_text, rightwards, leftwards, fold_char}
-use Rattle.regex_meaning.specs.Offsets.{IsBoundary, units, read}
-use Rattle.regress_input.specs.Utf8.{StandsAt, EndsAt}
+use Rattle.regex_meaning.specs.CodeUnitOffsets.{IsBoundary, units, read}
+use Rattle.regress_input.specs.Utf8.{IsEncodedAt, IsEncodedBefore}
 use Rattle.regress_input.proofs.Spelled.{ReadsRight, ReadsLeft, reads_right, reads_left, at_end, before_character, at_start, behind_character}
 use Rattle.regex_meaning.proofs.UnitLengths.{utf8_text-units}
 
@@ -58,7 +58,7 @@ encode_four c l =
 below_top : (c : ℕ) → IsScalar c → c < 1114112
 below_top c s = ⊎_elim (λ h. omega arith) (λ h. h.1) (scalar_cases c s)
 
-pub bytes_at : (bytes : List ℕ) (at c : ℕ) → StandsAt bytes at c → Bytes bytes at c
+pub bytes_at : (bytes : List ℕ) (at c : ℕ) → IsEncodedAt bytes at c → Bytes bytes at c
 bytes_at bytes at c s = by (cases_lt c 128) (cases_lt c 2048) (cases_lt c 65536)
   where
     -- a byte behind the offset, where these are the character's
@@ -102,7 +102,7 @@ bytes_at bytes at c s = by (cases_lt c 128) (cases_lt c 2048) (cases_lt c 65536)
         four (fits _ e (omega arith)) (long _ e) (omega arith) (omega arith) (follows_as _ (c / 4096) y) (follows_as _ (c / 64) z) (follows_as _ c v) (omega arith)
 
 -- which bytes there are, by the first one
-pub all_inside : (bytes : List ℕ) (at : ℕ) → (c : ℕ) × StandsAt bytes at c
+pub all_inside : (bytes : List ℕ) (at : ℕ) → (c : ℕ) × IsEncodedAt bytes at c
     → (at < length bytes) × (128 ≤ get_or bytes at 0 → at + 1 < length bytes) × (224 ≤ get_or bytes at 0 → at + 2 < length bytes)
     × (240 ≤ get_or bytes at 0 → at + 3 < length bytes)
 all_inside bytes at (c, s) = elim (bytes_at bytes at c s) [
@@ -113,7 +113,7 @@ all_inside bytes at (c, s) = elim (bytes_at bytes at c s) [
 ]
 
 -- and which character they spell
-pub is_one : (bytes : List ℕ) (at c : ℕ) → StandsAt bytes at c → get_or bytes at 0 < 128 → (get_or bytes at 0 ≡ c) × (at + 1 ≡ at + len_utf8 c)
+pub is_one : (bytes : List ℕ) (at c : ℕ) → IsEncodedAt bytes at c → get_or bytes at 0 < 128 → (get_or bytes at 0 ≡ c) × (at + 1 ≡ at + len_utf8 c)
 is_one bytes at c s m = elim (bytes_at bytes at c s) [
   | one l n h e ↦ (e, omega arith)
   | two l n h i f e ↦ absurd (omega arith)
@@ -121,7 +121,7 @@ is_one bytes at c s m = elim (bytes_at bytes at c s) [
   | four l n h i f g k e ↦ absurd (omega arith)
 ]
 
-pub is_two : (bytes : List ℕ) (at c : ℕ) → StandsAt bytes at c → 128 ≤ get_or bytes at 0 → get_or bytes at 0 < 224
+pub is_two : (bytes : List ℕ) (at c : ℕ) → IsEncodedAt bytes at c → 128 ≤ get_or bytes at 0 → get_or bytes at 0 < 224
     → (c + 12416 ≡ get_or bytes at 0 * 64 + get_or bytes (at + 1) 0) × (at + 2 ≡ at + len_utf8 c)
 is_two bytes at c s m o = elim (bytes_at bytes at c s) [
   | one l n h e ↦ absurd (omega arith)
@@ -130,7 +130,7 @@ is_two bytes at c s m o = elim (bytes_at bytes at c s) [
   | four l n h i f g k e ↦ absurd (omega arith)
 ]
 
-pub is_three : (bytes : List ℕ) (at c : ℕ) → StandsAt bytes at c → 224 ≤ get_or bytes at 0 → get_or bytes at 0 < 240
+pub is_three : (bytes : List ℕ) (at c : ℕ) → IsEncodedAt bytes at c → 224 ≤ get_or bytes at 0 → get_or bytes at 0 < 240
     → (c + 925824 ≡ get_or bytes at 0 * 4096 + get_or bytes (at + 1) 0 * 64 + get_or bytes (at + 2) 0) × (at + 3 ≡ at + len_utf8 c)
 is_three bytes at c s m o = elim (bytes_at bytes at c s) [
   | one l n h e ↦ absurd (omega arith)
@@ -139,7 +139,7 @@ is_three bytes at c s m o = elim (bytes_at bytes at c s) [
   | four l n h i f g k e ↦ absurd (omega arith)
 ]
 
-pub is_four : (bytes : List ℕ) (at c : ℕ) → StandsAt bytes at c → 240 ≤ get_or bytes at 0
+pub is_four : (bytes : List ℕ) (at c : ℕ) → IsEncodedAt bytes at c → 240 ≤ get_or bytes at 0
     → (c + 63447168 ≡ get_or bytes at 0 * 262144 + get_or bytes (at + 1) 0 * 4096 + get_or bytes (at + 2) 0 * 64 + get_or bytes (at + 3) 0) × (at + 4 ≡ at + len_utf8 c)
 is_four bytes at c s m = elim (bytes_at bytes at c s) [
   | one l n h e ↦ absurd (omega arith)
@@ -160,7 +160,7 @@ data Back (bytes : List ℕ) (end start c : ℕ) : Type 0 where
   four_back : end ≡ start + 4 → end ≤ length bytes → 128 ≤ get_or bytes (end - 1) 0 → get_or bytes (end - 2) 0 < 192 → get_or bytes (end - 3) 0 < 192
       → c + 63447168 ≡ get_or bytes (end - 4) 0 * 262144 + get_or bytes (end - 3) 0 * 4096 + get_or bytes (end - 2) 0 * 64 + get_or bytes (end - 1) 0 → Back bytes end start c
 
-back : (bytes : List ℕ) (end start c : ℕ) → EndsAt bytes end start c → Back bytes end start c
+back : (bytes : List ℕ) (end start c : ℕ) → IsEncodedBefore bytes end start c → Back bytes end start c
 back bytes end start c s = elim (bytes_at bytes start c s.stands) [
   | one l n h e ↦
       let z : get_or bytes (end - 1) 0 ≡ get_or bytes start 0 = at_same (end - 1) start (omega (arith, s.ends)) in
@@ -187,7 +187,7 @@ back bytes end start c s = elim (bytes_at bytes start c s.stands) [
 
 -- a character ends there
 abbrev Ends : List ℕ → ℕ → Type 0
-Ends bytes end = (start : ℕ) × (c : ℕ) × EndsAt bytes end start c
+Ends bytes end = (start : ℕ) × (c : ℕ) × IsEncodedBefore bytes end start c
 
 pub last_inside : (bytes : List ℕ) (end : ℕ) → Ends bytes end → (1 ≤ end) × (end ≤ length bytes)
 last_inside bytes end (start, c, s) = elim (back bytes end start c s) [
@@ -221,7 +221,7 @@ fourth_back bytes end (start, c, s) m n o = elim (back bytes end start c s) [
   | four_back e l h i f g ↦ omega arith
 ]
 
-pub back_one : (bytes : List ℕ) (end start c : ℕ) → EndsAt bytes end start c → get_or bytes (end - 1) 0 < 128 → (get_or bytes (end - 1) 0 ≡ c) × (end - 1 ≡ start)
+pub back_one : (bytes : List ℕ) (end start c : ℕ) → IsEncodedBefore bytes end start c → get_or bytes (end - 1) 0 < 128 → (get_or bytes (end - 1) 0 ≡ c) × (end - 1 ≡ start)
 back_one bytes end start c s m = elim (back bytes end start c s) [
   | one_back e l h i ↦ (i, omega arith)
   | two_back e l h i f ↦ absurd (omega arith)
@@ -229,7 +229,7 @@ back_one bytes end start c s m = elim (back bytes end start c s) [
   | four_back e l h i f g ↦ absurd (omega arith)
 ]
 
-pub back_two : (bytes : List ℕ) (end start c : ℕ) → EndsAt bytes end start c → 128 ≤ get_or bytes (end - 1) 0 → 192 ≤ get_or bytes (end - 2) 0
+pub back_two : (bytes : List ℕ) (end start c : ℕ) → IsEncodedBefore bytes end start c → 128 ≤ get_or bytes (end - 1) 0 → 192 ≤ get_or bytes (end - 2) 0
     → (c + 12416 ≡ get_or bytes (end - 2) 0 * 64 + get_or bytes (end - 1) 0) × (end - 2 ≡ start)
 back_two bytes end start c s m n = elim (back bytes end start c s) [
   | one_back e l h i ↦ absurd (omega arith)
@@ -238,7 +238,7 @@ back_two bytes end start c s m n = elim (back bytes end start c s) [
   | four_back e l h i f g ↦ absurd (omega arith)
 ]
 
-pub back_three : (bytes : List ℕ) (end start c : ℕ) → EndsAt bytes end start c → 128 ≤ get_or bytes (end - 1) 0 → get_or bytes (end - 2) 0 < 192 → 192 ≤ get_or bytes (end - 3) 0
+pub back_three : (bytes : List ℕ) (end start c : ℕ) → IsEncodedBefore bytes end start c → 128 ≤ get_or bytes (end - 1) 0 → get_or bytes (end - 2) 0 < 192 → 192 ≤ get_or bytes (end - 3) 0
     → (c + 925824 ≡ get_or bytes (end - 3) 0 * 4096 + get_or bytes (end - 2) 0 * 64 + get_or bytes (end - 1) 0) × (end - 3 ≡ start)
 back_three bytes end start c s m n o = elim (back bytes end start c s) [
   | one_back e l h i ↦ absurd (omega arith)
@@ -247,7 +247,7 @@ back_three bytes end start c s m n o = elim (back bytes end start c s) [
   | four_back e l h i f g ↦ absurd (omega arith)
 ]
 
-pub back_four : (bytes : List ℕ) (end start c : ℕ) → EndsAt bytes end start c → 128 ≤ get_or bytes (end - 1) 0 → get_or bytes (end - 2) 0 < 192 → get_or bytes (end - 3) 0 < 192
+pub back_four : (bytes : List ℕ) (end start c : ℕ) → IsEncodedBefore bytes end start c → 128 ≤ get_or bytes (end - 1) 0 → get_or bytes (end - 2) 0 < 192 → get_or bytes (end - 3) 0 < 192
     → (c + 63447168 ≡ get_or bytes (end - 4) 0 * 262144 + get_or bytes (end - 3) 0 * 4096 + get_or bytes (end - 2) 0 * 64 + get_or bytes (end - 1) 0) × (end - 4 ≡ start)
 back_four bytes end start c s m n o = elim (back bytes end start c s) [
   | one_back e l h i ↦ absurd (omega arith)
@@ -281,13 +281,13 @@ spelled_by bytes u = sym (encodes-flat_map (chars bytes)) ∙ encodes-chars byte
 -- what is read to the right of a boundary
 pub data Right (bytes : List ℕ) (unicode : Bool) (at : ℕ) : Type 0 where
   at_the_end : at ≡ length bytes → read (utf8_text bytes unicode) rightwards at ≡ None → Right bytes unicode at
-  character_behind : (c : ℕ) → StandsAt bytes at c → at + len_utf8 c ≤ length bytes → at < length bytes
+  character_behind : (c : ℕ) → IsEncodedAt bytes at c → at + len_utf8 c ≤ length bytes → at < length bytes
       → read (utf8_text bytes unicode) rightwards at ≡ Some (c, at + len_utf8 c) → Right bytes unicode at
 
 -- what is read to the left of a boundary
 pub data Left (bytes : List ℕ) (unicode : Bool) (at : ℕ) : Type 0 where
   at_the_start : at ≡ 0 → read (utf8_text bytes unicode) leftwards at ≡ None → Left bytes unicode at
-  character_before : (start c : ℕ) → EndsAt bytes at start c → at ≤ length bytes → 0 < at
+  character_before : (start c : ℕ) → IsEncodedBefore bytes at start c → at ≤ length bytes → 0 < at
       → read (utf8_text bytes unicode) leftwards at ≡ Some (c, start) → Left bytes unicode at
 
 module _ (bytes : List ℕ) (unicode : Bool) (is_utf8 : ∥ IsUtf8 bytes ∥₁) where
@@ -328,10 +328,10 @@ module _ (bytes : List ℕ) (unicode : Bool) (is_utf8 : ∥ IsUtf8 bytes ∥₁)
   -- as the code sees the bytes
   module _ (bs : List ℕ) (same : bs ≡ bytes) where
     -- a boundary that is not the right end has a character behind it
-    pub stands_at : (at : ℕ) → IsBoundary text at → at ≢ length bs → (c : ℕ) × StandsAt bs at c
+    pub stands_at : (at : ℕ) → IsBoundary text at → at ≢ length bs → (c : ℕ) × IsEncodedAt bs at c
     stands_at at b n = elim (right at b) [
       | at_the_end e r ↦ absurd (n (omega (arith, e, ap length same)))
-      | character_behind c s l i r ↦ (c, subst (λ l. StandsAt l at c) (sym same) s)
+      | character_behind c s l i r ↦ (c, subst (λ l. IsEncodedAt l at c) (sym same) s)
     ]
 
     -- an offset inside is not the right end
@@ -341,21 +341,21 @@ module _ (bytes : List ℕ) (unicode : Bool) (is_utf8 : ∥ IsUtf8 bytes ∥₁)
     pub read-end : (at : ℕ) → IsBoundary text at → at ≡ length bs → read text rightwards at ≡ None
     read-end at b e = elim (right at b) [ at_the_end e r ↦ r | character_behind c s l i r ↦ absurd (omega (arith, ap length same)) ]
 
-    pub read-character : (at x y : ℕ) → IsBoundary text at → at ≢ length bs → ((c : ℕ) → StandsAt bs at c → (x ≡ c) × (y ≡ at + len_utf8 c)) → Some (x, y) ≡ read text rightwards at
+    pub read-character : (at x y : ℕ) → IsBoundary text at → at ≢ length bs → ((c : ℕ) → IsEncodedAt bs at c → (x ≡ c) × (y ≡ at + len_utf8 c)) → Some (x, y) ≡ read text rightwards at
     read-character at x y b n is = elim (right at b) [
       | at_the_end e r ↦ absurd (n (omega (arith, e, ap length same)))
-      | character_behind c s l i r ↦ let both = is c (subst (λ l. StandsAt l at c) (sym same) s) in ap₂ (λ v w. Some (v, w)) both.0 both.1 ∙ sym r
+      | character_behind c s l i r ↦ let both = is c (subst (λ l. IsEncodedAt l at c) (sym same) s) in ap₂ (λ v w. Some (v, w)) both.0 both.1 ∙ sym r
     ]
 
     -- a boundary that is not the left end has a character before it
-    pub ends_at : (at : ℕ) → IsBoundary text at → at ≢ 0 → (start : ℕ) × (c : ℕ) × EndsAt bs at start c
+    pub ends_at : (at : ℕ) → IsBoundary text at → at ≢ 0 → (start : ℕ) × (c : ℕ) × IsEncodedBefore bs at start c
     ends_at at b n = elim (left at b) [
       | at_the_start e r ↦ absurd (n e)
-      | character_before start c s l i r ↦ (start, c, subst (λ l. EndsAt l at start c) (sym same) s)
+      | character_before start c s l i r ↦ (start, c, subst (λ l. IsEncodedBefore l at start c) (sym same) s)
     ]
 
-    pub read-character-left : (at x y : ℕ) → IsBoundary text at → at ≢ 0 → ((start c : ℕ) → EndsAt bs at start c → (x ≡ c) × (y ≡ start)) → Some (x, y) ≡ read text leftwards at
+    pub read-character-left : (at x y : ℕ) → IsBoundary text at → at ≢ 0 → ((start c : ℕ) → IsEncodedBefore bs at start c → (x ≡ c) × (y ≡ start)) → Some (x, y) ≡ read text leftwards at
     read-character-left at x y b n is = elim (left at b) [
       | at_the_start e r ↦ absurd (n e)
-      | character_before start c s l i r ↦ let both = is start c (subst (λ l. EndsAt l at start c) (sym same) s) in ap₂ (λ v w. Some (v, w)) both.0 both.1 ∙ sym r
+      | character_before start c s l i r ↦ let both = is start c (subst (λ l. IsEncodedBefore l at start c) (sym same) s) in ap₂ (λ v w. Some (v, w)) both.0 both.1 ∙ sym r
     ]

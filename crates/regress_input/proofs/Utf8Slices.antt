@@ -7,9 +7,9 @@ use Rattle.std.proofs.lemmas.Str.{IsUtf8-had, IsCharBoundary-from_take, IsCharBo
 use Rattle.std.proofs.lemmas.List.Folds.{drop_split}
 use lib.Utf8.{scalars, encode, encodes}
 use Rattle.regex_meaning.specs.Text.{Text, Direction, rightwards, leftwards, utf8_text, fold_char}
-use Rattle.regex_meaning.specs.Offsets.{IsBoundary, offset}
+use Rattle.regex_meaning.specs.CodeUnitOffsets.{IsBoundary, offset}
 use Rattle.regex_meaning.proofs.TextLemmas.{utf8_text-IsText, offset-IsBoundary, len_utf8-positive}
-use Rattle.regress_input.specs.Reading.{part, characters_between, past_spelled, past_bytes}
+use Rattle.regress_input.specs.ReadsFromOffset.{part, characters_between, past_spelled, past_bytes}
 use Rattle.regress_input.proofs.Places.{HasPlace}
 use Rattle.regress_input.proofs.Spelled.{text_of, cut_at, offset-spelling, Cut}
 use Rattle.regress_input.proofs.Slices.{StandBehind, StandBefore, range-units, part-is, literal-right, literal-left, IsInjective, take-slice}

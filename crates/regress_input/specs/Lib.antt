@@ -1,6 +1,6 @@
 pub mod Utf8
-pub mod Reading
-pub mod InUtf8
+pub mod ReadsFromOffset
+pub mod ByteTextsAreUtf8
 pub mod Utf16
-pub mod Spellings
-pub mod Held
+pub mod ValidlyEncodedTexts
+pub mod TextCodeUnits

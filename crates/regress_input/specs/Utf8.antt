@@ -3,17 +3,17 @@ use Rattle.std.specs.Prelude.{◌≡◌, ℕ, ◌+◌, Bool, List, ◌++◌, dro
 use Rattle.std.specs.Int.{is_in_range}
 use Rattle.std.specs.Char.{IsScalar, len_utf8}
 
--- the bytes of this character stand at the offset
-pub record StandsAt (bytes : List ℕ) (at c : ℕ) : Type 0 where
+-- The UTF-8 bytes of the character `c` are at offset `at`.
+pub record IsEncodedAt (bytes : List ℕ) (at c : ℕ) : Type 0 where
   pub scalar : IsScalar c
   pub rest : List ℕ
   pub spelled : drop at bytes ≡ encode_utf8 c ++ rest
 
--- they end at the offset
-pub record EndsAt (bytes : List ℕ) (end start c : ℕ) : Type 0 where
-  pub stands : StandsAt bytes start c
+-- The UTF-8 bytes of the character `c` are at offset `start` and end at offset `end`.
+pub record IsEncodedBefore (bytes : List ℕ) (end start c : ℕ) : Type 0 where
+  pub stands : IsEncodedAt bytes start c
   pub ends : start + len_utf8 c ≡ end
 
--- a byte that continues a character
-abbrev pub continues : ℕ → Bool
-continues byte = is_in_range 0x80 0xBF byte
+-- Whether a byte is a continuation byte.
+abbrev pub is_continuation_byte : ℕ → Bool
+is_continuation_byte byte = is_in_range 0x80 0xBF byte

@@ -1,24 +1,24 @@
-//! The units in which offsets count.
+//! Code units, in which offsets are counted.
 
 ghost use Rattle.std.specs.Prelude.{◌≡◌, ◌==◌, ℕ, Bool, true, false, refl, map, option_map};
 ghost use Rattle.std.proofs.Common.{rules};
-ghost use Rattle.regex_meaning.specs.Units.{Encoding, utf8, utf16, ucs2};
-ghost use Rattle.regress_input.specs.Reading.{is_of_bytes};
-ghost use Rattle.regress_input.specs.Held.{if_whole as is_if_whole, as_bytes as as_bytes_if};
+ghost use Rattle.regex_meaning.specs.CodeUnits.{Encoding, utf8, utf16, ucs2};
+ghost use Rattle.regress_input.specs.ReadsFromOffset.{has_byte_units};
+ghost use Rattle.regress_input.specs.TextCodeUnits.{unless_splitting_pair as is_if_whole, as_bytes as as_bytes_if};
 
 use crate::utf16;
 
-/// A unit as texts are held: a byte, or a number of 16 bits.
+/// A code unit as texts store it: a byte or a 16-bit number.
 pub trait CodeUnit: Copy + PartialEq {
     ghost number: { Self → ℕ };
 
     ghost is_byte: { Bool };
 
-    /// The unit as a number.
+    /// Returns the unit as a number.
     fn to_u32(self) -> u32
         ensures { result ≡ number self };
 
-    /// The same as bytes, where they are bytes.
+    /// Returns the units as bytes, or `None` if they are not bytes.
     fn as_bytes(all: &[Self]) -> Option<&[u8]>
         ensures { option_map (λ bytes. bytes.now) result ≡ as_bytes_if is_byte number all.now };
 
@@ -61,34 +61,35 @@ impl CodeUnit for u16 {
     }
 }
 
-/// The units in which offsets count, by the encoding whose units they are.
+/// The code units in which offsets are counted, identified by their encoding.
 pub trait CodeUnits {
     ghost encoding: { Encoding };
 
-    /// What a text holds of each.
+    /// The type of a code unit as a text stores it.
     type Unit: CodeUnit;
 
     ghost ARE_BYTES: { Bool };
 
-    /// Whether they are bytes.
+    /// Whether the code units are bytes.
     const ARE_BYTES: bool;
 
-    ghost by_encoding: { ARE_BYTES ≡ is_of_bytes encoding };
+    ghost by_encoding: { ARE_BYTES ≡ has_byte_units encoding };
 
-    /// The offset behind some of them that stand for characters; none where it cuts a pair of surrogates.
-    fn if_whole(all: &[Self::Unit], to: Option<usize>) -> Option<usize>
+    /// Returns `to`, the offset past code units that encode characters. Returns `None` if `to` is
+    /// `None` or splits a surrogate pair.
+    fn unless_splitting_pair(all: &[Self::Unit], to: Option<usize>) -> Option<usize>
         ensures { result ≡ is_if_whole encoding (map Self.Unit.number all.now) to };
 
-    ghost by_unit: { Self.Unit.is_byte ≡ is_of_bytes encoding };
+    ghost by_unit: { Self.Unit.is_byte ≡ has_byte_units encoding };
 }
 
-/// Bytes of UTF-8, of which ASCII is a part.
+/// Bytes of UTF-8, which includes ASCII.
 pub struct ByteUnits;
 
-/// 16-bit units of UTF-16.
+/// 16-bit code units of UTF-16.
 pub struct Utf16Units;
 
-/// 16-bit units, each of which is a character.
+/// 16-bit code units, each of which is a character.
 pub struct Ucs2Units;
 
 impl CodeUnits for ByteUnits {
@@ -105,7 +106,7 @@ impl CodeUnits for ByteUnits {
     ghost by_encoding = { refl };
 
     #[inline(always)]
-    fn if_whole(_all: &[u8], to: Option<usize>) -> Option<usize> {
+    fn unless_splitting_pair(_all: &[u8], to: Option<usize>) -> Option<usize> {
         to
     }
 }
@@ -124,8 +125,8 @@ impl CodeUnits for Utf16Units {
     ghost by_encoding = { refl };
 
     #[inline(always)]
-    fn if_whole(all: &[u16], to: Option<usize>) -> Option<usize> {
-        utf16::at_boundary(all, to)
+    fn unless_splitting_pair(all: &[u16], to: Option<usize>) -> Option<usize> {
+        utf16::if_at_boundary(all, to)
     }
 }
 
@@ -143,28 +144,29 @@ impl CodeUnits for Ucs2Units {
     ghost by_encoding = { refl };
 
     #[inline(always)]
-    fn if_whole(_all: &[u16], to: Option<usize>) -> Option<usize> {
+    fn unless_splitting_pair(_all: &[u16], to: Option<usize>) -> Option<usize> {
         to
     }
 }
 
-/// What has units.
+/// A type with code units.
 pub trait HasUnits {
-    /// The units in which its offsets count.
+    /// The code units in which its offsets are counted.
     type Units: CodeUnits;
 }
 
-/// What its units are. Each type that has units has it, and none can say otherwise.
-pub trait UnitsAre: HasUnits {
+/// States whether code units are bytes. Each type with `HasUnits` implements it, and none can say
+/// otherwise.
+pub trait DeclaresByteUnits: HasUnits {
     ghost CODE_UNITS_ARE_BYTES: { Bool };
 
-    /// Whether units are bytes, so that the text may be read a byte at a time.
+    /// Whether code units are bytes, so that the text can be read byte by byte.
     const CODE_UNITS_ARE_BYTES: bool;
 
     ghost by_units: { CODE_UNITS_ARE_BYTES ≡ Self.Units.ARE_BYTES };
 }
 
-impl<Text: HasUnits> UnitsAre for Text {
+impl<Text: HasUnits> DeclaresByteUnits for Text {
     ghost CODE_UNITS_ARE_BYTES = { Text.Units.ARE_BYTES };
 
     const CODE_UNITS_ARE_BYTES: bool = Text::Units::ARE_BYTES;

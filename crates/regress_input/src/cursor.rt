@@ -1,13 +1,14 @@
-//! Reading in a direction.
+//! Reading characters and bytes in a direction.
 
 ghost use Rattle.std.specs.Prelude.{◌≡◌, ◌≤◌, ℕ, IfSome, IfNone, option_map};
-ghost use Rattle.regex_meaning.specs.Offsets.{IsBoundary, units, read};
-ghost use Rattle.regress_input.specs.Reading.{heading, led_to, bytes_of, byte_beside, past_bytes, where_bytes, one_on};
+ghost use Rattle.regex_meaning.specs.CodeUnitOffsets.{IsBoundary, units, read};
+ghost use Rattle.regress_input.specs.ReadsFromOffset.{reading_direction, end_if_matched, bytes_of, adjacent_byte, past_bytes, if_byte_units, moved_by_unit};
 
 use crate::indexing::InputIndexer;
 pub use crate::position::{Backward, Direction, Forward};
 
-/// The next character in the direction, and the position past it; at that end none, and the position stays.
+/// Returns the next character in the direction and moves `pos` past it. Returns `None`, and leaves
+/// `pos` unchanged, at the end of the text in that direction.
 #[inline(always)]
 pub fn next<Input: InputIndexer, Dir: Direction>(
     input: &Input,
@@ -17,7 +18,7 @@ pub fn next<Input: InputIndexer, Dir: Direction>(
     requires { IsBoundary (Input.text input.now) (Input.Position.offset pos.old) }
     ensures read { let at = Input.Position.offset in
         option_map (λ e. (Input.Element.number e, at pos.new)) result
-        ≡ read (Input.text input.now) (heading Dir.FORWARD) (at pos.old) }
+        ≡ read (Input.text input.now) (reading_direction Dir.FORWARD) (at pos.old) }
     ensures stays { IfNone result (pos.new ≡ pos.old) }
     ensures boundary { IsBoundary (Input.text input.now) (Input.Position.offset pos.new) }
     ensures inside { Input.Position.offset pos.new ≤ units (Input.text input.now) }
@@ -29,8 +30,9 @@ pub fn next<Input: InputIndexer, Dir: Direction>(
     }
 }
 
-/// The next byte in the direction from any offset, and the position past it; none at that end, and where units are no
-/// bytes, and then the position stays. Between two bytes of a character the position is no boundary.
+/// Returns the next byte in the direction from any offset and moves `pos` past it. Returns `None`,
+/// and leaves `pos` unchanged, at the end of the text in that direction or if code units are not
+/// bytes. Between two bytes of a character, `pos` is not a boundary.
 #[inline(always)]
 pub fn next_byte<Input: InputIndexer, Dir: Direction>(
     input: &Input,
@@ -38,10 +40,10 @@ pub fn next_byte<Input: InputIndexer, Dir: Direction>(
     pos: &mut Input::Position,
 ) -> Option<u8>
     requires inside { Input.Position.offset pos.old ≤ units (Input.text input.now) }
-    ensures byte { result ≡ where_bytes Input.Units.ARE_BYTES (byte_beside
-        (bytes_of (Input.text input.now)) (heading Dir.FORWARD) (Input.Position.offset pos.old)) }
+    ensures byte { result ≡ if_byte_units Input.Units.ARE_BYTES (adjacent_byte
+        (bytes_of (Input.text input.now)) (reading_direction Dir.FORWARD) (Input.Position.offset pos.old)) }
     ensures moves { let at = Input.Position.offset in
-        IfSome result (λ _. at pos.new ≡ one_on (heading Dir.FORWARD) (at pos.old)) }
+        IfSome result (λ _. at pos.new ≡ moved_by_unit (reading_direction Dir.FORWARD) (at pos.old)) }
     ensures stays { IfNone result (pos.new ≡ pos.old) }
 {
     if Dir::FORWARD {
@@ -55,8 +57,9 @@ pub fn next_byte<Input: InputIndexer, Dir: Direction>(
     }
 }
 
-/// Whether these bytes stand on the direction's side of any offset, read left to right; they never do where units are
-/// no bytes. Then the position is behind them, and else it is not specified.
+/// Checks whether `bytes` occur next to any offset in the direction, read left to right. They never
+/// do if code units are not bytes. If they do, `pos` is moved past them; otherwise its new value is
+/// unspecified.
 #[inline(always)]
 pub fn try_match_lit<const N: usize, Input: InputIndexer, Dir: Direction>(
     input: &Input,
@@ -65,9 +68,9 @@ pub fn try_match_lit<const N: usize, Input: InputIndexer, Dir: Direction>(
     bytes: &[u8; N],
 ) -> bool
     requires inside { Input.Position.offset pos.old ≤ units (Input.text input.now) }
-    ensures { led_to result (Input.Position.offset pos.new)
-        ≡ where_bytes Input.Units.ARE_BYTES (past_bytes (bytes_of (Input.text input.now)) bytes.now
-        (heading Dir.FORWARD) (Input.Position.offset pos.old)) }
+    ensures { end_if_matched result (Input.Position.offset pos.new)
+        ≡ if_byte_units Input.Units.ARE_BYTES (past_bytes (bytes_of (Input.text input.now)) bytes.now
+        (reading_direction Dir.FORWARD) (Input.Position.offset pos.old)) }
 {
     input.match_bytes(dir, pos, bytes)
 }

@@ -1,4 +1,5 @@
-//! The names of the front that this crate and those that stand on it use. No other module of theirs names that crate.
+//! Re-exports of the items of `regex_pattern_front` that this crate and the crates above it use. No
+//! other module of these crates names that crate.
 
 pub use regex_pattern_front::bytesearch::{
     AsciiBitmap, ByteArraySet, ByteBitmap, ByteSearcher, ByteSet, SmallArraySet,

@@ -1,12 +1,12 @@
-//! Inputs: texts that are read a character at a time.
+//! Inputs: texts that are read character by character.
 
 ghost use Rattle.std.specs.Prelude.{◌≡◌, ◌<◌, ◌≤◌, ◌^◌, map, option_map, IfSome, IfNone, IsTrue, Some, slice_get};
 ghost use Rattle.std.specs.List.{list_all};
-ghost use Rattle.regex_meaning.specs.{Text.{Text, rightwards, leftwards}, Offsets.{IsText, IsBoundary, units, read}};
-ghost use Rattle.regex_meaning.specs.Units.{units_in, IsSpelledIn, is_character};
-ghost use Rattle.regress_input.specs.Reading.{heading, led_to, same_fold, character, past as past_character, past_range, part, IsReadBack, units_on};
-ghost use Rattle.regress_input.specs.Held.{StandAsCharacters};
-ghost use Rattle.regress_input.specs.Reading.{bytes_of, bytes_if, IsInUtf8, byte_beside, past_bytes, where_bytes, IsFoundFrom};
+ghost use Rattle.regex_meaning.specs.{Text.{Text, rightwards, leftwards}, CodeUnitOffsets.{IsText, IsBoundary, units, read}};
+ghost use Rattle.regex_meaning.specs.CodeUnits.{units_in, IsSpelledIn, is_character};
+ghost use Rattle.regress_input.specs.ReadsFromOffset.{reading_direction, end_if_matched, same_fold, character, past as past_character, past_range, part, IsReadBack, moved_by_units};
+ghost use Rattle.regress_input.specs.TextCodeUnits.{UnitsMatchCharacters};
+ghost use Rattle.regress_input.specs.ReadsFromOffset.{bytes_of, bytes_if, IsInUtf8, adjacent_byte, past_bytes, if_byte_units, IsFoundFrom};
 
 mod ascii_input;
 mod ucs2_input;
@@ -17,56 +17,59 @@ pub use self::ascii_input::{ASCIICharProperties, AsciiInput};
 pub use self::ucs2_input::{Ucs2Input, Utf16CharProperties};
 pub use self::utf8_input::{UTF8CharProperties, Utf8Input};
 pub use self::utf16_input::Utf16Input;
+pub use crate::characters_and_properties::{CharProperties, ElementType};
+use crate::code_unit_reads;
 pub use crate::code_units::{
-    ByteUnits, CodeUnit, CodeUnits, HasUnits, Ucs2Units, UnitsAre, Utf16Units,
+    ByteUnits, CodeUnit, CodeUnits, DeclaresByteUnits, HasUnits, Ucs2Units, Utf16Units,
 };
-pub use crate::elements::{CharProperties, ElementType};
 use crate::front::ByteSearcher;
 use crate::position::{Direction, PositionType};
-use crate::units;
 pub use crate::utf16::is_unit_boundary;
 use std::fmt::Debug;
 use std::ops::Range;
 
-/// A text that can be read from any boundary. Contracts see the text.
-pub trait InputIndexer: Copy + Debug + UnitsAre {
-    /// What is read at a time, a character.
+/// A text that can be read from any boundary. Contracts see the text (`text`).
+pub trait InputIndexer: Copy + Debug + DeclaresByteUnits {
+    /// The type of its characters, which are read one at a time.
     type Element: ElementType;
 
     /// The fold and the classes of its characters.
     type CharProps: CharProperties<Element = Self::Element>;
 
-    /// Where it is read.
+    /// The type of its positions.
     type Position: PositionType;
 
     ghost text: { Self → Text };
 
-    /// Whether characters are folded as with the flag `u`.
+    /// Returns whether characters are folded as with the flag `u`.
     fn unicode(&self) -> bool
         ensures { result ≡ (text self.now).unicode };
 
-    /// The units that its characters are spelled with. A range of them stands again where its characters do.
+    /// Returns the code units that encode the characters. A range of them occurs again where its
+    /// characters do.
     fn code_units(&self) -> &[<Self::Units as CodeUnits>::Unit]
         ensures units { map Self.Units.Unit.number result.now
             ≡ units_in Self.Units.encoding (text self.now) }
-        ensures again { StandAsCharacters Self.Units.encoding
+        ensures again { UnitsMatchCharacters Self.Units.encoding
             (map Self.Units.Unit.number result.now) (text self.now) };
 
-    /// The character to the right of a boundary that is not the right end, and the position past it.
+    /// Returns the character to the right of a boundary that is not the right end, and the position
+    /// past it.
     fn character_right(&self, pos: Self::Position) -> (Self::Element, Self::Position)
         requires at { IsBoundary (text self.now) (Self.Position.offset pos) }
         requires inside { Self.Position.offset pos < units (text self.now) }
         ensures { let at = Self.Position.offset in
             read (text self.now) rightwards (at pos) ≡ Some (Self.Element.number result.0, at result.1) };
 
-    /// The character to the left of a boundary that is not the left end, and the position before it.
+    /// Returns the character to the left of a boundary that is not the left end, and the position
+    /// before it.
     fn character_left(&self, pos: Self::Position) -> (Self::Element, Self::Position)
         requires at { IsBoundary (text self.now) (Self.Position.offset pos) }
         requires inside { 0 < Self.Position.offset pos }
         ensures { let at = Self.Position.offset in
             read (text self.now) leftwards (at pos) ≡ Some (Self.Element.number result.0, at result.1) };
 
-    /// The text between two boundaries. Its positions count from its own left end.
+    /// Returns the text between two boundaries. Its positions are counted from its own left end.
     fn between(&self, start: Self::Position, end: Self::Position) -> Self
         requires from { IsBoundary (text self.now) (Self.Position.offset start) }
         requires to { IsBoundary (text self.now) (Self.Position.offset end) }
@@ -75,19 +78,19 @@ pub trait InputIndexer: Copy + Debug + UnitsAre {
 
     ghost is_text: { (it : Self) → IsText (text it) };
 
-    // Offsets are fewer than those of positions, so one is left for a position that stands for none.
+    // Offsets are below 2^63, so one is left for the position that represents no position.
     ghost offsets_fit: { (it : Self) → units (text it) < 2 ^ 63 };
 
     ghost spelled: { (it : Self) → IsSpelledIn Self.Units.encoding (text it) };
 
     ghost characters: { (it : Self) → IsTrue (list_all (is_character Self.Units.encoding) (text it).characters) };
 
-    // Where units are bytes, they are those of UTF-8.
+    // If code units are bytes, they are those of UTF-8.
     ghost in_utf8: { (it : Self) → IsTrue Self.Units.ARE_BYTES → IsInUtf8 (text it) };
 
     ghost folds: { (it : Self) → (text it).fold ≡ Self.CharProps.folded (text it).unicode };
 
-    /// What stands for a character where case does not count.
+    /// Returns the fold of a character, which represents it if case is ignored.
     #[inline(always)]
     final fn fold(&self, c: Self::Element) -> Self::Element
         ensures { Self.Element.number result ≡ (text self.now).fold (Self.Element.number c) }
@@ -95,7 +98,7 @@ pub trait InputIndexer: Copy + Debug + UnitsAre {
         Self::CharProps::fold(c, self.unicode())
     }
 
-    /// The length, in units.
+    /// Returns the length in code units.
     #[inline(always)]
     final fn unit_count(&self) -> usize
         ensures { result ≡ units (text self.now) }
@@ -103,7 +106,7 @@ pub trait InputIndexer: Copy + Debug + UnitsAre {
         self.code_units().len()
     }
 
-    /// The bytes; none where units are no bytes.
+    /// Returns the bytes, or `None` if code units are not bytes.
     #[inline(always)]
     final fn as_bytes(&self) -> Option<&[u8]>
         ensures { option_map (λ all. all.now) result ≡ bytes_if Self.Units.ARE_BYTES (text self.now) }
@@ -111,7 +114,7 @@ pub trait InputIndexer: Copy + Debug + UnitsAre {
         <Self::Units as CodeUnits>::Unit::as_bytes(self.code_units())
     }
 
-    /// The unit at any offset that is not the right end.
+    /// Returns the code unit at any offset that is not the right end.
     #[inline(always)]
     final fn unit(&self, pos: Self::Position) -> u32
         requires { Self.Position.offset pos < units (text self.now) }
@@ -122,7 +125,8 @@ pub trait InputIndexer: Copy + Debug + UnitsAre {
         unit.to_u32()
     }
 
-    /// The position past the character to the right of a boundary that is not the right end.
+    /// Returns the position past the character to the right of a boundary that is not the right
+    /// end.
     #[inline(always)]
     final fn past(&self, pos: Self::Position) -> Self::Position
         requires at { IsBoundary (text self.now) (Self.Position.offset pos) }
@@ -134,7 +138,8 @@ pub trait InputIndexer: Copy + Debug + UnitsAre {
         to
     }
 
-    /// The position before the character to the left of a boundary that is not the left end.
+    /// Returns the position before the character to the left of a boundary that is not the left
+    /// end.
     #[inline(always)]
     final fn before(&self, pos: Self::Position) -> Self::Position
         requires at { IsBoundary (text self.now) (Self.Position.offset pos) }
@@ -146,8 +151,9 @@ pub trait InputIndexer: Copy + Debug + UnitsAre {
         to
     }
 
-    /// The position behind the characters between two boundaries, where they stand once more on the direction's side of
-    /// a third, read left to right.
+    /// Returns the position past the characters between the boundaries `start` and `end` if they
+    /// occur again next to the boundary `pos` in the direction, read left to right, and `None`
+    /// otherwise.
     #[inline(always)]
     final fn past_again<Dir: Direction>(
         &self,
@@ -161,15 +167,21 @@ pub trait InputIndexer: Copy + Debug + UnitsAre {
         requires to { IsBoundary (text self.now) (Self.Position.offset end) }
         requires in_order { Self.Position.offset start ≤ Self.Position.offset end }
         ensures { let at = Self.Position.offset in option_map at result
-            ≡ past_range (text self.now) (at start) (at end) (heading Dir.FORWARD) (at pos) }
+            ≡ past_range (text self.now) (at start) (at end) (reading_direction Dir.FORWARD) (at pos) }
     {
         let all = self.code_units();
         let at = pos.to_offset();
-        let to = units::past_range(all, Dir::FORWARD, at, start.to_offset(), end.to_offset());
-        units::position_at(Self::Units::if_whole(all, to))
+        let to = code_unit_reads::past_range(
+            all,
+            Dir::FORWARD,
+            at,
+            start.to_offset(),
+            end.to_offset(),
+        );
+        code_unit_reads::position_at(Self::Units::unless_splitting_pair(all, to))
     }
 
-    /// Whether two characters are the same, or have the same fold.
+    /// Checks whether two characters are equal or have equal folds.
     #[inline(always)]
     final fn fold_equals(&self, c1: Self::Element, c2: Self::Element) -> bool
         ensures { result ≡ same_fold (text self.now).fold
@@ -178,7 +190,7 @@ pub trait InputIndexer: Copy + Debug + UnitsAre {
         c1.as_u32() == c2.as_u32() || self.fold(c1).as_u32() == self.fold(c2).as_u32()
     }
 
-    /// The left end.
+    /// Returns the left end.
     #[inline(always)]
     final fn left_end(&self) -> Self::Position
         ensures offset { Self.Position.offset result ≡ 0 }
@@ -187,7 +199,7 @@ pub trait InputIndexer: Copy + Debug + UnitsAre {
         Self::Position::from_offset(0)
     }
 
-    /// The right end.
+    /// Returns the right end.
     #[inline(always)]
     final fn right_end(&self) -> Self::Position
         ensures offset { Self.Position.offset result ≡ units (text self.now) }
@@ -196,7 +208,7 @@ pub trait InputIndexer: Copy + Debug + UnitsAre {
         Self::Position::from_offset(self.unit_count())
     }
 
-    /// The offset of a position, in units.
+    /// Returns the offset of a position in code units.
     #[inline(always)]
     final fn pos_to_offset(&self, pos: Self::Position) -> usize
         ensures { result ≡ Self.Position.offset pos }
@@ -204,7 +216,7 @@ pub trait InputIndexer: Copy + Debug + UnitsAre {
         pos.to_offset()
     }
 
-    /// The text between two boundaries. Its positions count from its own left end.
+    /// Returns the text between two boundaries. Its positions are counted from its own left end.
     #[inline(always)]
     final fn subinput(&self, range: Range<Self::Position>) -> Self
         requires from { IsBoundary (text self.now) (Self.Position.offset range.start) }
@@ -216,7 +228,8 @@ pub trait InputIndexer: Copy + Debug + UnitsAre {
         self.between(range.start, range.end)
     }
 
-    /// The character to the right, and the position past it; at the right end none, and the position stays.
+    /// Returns the character to the right and moves `pos` past it. Returns `None`, and leaves `pos`
+    /// unchanged, at the right end.
     #[inline(always)]
     final fn next_right(&self, pos: &mut Self::Position) -> Option<Self::Element>
         requires { IsBoundary (text self.now) (Self.Position.offset pos.old) }
@@ -236,7 +249,8 @@ pub trait InputIndexer: Copy + Debug + UnitsAre {
         Some(c)
     }
 
-    /// The character to the left, and the position before it; at the left end none, and the position stays.
+    /// Returns the character to the left and moves `pos` before it. Returns `None`, and leaves
+    /// `pos` unchanged, at the left end.
     #[inline(always)]
     final fn next_left(&self, pos: &mut Self::Position) -> Option<Self::Element>
         requires { IsBoundary (text self.now) (Self.Position.offset pos.old) }
@@ -256,7 +270,7 @@ pub trait InputIndexer: Copy + Debug + UnitsAre {
         Some(c)
     }
 
-    /// The position past the character to the right; none at the right end.
+    /// Returns the position past the character to the right, or `None` at the right end.
     #[inline(always)]
     final fn next_right_pos(&self, pos: Self::Position) -> Option<Self::Position>
         requires { IsBoundary (text self.now) (Self.Position.offset pos) }
@@ -272,7 +286,7 @@ pub trait InputIndexer: Copy + Debug + UnitsAre {
         Some(self.past(pos))
     }
 
-    /// The position before the character to the left; none at the left end.
+    /// Returns the position before the character to the left, or `None` at the left end.
     #[inline(always)]
     final fn next_left_pos(&self, pos: Self::Position) -> Option<Self::Position>
         requires { IsBoundary (text self.now) (Self.Position.offset pos) }
@@ -288,7 +302,7 @@ pub trait InputIndexer: Copy + Debug + UnitsAre {
         Some(self.before(pos))
     }
 
-    /// The character to the right.
+    /// Returns the character to the right, or `None` at the right end.
     #[inline(always)]
     final fn peek_right(&self, pos: Self::Position) -> Option<Self::Element>
         requires { IsBoundary (text self.now) (Self.Position.offset pos) }
@@ -299,7 +313,7 @@ pub trait InputIndexer: Copy + Debug + UnitsAre {
         self.next_right(&mut at)
     }
 
-    /// The character to the left.
+    /// Returns the character to the left, or `None` at the left end.
     #[inline(always)]
     final fn peek_left(&self, pos: Self::Position) -> Option<Self::Element>
         requires { IsBoundary (text self.now) (Self.Position.offset pos) }
@@ -310,7 +324,7 @@ pub trait InputIndexer: Copy + Debug + UnitsAre {
         self.next_left(&mut at)
     }
 
-    /// The number of the character to the right of a boundary that is not the right end.
+    /// Returns the number of the character to the right of a boundary that is not the right end.
     #[inline(always)]
     final fn code(&self, pos: Self::Position) -> u32
         requires at { IsBoundary (text self.now) (Self.Position.offset pos) }
@@ -321,56 +335,59 @@ pub trait InputIndexer: Copy + Debug + UnitsAre {
         c.as_u32()
     }
 
-    /// The byte to the right of any offset; none at the right end, and where units are no bytes.
+    /// Returns the byte to the right of any offset, or `None` at the right end or if code units
+    /// are not bytes.
     #[inline(always)]
     final fn peek_byte_right(&self, pos: Self::Position) -> Option<u8>
         requires inside { Self.Position.offset pos ≤ units (text self.now) }
-        ensures { result ≡ where_bytes Self.Units.ARE_BYTES
-            (byte_beside (bytes_of (text self.now)) rightwards (Self.Position.offset pos)) }
+        ensures { result ≡ if_byte_units Self.Units.ARE_BYTES
+            (adjacent_byte (bytes_of (text self.now)) rightwards (Self.Position.offset pos)) }
     {
         match self.as_bytes() {
-            Some(all) => units::unit_right(all, pos.to_offset()),
+            Some(all) => code_unit_reads::unit_right(all, pos.to_offset()),
             None => None,
         }
     }
 
-    /// The byte to the left of any offset; none at the left end, and where units are no bytes.
+    /// Returns the byte to the left of any offset, or `None` at the left end or if code units are
+    /// not bytes.
     #[inline(always)]
     final fn peek_byte_left(&self, pos: Self::Position) -> Option<u8>
         requires inside { Self.Position.offset pos ≤ units (text self.now) }
-        ensures { result ≡ where_bytes Self.Units.ARE_BYTES
-            (byte_beside (bytes_of (text self.now)) leftwards (Self.Position.offset pos)) }
+        ensures { result ≡ if_byte_units Self.Units.ARE_BYTES
+            (adjacent_byte (bytes_of (text self.now)) leftwards (Self.Position.offset pos)) }
     {
         match self.as_bytes() {
-            Some(all) => units::unit_left(all, pos.to_offset()),
+            Some(all) => code_unit_reads::unit_left(all, pos.to_offset()),
             None => None,
         }
     }
 
-    /// The position `amt` units to the right, where that is not past the right end. The position given may be any,
-    /// also one that is past it already.
+    /// Returns the position `amt` code units to the right, or `None` if that is past the right end.
+    /// `pos` may be any position, even one that is past the right end already.
     #[inline(always)]
     final fn try_move_right(&self, pos: Self::Position, amt: usize) -> Option<Self::Position>
         ensures { let at = Self.Position.offset in
-            option_map at result ≡ units_on (units (text self.now)) rightwards amt (at pos) }
+            option_map at result ≡ moved_by_units (units (text self.now)) rightwards amt (at pos) }
     {
-        let to = units::moved_right(self.unit_count(), pos.to_offset(), amt);
-        units::position_at(to)
+        let to = code_unit_reads::offset_moved_right(self.unit_count(), pos.to_offset(), amt);
+        code_unit_reads::position_at(to)
     }
 
-    /// The position `amt` units to the left, where that is not past the left end. The position given may be any: from
-    /// one past the right end there is none either where the move ends past it still.
+    /// Returns the position `amt` code units to the left, or `None` if that is past the left end.
+    /// `pos` may be any position. From one past the right end the result is also `None` if the move
+    /// still ends past the right end.
     #[inline(always)]
     final fn try_move_left(&self, pos: Self::Position, amt: usize) -> Option<Self::Position>
         ensures { let at = Self.Position.offset in
-            option_map at result ≡ units_on (units (text self.now)) leftwards amt (at pos) }
+            option_map at result ≡ moved_by_units (units (text self.now)) leftwards amt (at pos) }
     {
-        let to = units::moved_left(self.unit_count(), pos.to_offset(), amt);
-        units::position_at(to)
+        let to = code_unit_reads::offset_moved_left(self.unit_count(), pos.to_offset(), amt);
+        code_unit_reads::position_at(to)
     }
 
-    /// The first position, from any offset on, at which the bytes stand that are looked for; none where units are no
-    /// bytes.
+    /// Returns the first position, from any offset on, at which the searched bytes occur. Returns
+    /// `None` if there is none or if code units are not bytes.
     #[inline(always)]
     final fn find_bytes<Search: ByteSearcher>(
         &self,
@@ -383,13 +400,17 @@ pub trait InputIndexer: Copy + Debug + UnitsAre {
             (bytes_of (text self.now)) (at pos) (option_map at result) }
     {
         match self.as_bytes() {
-            Some(all) => units::position_at(units::find_from(all, pos.to_offset(), search)),
+            Some(all) => code_unit_reads::position_at(code_unit_reads::find_bytes_from(
+                all,
+                pos.to_offset(),
+                search,
+            )),
             None => None,
         }
     }
 
-    /// Whether the characters of a range stand on the direction's side of a boundary, read left to right. Then the
-    /// position is behind them, and else it is not specified.
+    /// Checks whether the characters of `range` occur next to the boundary `pos` in the direction,
+    /// read left to right. If so, `pos` is moved past them; otherwise its new value is unspecified.
     #[inline(always)]
     final fn subrange_eq<Dir: Direction>(
         &self,
@@ -401,15 +422,16 @@ pub trait InputIndexer: Copy + Debug + UnitsAre {
         requires from { IsBoundary (text self.now) (Self.Position.offset range.start) }
         requires to { IsBoundary (text self.now) (Self.Position.offset range.end) }
         requires in_order { Self.Position.offset range.start ≤ Self.Position.offset range.end }
-        ensures { let at = Self.Position.offset in led_to result (at pos.new)
-            ≡ past_range (text self.now) (at range.start) (at range.end) (heading Dir.FORWARD) (at pos.old) }
+        ensures { let at = Self.Position.offset in end_if_matched result (at pos.new)
+            ≡ past_range (text self.now) (at range.start) (at range.end) (reading_direction Dir.FORWARD) (at pos.old) }
     {
         let to = self.past_again(dir, *pos, range.start, range.end);
-        units::leave_at(pos, to)
+        code_unit_reads::move_position(pos, to)
     }
 
-    /// Whether these bytes stand on the direction's side of any offset, read left to right; they never do where units
-    /// are no bytes. Then the position is behind them, and else it is not specified.
+    /// Checks whether `bytes` occur next to any offset in the direction, read left to right. They
+    /// never do if code units are not bytes. If they do, `pos` is moved past them; otherwise its
+    /// new value is unspecified.
     #[inline(always)]
     final fn match_bytes<Dir: Direction>(
         &self,
@@ -419,19 +441,20 @@ pub trait InputIndexer: Copy + Debug + UnitsAre {
     ) -> bool
         requires inside { Self.Position.offset pos.old ≤ units (text self.now) }
         ensures { let at = Self.Position.offset in
-            led_to result (at pos.new) ≡ where_bytes Self.Units.ARE_BYTES
-            (past_bytes (bytes_of (text self.now)) bytes.now (heading Dir.FORWARD) (at pos.old)) }
+            end_if_matched result (at pos.new) ≡ if_byte_units Self.Units.ARE_BYTES
+            (past_bytes (bytes_of (text self.now)) bytes.now (reading_direction Dir.FORWARD) (at pos.old)) }
     {
         let Some(all) = self.as_bytes() else {
             return false;
         };
-        let to = units::past_units(all, Dir::FORWARD, pos.to_offset(), bytes);
-        units::leave_at(pos, units::position_at(to))
+        let to = code_unit_reads::past_units(all, Dir::FORWARD, pos.to_offset(), bytes);
+        code_unit_reads::move_position(pos, code_unit_reads::position_at(to))
     }
 }
 
-/// A law, which does nothing: a read to the right and one to the left are inverse to each other. Each gives the
-/// character that the other gave, and leads back to where that one stood.
+/// States a law and does nothing: a read to the right and a read to the left are inverse to each
+/// other. Each returns the character that the other returned, and goes back to where the other
+/// began.
 pub fn reads_are_inverse<Input: InputIndexer>(_input: &Input)
     ensures right_then_left { IsReadBack (Input.text _input.now) rightwards leftwards }
     ensures left_then_right { IsReadBack (Input.text _input.now) leftwards rightwards }

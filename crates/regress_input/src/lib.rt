@@ -1,14 +1,15 @@
-//! Texts that are read a character at a time, in two directions.
+//! Input texts in UTF-8, ASCII, UTF-16 and UCS-2, which are read character by character in both
+//! directions.
 #![tactic(auto)]
 
+mod characters_and_properties;
+mod code_unit_reads;
 mod code_units;
 pub mod cursor;
-mod elements;
 pub mod front;
 pub mod indexing;
 pub mod matchers;
 pub mod position;
 pub mod scm;
-mod units;
 mod utf16;
 mod utf8;

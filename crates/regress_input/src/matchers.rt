@@ -1,8 +1,8 @@
-//! What depends on the encoding, and backreferences.
+//! Character properties that depend on the encoding, and backreferences.
 
 ghost use Rattle.std.specs.Prelude.{◌≡◌, ◌≤◌};
-ghost use Rattle.regex_meaning.specs.Offsets.{IsBoundary};
-ghost use Rattle.regress_input.specs.Reading.{heading, led_to, past_range, past_range_icase};
+ghost use Rattle.regex_meaning.specs.CodeUnitOffsets.{IsBoundary};
+ghost use Rattle.regress_input.specs.ReadsFromOffset.{reading_direction, end_if_matched, past_range, past_range_icase};
 
 use crate::cursor::{self, Direction};
 use crate::indexing::InputIndexer;
@@ -11,8 +11,9 @@ pub use crate::indexing::{
 };
 use std::ops::Range;
 
-/// Whether the characters of a range stand once more on the direction's side of a boundary, read left to right. Then
-/// the position is behind them, and else it is not specified (ECMA-262, 21.2.2.9).
+/// Checks whether the characters of `orig_range` occur again next to the boundary `pos` in the
+/// direction, read left to right (ECMA-262, 21.2.2.9). If so, `pos` is moved past them; otherwise
+/// its new value is unspecified.
 #[inline(always)]
 pub fn backref<Input: InputIndexer, Dir: Direction>(
     input: &Input,
@@ -25,14 +26,14 @@ pub fn backref<Input: InputIndexer, Dir: Direction>(
     requires to { IsBoundary (Input.text input.now) (Input.Position.offset orig_range.end) }
     requires in_order { Input.Position.offset orig_range.start ≤ Input.Position.offset orig_range.end }
     ensures { let at = Input.Position.offset in
-        led_to result (at pos.new) ≡ past_range (Input.text input.now)
-        (at orig_range.start) (at orig_range.end) (heading Dir.FORWARD) (at pos.old) }
+        end_if_matched result (at pos.new) ≡ past_range (Input.text input.now)
+        (at orig_range.start) (at orig_range.end) (reading_direction Dir.FORWARD) (at pos.old) }
 {
     input.subrange_eq(dir, pos, orig_range)
 }
 
-/// The same, where characters also count as equal whose folds are. It may take another number of units than the range
-/// has.
+/// Like `backref`, but characters are also equal if their folds are equal. The match may have a
+/// different number of code units than the range.
 #[inline]
 pub fn backref_icase<Input: InputIndexer, Dir: Direction>(
     input: &Input,
@@ -45,8 +46,8 @@ pub fn backref_icase<Input: InputIndexer, Dir: Direction>(
     requires to { IsBoundary (Input.text input.now) (Input.Position.offset orig_range.end) }
     requires in_order { Input.Position.offset orig_range.start ≤ Input.Position.offset orig_range.end }
     ensures { let at = Input.Position.offset in
-        led_to result (at pos.new) ≡ past_range_icase (Input.text input.now)
-        (at orig_range.start) (at orig_range.end) (heading Dir.FORWARD) (at pos.old) }
+        end_if_matched result (at pos.new) ≡ past_range_icase (Input.text input.now)
+        (at orig_range.start) (at orig_range.end) (reading_direction Dir.FORWARD) (at pos.old) }
 {
     let start = orig_range.start;
     let end = orig_range.end;

@@ -1,4 +1,4 @@
-//! Positions in a text, which are offsets in units from its left end.
+//! Positions in a text: offsets in code units from its left end.
 
 ghost use Rattle.std.specs.Prelude.{◌≡◌, ◌<◌, ◌≤◌, ◌+◌, ◌-◌, ◌^◌, ◌==◌, ℕ, Bool, true, false, Some};
 ghost use Rattle.std.specs.Ordering.{nat_cmp};
@@ -8,7 +8,7 @@ use std::fmt::Debug;
 use std::marker::PhantomData;
 use std::ops::{Add, AddAssign, Sub, SubAssign};
 
-/// A place in a text. Contracts see its offset in units: bytes, or 16-bit units.
+/// A position in a text. Contracts see its offset in code units (bytes or 16-bit units).
 /// Arithmetic, equality and order are those of offsets.
 pub trait PositionType: Copy
     + Debug
@@ -20,26 +20,27 @@ pub trait PositionType: Copy
     + SubAssign<usize> {
     ghost offset: { Self → ℕ };
 
-    /// The position at an offset.
+    /// Returns the position at an offset.
     fn from_offset(units: usize) -> Self
         ensures { offset result ≡ units };
 
-    /// The offset of the position.
+    /// Returns the offset of the position.
     fn to_offset(self) -> usize
         ensures { result ≡ offset self };
 
-    /// The position that stands for none: its offset is the greatest of all, which no text has.
+    /// Returns the position that represents no position. Its offset is the greatest one, which no
+    /// text has.
     fn none() -> Self
         ensures { offset result ≡ 2 ^ 64 - 1 };
 
-    // Positions are equal, and stand in order, as their offsets do.
+    // Equality and order of positions are those of their offsets.
     ghost equal: { (p q : Self) → Self.eq p q ≡ (offset p == offset q) };
 
     ghost in_order: { (p q : Self) → Self.cmp p q ≡ nat_cmp (offset p) (offset q) };
 
     ghost compared: { (p q : Self) → Self.partial_cmp p q ≡ Some (nat_cmp (offset p) (offset q)) };
 
-    // A position may be moved wherever the offset fits.
+    // A position may be moved wherever the new offset fits.
     ghost may_add: { (p : Self) (n : ℕ) → offset p + n < 2 ^ 64 → ⟦<Self as Add<usize>>⟧.can_add p n };
 
     ghost may_add_assign: { (p : Self) (n : ℕ) → offset p + n < 2 ^ 64
@@ -51,7 +52,7 @@ pub trait PositionType: Copy
 
     ghost may_measure: { (p q : Self) → offset q ≤ offset p → ⟦<Self as Sub<Self>>⟧.can_sub p q };
 
-    // Then the offset is the sum or the difference.
+    // The new offset is then the sum or the difference.
     ghost added: { (p : Self) (n : ℕ) (q : Self) → ⟦<Self as Add<usize>>⟧.add_gives p n q → offset q ≡ offset p + n };
 
     ghost add_assigned: { (p : Self) (n : ℕ) (q : Self) → ⟦<Self as AddAssign<usize>>⟧.add_assign_gives p n q
@@ -66,22 +67,22 @@ pub trait PositionType: Copy
     ghost measured: { (p q : Self) (n : ℕ) → ⟦<Self as Sub<Self>>⟧.sub_gives p q n → n ≡ offset p - offset q };
 }
 
-/// The way in which a text is read.
+/// The direction in which a text is read.
 pub trait Direction: Copy + Debug {
     ghost FORWARD: { Bool };
 
-    /// Whether it is from left to right.
+    /// Whether the direction is from left to right.
     const FORWARD: bool;
 
-    /// The direction, which holds nothing.
+    /// Returns the direction, which has no data.
     fn new() -> Self;
 }
 
-/// From left to right.
+/// The direction from left to right.
 #[derive(Clone, Copy, Debug)]
 pub struct Forward;
 
-/// From right to left.
+/// The direction from right to left.
 #[derive(Clone, Copy, Debug)]
 pub struct Backward;
 
@@ -107,7 +108,7 @@ impl Direction for Backward {
     }
 }
 
-/// A position that is an offset.
+/// A position that is stored as an offset.
 #[derive(Clone, Copy, Debug, PartialEq, Eq, PartialOrd, Ord)]
 pub struct IndexPosition<'a> {
     pub(crate) offset: usize,
@@ -119,7 +120,7 @@ impl<'a> IndexPosition<'a> {
     #[inline(always)]
     pub fn check_size() {}
 
-    /// The position with this offset.
+    /// Returns the position with this offset.
     #[inline(always)]
     pub fn new(offset: usize) -> Self
         ensures { ⟦<IndexPosition<'a> as PositionType>⟧.offset result ≡ offset }
@@ -131,7 +132,7 @@ impl<'a> IndexPosition<'a> {
     }
 }
 
-/// The position type that inputs have.
+/// The position type of the inputs.
 pub type DefPosition<'a> = IndexPosition<'a>;
 
 impl<'a> Add<usize> for IndexPosition<'a> {

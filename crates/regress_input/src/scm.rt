@@ -2,32 +2,33 @@
 
 ghost use Rattle.std.specs.Prelude.{◌≡◌, ◌<◌, ◌≤◌, ◌==◌, ℕ, Bool, true, not, List, All, encode_utf8, ⊤};
 ghost use Rattle.std.specs.Char.{IsScalar};
-ghost use Rattle.regex_meaning.specs.{Lists.{contains}, Tree.{bracket, byte_sequence}, Text.{is_line_terminator}, Outcomes.{accepts}};
-ghost use Rattle.regex_meaning.specs.Offsets.{IsBoundary};
-ghost use Rattle.regex_pattern_front.specs.TreeOf.{contents_of};
-ghost use Rattle.regress_input.specs.Reading.{heading, led_to, past_if};
+ghost use Rattle.regex_meaning.specs.{NumberListHelpers.{contains}, Tree.{bracket, byte_sequence}, Text.{is_line_terminator}, Outcomes.{accepts}};
+ghost use Rattle.regex_meaning.specs.CodeUnitOffsets.{IsBoundary};
+ghost use Rattle.regex_pattern_front.specs.AstToSpecTree.{class_as_spec};
+ghost use Rattle.regress_input.specs.ReadsFromOffset.{reading_direction, end_if_matched, past_if};
 
 use crate::cursor::{self, Direction};
 use crate::front::{BracketContents, ByteArraySet, ByteSet, MAX_CHAR_SET_LENGTH, SmallArraySet};
 use crate::indexing::{CharProperties, CodeUnits, ElementType, InputIndexer};
 use crate::utf8;
 
-/// A matcher of one character. Contracts see which characters it accepts, and what it asks of its input and of itself.
+/// A matcher of one character. Contracts see which characters it accepts (`accepted`), and what it
+/// requires of itself (`can_match`) and of its input.
 pub trait SingleCharMatcher<Input: InputIndexer, Dir: Direction> {
     ghost can_match: { Self → Type 0 } = { λ _. ⊤ };
 
     ghost accepted: { Self → ℕ → Bool };
 
-    /// Whether the next character in the direction is accepted. Then the position is past it, and else it is not
-    /// specified.
+    /// Checks whether the next character in the direction is accepted. If so, `pos` is moved past
+    /// it; otherwise its new value is unspecified.
     fn matches(&self, input: &Input, dir: Dir, pos: &mut Input::Position) -> bool
         requires can { can_match self.now }
         requires at { IsBoundary (Input.text input.now) (Input.Position.offset pos.old) }
-        ensures { let at = Input.Position.offset in led_to result (at pos.new)
-            ≡ past_if (Input.text input.now) (accepted self.now) (heading Dir.FORWARD) (at pos.old) };
+        ensures { let at = Input.Position.offset in end_if_matched result (at pos.new)
+            ≡ past_if (Input.text input.now) (accepted self.now) (reading_direction Dir.FORWARD) (at pos.old) };
 }
 
-/// One character.
+/// A matcher of one given character.
 #[derive(Drop)]
 pub struct Char<Input: InputIndexer> {
     pub c: Input::Element,
@@ -45,7 +46,7 @@ impl<Input: InputIndexer, Dir: Direction> SingleCharMatcher<Input, Dir> for Char
     }
 }
 
-/// Any of four characters, some of which may be the same.
+/// A matcher of any of four characters, some of which may be equal.
 #[derive(Drop)]
 pub struct CharSet<'a> {
     pub chars: &'a [u32; MAX_CHAR_SET_LENGTH],
@@ -63,7 +64,7 @@ impl<'a, Input: InputIndexer, Dir: Direction> SingleCharMatcher<Input, Dir> for 
     }
 }
 
-/// Whether a character is one of four.
+/// Checks whether a character is one of four.
 #[inline(always)]
 pub fn contains_char(chars: &[u32; MAX_CHAR_SET_LENGTH], c: u32) -> bool
     ensures { result ≡ contains chars.now c }
@@ -72,14 +73,14 @@ pub fn contains_char(chars: &[u32; MAX_CHAR_SET_LENGTH], c: u32) -> bool
     c == first || c == second || c == third || c == fourth
 }
 
-/// Any character of a class.
+/// A matcher of any character of a class.
 #[derive(Drop)]
 pub struct Bracket<'a> {
     pub bc: &'a BracketContents,
 }
 
 impl<'a, Input: InputIndexer, Dir: Direction> SingleCharMatcher<Input, Dir> for Bracket<'a> {
-    ghost accepted = { λ m. accepts (bracket (contents_of m.bc.now)) };
+    ghost accepted = { λ m. accepts (bracket (class_as_spec m.bc.now)) };
 
     #[inline(always)]
     fn matches(&self, input: &Input, dir: Dir, pos: &mut Input::Position) -> bool {
@@ -90,12 +91,12 @@ impl<'a, Input: InputIndexer, Dir: Direction> SingleCharMatcher<Input, Dir> for 
     }
 }
 
-/// Any character.
+/// A matcher of any character.
 #[derive(Drop)]
 pub struct MatchAny {}
 
 impl MatchAny {
-    /// The matcher, which holds nothing.
+    /// Returns the matcher, which has no data.
     pub fn new() -> Self {
         MatchAny {}
     }
@@ -110,12 +111,12 @@ impl<Input: InputIndexer, Dir: Direction> SingleCharMatcher<Input, Dir> for Matc
     }
 }
 
-/// Any character but those that end a line.
+/// A matcher of any character except line terminators.
 #[derive(Drop)]
 pub struct MatchAnyExceptLineTerminator {}
 
 impl MatchAnyExceptLineTerminator {
-    /// The matcher, which holds nothing.
+    /// Returns the matcher, which has no data.
     pub fn new() -> Self {
         MatchAnyExceptLineTerminator {}
     }
@@ -134,7 +135,7 @@ impl<Input: InputIndexer, Dir: Direction> SingleCharMatcher<Input, Dir>
     }
 }
 
-/// Any character of a set of ASCII bytes.
+/// A matcher of any character of a set of ASCII bytes.
 #[derive(Drop)]
 pub struct MatchByteSet<'a, Bytes: ByteSet> {
     pub bytes: &'a Bytes,
@@ -152,7 +153,7 @@ impl<'a, Input: InputIndexer, Dir: Direction, Bytes: ByteSet> SingleCharMatcher<
     }
 }
 
-/// The same of an array that is held directly.
+/// Like `MatchByteSet`, with an array that is stored inline.
 #[derive(Drop)]
 pub struct MatchByteArraySet<ArraySet: SmallArraySet>(pub ByteArraySet<ArraySet>);
 
@@ -168,7 +169,8 @@ impl<Input: InputIndexer, Dir: Direction, ArraySet: SmallArraySet> SingleCharMat
     }
 }
 
-// A character of ASCII is a byte. Where units are no bytes it is read as a character.
+// Matches a character of a set of ASCII bytes. An ASCII character is one byte, so a byte is read if
+// code units are bytes; otherwise a character is read.
 #[inline(always)]
 fn matches_ascii<Bytes: ByteSet, Input: InputIndexer, Dir: Direction>(
     bytes: &Bytes,
@@ -179,8 +181,8 @@ fn matches_ascii<Bytes: ByteSet, Input: InputIndexer, Dir: Direction>(
     requires ascii { All (λ b. b < 128) (Bytes.members bytes.now) }
     requires at { IsBoundary (Input.text input.now) (Input.Position.offset pos.old) }
     ensures { let at = Input.Position.offset in
-        led_to result (at pos.new) ≡ past_if (Input.text input.now)
-        (contains (Bytes.members bytes.now)) (heading Dir.FORWARD) (at pos.old) }
+        end_if_matched result (at pos.new) ≡ past_if (Input.text input.now)
+        (contains (Bytes.members bytes.now)) (reading_direction Dir.FORWARD) (at pos.old) }
 {
     if Input::Units::ARE_BYTES {
         match cursor::next_byte(input, dir, pos) {
@@ -195,7 +197,7 @@ fn matches_ascii<Bytes: ByteSet, Input: InputIndexer, Dir: Direction>(
     }
 }
 
-/// The character of which these are the bytes in UTF-8.
+/// A matcher of the character whose UTF-8 encoding these bytes are.
 #[derive(Drop)]
 pub struct MatchByteSeq<'a, const N: usize>(pub &'a [u8; N]);
 
@@ -218,7 +220,7 @@ impl<'a, const N: usize, Input: InputIndexer, Dir: Direction> SingleCharMatcher<
     }
 }
 
-// Whether these are the bytes of this character.
+// Checks whether `bytes` are the UTF-8 encoding of `c`.
 #[inline(always)]
 fn is_spelled(bytes: &[u8], c: u32) -> bool
     requires { (d : ℕ) × IsScalar d × (bytes.now ≡ encode_utf8 d) }

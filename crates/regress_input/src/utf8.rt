@@ -1,14 +1,14 @@
-//! Characters in UTF-8, read from their bytes.
+//! Decoding characters from UTF-8 bytes.
 
 ghost use Rattle.std.specs.Prelude.{◌≡◌, ◌+◌, ◌*◌, ℕ};
 ghost use Rattle.std.specs.Char.{IsScalar, len_utf8};
-ghost use Rattle.regress_input.specs.Utf8.{StandsAt, EndsAt};
+ghost use Rattle.regress_input.specs.Utf8.{IsEncodedAt, IsEncodedBefore};
 
-/// The character that begins at an offset, and where it ends.
+/// Returns the character that begins at offset `at`, and the offset at which it ends.
 #[inline(always)]
 pub(crate) fn character_at(bytes: &[u8], at: usize) -> (char, usize)
-    requires { (c : ℕ) × StandsAt bytes.now at c }
-    ensures { (c : ℕ) → StandsAt bytes.now at c → (result.0 ≡ c) × (result.1 ≡ at + len_utf8 c) }
+    requires { (c : ℕ) × IsEncodedAt bytes.now at c }
+    ensures { (c : ℕ) → IsEncodedAt bytes.now at c → (result.0 ≡ c) × (result.1 ≡ at + len_utf8 c) }
 {
     let first = bytes[at];
     if first < 0x80 {
@@ -28,11 +28,11 @@ pub(crate) fn character_at(bytes: &[u8], at: usize) -> (char, usize)
     )
 }
 
-/// The character that ends at an offset, and where it begins.
+/// Returns the character that ends at offset `end`, and the offset at which it begins.
 #[inline(always)]
 pub(crate) fn character_before(bytes: &[u8], end: usize) -> (char, usize)
-    requires { (start : ℕ) × (c : ℕ) × EndsAt bytes.now end start c }
-    ensures { (start c : ℕ) → EndsAt bytes.now end start c → (result.0 ≡ c) × (result.1 ≡ start) }
+    requires { (start : ℕ) × (c : ℕ) × IsEncodedBefore bytes.now end start c }
+    ensures { (start c : ℕ) → IsEncodedBefore bytes.now end start c → (result.0 ≡ c) × (result.1 ≡ start) }
 {
     let last = bytes[end - 1];
     if last < 0x80 {
@@ -52,8 +52,8 @@ pub(crate) fn character_before(bytes: &[u8], end: usize) -> (char, usize)
     )
 }
 
-// The characters that such bytes spell. A lead byte has a fixed part, and so has each of the others; together these
-// come to the number that is taken off.
+// The characters that two, three and four bytes encode. The lead byte has a fixed part, and so has
+// each continuation byte; the number that is subtracted is the sum of these parts.
 
 #[inline(always)]
 fn character_of_two(first: u8, second: u8) -> char

@@ -3,8 +3,8 @@
 #![tactic(auto)]
 
 ghost use Rattle.std.specs.Prelude.{◌<◌, ◌≤◌, All, IfSome, IsAscii, IsUtf8};
-ghost use Rattle.regex_meaning.specs.Offsets.{IsBoundary, units};
-ghost use Rattle.regex_pattern_front.specs.ByteSets.{ascii_bitmap_bytes};
+ghost use Rattle.regex_meaning.specs.CodeUnitOffsets.{IsBoundary, units};
+ghost use Rattle.regex_pattern_front.specs.ByteSetMembers.{ascii_bitmap_bytes};
 
 use regress_input::cursor::{self, Direction, Forward};
 use regress_input::front::{

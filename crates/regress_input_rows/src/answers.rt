@@ -1,7 +1,7 @@
 //! What calls answer, as numbers: places count characters from the left end, and offsets are in units.
 
 ghost use Rattle.std.specs.Prelude.{◌≡◌, ◌≤◌, IfSome};
-ghost use Rattle.regex_meaning.specs.Offsets.{IsBoundary, units};
+ghost use Rattle.regex_meaning.specs.CodeUnitOffsets.{IsBoundary, units};
 
 use regress_input::cursor::{self, Direction, Forward};
 use regress_input::front::ByteSearcher;

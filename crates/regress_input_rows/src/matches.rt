@@ -1,7 +1,7 @@
 //! The matchers of one character.
 
 ghost use Rattle.std.specs.Prelude.{◌<◌, All};
-ghost use Rattle.regex_pattern_front.specs.ByteSets.{ascii_bitmap_bytes};
+ghost use Rattle.regex_pattern_front.specs.ByteSetMembers.{ascii_bitmap_bytes};
 
 use crate::answers::past_match;
 use regress_input::cursor::Direction;

@@ -3,8 +3,8 @@ use Rattle.std.proofs.Common.{◌≡◌, ℕ, zero, suc, ◌+◌, ◌-◌, ◌<�
 use Rattle.std.proofs.Common.{arith, add-one, slice_get, reverse, length-drop, length-take}
 use Rattle.std.proofs.lemmas.List.{reverse-append, length-reverse, reverse-reverse, take-append-drop, drop-take, length-take-le}
 use Rattle.std.proofs.Math.Seq.{take-append_seam}
-use Rattle.regex_meaning.specs.Text.{Text, Direction, rightwards, leftwards, last_place, next_character, moved, characters_left, characters_beside}
-use Rattle.regex_meaning.specs.Ticks.{nearest_first}
+use Rattle.regex_meaning.specs.Text.{Text, Direction, rightwards, leftwards, last_place, next_character, moved, characters_ahead, next_characters}
+use Rattle.regex_meaning.specs.OutcomesWithStepTicks.{nearest_first}
 
 -- ---- Lists
 
@@ -41,9 +41,9 @@ take-reverse n xs le =
 module _ (text : Text) where
   -- what stands on the direction's side of a place
   pub data Beside (d : Direction) (p : ℕ) : Type 0 where
-    nothing_left : next_character text d p ≡ None → nearest_first text d p ≡ [] → characters_left text d p ≡ 0 → Beside d p
+    nothing_left : next_character text d p ≡ None → nearest_first text d p ≡ [] → characters_ahead text d p ≡ 0 → Beside d p
     one_more : (c : ℕ) → next_character text d p ≡ Some c → nearest_first text d p ≡ c ∷ nearest_first text d (moved text d 1 p)
-        → characters_left text d p ≡ suc (characters_left text d (moved text d 1 p)) → moved text d 1 p ≤ last_place text → Beside d p
+        → characters_ahead text d p ≡ suc (characters_ahead text d (moved text d 1 p)) → moved text d 1 p ≤ last_place text → Beside d p
 
   pub beside : (d : Direction) (p : ℕ) → p ≤ last_place text → Beside d p
   beside rightwards p inside = go (at_index text.characters p)
@@ -63,7 +63,7 @@ module _ (text : Text) where
           one_more c is (ap reverse before ∙ reverse-append (take p text.characters) (c ∷ []) ∙ ap (λ n. c ∷ reverse (take n text.characters)) (sym same))
           (ap suc (sym same)) (omega arith)
 
-  pub length-nearest : (d : Direction) (p : ℕ) → p ≤ last_place text → length (nearest_first text d p) ≡ characters_left text d p
+  pub length-nearest : (d : Direction) (p : ℕ) → p ≤ last_place text → length (nearest_first text d p) ≡ characters_ahead text d p
   length-nearest rightwards p inside = length-drop p text.characters
   length-nearest leftwards p inside = let l = length-reverse (take p text.characters) in let t = length-take p text.characters in omega (arith, l, t)
 
@@ -81,8 +81,8 @@ module _ (text : Text) where
   in_text_order rightwards cs = cs
   in_text_order leftwards cs = reverse cs
 
-  pub characters_beside-nearest : (d : Direction) (n p : ℕ) → p ≤ last_place text → n ≤ characters_left text d p
-      → characters_beside text d n p ≡ in_text_order d (take n (nearest_first text d p))
+  pub characters_beside-nearest : (d : Direction) (n p : ℕ) → p ≤ last_place text → n ≤ characters_ahead text d p
+      → next_characters text d n p ≡ in_text_order d (take n (nearest_first text d p))
   characters_beside-nearest rightwards n p inside few = let e : p + n - p ≡ n = omega arith in ap (λ m. take m (drop p text.characters)) e
   characters_beside-nearest leftwards n p inside few =
       let cs = text.characters in

@@ -7,7 +7,7 @@ use Rattle.std.specs.Str.{is_utf8}
 use Rattle.std.proofs.lemmas.Str.{len_utf8_ascii}
 use lib.Utf8.{scalar, scalars}
 use Rattle.regex_meaning.specs.Text.{is_scalar, offsets_from, one_unit, utf8_text, ascii_text}
-use Rattle.regress_machine.specs.Bytes.{ReadsBytes}
+use Rattle.regress_machine.specs.TextsForBytePrograms.{ReadsBytes}
 use Rattle.regress_machine.proofs.OneTests.{low_scalar}
 use Rattle.regress_machine.proofs.Bytes.{utf8_scalars}
 use Rattle.regex_meaning.proofs.Clean.{is_scalar-of}

@@ -7,18 +7,18 @@ use lib.Pointwise.{pointwise}
 use lib.Utf8.{scalar, scalars}
 use Rattle.std.proofs.lemmas.List.{reverse-append, length-reverse, take-append-drop, length-take-le, drop-drop}
 use Rattle.std.proofs.Math.Seq.{drop-append_seam}
-use Rattle.regex_meaning.specs.Lists.{contains}
+use Rattle.regex_meaning.specs.NumberListHelpers.{contains}
 use Rattle.regex_meaning.specs.Laws.{IsOnward}
 use Rattle.regex_meaning.specs.Tree.{byte_set, byte_sequence}
-use Rattle.regex_meaning.specs.Text.{Text, Direction, rightwards, leftwards, last_place, next_character, moved, characters_left}
-use Rattle.regex_meaning.specs.Offsets.{IsText, offset}
+use Rattle.regex_meaning.specs.Text.{Text, Direction, rightwards, leftwards, last_place, next_character, moved, characters_ahead}
+use Rattle.regex_meaning.specs.CodeUnitOffsets.{IsText, offset}
 use Rattle.regex_meaning.specs.Outcomes.{Groups, Outcome, is_some_and, spelled, outcomes}
-use Rattle.regex_meaning.specs.WellFormed.{has_text_in_sequence, fits_instructions}
-use Rattle.regex_meaning.specs.Ticks.{Item, tick, pair, ticks, and_then, nearest_first, chunk_tries, byte_tries, ticked}
-use Rattle.regex_meaning.specs.Layout.{Program, Mark, next, HasAll, IsCode, ByteSeq, ordered, chunks}
+use Rattle.regex_meaning.specs.WellFormedTrees.{has_text_in_sequence, fits_instructions}
+use Rattle.regex_meaning.specs.OutcomesWithStepTicks.{TickOrOutcome, tick, pair, ticks, outcomes_replaced_by_lists, nearest_first, compared_chunks, byte_tries, ticked}
+use Rattle.regex_meaning.specs.CompilationRelation.{Program, Counters, counters_after_insn, HasInsnsBetween, IsCode, ByteSeq, ordered, chunks}
 use Rattle.regex_meaning.proofs.FirstBytes.{encode-1}
 use Rattle.regress_machine.specs.Machine.{LoopData, State, running, go_if, has_bytes, moved_by, act}
-use Rattle.regress_machine.specs.Bytes.{ReadsBytes}
+use Rattle.regress_machine.specs.TextsForBytePrograms.{ReadsBytes}
 use Rattle.regress_machine.proofs.Yields.{Ending, Yields, yields_none, yields_same, yields_turn}
 use Rattle.regress_machine.proofs.Frames.{kept_itself}
 use Rattle.regress_machine.proofs.Nodes.{and_then-ticks, direction_at, over, state_at, Finds, Rising, act_at, inside_by, leaf_yields}
@@ -89,9 +89,9 @@ module _ (text : Text) where
   has_bytes-stands leftwards bs at = starts-stands (reverse (take at (bytes text))) (reverse bs)
 
   byte_tries-are : ReadsBytes text → (d : Direction) (bs : List ℕ) (p : ℕ) → p ≤ last_place text
-      → byte_tries text bs d p ≡ chunk_tries (chunks_read d (in_code_order d (chunks bs))) (bytes_near text d (offset text p))
-  byte_tries-are reads rightwards bs p inside = ap (chunk_tries (chunks bs)) (sym (bytes_near-side text reads rightwards p inside))
-  byte_tries-are reads leftwards bs p inside = ap (chunk_tries (map reverse (reverse (chunks bs)))) (sym (bytes_near-side text reads leftwards p inside))
+      → byte_tries text bs d p ≡ compared_chunks (chunks_read d (in_code_order d (chunks bs))) (bytes_near text d (offset text p))
+  byte_tries-are reads rightwards bs p inside = ap (compared_chunks (chunks bs)) (sym (bytes_near-side text reads rightwards p inside))
+  byte_tries-are reads leftwards bs p inside = ap (compared_chunks (map reverse (reverse (chunks bs)))) (sym (bytes_near-side text reads leftwards p inside))
 
   -- a text's bytes stand near an offset where its characters do
   near-stands : ReadsBytes text → (d : Direction) (xs : List ℕ) (p : ℕ) → p ≤ last_place text → scalars xs ≡ true
@@ -129,19 +129,19 @@ module _ (program : Program) (text : Text) (is_text : IsText text) where
         act_at program text is_text d (at_offset ip at) (ByteSeq bs) has
         ∙ ap (λ b. go_if b (at_offset (ip + 1) (moved_by d (length bs) at))) (has_bytes-stands text d bs at)
 
-    abbrev ChunksYield : (ip end : ℕ) → List (List ℕ) → (at : ℕ) → List Item → Type 0
+    abbrev ChunksYield : (ip end : ℕ) → List (List ℕ) → (at : ℕ) → List TickOrOutcome → Type 0
     ChunksYield ip end cs at items =
         (chunks_stand (chunks_read d cs) (bytes_near text d at) ≡ true → Yields program text d E (running (at_offset end (moved_by d (total cs) at)) ∷ []) items)
         → Yields program text d E (running (at_offset ip at) ∷ [])
-        (ticks (chunk_tries (chunks_read d cs) (bytes_near text d at)) ++ items_if (chunks_stand (chunks_read d cs) (bytes_near text d at)) items)
+        (ticks (compared_chunks (chunks_read d cs) (bytes_near text d at)) ++ items_if (chunks_stand (chunks_read d cs) (bytes_near text d at)) items)
 
     -- what is found at a chunk where it stands, or does not
-    by_chunk : (c : List ℕ) (cs : List (List ℕ)) (ip end at : ℕ) (items : List Item) → at ≤ length (bytes text) → slice_get program.insns ip ≡ Some (ByteSeq c)
+    by_chunk : (c : List ℕ) (cs : List (List ℕ)) (ip end at : ℕ) (items : List TickOrOutcome) → at ≤ length (bytes text) → slice_get program.insns ip ≡ Some (ByteSeq c)
         → ((q : ℕ) → q ≤ length (bytes text) → ChunksYield (ip + 1) end cs q items)
         → (chunks_stand (chunks_read d (c ∷ cs)) (bytes_near text d at) ≡ true → Yields program text d E (running (at_offset end (moved_by d (total (c ∷ cs)) at)) ∷ []) items)
         → (b : Bool) → stands nat_eq (in_reading_order text d c) (bytes_near text d at) ≡ b
         → Yields program text d E (running (at_offset ip at) ∷ [])
-        (ticks (if b then chunk_tries (chunks_read d cs) (drop (length (in_reading_order text d c)) (bytes_near text d at)) + 1 else 1)
+        (ticks (if b then compared_chunks (chunks_read d cs) (drop (length (in_reading_order text d c)) (bytes_near text d at)) + 1 else 1)
         ++ items_if (b && chunks_stand (chunks_read d cs) (drop (length (in_reading_order text d c)) (bytes_near text d at))) items)
     by_chunk c cs ip end at items inside has later behind true e =
         let r = in_reading_order text d c in
@@ -151,9 +151,9 @@ module _ (program : Program) (text : Text) (is_text : IsText text) where
         let on = near-moved text d c at inside e in
         let same : bytes_near text d q ≡ drop (length r) near = on.0 ∙ ap (λ n. drop n near) (sym (length-reading text d c)) in
         yields_same program text d E _ _ _
-        (ap (λ (l : List ℕ). tick ∷ (ticks (chunk_tries rest l) ++ items_if (chunks_stand rest l) items)) same
-        ∙ tried_more (chunk_tries rest (drop (length r) near)) (items_if (chunks_stand rest (drop (length r) near)) items))
-        (yields_turn program text d E (at_offset ip at) (running (at_offset (ip + 1) q) ∷ []) (ticks (chunk_tries rest (bytes_near text d q)) ++ items_if (chunks_stand rest (bytes_near text d q)) items)
+        (ap (λ (l : List ℕ). tick ∷ (ticks (compared_chunks rest l) ++ items_if (chunks_stand rest l) items)) same
+        ∙ tried_more (compared_chunks rest (drop (length r) near)) (items_if (chunks_stand rest (drop (length r) near)) items))
+        (yields_turn program text d E (at_offset ip at) (running (at_offset (ip + 1) q) ∷ []) (ticks (compared_chunks rest (bytes_near text d q)) ++ items_if (chunks_stand rest (bytes_near text d q)) items)
         (chunk_turn c ip at has ∙ ap (λ b. go_if b (at_offset (ip + 1) q)) e)
         (later q on.1
         (λ h. subst (λ (i : ℕ). Yields program text d E (running (at_offset end i) ∷ []) items) (sym (moved_by-add text d (length c) (total cs) at))
@@ -165,42 +165,42 @@ module _ (program : Program) (text : Text) (is_text : IsText text) where
         yields_turn program text d E (at_offset ip at) [] []
         (chunk_turn c ip at has ∙ ap (λ b. go_if b (at_offset (ip + 1) (moved_by d (length c) at))) e) (yields_none program text d E)
 
-    step_yields : (c : List ℕ) (cs : List (List ℕ)) (ip end at : ℕ) (items : List Item) → at ≤ length (bytes text) → slice_get program.insns ip ≡ Some (ByteSeq c)
+    step_yields : (c : List ℕ) (cs : List (List ℕ)) (ip end at : ℕ) (items : List TickOrOutcome) → at ≤ length (bytes text) → slice_get program.insns ip ≡ Some (ByteSeq c)
         → ((q : ℕ) → q ≤ length (bytes text) → ChunksYield (ip + 1) end cs q items) → ChunksYield ip end (c ∷ cs) at items
     step_yields c cs ip end at items inside has later behind =
         let r = in_reading_order text d c in
         let near = bytes_near text d at in
         let rest = chunks_read d cs in
         yields_same program text d E _ _ _
-        (ap (λ b. ticks (if b then chunk_tries rest (drop (length r) near) + 1 else 1) ++ items_if (stands nat_eq r near && chunks_stand rest (drop (length r) near)) items)
+        (ap (λ b. ticks (if b then compared_chunks rest (drop (length r) near) + 1 else 1) ++ items_if (stands nat_eq r near && chunks_stand rest (drop (length r) near)) items)
         (sym (starts-stands near r))
-        ∙ ap (λ (l : List (List ℕ)). ticks (chunk_tries l near) ++ items_if (chunks_stand l near) items) (sym (chunks_read-cons text d c cs)))
+        ∙ ap (λ (l : List (List ℕ)). ticks (compared_chunks l near) ++ items_if (chunks_stand l near) items) (sym (chunks_read-cons text d c cs)))
         (by_chunk c cs ip end at items inside has later behind (stands nat_eq r near) refl)
 
-    chunks_yield : (cs : List (List ℕ)) (m n : Mark) (at : ℕ) (items : List Item) → at ≤ length (bytes text) → HasAll program (map ByteSeq cs) m n
+    chunks_yield : (cs : List (List ℕ)) (m n : Counters) (at : ℕ) (items : List TickOrOutcome) → at ≤ length (bytes text) → HasInsnsBetween program (map ByteSeq cs) m n
         → ChunksYield m.insn n.insn cs at items
     chunks_yield [] m n at items inside has behind =
         yields_same program text d E _ _ _ (none_read d)
-        (subst (λ (ip : ℕ). Yields program text d E (running (at_offset ip at) ∷ []) items) (sym (ap (λ (m : Mark). m.insn) has))
+        (subst (λ (ip : ℕ). Yields program text d E (running (at_offset ip at) ∷ []) items) (sym (ap (λ (m : Counters). m.insn) has))
         (subst (λ (i : ℕ). Yields program text d E (running (at_offset n.insn i) ∷ []) items) (moved_by-zero text d at) (behind (all_stand d))))
       where
         all_stand : (d : Direction) → chunks_stand (chunks_read d []) (bytes_near text d at) ≡ true
         all_stand rightwards = refl
         all_stand leftwards = refl
 
-        none_read : (d : Direction) → items ≡ ticks (chunk_tries (chunks_read d []) (bytes_near text d at)) ++ items_if (chunks_stand (chunks_read d []) (bytes_near text d at)) items
+        none_read : (d : Direction) → items ≡ ticks (compared_chunks (chunks_read d []) (bytes_near text d at)) ++ items_if (chunks_stand (chunks_read d []) (bytes_near text d at)) items
         none_read rightwards = refl
         none_read leftwards = refl
     chunks_yield (c ∷ cs) m n at items inside has behind =
-        step_yields c cs m.insn n.insn at items inside has.0 (λ q within. chunks_yield cs (next m) n q items within has.1) behind
+        step_yields c cs m.insn n.insn at items inside has.0 (λ q within. chunks_yield cs (counters_after_insn m) n q items within has.1) behind
 
     -- ---- A sequence
 
-    sequence_yields : ReadsBytes text → (bs : List ℕ) (m n : Mark) (p : ℕ) (k : Outcome → List Item) → is_utf8 bs ≡ true → p ≤ last_place text
-        → HasAll program (map ByteSeq (in_code_order d (chunks bs))) m n
+    sequence_yields : ReadsBytes text → (bs : List ℕ) (m n : Counters) (p : ℕ) (k : Outcome → List TickOrOutcome) → is_utf8 bs ≡ true → p ≤ last_place text
+        → HasInsnsBetween program (map ByteSeq (in_code_order d (chunks bs))) m n
         → ((q : ℕ) → IsOnward text d p q → q ≤ last_place text → Yields program text d E (running (state_at program text is_text n.insn q g s ls) ∷ []) (k (record { end = q; groups = g })))
         → Yields program text d E (running (state_at program text is_text m.insn p g s ls) ∷ [])
-        (and_then (ticks (byte_tries text bs d p) ++ map pair (spelled text nat_eq (chars bs) d p g)) k)
+        (outcomes_replaced_by_lists (ticks (byte_tries text bs d p) ++ map pair (spelled text nat_eq (chars bs) d p g)) k)
     sequence_yields reads bs m n p k u inside has behind =
         let xs = chars bs in
         let cs = in_code_order d (chunks bs) in
@@ -217,7 +217,7 @@ module _ (program : Program) (text : Text) (is_text : IsText text) where
         yields_same program text d E _ _ _
         (ap (λ n. ticks n ++ items_if (chunks_stand (chunks_read d cs) near) (k o)) (sym (byte_tries-are text reads d bs p inside))
         ∙ ap (λ b. ticks (byte_tries text bs d p) ++ items_if b (k o)) (stand ∙ sym (beside-stands text nat_eq xs d p inside))
-        ∙ ap (λ (l : List Item). ticks (byte_tries text bs d p) ++ l) (sym (items_if-pair _ o k))
+        ∙ ap (λ (l : List TickOrOutcome). ticks (byte_tries text bs d p) ++ l) (sym (items_if-pair _ o k))
         ∙ sym (and_then-ticks (byte_tries text bs d p) (map pair (spelled text nat_eq xs d p g)) k))
         (chunks_yield cs m n at (k o) (offset-inside text reads p inside) has
         (λ all.
@@ -225,7 +225,7 @@ module _ (program : Program) (text : Text) (is_text : IsText text) where
         let long = length-reading text d xs in
         let enough = stands-length nat_eq (in_reading_order text d xs) (nearest_first text d p) h in
         let left = length-nearest text d p inside in
-        let few : length xs ≤ characters_left text d p = omega (arith, enough, left, long) in
+        let few : length xs ≤ characters_ahead text d p = omega (arith, enough, left, long) in
         let onward = reached_behind program text is_text d (length xs) p g inside few in
         let within = inside_by program text is_text d p e inside onward in
         let offset_is : offset text e ≡ moved_by d (total cs) at =
@@ -234,9 +234,9 @@ module _ (program : Program) (text : Text) (is_text : IsText text) where
 
     -- ---- One byte
 
-    byte_yields : ReadsBytes text → (b : ℕ) (m n : Mark) (p : ℕ) (k : Outcome → List Item) → b < 128 → p ≤ last_place text → HasAll program (ByteSeq (b ∷ []) ∷ []) m n
+    byte_yields : ReadsBytes text → (b : ℕ) (m n : Counters) (p : ℕ) (k : Outcome → List TickOrOutcome) → b < 128 → p ≤ last_place text → HasInsnsBetween program (ByteSeq (b ∷ []) ∷ []) m n
         → ((q : ℕ) → IsOnward text d p q → q ≤ last_place text → Yields program text d E (running (state_at program text is_text n.insn q g s ls) ∷ []) (k (record { end = q; groups = g })))
-        → Yields program text d E (running (state_at program text is_text m.insn p g s ls) ∷ []) (and_then (one_items program text is_text (contains (b ∷ [])) d p g) k)
+        → Yields program text d E (running (state_at program text is_text m.insn p g s ls) ∷ []) (outcomes_replaced_by_lists (one_items program text is_text (contains (b ∷ [])) d p g) k)
     byte_yields reads b m n p k low inside has behind =
         let at = offset text p in
         let e = moved text d 1 p in
@@ -255,12 +255,12 @@ module _ (program : Program) (text : Text) (is_text : IsText text) where
         let long = length-reading text d (b ∷ []) in
         let enough = stands-length nat_eq (in_reading_order text d (b ∷ [])) (nearest_first text d p) h in
         let left = length-nearest text d p inside in
-        let few : 1 ≤ characters_left text d p = omega (arith, enough, left, long) in
+        let few : 1 ≤ characters_ahead text d p = omega (arith, enough, left, long) in
         let onward = reached_behind program text is_text d 1 p g inside few in
         let within = inside_by program text is_text d p e inside onward in
         let offset_is : offset text e ≡ moved_by d 1 at =
         offset-moved text reads d (b ∷ []) p inside h within ∙ ap (λ (l : List ℕ). moved_by d (length l) at) is in
-        let ip_is : n.insn ≡ m.insn + 1 = ap (λ (m : Mark). m.insn) (sym has.1) in
+        let ip_is : n.insn ≡ m.insn + 1 = ap (λ (m : Counters). m.insn) (sym has.1) in
         subst (λ (i : ℕ). Yields program text d E (running (at_offset (m.insn + 1) i) ∷ []) (k o)) offset_is
         (subst (λ (i : ℕ). Yields program text d E (running (at_offset i (offset text e)) ∷ []) (k o)) ip_is (behind e onward within)))
 
@@ -275,7 +275,7 @@ module _ (program : Program) (text : Text) (is_text : IsText text) where
   in_direction_finds behind bs reads u E m n p g s ls k code enters on =
       let d = direction_at behind in
       sequence_yields d E g s ls reads bs m n p k u enters.inside
-      (subst (λ (cs : List (List ℕ)). HasAll program (map ByteSeq cs) m n) (sym (code_in_order behind (chunks bs))) code)
+      (subst (λ (cs : List (List ℕ)). HasInsnsBetween program (map ByteSeq cs) m n) (sym (code_in_order behind (chunks bs))) code)
       (λ q onward within.
       on.at (record { end = q; groups = g }) s ls (record { onward = onward; inside = within; same_groups = refl; fit = enters.fit })
       (kept_itself [] m.loop n.loop s ls))

@@ -6,7 +6,7 @@ use Rattle.std.specs.List.{concat}
 use Rattle.std.proofs.lemmas.List.{reverse-append, length-reverse, take-append-drop}
 use Rattle.std.proofs.lemmas.List.Folds.{concat-append}
 use Rattle.regex_meaning.specs.Text.{Text, Direction, rightwards, leftwards}
-use Rattle.regex_meaning.specs.Layout.{chunks, chunks_of}
+use Rattle.regex_meaning.specs.CompilationRelation.{chunks, chunks_of}
 use Rattle.regress_machine.proofs.Stands.{and_assoc, stands, in_reading_order, length-reading}
 
 -- the chunks stand one after another

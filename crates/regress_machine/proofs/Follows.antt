@@ -3,23 +3,23 @@ use Rattle.std.proofs.Common.{◌≡◌, ℕ, ◌+◌, ◌≤◌, List, [], ◌�
 use Rattle.std.specs.Prelude.{option_map, is_some, if◌then◌else◌}
 use Rattle.regex_meaning.specs.Tree.{Tree}
 use Rattle.regex_meaning.specs.Text.{Text, rightwards, last_place}
-use Rattle.regex_meaning.specs.Offsets.{offset}
-use Rattle.regex_meaning.specs.Find.{no_groups, first_of, match_at}
-use Rattle.regex_meaning.specs.Ticks.{Item, tick, pair, pairs, is_empty, ticks_to_first, items_at, ticks_at}
-use Rattle.regex_meaning.specs.Layout.{Program}
+use Rattle.regex_meaning.specs.CodeUnitOffsets.{offset}
+use Rattle.regex_meaning.specs.FirstAndAllMatches.{no_groups, first_outcome, match_at}
+use Rattle.regex_meaning.specs.OutcomesWithStepTicks.{TickOrOutcome, tick, pair, outcomes_without_ticks, is_empty, ticks_to_first, items_at, ticks_at}
+use Rattle.regex_meaning.specs.CompilationRelation.{Program}
 use Rattle.regex_meaning.proofs.Ticked.{pairs-ticked}
 use Rattle.regress_machine.specs.Machine.{running, Found, search}
-use Rattle.regress_machine.specs.Finds.{initial, end_of, end_in_offsets, match_in_offsets, first_pair, turns_at, CanSearch}
+use Rattle.regress_machine.specs.SearchResults.{state_before_first_insn, end_of, end_in_offsets, match_in_offsets, first_pair, turns_at, ProgramCanSearchText}
 use Rattle.regress_machine.proofs.Search.{search_more}
 use Rattle.regress_machine.proofs.Whole.{searches-find}
 
-first_of-pairs : (text : Text) (place : ℕ) (items : List Item)
-    → option_map (match_in_offsets text) (first_of place (pairs items)) ≡ option_map (end_in_offsets text) (first_pair items)
+first_of-pairs : (text : Text) (place : ℕ) (items : List TickOrOutcome)
+    → option_map (match_in_offsets text) (first_outcome place (outcomes_without_ticks items)) ≡ option_map (end_in_offsets text) (first_pair items)
 first_of-pairs text place [] = refl
 first_of-pairs text place (tick ∷ items) = first_of-pairs text place items
 first_of-pairs text place (pair o ∷ items) = refl
 
-is_empty-pairs : (items : List Item) → is_empty (pairs items) ≡ (if is_some (first_pair items) then false else true)
+is_empty-pairs : (items : List TickOrOutcome) → is_empty (outcomes_without_ticks items) ≡ (if is_some (first_pair items) then false else true)
 is_empty-pairs [] = refl
 is_empty-pairs (tick ∷ items) = is_empty-pairs items
 is_empty-pairs (pair o ∷ items) = refl
@@ -30,28 +30,28 @@ same_some f g None (Some y) e = cc
 same_some f g (Some x) None e = cc
 same_some f g (Some x) (Some y) e = refl
 
-module _ (program : Program) (tree : Tree) (text : Text) (can : CanSearch program tree text) (place : ℕ) (inside : place ≤ last_place text) where
+module _ (program : Program) (tree : Tree) (text : Text) (can : ProgramCanSearchText program tree text) (place : ℕ) (inside : place ≤ last_place text) where
   -- whatever number of turns a search takes, it is the one that is known
-  found_so : (turns : ℕ) (f : Found) → search program text turns rightwards (running (initial program (offset text place)) ∷ []) ≡ Some f
+  found_so : (turns : ℕ) (f : Found) → search program text turns rightwards (running (state_before_first_insn program (offset text place)) ∷ []) ≡ Some f
       → (f.steps ≡ ticks_to_first (items_at tree text place)) × (option_map end_of f.end ≡ option_map (end_in_offsets text) (first_pair (items_at tree text place)))
   found_so turns f e =
       let first = searches-find program tree text can place inside in
       let known = turns_at tree text place in
-      let threads = running (initial program (offset text place)) ∷ [] in
+      let threads = running (state_before_first_insn program (offset text place)) ∷ [] in
       let a = search_more program text turns (turns + known) (omega arith) rightwards threads f e in
       let b = search_more program text known (turns + known) (omega arith) rightwards threads first.found first.searches in
       let both : Some f ≡ Some first.found = sym a ∙ b in
       let same : f ≡ first.found = cc in
       (ap (λ (f : Found). f.steps) same ∙ first.steps, ap (λ (f : Found). option_map end_of f.end) same ∙ first.end)
 
-  pub finds-match : (turns : ℕ) (f : Found) → search program text turns rightwards (running (initial program (offset text place)) ∷ []) ≡ Some f
+  pub finds-match : (turns : ℕ) (f : Found) → search program text turns rightwards (running (state_before_first_insn program (offset text place)) ∷ []) ≡ Some f
       → option_map end_of f.end ≡ option_map (match_in_offsets text) (match_at tree.root text place)
   finds-match turns f e =
       let items = items_at tree text place in
       (found_so turns f e).1 ∙ sym (first_of-pairs text place items)
-      ∙ ap (λ os. option_map (match_in_offsets text) (first_of place os)) (pairs-ticked text tree.root rightwards place (no_groups tree.root))
+      ∙ ap (λ os. option_map (match_in_offsets text) (first_outcome place os)) (pairs-ticked text tree.root rightwards place (no_groups tree.root))
 
-  pub ticks-steps : (places : List ℕ) (turns : ℕ) (f : Found) → search program text turns rightwards (running (initial program (offset text place)) ∷ []) ≡ Some f
+  pub ticks-steps : (places : List ℕ) (turns : ℕ) (f : Found) → search program text turns rightwards (running (state_before_first_insn program (offset text place)) ∷ []) ≡ Some f
       → ticks_at tree text (place ∷ places) ≡ f.steps + (if is_some f.end then 0 else ticks_at tree text places)
   ticks-steps places turns f e =
       let items = items_at tree text place in

@@ -5,20 +5,20 @@ use Rattle.std.specs.Prelude.{if◌then◌else◌, nat_le, nat_eq, ◌&&◌, cha
 use Rattle.std.specs.List.{prefix_len}
 use Rattle.std.proofs.lemmas.List.Sums.{prefix_len-le-length}
 use lib.Pointwise.{pointwise}
-use Rattle.regex_meaning.specs.Lists.{numbers_from}
+use Rattle.regex_meaning.specs.NumberListHelpers.{numbers_from}
 use Rattle.regex_meaning.specs.Laws.{Each, IsOnward}
 use Rattle.regex_meaning.specs.Tree.{Quantifier, Node, char, char_set, byte_set, byte_sequence, bracket, match_any, match_any_except_line_terminator}
 use Rattle.regex_meaning.specs.Tree.{loop_1_char_body, group_ids}
-use Rattle.regex_meaning.specs.Text.{Text, Direction, rightwards, leftwards, last_place, next_character, moved, characters_left, characters_beside}
-use Rattle.regex_meaning.specs.Offsets.{IsText, offset, place_at}
-use Rattle.regex_meaning.specs.Outcomes.{Groups, Outcome, accepts, is_some_and, most_of, repetition, repeat, one_character, spelled, outcomes}
-use Rattle.regex_meaning.specs.WellFormed.{is_one_character, has_text_in_sequence, fits_instructions}
-use Rattle.regex_meaning.specs.Ticks.{Item, tick, ticks, and_then, with_ticks_between, nearest_first, body_tries, ticked}
-use Rattle.regex_meaning.specs.Layout.{Program, Mark, next, Has, IsCode, Loop1CharBody}
+use Rattle.regex_meaning.specs.Text.{Text, Direction, rightwards, leftwards, last_place, next_character, moved, characters_ahead, next_characters}
+use Rattle.regex_meaning.specs.CodeUnitOffsets.{IsText, offset, place_at}
+use Rattle.regex_meaning.specs.Outcomes.{Groups, Outcome, accepts, is_some_and, max_iterations, repetition, repeat, one_character, spelled, outcomes}
+use Rattle.regex_meaning.specs.WellFormedTrees.{is_one_character, has_text_in_sequence, fits_instructions}
+use Rattle.regex_meaning.specs.OutcomesWithStepTicks.{TickOrOutcome, tick, ticks, outcomes_replaced_by_lists, with_ticks_between, nearest_first, body_tries, ticked}
+use Rattle.regex_meaning.specs.CompilationRelation.{Program, Counters, counters_after_insn, HasInsnAt, IsCode, Loop1CharBody}
 use Rattle.regex_meaning.proofs.Each.{Each-map, Each-drop, Each-take, Each-reverse}
 use Rattle.regex_meaning.proofs.TextLemmas.{place_at-offset}
-use Rattle.regress_machine.specs.Machine.{LoopData, State, running, waiting, in_turn, with_some, run_states, scan, scans, act}
-use Rattle.regress_machine.specs.Bytes.{ReadsBytes, reads_bytes}
+use Rattle.regress_machine.specs.Machine.{LoopData, State, running, waiting, first_runs_others_wait, with_some, run_states, scan, scans, act}
+use Rattle.regress_machine.specs.TextsForBytePrograms.{ReadsBytes, reads_bytes}
 use Rattle.regress_machine.proofs.Yields.{Ending, Yields, yields_none, yields_append, yields_same, yields_wait, yields_scan}
 use Rattle.regress_machine.proofs.Frames.{kept_itself}
 use Rattle.regress_machine.proofs.Nodes.{and_then-ticks, state_at, Enters, GoesOn, Finds, Rising, act_at, inside_by}
@@ -47,13 +47,13 @@ spelled_one text c d p g inside = ap (λ b. if b then record { end = moved text 
     in_order rightwards e = refl
     in_order leftwards e = refl
 
-    go : Beside text d p → (nat_le 1 (characters_left text d p) && pointwise nat_eq (c ∷ []) (characters_beside text d 1 p))
+    go : Beside text d p → (nat_le 1 (characters_ahead text d p) && pointwise nat_eq (c ∷ []) (next_characters text d 1 p))
         ≡ is_some_and (next_character text d p) (λ e. pointwise nat_eq (c ∷ []) (e ∷ []))
     go (nothing_left none nothing left) =
-        ap (λ n. nat_le 1 n && pointwise nat_eq (c ∷ []) (characters_beside text d 1 p)) left
+        ap (λ n. nat_le 1 n && pointwise nat_eq (c ∷ []) (next_characters text d 1 p)) left
         ∙ sym (ap (λ o. is_some_and o (λ e. pointwise nat_eq (c ∷ []) (e ∷ []))) none)
     go (one_more e is rest left within) =
-        ap (λ b. b && pointwise nat_eq (c ∷ []) (characters_beside text d 1 p)) (le-leb 1 (characters_left text d p) (omega arith))
+        ap (λ b. b && pointwise nat_eq (c ∷ []) (next_characters text d 1 p)) (le-leb 1 (characters_ahead text d p) (omega arith))
         ∙ ap (pointwise nat_eq (c ∷ []))
         (characters_beside-nearest text d 1 p inside (omega arith) ∙ ap (λ (l : List ℕ). in_text_order text d (take 1 l)) rest ∙ in_order d e)
         ∙ sym (ap (λ o. is_some_and o (λ e. pointwise nat_eq (c ∷ []) (e ∷ []))) is)
@@ -76,13 +76,13 @@ body_is_one text d _ one p g inside = cc
 
 module _ (program : Program) (text : Text) (is_text : IsText text) where
   -- one thread after another, of which all but the first wait
-  turns_yield : (d : Direction) (E : Ending) (st : ℕ → State) (out : ℕ → Outcome) (k : Outcome → List Item) (ns : List ℕ)
+  turns_yield : (d : Direction) (E : Ending) (st : ℕ → State) (out : ℕ → Outcome) (k : Outcome → List TickOrOutcome) (ns : List ℕ)
       → Each (λ n. Yields program text d E (running (st n) ∷ []) (k (out n))) ns
-      → Yields program text d E (in_turn (map st ns)) (and_then (with_ticks_between (map out ns)) k)
+      → Yields program text d E (first_runs_others_wait (map st ns)) (outcomes_replaced_by_lists (with_ticks_between (map out ns)) k)
   turns_yield d E st out k [] h = yields_none program text d E
   turns_yield d E st out k (n ∷ []) h = yields_same program text d E _ _ _ (sym (append-nil (k (out n)))) h.0
   turns_yield d E st out k (n ∷ m ∷ ns) h =
-      let items = and_then (with_ticks_between (map out (m ∷ ns))) k in
+      let items = outcomes_replaced_by_lists (with_ticks_between (map out (m ∷ ns))) k in
       yields_append program text d E (running (st n) ∷ []) (waiting (st m) ∷ map waiting (map st ns)) (k (out n)) (tick ∷ items) h.0
       (yields_wait program text d E (st m) (map waiting (map st ns)) items (turns_yield d E st out k (m ∷ ns) h.1))
 
@@ -91,18 +91,18 @@ module _ (program : Program) (text : Text) (is_text : IsText text) where
   each_in_turns P false ns h = h
 
   -- a place behind so many characters
-  pub reached_behind : (d : Direction) (n p : ℕ) (g : Groups) → p ≤ last_place text → n ≤ characters_left text d p → IsOnward text d p (moved text d n p)
+  pub reached_behind : (d : Direction) (n p : ℕ) (g : Groups) → p ≤ last_place text → n ≤ characters_ahead text d p → IsOnward text d p (moved text d n p)
   reached_behind rightwards n p g inside few = (omega arith, omega arith)
   reached_behind leftwards n p g inside few = (omega arith, tt)
 
   -- The loop finds the places behind so many accepted characters, the preferred one first.
-  runs_find : (d : Direction) (q : Quantifier) (node : Node) (E : Ending) (m n : Mark) (p : ℕ) (ids : List ℕ) (g : Groups) (s : List ℕ) (ls : List LoopData) (k : Outcome → List Item)
-      → is_one_character node ≡ true → Has program m (Loop1CharBody q.min (most_of q) q.greedy) → ReadsOne program text node (next m) n
+  runs_find : (d : Direction) (q : Quantifier) (node : Node) (E : Ending) (m n : Counters) (p : ℕ) (ids : List ℕ) (g : Groups) (s : List ℕ) (ls : List LoopData) (k : Outcome → List TickOrOutcome)
+      → is_one_character node ≡ true → HasInsnAt program m (Loop1CharBody q.min (max_iterations q) q.greedy) → ReadsOne program text node (counters_after_insn m) n
       → Enters program text is_text p g s ls n.loop → GoesOn program text is_text d E n.insn p ids m.loop n.loop g s ls k
       → Yields program text d E (running (state_at program text is_text m.insn p g s ls) ∷ [])
-      (tick ∷ (ticks (body_tries text q node d p) ++ and_then (with_ticks_between (repeat text (repetition q (outcomes text node d)) d 0 p g)) k))
+      (tick ∷ (ticks (body_tries text q node d p) ++ outcomes_replaced_by_lists (with_ticks_between (repeat text (repetition q (outcomes text node d)) d 0 p g)) k))
   runs_find d q node E m n p ids g s ls k one has reads enters on =
-      let most = most_of q in
+      let most = max_iterations q in
       let t = state_at program text is_text m.insn p g s ls in
       let near = nearest_first text d p in
       let len = prefix_len (accepts node) near in
@@ -113,16 +113,16 @@ module _ (program : Program) (text : Text) (is_text : IsText text) where
       let few = prefix_len-le-length (accepts node) near in
       let left = length-nearest text d p enters.inside in
       let end : n.insn ≡ m.insn + 2 = let e = reads.end in omega (arith, e) in
-      let turn : act program text d t ≡ scans (min most (len + 1)) (in_turn (map st ns)) =
+      let turn : act program text d t ≡ scans (min most (len + 1)) (first_runs_others_wait (map st ns)) =
       act_at program text is_text d t (Loop1CharBody q.min most q.greedy) has
       ∙ ap (λ o. with_some o (λ test. with_some (place_at text t.pos) (λ p. scan text q.min most q.greedy test d p t))) reads.test_is
       ∙ ap (λ o. with_some o (λ p. scan text q.min most q.greedy reads.test d p t)) (place_at-offset text p is_text enters.inside)
-      ∙ ap (λ i. scans (min most (i + 1)) (in_turn (run_states text q.greedy d q.min (min most i) p t))) same_len in
+      ∙ ap (λ i. scans (min most (i + 1)) (first_runs_others_wait (run_states text q.greedy d q.min (min most i) p t))) same_len in
       let yields : Each (λ i. Yields program text d E (running (st i) ∷ []) (k (outcome_at text d p g i))) ns =
       each_in_turns (λ i. Yields program text d E (running (st i) ∷ []) (k (outcome_at text d p g i))) q.greedy (numbers_from q.min (min most len + 1 - q.min))
       (Each-map (λ i. (q.min ≤ i) × (i < q.min + (min most len + 1 - q.min))) (λ i. Yields program text d E (running (st i) ∷ []) (k (outcome_at text d p g i)))
       (λ i between.
-      let enough : i ≤ characters_left text d p = omega (arith, between.0, between.1, few, left) in
+      let enough : i ≤ characters_ahead text d p = omega (arith, between.0, between.1, few, left) in
       let onward = reached_behind d i p g enters.inside enough in
       subst (λ (ip : ℕ). Yields program text d E (running (state_at program text is_text ip (moved text d i p) g s ls) ∷ []) (k (outcome_at text d p g i))) end
       (on.at (outcome_at text d p g i) s ls
@@ -130,9 +130,9 @@ module _ (program : Program) (text : Text) (is_text : IsText text) where
       (kept_itself ids m.loop n.loop s ls)))
       (numbers_from q.min (min most len + 1 - q.min)) (numbers_between q.min (min most len + 1 - q.min))) in
       yields_same program text d E _ _ _
-      (ap (λ os. tick ∷ (ticks (min most (len + 1)) ++ and_then (with_ticks_between os) k))
+      (ap (λ os. tick ∷ (ticks (min most (len + 1)) ++ outcomes_replaced_by_lists (with_ticks_between os) k))
       (sym (repeat_run text d (accepts node) (repetition q (outcomes text node d)) (body_is_one text d node one) p g enters.inside)))
-      (yields_scan program text d E t (min most (len + 1)) (in_turn (map st ns)) (and_then (with_ticks_between (run text d p g ns)) k) turn
+      (yields_scan program text d E t (min most (len + 1)) (first_runs_others_wait (map st ns)) (outcomes_replaced_by_lists (with_ticks_between (run text d p g ns)) k) turn
       (turns_yield d E st (outcome_at text d p g) k ns yields))
 
   pub loop_1_char_body_finds : (d : Direction) (behind : Bool) (q : Quantifier) (loopee : Node) → is_one_character loopee ≡ true → has_text_in_sequence loopee ≡ true
@@ -140,9 +140,9 @@ module _ (program : Program) (text : Text) (is_text : IsText text) where
   unfolding IsCode ticked outcomes
   loop_1_char_body_finds d behind q loopee one spelt fits reads E m n p g s ls k code enters on =
       yields_same program text d E _ _ _
-      (ap (λ (l : List Item). tick ∷ l) (sym (and_then-ticks (body_tries text q loopee d p) (with_ticks_between (repeat text (repetition q (outcomes text loopee d)) d 0 p g)) k)))
-      (runs_find d q loopee E m n p (group_ids loopee) g s ls k one code.0 (reads_one program text behind loopee one spelt fits reads (next m) n code.1) enters on)
+      (ap (λ (l : List TickOrOutcome). tick ∷ l) (sym (and_then-ticks (body_tries text q loopee d p) (with_ticks_between (repeat text (repetition q (outcomes text loopee d)) d 0 p g)) k)))
+      (runs_find d q loopee E m n p (group_ids loopee) g s ls k one code.0 (reads_one program text behind loopee one spelt fits reads (counters_after_insn m) n code.1) enters on)
 
   pub loop_1_char_body_rising : (behind : Bool) (q : Quantifier) (loopee : Node) → Rising program text is_text behind loopee → Rising program text is_text behind (loop_1_char_body q loopee)
   unfolding IsCode
-  loop_1_char_body_rising behind q loopee rise m n code = rise (next m) n code.1
+  loop_1_char_body_rising behind q loopee rise m n code = rise (counters_after_insn m) n code.1

@@ -11,19 +11,19 @@ use Rattle.std.proofs.lemmas.Str.{chars-encodes, length-encode, len_utf8_bounds}
 use Rattle.std.proofs.lemmas.List.{take_all}
 use lib.Pointwise.{pointwise}
 use lib.Utf8.{scalar}
-use Rattle.regex_meaning.specs.Lists.{contains}
+use Rattle.regex_meaning.specs.NumberListHelpers.{contains}
 use Rattle.regex_meaning.specs.Laws.{Each}
 use Rattle.regex_meaning.specs.Tree.{BracketContents, Node, char, char_set, byte_set, byte_sequence, bracket, match_any}
 use Rattle.regex_meaning.specs.Tree.{match_any_except_line_terminator}
 use Rattle.regex_meaning.specs.Text.{Text, is_scalar}
-use Rattle.regex_meaning.specs.Outcomes.{accepts, differ, in_intervals}
-use Rattle.regex_meaning.specs.StartPredicate.{bytes_where}
-use Rattle.regex_meaning.specs.WellFormed.{is_one_character, has_text_in_sequence, fits_instructions}
-use Rattle.regex_meaning.specs.Layout.{Program, Insn, Mark, HasAll, IsCode, JustFail, Char, CharSet, ByteSet, ByteSeq, AsciiBracket, Bracket}
-use Rattle.regex_meaning.specs.Layout.{MatchAny, MatchAnyExceptLineTerminator, padded, ordered, is_ascii_set, chunks, chunks_of}
+use Rattle.regex_meaning.specs.Outcomes.{accepts, exclusive_or, in_intervals}
+use Rattle.regex_meaning.specs.StartPredicate.{bytes_that_pass}
+use Rattle.regex_meaning.specs.WellFormedTrees.{is_one_character, has_text_in_sequence, fits_instructions}
+use Rattle.regex_meaning.specs.CompilationRelation.{Program, Insn, Counters, HasInsnsBetween, IsCode, JustFail, Char, CharSet, ByteSet, ByteSeq, AsciiBracket, Bracket}
+use Rattle.regex_meaning.specs.CompilationRelation.{MatchAny, MatchAnyExceptLineTerminator, padded, ordered, is_ascii_set, chunks, chunks_of}
 use Rattle.regex_meaning.proofs.FirstBytes.{true-in_range, encode-1}
 use Rattle.regress_machine.specs.Machine.{test_of}
-use Rattle.regress_machine.specs.Bytes.{ReadsBytes, reads_bytes}
+use Rattle.regress_machine.specs.TextsForBytePrograms.{ReadsBytes, reads_bytes}
 use Rattle.regress_machine.proofs.Sets.{contains-padded, ascii_accepts}
 use Rattle.regex_meaning.proofs.Booleans.{same-truth, and-left, and-right}
 use Rattle.regex_meaning.proofs.Each.{Each-all}
@@ -115,16 +115,16 @@ ordered_one false x = refl
 
 module _ (program : Program) (text : Text) where
   -- at a mark stands an instruction that tests what the node accepts, and the second mark is behind it
-  pub record ReadsOne (node : Node) (m n : Mark) : Type 0 where
+  pub record ReadsOne (node : Node) (m n : Counters) : Type 0 where
     pub test : ℕ → Bool
     pub test_is : test_of program (slice_get program.insns m.insn) ≡ Some test
     pub same : Each (λ c. test c ≡ accepts node c) text.characters
     pub end : n.insn ≡ m.insn + 1
 
-  end_of : (i : Insn) (m n : Mark) → HasAll program (i ∷ []) m n → n.insn ≡ m.insn + 1
-  end_of i m n has = ap (λ (m : Mark). m.insn) (sym has.1)
+  end_of : (i : Insn) (m n : Counters) → HasInsnsBetween program (i ∷ []) m n → n.insn ≡ m.insn + 1
+  end_of i m n has = ap (λ (m : Counters). m.insn) (sym has.1)
 
-  reads_by : (node : Node) (i : Insn) (test : ℕ → Bool) (m n : Mark) → HasAll program (i ∷ []) m n → test_of program (Some i) ≡ Some test
+  reads_by : (node : Node) (i : Insn) (test : ℕ → Bool) (m n : Counters) → HasInsnsBetween program (i ∷ []) m n → test_of program (Some i) ≡ Some test
       → Each (λ c. test c ≡ accepts node c) text.characters → ReadsOne node m n
   reads_by node i test m n has is same = record {
     test = test;
@@ -136,37 +136,37 @@ module _ (program : Program) (text : Text) where
   exactly : (node : Node) → Each (λ c. accepts node c ≡ accepts node c) text.characters
   exactly node = Each-all (λ c. accepts node c ≡ accepts node c) (λ c. refl) text.characters
 
-  sequence_reads : (behind : Bool) (bytes : List ℕ) (m n : Mark) → is_utf8 bytes ≡ true → (length (chars bytes) == 1) ≡ true → ReadsBytes text
-      → HasAll program (map ByteSeq (ordered behind (chunks bytes))) m n → ReadsOne (byte_sequence bytes) m n
+  sequence_reads : (behind : Bool) (bytes : List ℕ) (m n : Counters) → is_utf8 bytes ≡ true → (length (chars bytes) == 1) ≡ true → ReadsBytes text
+      → HasInsnsBetween program (map ByteSeq (ordered behind (chunks bytes))) m n → ReadsOne (byte_sequence bytes) m n
   sequence_reads behind bytes m n u one reads has =
       let is : ordered behind (chunks bytes) ≡ bytes ∷ [] = ap (ordered behind) (one_chunk bytes u one) ∙ ordered_one behind bytes in
       reads_by (byte_sequence bytes) (ByteSeq bytes) (λ d. pointwise nat_eq (encode_utf8_all (d ∷ [])) bytes) m n
-      (subst (λ (cs : List (List ℕ)). HasAll program (map ByteSeq cs) m n) is has) refl
+      (subst (λ (cs : List (List ℕ)). HasInsnsBetween program (map ByteSeq cs) m n) is has) refl
       (each_scalar (λ d. pointwise nat_eq (encode_utf8_all (d ∷ [])) bytes ≡ pointwise nat_eq (chars bytes) (d ∷ [])) (sequence_test bytes u) text.characters reads.scalars)
 
-  byte_reads : (b : ℕ) (m n : Mark) → b < 128 → ReadsBytes text → HasAll program (ByteSeq (b ∷ []) ∷ []) m n → ReadsOne (byte_set (b ∷ [])) m n
+  byte_reads : (b : ℕ) (m n : Counters) → b < 128 → ReadsBytes text → HasInsnsBetween program (ByteSeq (b ∷ []) ∷ []) m n → ReadsOne (byte_set (b ∷ [])) m n
   byte_reads b m n low reads has =
       reads_by (byte_set (b ∷ [])) (ByteSeq (b ∷ [])) (λ d. pointwise nat_eq (encode_utf8_all (d ∷ [])) (b ∷ [])) m n has refl
       (each_scalar (λ d. pointwise nat_eq (encode_utf8_all (d ∷ [])) (b ∷ []) ≡ contains (b ∷ []) d) (byte_test b low) text.characters reads.scalars)
 
-  bracket_reads : (contents : BracketContents) (m n : Mark) (b : Bool) → is_ascii_set contents ≡ b
-      → MatchBool b (HasAll program (AsciiBracket (bytes_where (in_intervals contents.intervals)) ∷ []) m n)
-      (HasAll program (Bracket m.bracket ∷ []) (record m { bracket = m.bracket + 1 }) n × (slice_get program.brackets m.bracket ≡ Some contents))
+  bracket_reads : (contents : BracketContents) (m n : Counters) (b : Bool) → is_ascii_set contents ≡ b
+      → MatchBool b (HasInsnsBetween program (AsciiBracket (bytes_that_pass (in_intervals contents.intervals)) ∷ []) m n)
+      (HasInsnsBetween program (Bracket m.bracket ∷ []) (record m { bracket = m.bracket + 1 }) n × (slice_get program.brackets m.bracket ≡ Some contents))
       → ReadsOne (bracket contents) m n
   bracket_reads contents m n true e has =
-      let members = bytes_where (in_intervals contents.intervals) in
+      let members = bytes_that_pass (in_intervals contents.intervals) in
       reads_by (bracket contents) (AsciiBracket members) (contains members) m n has refl
       (Each-all (λ c. contains members c ≡ accepts (bracket contents) c) (ascii_accepts contents e) text.characters)
   bracket_reads contents m n false e has = record {
     test = accepts (bracket contents);
     test_is = ap (test_of program) has.0.0
-        ∙ ap (option_and_then (λ (contents : BracketContents). Some (λ c. differ contents.invert (in_intervals contents.intervals c)))) has.1;
+        ∙ ap (option_and_then (λ (contents : BracketContents). Some (λ c. exclusive_or contents.invert (in_intervals contents.intervals c)))) has.1;
     same = exactly (bracket contents);
     end = end_of (Bracket m.bracket) (record m { bracket = m.bracket + 1 }) n has.0;
   }
 
   pub reads_one : (behind : Bool) (node : Node) → is_one_character node ≡ true → has_text_in_sequence node ≡ true → fits_instructions node ≡ true
-      → (reads_bytes node ≡ true → ReadsBytes text) → (m n : Mark) → IsCode program behind node m n → ReadsOne node m n
+      → (reads_bytes node ≡ true → ReadsBytes text) → (m n : Counters) → IsCode program behind node m n → ReadsOne node m n
   unfolding IsCode
   reads_one behind (char c) one spelt fits reads m n code = reads_by (char c) (Char c) (accepts (char c)) m n code refl (exactly (char c))
   reads_one behind (char_set []) one spelt fits reads m n code = reads_by (char_set []) JustFail (λ d. false) m n code refl (exactly (char_set []))

@@ -6,14 +6,14 @@ use Rattle.std.proofs.lemmas.List.Sums.{sum_by-cons, count_by-le-length}
 use Rattle.std.proofs.lemmas.List.Folds.{list_any-append}
 use Rattle.std.specs.Prelude.{count_by, ◌&&◌, ◌||◌, ◌==◌, if◌then◌else◌, IsTrue}
 use Rattle.std.specs.List.{list_all}
-use Rattle.regex_meaning.specs.Lists.{contains, numbers_from}
+use Rattle.regex_meaning.specs.NumberListHelpers.{contains, numbers_from}
 use Rattle.regex_meaning.specs.Tree.{Node, char, char_set, byte_set, byte_sequence, cat, alt, bracket, match_any, match_any_except_line_terminator}
-use Rattle.regex_meaning.specs.Tree.{capture_group, back_ref, lookaround, loop, loop_1_char_body, group_ids, every}
+use Rattle.regex_meaning.specs.Tree.{capture_group, back_ref, lookaround, loop, loop_1_char_body, group_ids, every_node_passes}
 use Rattle.regex_meaning.specs.Text.{Text}
-use Rattle.regex_meaning.specs.WellFormed.{IsWellFormed, encloses, names_the_groups_inside, refers_to_a_group, is_one_character}
-use Rattle.regex_meaning.specs.WellFormed.{has_one_character_body, has_text_in_sequence, fits_instructions}
+use Rattle.regex_meaning.specs.WellFormedTrees.{IsWellFormed, encloses, names_the_groups_inside, refers_to_a_group, is_one_character}
+use Rattle.regex_meaning.specs.WellFormedTrees.{has_one_character_body, has_text_in_sequence, fits_instructions}
 use Rattle.regex_meaning.proofs.WellFormedLemmas.{clauses}
-use Rattle.regress_machine.specs.Bytes.{ReadsBytes, reads_bytes}
+use Rattle.regress_machine.specs.TextsForBytePrograms.{ReadsBytes, reads_bytes}
 use Rattle.regress_machine.proofs.Loops.{AreBelow}
 use Rattle.regex_meaning.proofs.Booleans.{or-false-left, or-false-right, and-left, and-right}
 
@@ -176,28 +176,28 @@ ids-distinct ids h = distinct-by ids few
 
 -- what a well-formed tree and a text say of a node inside the tree
 pub record Sound (text : Text) (n : ℕ) (node : Node) : Type 0 where
-  pub names : every names_the_groups_inside node ≡ true
-  pub refers : every (refers_to_a_group n) node ≡ true
-  pub bodies : every has_one_character_body node ≡ true
-  pub sequences : every has_text_in_sequence node ≡ true
-  pub sets : every fits_instructions node ≡ true
+  pub names : every_node_passes names_the_groups_inside node ≡ true
+  pub refers : every_node_passes (refers_to_a_group n) node ≡ true
+  pub bodies : every_node_passes has_one_character_body node ≡ true
+  pub sequences : every_node_passes has_text_in_sequence node ≡ true
+  pub sets : every_node_passes fits_instructions node ≡ true
   pub bytes : reads_bytes node ≡ true → ReadsBytes text
   pub below : AllBelow n (group_ids node)
   pub distinct : Distinct (group_ids node)
 
 -- a node holds two others
 abbrev Holds : (node a b : Node) → Type 0
-Holds node a b = (test : Node → Bool) → every test node ≡ (test node && every test a && every test b)
+Holds node a b = (test : Node → Bool) → every_node_passes test node ≡ (test node && every_node_passes test a && every_node_passes test b)
 
 -- a test of one of the two, and of the other
-of_left : (test : Node → Bool) (node a b : Node) → Holds node a b → every test node ≡ true → every test a ≡ true
-of_left test node a b holds h = and-right (test node) (every test a) (and-left (test node && every test a) (every test b) (sym (holds test) ∙ h))
+of_left : (test : Node → Bool) (node a b : Node) → Holds node a b → every_node_passes test node ≡ true → every_node_passes test a ≡ true
+of_left test node a b holds h = and-right (test node) (every_node_passes test a) (and-left (test node && every_node_passes test a) (every_node_passes test b) (sym (holds test) ∙ h))
 
-of_right : (test : Node → Bool) (node a b : Node) → Holds node a b → every test node ≡ true → every test b ≡ true
-of_right test node a b holds h = and-right (test node && every test a) (every test b) (sym (holds test) ∙ h)
+of_right : (test : Node → Bool) (node a b : Node) → Holds node a b → every_node_passes test node ≡ true → every_node_passes test b ≡ true
+of_right test node a b holds h = and-right (test node && every_node_passes test a) (every_node_passes test b) (sym (holds test) ∙ h)
 
 -- of a node inside another one
-sound_part : (text : Text) (n : ℕ) (node a : Node) → ((test : Node → Bool) → every test node ≡ true → every test a ≡ true)
+sound_part : (text : Text) (n : ℕ) (node a : Node) → ((test : Node → Bool) → every_node_passes test node ≡ true → every_node_passes test a ≡ true)
     → (reads_bytes a ≡ true → reads_bytes node ≡ true) → AllBelow n (group_ids a) → Distinct (group_ids a) → Sound text n node → Sound text n a
 sound_part text n node a holds reads below distinct s = record {
   names = holds names_the_groups_inside s.names;
@@ -226,10 +226,10 @@ module _ (text : Text) (n : ℕ) (node a b : Node) (holds : Holds node a b) (ids
       (distinct-right (group_ids a) (group_ids b) (subst Distinct ids s.distinct)) s
 
 -- of a node that holds one other
-sound_inside : (text : Text) (n : ℕ) (node a : Node) → ((test : Node → Bool) → every test node ≡ (test node && every test a))
+sound_inside : (text : Text) (n : ℕ) (node a : Node) → ((test : Node → Bool) → every_node_passes test node ≡ (test node && every_node_passes test a))
     → reads_bytes node ≡ reads_bytes a → AllBelow n (group_ids a) → Distinct (group_ids a) → Sound text n node → Sound text n a
 sound_inside text n node a holds reads below distinct s =
-    sound_part text n node a (λ test h. and-right (test node) (every test a) (sym (holds test) ∙ h)) (λ h. reads ∙ h) below distinct s
+    sound_part text n node a (λ test h. and-right (test node) (every_node_passes test a) (sym (holds test) ∙ h)) (λ h. reads ∙ h) below distinct s
 
 below_named : (first end n : ℕ) (contents : Node) → encloses first end contents ≡ true → AllBelow n (group_ids contents) → AreBelow first (end - first) n
 below_named first end n contents h below i le less =
@@ -242,7 +242,7 @@ back_ref-below n group h =
     omega arith
 
 -- a test of a node of one character holds of the node itself
-of_one : (test : Node → Bool) (node : Node) → is_one_character node ≡ true → every test node ≡ true → test node ≡ true
+of_one : (test : Node → Bool) (node : Node) → is_one_character node ≡ true → every_node_passes test node ≡ true → test node ≡ true
 of_one test (char c) one h = h
 of_one test (char_set members) one h = h
 of_one test (byte_set members) one h = h
@@ -273,11 +273,11 @@ module _ (text : Text) (n : ℕ) where
   ready (back_ref group icase) s = back_ref-below n group s.refers
   ready (lookaround l contents) s = ready contents (sound_inside text n (lookaround l contents) contents (λ test. refl) refl s.below s.distinct s)
   ready (loop q first end loopee) s = (
-    below_named first end n loopee (and-left (encloses first end loopee) (every names_the_groups_inside loopee) s.names) s.below,
+    below_named first end n loopee (and-left (encloses first end loopee) (every_node_passes names_the_groups_inside loopee) s.names) s.below,
     ready loopee (sound_inside text n (loop q first end loopee) loopee (λ test. refl) refl s.below s.distinct s),
   )
   ready (loop_1_char_body q loopee) s =
-      let one = and-left (is_one_character loopee) (every has_one_character_body loopee) s.bodies in
+      let one = and-left (is_one_character loopee) (every_node_passes has_one_character_body loopee) s.bodies in
       let inside = sound_inside text n (loop_1_char_body q loopee) loopee (λ test. refl) refl s.below s.distinct s in (
         one,
         of_one has_text_in_sequence loopee one inside.sequences,

@@ -2,13 +2,13 @@
 use Rattle.std.proofs.Common.{◌≡◌, ℕ, ◌+◌, ◌<◌, ◌≤◌, List, [], ◌∷◌, ◌++◌, Option, Some, None, Bool, refl, ap, sym, ◌∙◌, subst, arith, ◌-◌}
 use Rattle.std.specs.Prelude.{is_some, IsTrue, IsSome, slice_get}
 use Rattle.regex_meaning.specs.Text.{Text, Direction}
-use Rattle.regex_meaning.specs.Offsets.{IsText, units}
-use Rattle.regex_meaning.specs.Layout.{Program, Insn}
-use Rattle.regress_machine.specs.Bytes.{ReadsBytes}
+use Rattle.regex_meaning.specs.CodeUnitOffsets.{IsText, units}
+use Rattle.regex_meaning.specs.CompilationRelation.{Program, Insn}
+use Rattle.regress_machine.specs.TextsForBytePrograms.{ReadsBytes}
 use Rattle.regress_machine.specs.Machine as machine
-use Rattle.regress_machine.specs.Machine.{Thread, running, waiting, Next, goes, scans, ends, asks, stuck, Found, nothing, resumed, act, search}
+use Rattle.regress_machine.specs.Machine.{Thread, running, waiting, Next, goes, scans, ends, asks, stuck, Found, result_without_threads, after_lookaround, act, search}
 use Rattle.regress_machine.proofs.Search.{Later, waits-later, goes-later, scans-later, ends-found, never_stuck, asked-inner}
-use Rattle.regress_machine.specs.Turns.{CanTake, is_literal, end_of_search}
+use Rattle.regress_machine.specs.InsnEffects.{IsNotStuck, is_byte_literal_insn, end_of_search}
 use Rattle.regress_machine.proofs.Inside.{AllIn, NextIn, in-append, in-resumed, act-inside}
 
 -- how many steps a search takes
@@ -62,10 +62,10 @@ module _ (program : Program) (text : Text) (turns : ℕ) (d : Direction) where
         left 1 top end (waiting s ∷ ts) (running s ∷ ts) r.found r.searches r.ends_there r.few (waits-later program text turns d s ts r.found r.searches) (omega arith) r.inside
 
     -- the machine is never stuck
-    pub remains-can : (s : machine.State) (ts : List Thread) → Remains top end (running s ∷ ts) → CanTake (act program text d s)
+    pub remains-can : (s : machine.State) (ts : List Thread) → Remains top end (running s ∷ ts) → IsNotStuck (act program text d s)
     remains-can s ts r = by (act program text d s) refl
       where
-        by : (x : Next) → act program text d s ≡ x → CanTake x
+        by : (x : Next) → act program text d s ≡ x → IsNotStuck x
         by (goes ss) e = tt
         by (scans tries ss) e = tt
         by (ends t) e = tt
@@ -83,9 +83,9 @@ module _ (program : Program) (text : Text) (turns : ℕ) (d : Direction) where
     remains-none r = by turns refl
       where
         by : (n : ℕ) → turns ≡ n → None ≡ end
-        by n q = let e : Some nothing ≡ Some r.found = r.searches in let is : nothing ≡ r.found = cc in ap (λ (f : Found). f.end) is ∙ r.ends_there
+        by n q = let e : Some result_without_threads ≡ Some r.found = r.searches in let is : result_without_threads ≡ r.found = cc in ap (λ (f : Found). f.end) is ∙ r.ends_there
 
-    module _ (is : IsText text) (reads : (i : ℕ) (insn : Insn) → slice_get program.insns i ≡ Some insn → IsTrue (is_literal insn) → ReadsBytes text) where
+    module _ (is : IsText text) (reads : (i : ℕ) (insn : Insn) → slice_get program.insns i ≡ Some insn → IsTrue (is_byte_literal_insn insn) → ReadsBytes text) where
       next-inside : (s : machine.State) (ts : List Thread) (x : Next) → Remains top end (running s ∷ ts) → act program text d s ≡ x → NextIn (units text) x
       next-inside s ts x r e = subst (NextIn (units text)) e (act-inside text is program d (slice_get program.insns s.ip) s (reads s.ip) r.inside.0)
 
@@ -104,7 +104,7 @@ module _ (program : Program) (text : Text) (turns : ℕ) (d : Direction) where
         pub answers : IsSome (search program text turns inner (running u ∷ []))
         pub inside : u.pos ≤ units text
         pub fewer : steps_of (search program text turns inner (running u ∷ [])) < steps_left before
-        pub behind : Left top end before (resumed negate w (end_of_search (search program text turns inner (running u ∷ []))) ++ ts)
+        pub behind : Left top end before (after_lookaround negate w (end_of_search (search program text turns inner (running u ∷ []))) ++ ts)
 
       pub left-asks : (s u w : machine.State) (inner : Direction) (negate : Bool) (ts : List Thread) → Remains top end (running s ∷ ts)
           → act program text d s ≡ asks inner negate u w → AskedHere (running s ∷ ts) inner negate u w ts
@@ -114,12 +114,12 @@ module _ (program : Program) (text : Text) (turns : ℕ) (d : Direction) where
           let before = ap steps_of r.searches in
           let there = ap steps_of a.searches in
           let at : end_of_search (search program text turns inner (running u ∷ [])) ≡ a.found.end = ap end_of_search a.searches in
-          let behind : Left top end (running s ∷ ts) (resumed negate w a.found.end ++ ts) =
-          left (1 + a.found.steps) top end (running s ∷ ts) (resumed negate w a.found.end ++ ts) r.found r.searches r.ends_there r.few a.rest (omega arith)
-          (in-append (units text) (resumed negate w a.found.end) ts (in-resumed (units text) negate w a.found.end both.1) r.inside.1) in
+          let behind : Left top end (running s ∷ ts) (after_lookaround negate w a.found.end ++ ts) =
+          left (1 + a.found.steps) top end (running s ∷ ts) (after_lookaround negate w a.found.end ++ ts) r.found r.searches r.ends_there r.few a.rest (omega arith)
+          (in-append (units text) (after_lookaround negate w a.found.end) ts (in-resumed (units text) negate w a.found.end both.1) r.inside.1) in
           record {
             answers = ap is_some a.searches;
             inside = both.0;
             fewer = omega (arith, before, there, a.rest.steps);
-            behind = subst (λ o. Left top end (running s ∷ ts) (resumed negate w o ++ ts)) (sym at) behind;
+            behind = subst (λ o. Left top end (running s ∷ ts) (after_lookaround negate w o ++ ts)) (sym at) behind;
           }

@@ -5,15 +5,15 @@ use Rattle.std.specs.Prelude.{if◌then◌else◌, nat_eq, nat_lt, replicate, op
 use Rattle.std.specs.List.{list_all}
 use Rattle.std.specs.Int.{is_in_range}
 use Rattle.std.proofs.lemmas.List.Folds.{list_any-append}
-use Rattle.regex_meaning.specs.Lists.{contains, numbers_from}
+use Rattle.regex_meaning.specs.NumberListHelpers.{contains, numbers_from}
 use Rattle.regex_meaning.specs.Tree.{Intervals, BracketContents, char, char_set, byte_set, bracket, match_any, match_any_except_line_terminator}
 use Rattle.regex_meaning.specs.Text.{Text, Direction, next_character, moved}
-use Rattle.regex_meaning.specs.Offsets.{IsText}
-use Rattle.regex_meaning.specs.Outcomes.{Groups, Outcome, accepts, differ, in_intervals, is_some_and, one_character, outcomes}
-use Rattle.regex_meaning.specs.StartPredicate.{bytes_where}
-use Rattle.regex_meaning.specs.Ticks.{Item, tick, pair, and_then, ticked}
-use Rattle.regex_meaning.specs.Layout.{Program, Insn, Mark, next, HasAll, IsCode, JustFail, Char, CharSet, ByteSet, AsciiBracket, Bracket, MatchAny}
-use Rattle.regex_meaning.specs.Layout.{MatchAnyExceptLineTerminator, padded, char_set_insn, byte_set_insn, is_ascii_set}
+use Rattle.regex_meaning.specs.CodeUnitOffsets.{IsText}
+use Rattle.regex_meaning.specs.Outcomes.{Groups, Outcome, accepts, exclusive_or, in_intervals, is_some_and, one_character, outcomes}
+use Rattle.regex_meaning.specs.StartPredicate.{bytes_that_pass}
+use Rattle.regex_meaning.specs.OutcomesWithStepTicks.{TickOrOutcome, tick, pair, outcomes_replaced_by_lists, ticked}
+use Rattle.regex_meaning.specs.CompilationRelation.{Program, Insn, Counters, counters_after_insn, HasInsnsBetween, IsCode, JustFail, Char, CharSet, ByteSet, AsciiBracket, Bracket, MatchAny}
+use Rattle.regex_meaning.specs.CompilationRelation.{MatchAnyExceptLineTerminator, padded, char_set_insn, byte_set_insn, is_ascii_set}
 use Rattle.regex_meaning.proofs.FirstBytes.{true-in_range, contains-bytes_where}
 use Rattle.regress_machine.specs.Machine.{LoopData, State, running, with_some, read_one, act_on}
 use Rattle.regress_machine.proofs.Yields.{Ending, Yields, yields_none, yields_same, yields_turn}
@@ -67,13 +67,13 @@ contains-filter_none test c (x ∷ xs) h = go (test x) refl h (contains-filter_n
     go false e h k = k h
 
 -- a test that only bytes pass is that of being among the bytes that pass it
-pub contains-bytes_same : (test : ℕ → Bool) → ((c : ℕ) → test c ≡ true → c < 256) → (c : ℕ) → contains (bytes_where test) c ≡ test c
-unfolding bytes_where
+pub contains-bytes_same : (test : ℕ → Bool) → ((c : ℕ) → test c ≡ true → c < 256) → (c : ℕ) → contains (bytes_that_pass test) c ≡ test c
+unfolding bytes_that_pass
 contains-bytes_same test low c = go (test c) refl
   where
-    go : (b : Bool) → test c ≡ b → contains (bytes_where test) c ≡ b
+    go : (b : Bool) → test c ≡ b → contains (bytes_that_pass test) c ≡ b
     go true e = contains-bytes_where test c (low c e) e
-    go false e = false_from_ne_true (contains (bytes_where test) c) (λ h. cc (contains-filter_none test c (numbers_from 0 256) h, e))
+    go false e = false_from_ne_true (contains (bytes_that_pass test) c) (λ h. cc (contains-filter_none test c (numbers_from 0 256) h, e))
 
 low_intervals : (ivs : Intervals) (c : ℕ) → list_all (λ i. nat_lt i.1 128 || nat_lt i.1 i.0) ivs ≡ true → in_intervals ivs c ≡ true → c < 256
 low_intervals [] c h t = cc
@@ -89,43 +89,43 @@ low_intervals (i ∷ ivs) c h t =
     go false e t later = later t
 
 pub ascii_accepts : (contents : BracketContents) → is_ascii_set contents ≡ true → (c : ℕ)
-    → contains (bytes_where (in_intervals contents.intervals)) c ≡ accepts (bracket contents) c
+    → contains (bytes_that_pass (in_intervals contents.intervals)) c ≡ accepts (bracket contents) c
 ascii_accepts contents h c =
     let plain = not-true contents.invert (and-left (not contents.invert) _ h) in
     let low = and-right (not contents.invert) (list_all (λ i. nat_lt i.1 128 || nat_lt i.1 i.0) contents.intervals) h in
     contains-bytes_same (in_intervals contents.intervals) (λ c t. low_intervals contents.intervals c low t) c
-    ∙ ap (λ b. differ b (in_intervals contents.intervals c)) (sym plain)
+    ∙ ap (λ b. exclusive_or b (in_intervals contents.intervals c)) (sym plain)
 
 module _ (program : Program) (text : Text) (is_text : IsText text) where
   -- the node's items: one outcome behind a character that is accepted
-  abbrev pub one_items : (ℕ → Bool) → Direction → ℕ → Groups → List Item
+  abbrev pub one_items : (ℕ → Bool) → Direction → ℕ → Groups → List TickOrOutcome
   one_items test d p g = tick ∷ map pair (one_character text test d p g)
 
   -- an instruction whose test is, at each character, that of the node
-  pub same_test_finds : (d : Direction) (test accepted : ℕ → Bool) (i : Insn) (E : Ending) (m n : Mark) (p : ℕ) (ids : List ℕ) (g : Groups) (s : List ℕ) (ls : List LoopData) (k : Outcome → List Item)
+  pub same_test_finds : (d : Direction) (test accepted : ℕ → Bool) (i : Insn) (E : Ending) (m n : Counters) (p : ℕ) (ids : List ℕ) (g : Groups) (s : List ℕ) (ls : List LoopData) (k : Outcome → List TickOrOutcome)
       → ((c : ℕ) → test c ≡ accepted c) → ((t : State) → act_on program text d (Some i) t ≡ read_one text test d t)
-      → HasAll program (i ∷ []) m n → Enters program text is_text p g s ls n.loop → GoesOn program text is_text d E n.insn p ids m.loop n.loop g s ls k
-      → Yields program text d E (running (state_at program text is_text m.insn p g s ls) ∷ []) (and_then (one_items accepted d p g) k)
+      → HasInsnsBetween program (i ∷ []) m n → Enters program text is_text p g s ls n.loop → GoesOn program text is_text d E n.insn p ids m.loop n.loop g s ls k
+      → Yields program text d E (running (state_at program text is_text m.insn p g s ls) ∷ []) (outcomes_replaced_by_lists (one_items accepted d p g) k)
   same_test_finds d test accepted i E m n p ids g s ls k same is has enters on =
       let o : Outcome = record { end = moved text d 1 p; groups = g } in
       yields_same program text d E _ _ _
-      (ap (λ b. and_then (tick ∷ map pair (if b then o ∷ [] else [])) k) (is_some_and-same (next_character text d p) test accepted same))
+      (ap (λ b. outcomes_replaced_by_lists (tick ∷ map pair (if b then o ∷ [] else [])) k) (is_some_and-same (next_character text d p) test accepted same))
       (one_character_finds program text is_text d test i E m n p ids g s ls k is has enters on)
 
   -- an instruction that fails, where the node accepts nothing
-  pub fail_finds : (d : Direction) (E : Ending) (m n : Mark) (p : ℕ) (g : Groups) (s : List ℕ) (ls : List LoopData) (k : Outcome → List Item)
-      → HasAll program (JustFail ∷ []) m n → Yields program text d E (running (state_at program text is_text m.insn p g s ls) ∷ []) (tick ∷ [])
+  pub fail_finds : (d : Direction) (E : Ending) (m n : Counters) (p : ℕ) (g : Groups) (s : List ℕ) (ls : List LoopData) (k : Outcome → List TickOrOutcome)
+      → HasInsnsBetween program (JustFail ∷ []) m n → Yields program text d E (running (state_at program text is_text m.insn p g s ls) ∷ []) (tick ∷ [])
   fail_finds d E m n p g s ls k has =
       let t = state_at program text is_text m.insn p g s ls in
       yields_turn program text d E t [] [] (act_at program text is_text d t JustFail has.0) (yields_none program text d E)
 
-  pub none_finds : (d : Direction) (E : Ending) (m n : Mark) (p : ℕ) (g : Groups) (s : List ℕ) (ls : List LoopData) (k : Outcome → List Item)
-      → HasAll program (JustFail ∷ []) m n
-      → Yields program text d E (running (state_at program text is_text m.insn p g s ls) ∷ []) (and_then (one_items (λ c. false) d p g) k)
+  pub none_finds : (d : Direction) (E : Ending) (m n : Counters) (p : ℕ) (g : Groups) (s : List ℕ) (ls : List LoopData) (k : Outcome → List TickOrOutcome)
+      → HasInsnsBetween program (JustFail ∷ []) m n
+      → Yields program text d E (running (state_at program text is_text m.insn p g s ls) ∷ []) (outcomes_replaced_by_lists (one_items (λ c. false) d p g) k)
   none_finds d E m n p g s ls k has =
       let o : Outcome = record { end = moved text d 1 p; groups = g } in
       yields_same program text d E _ _ _
-      (ap (λ b. and_then (tick ∷ map pair (if b then o ∷ [] else [])) k) (sym (is_some_and-none (next_character text d p))))
+      (ap (λ b. outcomes_replaced_by_lists (tick ∷ map pair (if b then o ∷ [] else [])) k) (sym (is_some_and-none (next_character text d p))))
       (fail_finds d E m n p g s ls k has)
 
   pub char_finds : (d : Direction) (behind : Bool) (c : ℕ) → Finds program text is_text d behind (char c)
@@ -160,23 +160,23 @@ module _ (program : Program) (text : Text) (is_text : IsText text) where
 
   -- ---- Brackets
 
-  abbrev BracketYields : Direction → BracketContents → Ending → (m n : Mark) (p : ℕ) → Groups → List ℕ → List LoopData → (Outcome → List Item) → Type 0
+  abbrev BracketYields : Direction → BracketContents → Ending → (m n : Counters) (p : ℕ) → Groups → List ℕ → List LoopData → (Outcome → List TickOrOutcome) → Type 0
   BracketYields d contents E m n p g s ls k =
-      Yields program text d E (running (state_at program text is_text m.insn p g s ls) ∷ []) (and_then (one_items (accepts (bracket contents)) d p g) k)
+      Yields program text d E (running (state_at program text is_text m.insn p g s ls) ∷ []) (outcomes_replaced_by_lists (one_items (accepts (bracket contents)) d p g) k)
 
-  ascii_bracket_finds : (d : Direction) (contents : BracketContents) (E : Ending) (m n : Mark) (p : ℕ) (g : Groups) (s : List ℕ) (ls : List LoopData) (k : Outcome → List Item)
-      → is_ascii_set contents ≡ true → HasAll program (AsciiBracket (bytes_where (in_intervals contents.intervals)) ∷ []) m n
+  ascii_bracket_finds : (d : Direction) (contents : BracketContents) (E : Ending) (m n : Counters) (p : ℕ) (g : Groups) (s : List ℕ) (ls : List LoopData) (k : Outcome → List TickOrOutcome)
+      → is_ascii_set contents ≡ true → HasInsnsBetween program (AsciiBracket (bytes_that_pass (in_intervals contents.intervals)) ∷ []) m n
       → Enters program text is_text p g s ls n.loop → GoesOn program text is_text d E n.insn p [] m.loop n.loop g s ls k → BracketYields d contents E m n p g s ls k
   ascii_bracket_finds d contents E m n p g s ls k ascii code enters on =
-      let members = bytes_where (in_intervals contents.intervals) in
+      let members = bytes_that_pass (in_intervals contents.intervals) in
       same_test_finds d (contains members) (accepts (bracket contents)) (AsciiBracket members) E m n p [] g s ls k (ascii_accepts contents ascii) (λ t. refl) code enters on
 
-  listed_bracket_finds : (d : Direction) (contents : BracketContents) (E : Ending) (m n : Mark) (p : ℕ) (g : Groups) (s : List ℕ) (ls : List LoopData) (k : Outcome → List Item)
-      → HasAll program (Bracket m.bracket ∷ []) (record m { bracket = m.bracket + 1 }) n → slice_get program.brackets m.bracket ≡ Some contents
+  listed_bracket_finds : (d : Direction) (contents : BracketContents) (E : Ending) (m n : Counters) (p : ℕ) (g : Groups) (s : List ℕ) (ls : List LoopData) (k : Outcome → List TickOrOutcome)
+      → HasInsnsBetween program (Bracket m.bracket ∷ []) (record m { bracket = m.bracket + 1 }) n → slice_get program.brackets m.bracket ≡ Some contents
       → Enters program text is_text p g s ls n.loop → GoesOn program text is_text d E n.insn p [] m.loop n.loop g s ls k → BracketYields d contents E m n p g s ls k
   listed_bracket_finds d contents E m n p g s ls k code listed enters on =
       same_test_finds d (accepts (bracket contents)) (accepts (bracket contents)) (Bracket m.bracket) E (record m { bracket = m.bracket + 1 }) n p [] g s ls k (λ c. refl)
-      (λ t. ap (λ o. with_some (option_and_then (λ (contents : BracketContents). Some (λ c. differ contents.invert (in_intervals contents.intervals c))) o) (λ test. read_one text test d t)) listed)
+      (λ t. ap (λ o. with_some (option_and_then (λ (contents : BracketContents). Some (λ c. exclusive_or contents.invert (in_intervals contents.intervals c))) o) (λ test. read_one text test d t)) listed)
       code enters on
 
   pub bracket_finds : (d : Direction) (behind : Bool) (contents : BracketContents) → Finds program text is_text d behind (bracket contents)
@@ -184,17 +184,17 @@ module _ (program : Program) (text : Text) (is_text : IsText text) where
   bracket_finds d behind contents E m n p g s ls k code enters on = by (is_ascii_set contents) refl code
     where
       by : (b : Bool) → is_ascii_set contents ≡ b
-          → MatchBool b (HasAll program (AsciiBracket (bytes_where (in_intervals contents.intervals)) ∷ []) m n)
-          (HasAll program (Bracket m.bracket ∷ []) (record m { bracket = m.bracket + 1 }) n × (slice_get program.brackets m.bracket ≡ Some contents))
+          → MatchBool b (HasInsnsBetween program (AsciiBracket (bytes_that_pass (in_intervals contents.intervals)) ∷ []) m n)
+          (HasInsnsBetween program (Bracket m.bracket ∷ []) (record m { bracket = m.bracket + 1 }) n × (slice_get program.brackets m.bracket ≡ Some contents))
           → BracketYields d contents E m n p g s ls k
       by true e code = ascii_bracket_finds d contents E m n p g s ls k e code enters on
       by false e code = listed_bracket_finds d contents E m n p g s ls k code.0 code.1 enters on
 
   -- ---- The numbers of loops rise
 
-  pub insns_rising : (is : List Insn) (m n : Mark) → HasAll program is m n → m.loop ≤ n.loop
-  insns_rising [] m n has = let same = ap (λ (m : Mark). m.loop) has in omega (arith, same)
-  insns_rising (i ∷ is) m n has = insns_rising is (next m) n has.1
+  pub insns_rising : (is : List Insn) (m n : Counters) → HasInsnsBetween program is m n → m.loop ≤ n.loop
+  insns_rising [] m n has = let same = ap (λ (m : Counters). m.loop) has in omega (arith, same)
+  insns_rising (i ∷ is) m n has = insns_rising is (counters_after_insn m) n has.1
 
   pub char_rising : (behind : Bool) (c : ℕ) → Rising program text is_text behind (char c)
   unfolding IsCode
@@ -220,8 +220,8 @@ module _ (program : Program) (text : Text) (is_text : IsText text) where
   unfolding IsCode
   bracket_rising behind contents m n code = by (is_ascii_set contents) code
     where
-      by : (b : Bool) → MatchBool b (HasAll program (AsciiBracket (bytes_where (in_intervals contents.intervals)) ∷ []) m n)
-          (HasAll program (Bracket m.bracket ∷ []) (record m { bracket = m.bracket + 1 }) n × (slice_get program.brackets m.bracket ≡ Some contents))
+      by : (b : Bool) → MatchBool b (HasInsnsBetween program (AsciiBracket (bytes_that_pass (in_intervals contents.intervals)) ∷ []) m n)
+          (HasInsnsBetween program (Bracket m.bracket ∷ []) (record m { bracket = m.bracket + 1 }) n × (slice_get program.brackets m.bracket ≡ Some contents))
           → m.loop ≤ n.loop
-      by true code = insns_rising (AsciiBracket (bytes_where (in_intervals contents.intervals)) ∷ []) m n code
+      by true code = insns_rising (AsciiBracket (bytes_that_pass (in_intervals contents.intervals)) ∷ []) m n code
       by false code = insns_rising (Bracket m.bracket ∷ []) (record m { bracket = m.bracket + 1 }) n code.0

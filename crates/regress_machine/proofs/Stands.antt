@@ -3,8 +3,8 @@ use Rattle.std.proofs.Common.{◌≡◌, ℕ, ◌<◌, ◌≤◌, List, [], ◌�
 use Rattle.std.specs.Prelude.{nat_le, ◌&&◌}
 use Rattle.std.proofs.lemmas.List.{reverse-append, length-reverse, reverse-reverse, length-take-le}
 use lib.Pointwise.{pointwise}
-use Rattle.regex_meaning.specs.Text.{Text, Direction, rightwards, leftwards, last_place, characters_left, characters_beside}
-use Rattle.regex_meaning.specs.Ticks.{nearest_first}
+use Rattle.regex_meaning.specs.Text.{Text, Direction, rightwards, leftwards, last_place, characters_ahead, next_characters}
+use Rattle.regex_meaning.specs.OutcomesWithStepTicks.{nearest_first}
 use Rattle.std.proofs.lemmas.Bool.{leb-false, leb-true}
 use Rattle.regress_machine.proofs.Beside.{length-nearest, in_text_order, characters_beside-nearest}
 use Rattle.std.proofs.Math.Bool.{and-true, and-false}
@@ -85,20 +85,20 @@ module _ (text : Text) where
 
   -- the characters beside a place are the same as these where these stand on its side
   pub beside-stands : (same : ℕ → ℕ → Bool) (cs : List ℕ) (d : Direction) (p : ℕ) → p ≤ last_place text
-      → (nat_le (length cs) (characters_left text d p) && pointwise same cs (characters_beside text d (length cs) p))
+      → (nat_le (length cs) (characters_ahead text d p) && pointwise same cs (next_characters text d (length cs) p))
       ≡ stands same (in_reading_order d cs) (nearest_first text d p)
-  beside-stands same cs d p inside = by (nat_le (length cs) (characters_left text d p)) refl
+  beside-stands same cs d p inside = by (nat_le (length cs) (characters_ahead text d p)) refl
     where
       near : List ℕ
       near = nearest_first text d p
 
-      all : length (nearest_first text d p) ≡ characters_left text d p
+      all : length (nearest_first text d p) ≡ characters_ahead text d p
       all = length-nearest text d p inside
 
-      by : (b : Bool) → nat_le (length cs) (characters_left text d p) ≡ b
-          → (b && pointwise same cs (characters_beside text d (length cs) p)) ≡ stands same (in_reading_order d cs) (nearest_first text d p)
+      by : (b : Bool) → nat_le (length cs) (characters_ahead text d p) ≡ b
+          → (b && pointwise same cs (next_characters text d (length cs) p)) ≡ stands same (in_reading_order d cs) (nearest_first text d p)
       by true e =
-          let le = leb-true (length cs) (characters_left text d p) e in
+          let le = leb-true (length cs) (characters_ahead text d p) e in
           let n = length-reading d cs in
           let few : length cs ≤ length (nearest_first text d p) = omega (arith, all, le) in
           let l : length cs ≡ length (take (length cs) (nearest_first text d p)) = sym (length-take-le (length cs) (nearest_first text d p) few) in
@@ -107,6 +107,6 @@ module _ (text : Text) where
           ∙ ap (λ n. pointwise same (in_reading_order d cs) (take n (nearest_first text d p))) (sym n)
           ∙ sym (stands-enough same (in_reading_order d cs) (nearest_first text d p) (omega (arith, few, n)))
       by false e =
-          let less = leb-false (length cs) (characters_left text d p) e in
+          let less = leb-false (length cs) (characters_ahead text d p) e in
           let n = length-reading d cs in
           sym (stands-short same (in_reading_order d cs) (nearest_first text d p) (omega (arith, less, n, all)))

@@ -10,10 +10,10 @@ use Rattle.std.proofs.lemmas.List.{reverse-append, reverse-reverse, take-append-
 use Rattle.std.proofs.Math.Seq.{take-append_seam, drop-append_seam, take-add}
 use lib.Utf8.{scalar, scalars}
 use Rattle.regex_meaning.specs.Text.{Text, Direction, rightwards, leftwards, last_place, moved, offsets_from, is_scalar}
-use Rattle.regex_meaning.specs.Offsets.{offset}
-use Rattle.regex_meaning.specs.Ticks.{nearest_first}
+use Rattle.regex_meaning.specs.CodeUnitOffsets.{offset}
+use Rattle.regex_meaning.specs.OutcomesWithStepTicks.{nearest_first}
 use Rattle.regress_machine.specs.Machine.{moved_by}
-use Rattle.regress_machine.specs.Bytes.{ReadsBytes}
+use Rattle.regress_machine.specs.TextsForBytePrograms.{ReadsBytes}
 use Rattle.regress_machine.proofs.OneTests.{scalar_of}
 use Rattle.regress_machine.proofs.Stands.{stands, in_reading_order}
 use Rattle.regex_meaning.proofs.Booleans.{same-truth, and-left, and-right}

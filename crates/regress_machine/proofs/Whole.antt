@@ -7,14 +7,14 @@ use Rattle.regex_meaning.specs.Tree.{Node, empty, goal, char, char_set, byte_set
 use Rattle.regex_meaning.specs.Tree.{match_any, match_any_except_line_terminator, anchor, word_boundary, capture_group, back_ref, lookaround, loop}
 use Rattle.regex_meaning.specs.Tree.{loop_1_char_body, group_ids, Flags, Tree}
 use Rattle.regex_meaning.specs.Text.{Text, Direction, rightwards, last_place}
-use Rattle.regex_meaning.specs.Offsets.{IsText, offset}
+use Rattle.regex_meaning.specs.CodeUnitOffsets.{IsText, offset}
 use Rattle.regex_meaning.specs.Outcomes.{Groups, Outcome, direction_of, outcomes}
-use Rattle.regex_meaning.specs.Find.{no_groups}
-use Rattle.regex_meaning.specs.Ticks.{Item, tick, pair, and_then, ticked, items_at}
-use Rattle.regex_meaning.specs.WellFormed.{goal_count, is_end_of_cat, ends_in_goal}
-use Rattle.regex_meaning.specs.Layout.{Program, Mark, next, start, IsCode, Goal, anchor_insn, word_boundary_insn, BackRef}
-use Rattle.regress_machine.specs.Machine.{LoopData, State, running, nothing, search}
-use Rattle.regress_machine.specs.Finds.{initial, end_in_offsets, end_of, first_pair, CanSearch, turns_at, FindsFirst}
+use Rattle.regex_meaning.specs.FirstAndAllMatches.{no_groups}
+use Rattle.regex_meaning.specs.OutcomesWithStepTicks.{TickOrOutcome, tick, pair, outcomes_replaced_by_lists, ticked, items_at}
+use Rattle.regex_meaning.specs.WellFormedTrees.{number_of_goals, is_end_of_cat, ends_in_goal}
+use Rattle.regex_meaning.specs.CompilationRelation.{Program, Counters, counters_after_insn, counters_at_start, IsCode, Goal, anchor_insn, word_boundary_insn, BackRef}
+use Rattle.regress_machine.specs.Machine.{LoopData, State, running, result_without_threads, search}
+use Rattle.regress_machine.specs.SearchResults.{state_before_first_insn, end_in_offsets, end_of, first_pair, ProgramCanSearchText, turns_at, FindsFirstOutcome}
 use Rattle.regress_machine.proofs.Search.{search_enough}
 use Rattle.regress_machine.proofs.Yields.{Ending, EndIs, found_first, Yields, yields_same, yields_end}
 use Rattle.regress_machine.proofs.Nodes.{direction_at, state_at, RangeFits, Enters, act_at, Finds, Rising, nothing_finds, cat_finds, alt_finds}
@@ -33,18 +33,18 @@ use Rattle.regex_meaning.proofs.Lists.{map-replicate}
 use Rattle.regex_meaning.proofs.Each.{Each-replicate}
 use Rattle.regex_meaning.proofs.Booleans.{and-left, and-right}
 
-and_then-itself : (items : List Item) → and_then items (λ o. pair o ∷ []) ≡ items
+and_then-itself : (items : List TickOrOutcome) → outcomes_replaced_by_lists items (λ o. pair o ∷ []) ≡ items
 and_then-itself [] = refl
-and_then-itself (tick ∷ items) = ap (λ (l : List Item). tick ∷ l) (and_then-itself items)
-and_then-itself (pair o ∷ items) = ap (λ (l : List Item). pair o ∷ l) (and_then-itself items)
+and_then-itself (tick ∷ items) = ap (λ (l : List TickOrOutcome). tick ∷ l) (and_then-itself items)
+and_then-itself (pair o ∷ items) = ap (λ (l : List TickOrOutcome). pair o ∷ l) (and_then-itself items)
 
 -- a node that ends in a goal has one
-goal_inside : (node : Node) → ends_in_goal node ≡ true → 1 ≤ goal_count node
+goal_inside : (node : Node) → ends_in_goal node ≡ true → 1 ≤ number_of_goals node
 goal_inside goal h = omega arith
 goal_inside (cat first rest) h = by (is_end_of_cat rest) h (goal_inside first) (goal_inside rest)
   where
-    by : (b : Bool) → (if b then ends_in_goal first else ends_in_goal rest) ≡ true → (ends_in_goal first ≡ true → 1 ≤ goal_count first)
-        → (ends_in_goal rest ≡ true → 1 ≤ goal_count rest) → 1 ≤ goal_count (cat first rest)
+    by : (b : Bool) → (if b then ends_in_goal first else ends_in_goal rest) ≡ true → (ends_in_goal first ≡ true → 1 ≤ number_of_goals first)
+        → (ends_in_goal rest ≡ true → 1 ≤ number_of_goals rest) → 1 ≤ number_of_goals (cat first rest)
     by true h f r = let a = f h in omega arith
     by false h f r = let a = r h in omega arith
 goal_inside _ h = cc
@@ -53,7 +53,7 @@ module _ (program : Program) (text : Text) (is_text : IsText text) where
   -- the mark's number of loops does not fall
   tree_rising : (behind : Bool) (node : Node) → Ready text program.groups node → Rising program text is_text behind node
   unfolding IsCode
-  tree_rising behind empty r m n code = let e = ap (λ (m : Mark). m.loop) code in omega (arith, e)
+  tree_rising behind empty r m n code = let e = ap (λ (m : Counters). m.loop) code in omega (arith, e)
   tree_rising behind goal r m n code = insns_rising program text is_text (Goal ∷ []) m n code
   tree_rising behind (char c) r m n code = char_rising program text is_text behind c m n code
   tree_rising behind (char_set members) r m n code = char_set_rising program text is_text behind members m n code
@@ -61,9 +61,9 @@ module _ (program : Program) (text : Text) (is_text : IsText text) where
   tree_rising behind (byte_sequence bytes) r m n code = byte_sequence_rising program text is_text behind bytes m n code
   tree_rising behind (cat first rest) r m n code =
       let a = tree_rising behind first r.0 m code.0 code.1 in let b = tree_rising behind rest r.1 code.0 n code.2 in omega (arith, a, b)
-  tree_rising behind end_of_cat r m n code = let e = ap (λ (m : Mark). m.loop) code in omega (arith, e)
+  tree_rising behind end_of_cat r m n code = let e = ap (λ (m : Counters). m.loop) code in omega (arith, e)
   tree_rising behind (alt left right) r m n code =
-      let a = tree_rising behind left r.0 (next m) code.0 code.2 in let b = tree_rising behind right r.1 (next code.0) n code.4 in omega (arith, a, b)
+      let a = tree_rising behind left r.0 (counters_after_insn m) code.0 code.2 in let b = tree_rising behind right r.1 (counters_after_insn code.0) n code.4 in omega (arith, a, b)
   tree_rising behind (bracket contents) r m n code = bracket_rising program text is_text behind contents m n code
   tree_rising behind (string_set strings icase) r m n code = string_set_rising program text is_text behind strings icase m n code
   tree_rising behind match_any r m n code = match_any_rising program text is_text behind m n code
@@ -71,10 +71,10 @@ module _ (program : Program) (text : Text) (is_text : IsText text) where
   tree_rising behind (anchor type multiline) r m n code = insns_rising program text is_text (anchor_insn type multiline ∷ []) m n code
   tree_rising behind (word_boundary invert unicode_icase) r m n code = insns_rising program text is_text (word_boundary_insn invert unicode_icase ∷ []) m n code
   tree_rising behind (capture_group id name contents) r m n code =
-      let a = tree_rising behind contents r.2 (next m) code.0 code.2 in let e = ap (λ (m : Mark). m.loop) code.3.1 in omega (arith, a, e)
+      let a = tree_rising behind contents r.2 (counters_after_insn m) code.0 code.2 in let e = ap (λ (m : Counters). m.loop) code.3.1 in omega (arith, a, e)
   tree_rising behind (back_ref group icase) r m n code = insns_rising program text is_text (BackRef (group - 1) icase ∷ []) m n code
   tree_rising behind (lookaround l contents) r m n code =
-      let a = tree_rising l.backwards contents r (next m) code.0 code.2 in let e = ap (λ (m : Mark). m.loop) code.3.1 in omega (arith, a, e)
+      let a = tree_rising l.backwards contents r (counters_after_insn m) code.0 code.2 in let e = ap (λ (m : Counters). m.loop) code.3.1 in omega (arith, a, e)
   tree_rising behind (loop q first end loopee) r m n code =
       loop_rising program text is_text behind q first end loopee (tree_rising behind loopee r.1) m n code
   tree_rising behind (loop_1_char_body q loopee) r m n code =
@@ -86,7 +86,7 @@ module _ (program : Program) (text : Text) (is_text : IsText text) where
 
   module _ (unicode : text.unicode ≡ program.flags.unicode) where
     -- the code of a node without a goal
-    tree_finds : (d : Direction) (behind : Bool) → d ≡ direction_at behind → (node : Node) → Ready text program.groups node → goal_count node ≡ 0 → Finds program text is_text d behind node
+    tree_finds : (d : Direction) (behind : Bool) → d ≡ direction_at behind → (node : Node) → Ready text program.groups node → number_of_goals node ≡ 0 → Finds program text is_text d behind node
     unfolding IsCode ticked outcomes
     tree_finds d behind ahead empty r h E m n p g s ls k code enters on = nothing_finds program text is_text d E m n p [] g s ls k code enters on
     tree_finds d behind ahead goal r h E m n p g s ls k code enters on = cc
@@ -126,15 +126,15 @@ module _ (program : Program) (text : Text) (is_text : IsText text) where
         loop_1_char_body_finds program text is_text d behind q loopee r.0 r.1 r.2 r.3 E m n p g s ls k code enters on
 
     -- the code of a node that ends in the goal
-    root_finds : (node : Node) → Ready text program.groups node → ends_in_goal node ≡ true → goal_count node ≡ 1
-        → (m n : Mark) (p : ℕ) (g : Groups) (s : List ℕ) (ls : List LoopData) → IsCode program false node m n → Enters program text is_text p g s ls n.loop
+    root_finds : (node : Node) → Ready text program.groups node → ends_in_goal node ≡ true → number_of_goals node ≡ 1
+        → (m n : Counters) (p : ℕ) (g : Groups) (s : List ℕ) (ls : List LoopData) → IsCode program false node m n → Enters program text is_text p g s ls n.loop
         → Yields program text rightwards AtEnd (running (state_at program text is_text m.insn p g s ls) ∷ []) (ticked text node rightwards p g)
     unfolding IsCode ticked outcomes
     root_finds goal r h one m n p g s ls code enters =
         let t = state_at program text is_text m.insn p g s ls in
         yields_end program text rightwards AtEnd t (record { end = p; groups = g }) (act_at program text is_text rightwards t Goal code.0) refl
     root_finds (cat first end_of_cat) r h one m n p g s ls code enters =
-        let e = ap (λ (m : Mark). m.loop) code.2 in
+        let e = ap (λ (m : Counters). m.loop) code.2 in
         yields_same program text rightwards AtEnd _ _ _ (sym (and_then-itself (ticked text first rightwards p g)))
         (root_finds first r.0 h (omega arith) m code.0 p g s ls code.1
         (record { inside = enters.inside; fit = enters.fit; groups = enters.groups; starts = enters.starts; loops = omega (arith, e, enters.loops) }))
@@ -161,8 +161,8 @@ same_end : (text : Text) (first : Option Outcome) (e : Option State) → EndIs (
 same_end text None e is = ap (option_map end_of) is
 same_end text (Some o) e is = ap (option_map end_of) is.1 ∙ ap Some is.2
 
-pub searches-find : (program : Program) (tree : Tree) (text : Text) → CanSearch program tree text → (place : ℕ) → place ≤ last_place text
-    → FindsFirst program tree text place
+pub searches-find : (program : Program) (tree : Tree) (text : Text) → ProgramCanSearchText program tree text → (place : ℕ) → place ≤ last_place text
+    → FindsFirstOutcome program tree text place
 unfolding search
 searches-find program tree text can place inside =
     let root = tree.root in
@@ -178,16 +178,16 @@ searches-find program tree text can place inside =
     let len_s : length starts ≡ program.groups = length-replicate program.groups at in
     let len_l : length loops ≡ program.loops = length-replicate program.loops fresh in
     let ready = subst (λ n. Ready text n root) (sym same) (root_ready text root can.well_formed can.bytes) in
-    let last : Mark = record { insn = length program.insns; loop = program.loops; bracket = length program.brackets } in
+    let last : Counters = record { insn = length program.insns; loop = program.loops; bracket = length program.brackets } in
     let items = items_at tree text place in
     let unicode : text.unicode ≡ program.flags.unicode = can.unicode ∙ ap (λ (f : Flags). f.unicode) (sym can.code.flags) in
-    let y = root_finds program text can.is_text unicode root ready (and-right (goal_count root == 1) (ends_in_goal root) (clauses root can.well_formed).goal_last)
-    (eqb-true (goal_count root) 1 (and-left (goal_count root == 1) (ends_in_goal root) (clauses root can.well_formed).goal_last)) start last place g starts loops can.code.code
+    let y = root_finds program text can.is_text unicode root ready (and-right (number_of_goals root == 1) (ends_in_goal root) (clauses root can.well_formed).goal_last)
+    (eqb-true (number_of_goals root) 1 (and-left (number_of_goals root == 1) (ends_in_goal root) (clauses root can.well_formed).goal_last)) counters_at_start last place g starts loops can.code.code
     (record { inside = inside; fit = Each-replicate (RangeFits program text can.is_text) n none tt; groups = len_g; starts = len_s ∙ sym len_g; loops = omega (arith, len_l) }) in
     let s0 = state_at program text can.is_text 0 place g starts loops in
-    let begins : s0 ≡ initial program (offset text place) =
+    let begins : s0 ≡ state_before_first_insn program (offset text place) =
     ap (λ h. record s0 { groups = h }) (map-replicate (option_map (λ (r : ℕ × ℕ). (offset text r.0, offset text r.1))) n none ∙ ap (λ n. replicate n none) (sym same)) in
-    let a = y.finds 0 [] nothing refl in
+    let a = y.finds 0 [] result_without_threads refl in
     let found = found_first (AtEnd program text can.is_text) items a.1.0 a.1.2 in
     record {
       found = a.1.0;

@@ -1,4 +1,4 @@
 pub mod Machine
-pub mod Bytes
-pub mod Finds
-pub mod Turns
+pub mod TextsForBytePrograms
+pub mod SearchResults
+pub mod InsnEffects

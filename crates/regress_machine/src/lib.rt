@@ -1,30 +1,32 @@
-//! The abstract machine that runs programs, and what it finds.
+//! The abstract machine that runs programs, and its correctness theorem.
 //!
-//! Both executors do what this machine does, a turn for a turn. Its theorem says that the program of a
-//! well-formed tree, run from a place of a text, ends with the tree's most preferred outcome there, after
-//! as many steps as the tree's list has ticks up to it.
+//! Both executors do what this machine does, operation for operation. The theorem says that the
+//! program of a well-formed tree, run from a place of a text (a number of characters from the
+//! left), ends with the tree's outcome of highest priority there. It takes as many steps as the
+//! tree's list has ticks up to that outcome.
 #![tactic(auto)]
 
-ghost use Rattle.regress_machine.specs.{Bytes.{ByteTextsAreRead}, Finds.{SearchesFindFirst, SearchesFindMatches, TicksAreSteps}};
+ghost use Rattle.regress_machine.specs.{TextsForBytePrograms.{ByteTextsAreRead}, SearchResults.{SearchesFindFirst, SearchesFindMatches, TicksAreSteps}};
 
-/// A search of a tree's program from a place takes a step for each tick of the tree's list up to the first
-/// outcome, and ends with that outcome, or with none where the list has none.
+/// A search of a tree's program from a place takes one step for each tick of the tree's list up to
+/// the first outcome. It ends with that outcome, or with none if the list has none.
 pub fn searches_find_first()
     ensures { SearchesFindFirst }
 {}
 
-/// A search of a tree's program from a place ends with the match there, or with none where there is none.
+/// A search of a tree's program from a place ends with the match there, or with none if there is
+/// none.
 pub fn searches_find_matches()
     ensures { SearchesFindMatches }
 {}
 
-/// The ticks of places that are tried in a row are the steps of a search from the first one and, where it
-/// fails, the ticks of the others.
+/// The ticks of places that are tried one after another are the steps of a search from the first
+/// one and, if it fails, the ticks of the others.
 pub fn ticks_are_steps()
     ensures { TicksAreSteps }
 {}
 
-/// Byte programs run on the texts of UTF-8 bytes and on those of ASCII bytes.
+/// Byte programs can run on texts of UTF-8 bytes and on texts of ASCII bytes.
 pub fn byte_texts_are_read()
     ensures { ByteTextsAreRead }
 {}

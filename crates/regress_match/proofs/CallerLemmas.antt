@@ -8,38 +8,38 @@ use Rattle.regex_meaning.specs.Tree.{Node}
 use Rattle.regex_meaning.specs.Text.{utf8_text}
 use Rattle.regex_meaning.specs.Laws.{Each, StandInOrder, IsAnswerOf, IsRange}
 use Rattle.regex_meaning.specs.Outcomes.{group_range}
-use Rattle.regex_meaning.specs.Names.{Answer, answers_from, first_appearances, first_range, ids_named, named_groups}
-use Rattle.regex_meaning.specs.Steps.{those_within}
+use Rattle.regex_meaning.specs.Captures.{Answer, answers_from, first_appearances, first_range, ids_named, named_groups}
+use Rattle.regex_meaning.specs.StepBudget.{those_within}
 use Rattle.regex_meaning.proofs.Encodings.{ascii-utf8}
 use Rattle.regex_meaning.proofs.Ordered.{answers-IsAnswerOf, answers-StandInOrder}
 use Rattle.regex_meaning.proofs.TextLemmas.{utf8_text-IsText}
 use Rattle.regress_input.proofs.Utf8Slices.{char_boundary}
-use Rattle.regress_exec.specs.Answers.{answer_of}
-use Rattle.regress_exec.specs.ToCome.{ToCome, Gives}
+use Rattle.regress_exec.specs.MatchAnswers.{answer_of}
+use Rattle.regress_exec.specs.RemainingAnswers.{RemainingView, NextYields}
 use Rattle.regress_exec.specs.declared.exec.Match.{Match}
 use Rattle.regress_exec.specs.declared.exec.SearchError.{SearchError}
 use Rattle.regress_match.specs.Laws.{MatchesStandInText}
-use Rattle.regress_match.specs.Programs.{byte_tree, ascii_answers}
-use Rattle.regress_match.specs.Replacements.{IsSlice, FitsText, StandFrom}
+use Rattle.regress_match.specs.RegexPrograms.{byte_tree, ascii_answers}
+use Rattle.regress_match.specs.Replacements.{IsCharBoundaryRange, MatchFitsText, MatchesAreOrderedFrom}
 use Rattle.regress_match.specs.declared.api.regex.Regex.{Regex}
 
 -- ---- Where matches stand
 
 module _ (bytes : List ℕ) (unicode : Bool) (is_utf8 : IsUtf8 bytes) where
-  slice_of : (range : ℕ × ℕ) → IsRange (utf8_text bytes unicode) range → IsSlice bytes range
+  slice_of : (range : ℕ × ℕ) → IsRange (utf8_text bytes unicode) range → IsCharBoundaryRange bytes range
   slice_of range h = (h.0, char_boundary bytes unicode ∣ is_utf8 ∣₁ range.0 h.1, char_boundary bytes unicode ∣ is_utf8 ∣₁ range.1 h.2)
 
-  slices_of : (groups : List (Option (ℕ × ℕ))) → Each (λ g. IfSome g (IsRange (utf8_text bytes unicode))) groups → Each (λ g. IfSome g (IsSlice bytes)) groups
+  slices_of : (groups : List (Option (ℕ × ℕ))) → Each (λ g. IfSome g (IsRange (utf8_text bytes unicode))) groups → Each (λ g. IfSome g (IsCharBoundaryRange bytes)) groups
   slices_of [] h = tt
   slices_of (None ∷ groups) h = (tt, slices_of groups h.1)
   slices_of (Some range ∷ groups) h = (slice_of range h.0, slices_of groups h.1)
 
-  stand : (root : Node) (low from : ℕ) (ms : List Answer) → from ≤ low → StandInOrder low ms → Each (IsAnswerOf root (utf8_text bytes unicode)) ms → StandFrom bytes from ms
+  stand : (root : Node) (low from : ℕ) (ms : List Answer) → from ≤ low → StandInOrder low ms → Each (IsAnswerOf root (utf8_text bytes unicode)) ms → MatchesAreOrderedFrom bytes from ms
   stand root low from [] le h k = tt
   stand root low from (m ∷ ms) le h k =
       (omega (arith, h.0), record { whole = slice_of m.range k.0.whole; groups = slices_of m.captures k.0.groups }, stand root (max (m.range.0 + 1) m.range.1) m.range.1 ms (omega arith) h.2 k.1)
 
-  answers-stand : (root : Node) (start : ℕ) → StandFrom bytes start (answers_from root (utf8_text bytes unicode) start)
+  answers-stand : (root : Node) (start : ℕ) → MatchesAreOrderedFrom bytes start (answers_from root (utf8_text bytes unicode) start)
   answers-stand root start =
       stand root start start _ (omega arith) (answers-StandInOrder root (utf8_text bytes unicode) (utf8_text-IsText bytes unicode) start)
       (answers-IsAnswerOf root (utf8_text bytes unicode) (utf8_text-IsText bytes unicode) start)
@@ -49,26 +49,26 @@ pub matches-stand : MatchesStandInText
 matches-stand re text start is_utf8 = answers-stand text (byte_tree re).flags.unicode is_utf8 (byte_tree re).root start
 
 -- so do those of a text of ASCII
-pub ascii-stand : (re : Regex) (text : List ℕ) (start : ℕ) → IsUtf8 text → IsAscii text → StandFrom text start (ascii_answers re text start)
+pub ascii-stand : (re : Regex) (text : List ℕ) (start : ℕ) → IsUtf8 text → IsAscii text → MatchesAreOrderedFrom text start (ascii_answers re text start)
 ascii-stand re text start is_utf8 ascii =
-    subst (StandFrom text start) (sym (ascii-utf8 (byte_tree re).root text (byte_tree re).flags.unicode ascii start)) (matches-stand re text start is_utf8)
+    subst (MatchesAreOrderedFrom text start) (sym (ascii-utf8 (byte_tree re).root text (byte_tree re).flags.unicode ascii start)) (matches-stand re text start is_utf8)
 
 -- and those that so many steps are enough for
-pub within-stand : (text : List ℕ) (from steps : ℕ) (needs : List ℕ) (ms : List Answer) → StandFrom text from ms → StandFrom text from (those_within steps needs ms)
+pub within-stand : (text : List ℕ) (from steps : ℕ) (needs : List ℕ) (ms : List Answer) → MatchesAreOrderedFrom text from ms → MatchesAreOrderedFrom text from (those_within steps needs ms)
 within-stand text from steps [] ms h = tt
 within-stand text from steps (n ∷ needs) [] h = tt
 within-stand text from steps (n ∷ needs) (m ∷ ms) h = by (nat_le n steps) (within-stand text m.range.1 steps needs ms h.2)
   where
-    by : (b : Bool) → StandFrom text m.range.1 (those_within steps needs ms) → StandFrom text from (if b then m ∷ those_within steps needs ms else [])
+    by : (b : Bool) → MatchesAreOrderedFrom text m.range.1 (those_within steps needs ms) → MatchesAreOrderedFrom text from (if b then m ∷ those_within steps needs ms else [])
     by true rest = (h.0, h.1, rest)
     by false rest = tt
 
 -- and the first one
-pub first-fits : (text : List ℕ) (start : ℕ) (ms : List Answer) (first : Option Match) → StandFrom text start ms → option_map answer_of first ≡ slice_get ms 0
-    → IfSome first (λ m. FitsText text (answer_of m))
+pub first-fits : (text : List ℕ) (start : ℕ) (ms : List Answer) (first : Option Match) → MatchesAreOrderedFrom text start ms → option_map answer_of first ≡ slice_get ms 0
+    → IfSome first (λ m. MatchFitsText text (answer_of m))
 first-fits text start ms None h e = tt
 first-fits text start [] (Some m) h e = absurd (cc e)
-first-fits text start (n ∷ ms) (Some m) h e = let same : n ≡ answer_of m = cc e in subst (FitsText text) same h.1
+first-fits text start (n ∷ ms) (Some m) h e = let same : n ≡ answer_of m = cc e in subst (MatchFitsText text) same h.1
 
 -- ---- Its groups by name
 
@@ -96,47 +96,47 @@ module _ (P : ℕ × ℕ → Type 0) where
   named-each m (name ∷ names) h = (first_range-each m (ids_named m name) h, named-each m names h)
 
 -- the range of each name is one of whole characters
-pub named-fit : (text : List ℕ) (m : Answer) → FitsText text m → Each (λ (named : List ℕ × Option (ℕ × ℕ)). IfSome named.1 (IsSlice text)) (named_groups m)
-named-fit text m fits = named-each (IsSlice text) m (first_appearances [] m.names) fits.groups
+pub named-fit : (text : List ℕ) (m : Answer) → MatchFitsText text m → Each (λ (named : List ℕ × Option (ℕ × ℕ)). IfSome named.1 (IsCharBoundaryRange text)) (named_groups m)
+named-fit text m fits = named-each (IsCharBoundaryRange text) m (first_appearances [] m.names) fits.groups
 
 -- ---- A loop over matches
 
 -- What a loop over matches knows of those that are left: they stand in the text from an offset on, which is a boundary, and a
 -- limit of steps stands behind them or does not.
-pub record IsReached (text : List ℕ) (limited : Bool) (from : ℕ) (left : ToCome) : Type 0 where
+pub record IsReached (text : List ℕ) (limited : Bool) (from : ℕ) (left : RemainingView) : Type 0 where
   pub boundary : IsCharBoundary text from
-  pub stand : StandFrom text from left.answers
+  pub stand : MatchesAreOrderedFrom text from left.answers
   pub limit : left.limited ≡ limited
 
 -- What one turn knows of the match that it takes: it is the next one, it stands in the text behind the offset reached, and so
 -- do those that it leaves behind its end.
-pub record TakesNext (text : List ℕ) (limited : Bool) (from : ℕ) (left rest : ToCome) (m : Answer) : Type 0 where
+pub record TakesNext (text : List ℕ) (limited : Bool) (from : ℕ) (left rest : RemainingView) (m : Answer) : Type 0 where
   pub next : left.answers ≡ m ∷ rest.answers
-  pub before : IsSlice text (from, m.range.0)
-  pub fits : FitsText text m
+  pub before : IsCharBoundaryRange text (from, m.range.0)
+  pub fits : MatchFitsText text m
   pub reached : (to : ℕ) → to ≡ m.range.1 → IsReached text limited to rest
 
-stand-lower : (text : List ℕ) (low from : ℕ) (ms : List Answer) → low ≤ from → StandFrom text from ms → StandFrom text low ms
+stand-lower : (text : List ℕ) (low from : ℕ) (ms : List Answer) → low ≤ from → MatchesAreOrderedFrom text from ms → MatchesAreOrderedFrom text low ms
 stand-lower text low from [] le h = tt
 stand-lower text low from (m ∷ ms) le h = (omega (arith, h.0), h.1, h.2)
 
 -- before the first turn the left end is reached
-pub reached-none : (text : List ℕ) (start : ℕ) (all left : ToCome) → IsUtf8 text → StandFrom text start all.answers → left ≡ all → IsReached text all.limited 0 left
+pub reached-none : (text : List ℕ) (start : ℕ) (all left : RemainingView) → IsUtf8 text → MatchesAreOrderedFrom text start all.answers → left ≡ all → IsReached text all.limited 0 left
 reached-none text start all left is_utf8 h e = record {
   boundary = IsCharBoundary-start text is_utf8;
-  stand = stand-lower text 0 start left.answers (omega arith) (subst (λ (it : ToCome). StandFrom text start it.answers) (sym e) h);
-  limit = ap (λ (it : ToCome). it.limited) e;
+  stand = stand-lower text 0 start left.answers (omega arith) (subst (λ (it : RemainingView). MatchesAreOrderedFrom text start it.answers) (sym e) h);
+  limit = ap (λ (it : RemainingView). it.limited) e;
 }
 
 -- with no limit on the steps
-pub reached-unlimited : (text : List ℕ) (all left : ToCome) → IsUtf8 text → all.limited ≡ false → StandFrom text 0 all.answers → left ≡ all → IsReached text false 0 left
+pub reached-unlimited : (text : List ℕ) (all left : RemainingView) → IsUtf8 text → all.limited ≡ false → MatchesAreOrderedFrom text 0 all.answers → left ≡ all → IsReached text false 0 left
 reached-unlimited text all left is_utf8 unlimited h e = subst (λ b. IsReached text b 0 left) unlimited (reached-none text 0 all left is_utf8 h e)
 
-pub takes-next : (text : List ℕ) (limited : Bool) (from : ℕ) (left rest : ToCome) (r : Result Match SearchError) (m : Match)
-    → IsReached text limited from left → Gives left (Some r) rest → r ≡ Ok m → TakesNext text limited from left rest (answer_of m)
+pub takes-next : (text : List ℕ) (limited : Bool) (from : ℕ) (left rest : RemainingView) (r : Result Match SearchError) (m : Match)
+    → IsReached text limited from left → NextYields left (Some r) rest → r ≡ Ok m → TakesNext text limited from left rest (answer_of m)
 takes-next text limited from left rest r m reached gives is =
-    let h : Gives left (Some (Ok m)) rest = subst (λ x. Gives left (Some x) rest) is gives in
-    let stands = subst (StandFrom text from) h.0 reached.stand in
+    let h : NextYields left (Some (Ok m)) rest = subst (λ x. NextYields left (Some x) rest) is gives in
+    let stands = subst (MatchesAreOrderedFrom text from) h.0 reached.stand in
     record {
       next = h.0;
       before = (stands.0, reached.boundary, stands.1.whole.1);

@@ -3,16 +3,16 @@ use Rattle.std.proofs.Common.{◌≡◌, ℕ, true, false, List, ◌++◌, lengt
 use Rattle.std.specs.Char.{encode_utf8}
 use Rattle.std.proofs.lemmas.Str.{encode_ascii}
 use Rattle.std.proofs.lemmas.List.{nil_from_length}
-use Rattle.regex_meaning.specs.Lists.{contains}
-use Rattle.regex_meaning.specs.Flags.{special, escape}
+use Rattle.regex_meaning.specs.NumberListHelpers.{contains}
+use Rattle.regex_meaning.specs.FlagLettersAndEscaping.{syntax_characters, escape}
 use Rattle.regex_grammar.proofs.EscapedBytes.{escape-next}
 pub use Rattle.regex_grammar.proofs.EscapedBytes.{mark}
 
 -- what is written before a character is its mark
-pub behind-mark : (out : List ℕ) (c : ℕ) → true ≡ contains special c → out ++ encode_utf8 92 ≡ out ++ mark c
+pub behind-mark : (out : List ℕ) (c : ℕ) → true ≡ contains syntax_characters c → out ++ encode_utf8 92 ≡ out ++ mark c
 behind-mark out c e = rw (← e) (ap (λ t. out ++ t) (encode_ascii 92 (lit< tt)))
 
-pub without-mark : (out : List ℕ) (c : ℕ) → false ≡ contains special c → out ≡ out ++ mark c
+pub without-mark : (out : List ℕ) (c : ℕ) → false ≡ contains syntax_characters c → out ≡ out ++ mark c
 without-mark out c e = rw (← e) (sym (append-nil out))
 
 -- nothing is left to escape

@@ -9,23 +9,23 @@ use Rattle.std.proofs.lemmas.Bool.{eqb-true}
 use Rattle.std.proofs.lemmas.Str.{IsCharBoundary-after_ascii, encode_ascii}
 use Rattle.regex_meaning.specs.Laws.{Each}
 use Rattle.regex_meaning.specs.Outcomes.{group_range}
-use Rattle.regex_meaning.specs.Names.{Answer, group, named_group, first_range, ids_named}
-use Rattle.regex_meaning.specs.Replace.{Part, literal, group_part, named_part, Begun, part_then, numbered, braced, behind_dollar, parts_of, text_of}
+use Rattle.regex_meaning.specs.Captures.{Answer, group, named_group, first_range, ids_named}
+use Rattle.regex_meaning.specs.Replace.{ReplacementPart, literal, group_part, named_part, ParsedPart, one_part_and_rest, parse_group_number, parse_braced_name, parse_after_dollar, parse_replacement, text_of}
 use Rattle.regex_meaning.specs.Replace.{text_of_part, text_of_parts, expansion, max_capture_groups}
-use Rattle.regress_match.specs.Replacements.{IsSlice, FitsText}
+use Rattle.regress_match.specs.Replacements.{IsCharBoundaryRange, MatchFitsText}
 
 -- ---- What is left of a replacement
 
 -- of two rests that are short enough, either
-either-rest : (c : Bool) (x y : Begun) (n : ℕ) → length x.rest ≤ n → length y.rest ≤ n → length (if c then x else y).rest ≤ n
+either-rest : (c : Bool) (x y : ParsedPart) (n : ℕ) → length x.rest ≤ n → length y.rest ≤ n → length (if c then x else y).rest ≤ n
 either-rest true x y n h k = h
 either-rest false x y n h k = k
 
-numbered-rest : (value : ℕ) (bytes : List ℕ) → length (numbered value bytes).rest ≤ length bytes
+numbered-rest : (value : ℕ) (bytes : List ℕ) → length (parse_group_number value bytes).rest ≤ length bytes
 numbered-rest value [] = omega arith
 numbered-rest value (b ∷ bytes) =
-    let more : length (numbered (value * 10 + digit_value b) bytes).rest ≤ length bytes = numbered-rest (value * 10 + digit_value b) bytes in
-    either-rest (is_ascii_digit b && nat_le value max_capture_groups) (numbered (value * 10 + digit_value b) bytes) (part_then (group_part value) (b ∷ bytes)) (length (b ∷ bytes))
+    let more : length (parse_group_number (value * 10 + digit_value b) bytes).rest ≤ length bytes = numbered-rest (value * 10 + digit_value b) bytes in
+    either-rest (is_ascii_digit b && nat_le value max_capture_groups) (parse_group_number (value * 10 + digit_value b) bytes) (one_part_and_rest (group_part value) (b ∷ bytes)) (length (b ∷ bytes))
     (omega (arith, more)) (omega arith)
 
 drop-rest : (k : ℕ) (bytes : List ℕ) → length (drop k bytes) ≤ length bytes
@@ -33,33 +33,33 @@ drop-rest zero bytes = omega arith
 drop-rest (suc k) [] = omega arith
 drop-rest (suc k) (b ∷ bytes) = let h = drop-rest k bytes in omega (arith, h)
 
-braced-rest : (bytes : List ℕ) → length (braced bytes).rest ≤ length bytes
+braced-rest : (bytes : List ℕ) → length (parse_braced_name bytes).rest ≤ length bytes
 braced-rest bytes =
-    either-rest (list_any (λ b. b == 125) bytes) (part_then (named_part (before_first (λ b. b == 125) bytes)) (after_first (λ b. b == 125) bytes))
+    either-rest (list_any (λ b. b == 125) bytes) (one_part_and_rest (named_part (before_first (λ b. b == 125) bytes)) (after_first (λ b. b == 125) bytes))
     (record { parts = literal 36 ∷ literal 123 ∷ map literal bytes; rest = [] }) (length bytes)
     (drop-rest (position_or_len (λ b. b == 125) bytes + 1) bytes) (omega arith)
 
-dollar-rest : (bytes : List ℕ) → length (behind_dollar bytes).rest ≤ length bytes
+dollar-rest : (bytes : List ℕ) → length (parse_after_dollar bytes).rest ≤ length bytes
 dollar-rest [] = omega arith
 dollar-rest (b ∷ bytes) =
     let whole = length (b ∷ bytes) in
-    let named : length (braced bytes).rest ≤ length bytes = braced-rest bytes in
-    let alone = part_then (literal 36) (b ∷ bytes) in
-    let name_or_alone = if b == 123 then braced bytes else alone in
-    let digits_or = if is_ascii_digit b then numbered 0 (b ∷ bytes) else name_or_alone in
-    either-rest (b == 36) (part_then (literal 36) bytes) digits_or whole (omega arith)
-    (either-rest (is_ascii_digit b) (numbered 0 (b ∷ bytes)) name_or_alone whole (numbered-rest 0 (b ∷ bytes))
-    (either-rest (b == 123) (braced bytes) alone whole (omega (arith, named)) (omega arith)))
+    let named : length (parse_braced_name bytes).rest ≤ length bytes = braced-rest bytes in
+    let alone = one_part_and_rest (literal 36) (b ∷ bytes) in
+    let name_or_alone = if b == 123 then parse_braced_name bytes else alone in
+    let digits_or = if is_ascii_digit b then parse_group_number 0 (b ∷ bytes) else name_or_alone in
+    either-rest (b == 36) (one_part_and_rest (literal 36) bytes) digits_or whole (omega arith)
+    (either-rest (is_ascii_digit b) (parse_group_number 0 (b ∷ bytes)) name_or_alone whole (numbered-rest 0 (b ∷ bytes))
+    (either-rest (b == 123) (parse_braced_name bytes) alone whole (omega (arith, named)) (omega arith)))
 
 -- the part at the head of a replacement
-abbrev begun : ℕ → List ℕ → Begun
-begun b bytes = if b == 36 then behind_dollar bytes else part_then (literal b) bytes
+abbrev begun : ℕ → List ℕ → ParsedPart
+begun b bytes = if b == 36 then parse_after_dollar bytes else one_part_and_rest (literal b) bytes
 
 begun-rest : (b : ℕ) (bytes : List ℕ) → length (begun b bytes).rest ≤ length bytes
-begun-rest b bytes = either-rest (b == 36) (behind_dollar bytes) (part_then (literal b) bytes) (length bytes) (dollar-rest bytes) (omega arith)
+begun-rest b bytes = either-rest (b == 36) (parse_after_dollar bytes) (one_part_and_rest (literal b) bytes) (length bytes) (dollar-rest bytes) (omega arith)
 
 -- any number of steps that is enough
-enough : (n k : ℕ) (bytes : List ℕ) → length bytes ≤ n → length bytes ≤ k → parts_of n bytes ≡ parts_of k bytes
+enough : (n k : ℕ) (bytes : List ℕ) → length bytes ≤ n → length bytes ≤ k → parse_replacement n bytes ≡ parse_replacement k bytes
 enough zero zero bytes h l = refl
 enough zero (suc k) [] h l = refl
 enough zero (suc k) (b ∷ bytes) h l = absurd (omega (arith, h))
@@ -76,23 +76,23 @@ abbrev pub is_dollar : ℕ → Bool
 is_dollar b = b == 36
 
 module _ (text : List ℕ) (m : Answer) where
-  parts-append : (ps qs : List Part) → text_of_parts text m (ps ++ qs) ≡ text_of_parts text m ps ++ text_of_parts text m qs
+  parts-append : (ps qs : List ReplacementPart) → text_of_parts text m (ps ++ qs) ≡ text_of_parts text m ps ++ text_of_parts text m qs
   parts-append [] qs = refl
   parts-append (p ∷ ps) qs = ap (λ t. text_of_part text m p ++ t) (parts-append ps qs) ∙ sym (append_assoc (text_of_part text m p) (text_of_parts text m ps) (text_of_parts text m qs))
 
   expansion-step : (b : ℕ) (bytes : List ℕ) → expansion text m (b ∷ bytes) ≡ text_of_parts text m (begun b bytes).parts ++ expansion text m (begun b bytes).rest
   unfolding expansion
   expansion-step b bytes =
-      parts-append (begun b bytes).parts (parts_of (length bytes) (begun b bytes).rest)
+      parts-append (begun b bytes).parts (parse_replacement (length bytes) (begun b bytes).rest)
       ∙ ap (λ ps. text_of_parts text m (begun b bytes).parts ++ text_of_parts text m ps)
       (enough (length bytes) (length (begun b bytes).rest) (begun b bytes).rest (begun-rest b bytes) (omega arith))
 
   expansion-literal : (b : ℕ) (bytes : List ℕ) → (b == 36) ≡ false → expansion text m (b ∷ bytes) ≡ b ∷ expansion text m bytes
   expansion-literal b bytes e =
       expansion-step b bytes
-      ∙ ap (λ (x : Begun). text_of_parts text m x.parts ++ expansion text m x.rest) (ap (λ c. if c then behind_dollar bytes else part_then (literal b) bytes) e)
+      ∙ ap (λ (x : ParsedPart). text_of_parts text m x.parts ++ expansion text m x.rest) (ap (λ c. if c then parse_after_dollar bytes else one_part_and_rest (literal b) bytes) e)
 
-  pub expansion-dollar : (bytes : List ℕ) → expansion text m (36 ∷ bytes) ≡ text_of_parts text m (behind_dollar bytes).parts ++ expansion text m (behind_dollar bytes).rest
+  pub expansion-dollar : (bytes : List ℕ) → expansion text m (36 ∷ bytes) ≡ text_of_parts text m (parse_after_dollar bytes).parts ++ expansion text m (parse_after_dollar bytes).rest
   expansion-dollar bytes = expansion-step 36 bytes
 
   -- a replacement without `$`
@@ -127,15 +127,15 @@ module _ (text : List ℕ) (m : Answer) where
       by f false e k = expansion-literal b bytes e ∙ ap (λ t. b ∷ t) (f (omega (arith, k))) ∙ sym (one-on b (position_or_len is_dollar bytes) bytes)
 
   -- one part more: what is written, with what the rest says, stays the whole
-  pub expansion-more : (bytes before behind left : List ℕ) (parts : List Part) (out written next whole : List ℕ)
+  pub expansion-more : (bytes before behind left : List ℕ) (parts : List ReplacementPart) (out written next whole : List ℕ)
       → position_or_len is_dollar bytes < length bytes → before ≡ before_first is_dollar bytes → behind ≡ after_first is_dollar bytes
-      → record { parts = parts; rest = left } ≡ behind_dollar behind → written ≡ out ++ before → next ≡ written ++ text_of_parts text m parts
+      → record { parts = parts; rest = left } ≡ parse_after_dollar behind → written ≡ out ++ before → next ≡ written ++ text_of_parts text m parts
       → out ++ expansion text m bytes ≡ whole → next ++ expansion text m left ≡ whole
   expansion-more bytes before behind left parts out written next whole inside b a read w n e =
       rw (n, w)
       (append_assoc (out ++ before) (text_of_parts text m parts) (expansion text m left)
       ∙ append_assoc out before _
-      ∙ ap (λ t. out ++ (before ++ t)) (ap (λ (x : Begun). text_of_parts text m x.parts ++ expansion text m x.rest) read ∙ sym (expansion-dollar behind))
+      ∙ ap (λ t. out ++ (before ++ t)) (ap (λ (x : ParsedPart). text_of_parts text m x.parts ++ expansion text m x.rest) read ∙ sym (expansion-dollar behind))
       ∙ ap (λ t. out ++ t) (ap (λ t. t ++ expansion text m (36 ∷ behind)) b ∙ ap (λ t. before_first is_dollar bytes ++ expansion text m (36 ∷ t)) a ∙ sym (until-dollar bytes inside))
       ∙ e)
 
@@ -150,7 +150,7 @@ module _ (text : List ℕ) (m : Answer) where
   literals (b ∷ bytes) = ap (λ t. b ∷ t) (literals bytes)
 
   -- a `$` and literal text are written
-  pub dollar-written : {T E : Type 0} (r : Result T E) (new mid old behind : List ℕ) (parts : List Part) → mid ≡ old ++ encode_utf8 36
+  pub dollar-written : {T E : Type 0} (r : Result T E) (new mid old behind : List ℕ) (parts : List ReplacementPart) → mid ≡ old ++ encode_utf8 36
       → new ≡ (if is_ok r then mid ++ behind else mid) → parts ≡ literal 36 ∷ map literal behind → IfOk r (λ _. new ≡ old ++ text_of_parts text m parts)
   dollar-written (Ok x) new mid old behind parts h n p =
       n ∙ ap (λ t. t ++ behind) (h ∙ ap (λ t. old ++ t) (encode_ascii 36 (lit< tt))) ∙ append_assoc old (36 ∷ []) behind
@@ -158,7 +158,7 @@ module _ (text : List ℕ) (m : Answer) where
   dollar-written (Err x) new mid old behind parts h n p = tt
 
   -- the text of a group is written
-  pub part-written : {T E : Type 0} (r : Result T E) (new old : List ℕ) (range : Option (ℕ × ℕ)) (part : Part) (parts : List Part)
+  pub part-written : {T E : Type 0} (r : Result T E) (new old : List ℕ) (range : Option (ℕ × ℕ)) (part : ReplacementPart) (parts : List ReplacementPart)
       → IfOk r (λ _. (o : Answer) → new ≡ old ++ text_of text o range) → text_of text m range ≡ text_of_part text m part → parts ≡ part ∷ []
       → IfOk r (λ _. new ≡ old ++ text_of_parts text m parts)
   part-written (Ok x) new old range part parts h e p =
@@ -167,24 +167,24 @@ module _ (text : List ℕ) (m : Answer) where
 
   -- ---- Ranges of groups
 
-  in-groups : (groups : List (Option (ℕ × ℕ))) → Each (λ g. IfSome g (IsSlice text)) groups → (id : ℕ) → IfSome (group_range groups id) (IsSlice text)
+  in-groups : (groups : List (Option (ℕ × ℕ))) → Each (λ g. IfSome g (IsCharBoundaryRange text)) groups → (id : ℕ) → IfSome (group_range groups id) (IsCharBoundaryRange text)
   in-groups [] h id = tt
   in-groups (g ∷ groups) h zero = h.0
   in-groups (g ∷ groups) h (suc id) = in-groups groups h.1 id
 
-  pub group-fits : FitsText text m → (number : ℕ) → IfSome (group m number) (IsSlice text)
+  pub group-fits : MatchFitsText text m → (number : ℕ) → IfSome (group m number) (IsCharBoundaryRange text)
   group-fits h zero = h.whole
   group-fits h (suc id) = in-groups m.captures h.groups id
 
-  first-fits : FitsText text m → (ids : List ℕ) → IfSome (first_range m ids) (IsSlice text)
+  first-fits : MatchFitsText text m → (ids : List ℕ) → IfSome (first_range m ids) (IsCharBoundaryRange text)
   first-fits h [] = tt
   first-fits h (id ∷ ids) = by (group_range m.captures id) (in-groups m.captures h.groups id) (first-fits h ids)
     where
-      by : (g : Option (ℕ × ℕ)) → IfSome g (IsSlice text) → IfSome (first_range m ids) (IsSlice text) → IfSome (option_or g (first_range m ids)) (IsSlice text)
+      by : (g : Option (ℕ × ℕ)) → IfSome g (IsCharBoundaryRange text) → IfSome (first_range m ids) (IsCharBoundaryRange text) → IfSome (option_or g (first_range m ids)) (IsCharBoundaryRange text)
       by None k l = l
       by (Some r) k l = k
 
-  pub named-fits : FitsText text m → (name : List ℕ) → IfSome (named_group m name) (IsSlice text)
+  pub named-fits : MatchFitsText text m → (name : List ℕ) → IfSome (named_group m name) (IsCharBoundaryRange text)
   named-fits h [] = tt
   named-fits h (c ∷ name) = first-fits h (ids_named m (c ∷ name))
 
@@ -221,19 +221,19 @@ first-is [] first h = absurd (cc h)
 first-is (b ∷ bytes) first h = ap (λ x. x ∷ bytes) (cc h)
 
 pub name-read : (bytes rest name left : List ℕ) → slice_get bytes 0 ≡ Some 123 → rest ≡ drop 1 bytes → position_or_len is_brace rest < length rest
-    → name ≡ before_first is_brace rest → left ≡ after_first is_brace rest → part_then (named_part name) left ≡ behind_dollar bytes
+    → name ≡ before_first is_brace rest → left ≡ after_first is_brace rest → one_part_and_rest (named_part name) left ≡ parse_after_dollar bytes
 name-read bytes rest name left h r inside n l =
-    rw (first-is bytes 123 h, ← r, n, l) (ap (λ c. if c then part_then (named_part (before_first is_brace rest)) (after_first is_brace rest) else record { parts = literal 36 ∷ literal 123 ∷ map literal rest; rest = [] }) (sym (any-first is_brace rest inside)))
+    rw (first-is bytes 123 h, ← r, n, l) (ap (λ c. if c then one_part_and_rest (named_part (before_first is_brace rest)) (after_first is_brace rest) else record { parts = literal 36 ∷ literal 123 ∷ map literal rest; rest = [] }) (sym (any-first is_brace rest inside)))
 
 pub name-unclosed : (bytes rest : List ℕ) → slice_get bytes 0 ≡ Some 123 → rest ≡ drop 1 bytes → position_or_len is_brace rest ≡ length rest
-    → record { parts = literal 36 ∷ map literal bytes; rest = [] } ≡ behind_dollar bytes
+    → record { parts = literal 36 ∷ map literal bytes; rest = [] } ≡ parse_after_dollar bytes
 name-unclosed bytes rest h r none =
-    rw (first-is bytes 123 h, ← r) (ap (λ c. if c then part_then (named_part (before_first is_brace rest)) (after_first is_brace rest) else record { parts = literal 36 ∷ literal 123 ∷ map literal rest; rest = [] }) (sym (any-none is_brace rest none)))
+    rw (first-is bytes 123 h, ← r) (ap (λ c. if c then one_part_and_rest (named_part (before_first is_brace rest)) (after_first is_brace rest) else record { parts = literal 36 ∷ literal 123 ∷ map literal rest; rest = [] }) (sym (any-none is_brace rest none)))
 
 -- less is left to be read
-pub left-less : (rest behind left : List ℕ) (parts : List Part) → position_or_len is_dollar rest < length rest → behind ≡ after_first is_dollar rest
-    → record { parts = parts; rest = left } ≡ behind_dollar behind → length left < length rest
+pub left-less : (rest behind left : List ℕ) (parts : List ReplacementPart) → position_or_len is_dollar rest < length rest → behind ≡ after_first is_dollar rest
+    → record { parts = parts; rest = left } ≡ parse_after_dollar behind → length left < length rest
 left-less rest behind left parts inside b e =
-    let less : length left ≤ length behind = rw (ap (λ (x : Begun). x.rest) e) (dollar-rest behind) in
+    let less : length left ≤ length behind = rw (ap (λ (x : ParsedPart). x.rest) e) (dollar-rest behind) in
     let dropped : length (drop (position_or_len is_dollar rest + 1) rest) ≡ length rest - (position_or_len is_dollar rest + 1) = length-drop (position_or_len is_dollar rest + 1) rest in
     omega (arith, less, ap length b, dropped, inside)

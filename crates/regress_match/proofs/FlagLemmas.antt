@@ -3,9 +3,9 @@ use Rattle.std.proofs.Common.{◌≡◌, ℕ, List, [], ◌∷◌, ◌++◌, Boo
 use Rattle.std.proofs.lemmas.Bool.{eqb-false}
 use Rattle.std.specs.Prelude.{◌||◌, Result, Ok, Err, IfOk, IfErr}
 use Rattle.regex_meaning.specs.Tree.{Flags}
-use Rattle.regex_meaning.specs.Flags.{letter_if, flags_of_text, flags_text}
+use Rattle.regex_meaning.specs.FlagLettersAndEscaping.{letter_if_flag_set, flags_from_letters, flags_text}
 use Rattle.std.specs.List.{list_any}
-use Rattle.regex_meaning.specs.Lists.{contains}
+use Rattle.regex_meaning.specs.NumberListHelpers.{contains}
 
 either_way : (x n : ℕ) → nat_eq x n ≡ nat_eq n x
 either_way x n = by (nat_eq n x) refl
@@ -30,17 +30,17 @@ abbrev pub flags_by : (icase multiline dot_all no_opt unicode unicode_sets : Boo
 flags_by i m d n u v = record { icase = i; multiline = m; dot_all = d; no_opt = n; unicode = u; unicode_sets = v }
 
 pub flags-by_letters : (letters bytes : List ℕ) (i m d u v : Bool) → bytes ≡ letters → i ≡ contains bytes 105 → m ≡ contains bytes 109 → d ≡ contains bytes 115
-    → u ≡ contains bytes 117 → v ≡ contains bytes 118 → flags_by i m d false u v ≡ flags_of_text letters
-unfolding flags_of_text
+    → u ≡ contains bytes 117 → v ≡ contains bytes 118 → flags_by i m d false u v ≡ flags_from_letters letters
+unfolding flags_from_letters
 flags-by_letters letters bytes i m d u v same ei em ed eu ev = rw (ei, em, ed, eu, ev, same) refl
 
-pub flags-none : (i m d n u v : Bool) → i ≡ false → m ≡ false → d ≡ false → n ≡ false → u ≡ false → v ≡ false → flags_by i m d n u v ≡ flags_of_text []
-unfolding flags_of_text
+pub flags-none : (i m d n u v : Bool) → i ≡ false → m ≡ false → d ≡ false → n ≡ false → u ≡ false → v ≡ false → flags_by i m d n u v ≡ flags_from_letters []
+unfolding flags_from_letters
 flags-none i m d n u v ei em ed en eu ev = rw (ei, em, ed, en, eu, ev) refl
 
 -- the letters of the flags that are set, piece by piece
-pub flags_text-parts : (f : Flags) (m i d u v : List ℕ) → m ≡ letter_if f.multiline 109 → i ≡ letter_if f.icase 105 → d ≡ letter_if f.dot_all 115
-    → u ≡ letter_if f.unicode 117 → v ≡ letter_if f.unicode_sets 118 → m ++ (i ++ (d ++ (u ++ v))) ≡ flags_text f
+pub flags_text-parts : (f : Flags) (m i d u v : List ℕ) → m ≡ letter_if_flag_set f.multiline 109 → i ≡ letter_if_flag_set f.icase 105 → d ≡ letter_if_flag_set f.dot_all 115
+    → u ≡ letter_if_flag_set f.unicode 117 → v ≡ letter_if_flag_set f.unicode_sets 118 → m ++ (i ++ (d ++ (u ++ v))) ≡ flags_text f
 unfolding flags_text
 flags_text-parts f m i d u v em ei ed eu ev = rw (em, ei, ed, eu, ev) (simp append_assoc)
 
@@ -62,9 +62,9 @@ flag-more : (set : Bool) (n x : ℕ) (letters : List ℕ) → set ≡ contains l
 flag-more set n x letters e = ap (λ b. b || nat_eq x n) e ∙ contains-push n x letters
 
 -- the flags of letters, where one letter more has come
-pub flags-more : (i m d n u v : Bool) (letters : List ℕ) (x : ℕ) → flags_by i m d n u v ≡ flags_of_text letters
-    → flags_by (i || nat_eq x 105) (m || nat_eq x 109) (d || nat_eq x 115) n (u || nat_eq x 117) (v || nat_eq x 118) ≡ flags_of_text (letters ++ x ∷ [])
-unfolding flags_of_text
+pub flags-more : (i m d n u v : Bool) (letters : List ℕ) (x : ℕ) → flags_by i m d n u v ≡ flags_from_letters letters
+    → flags_by (i || nat_eq x 105) (m || nat_eq x 109) (d || nat_eq x 115) n (u || nat_eq x 117) (v || nat_eq x 118) ≡ flags_from_letters (letters ++ x ∷ [])
+unfolding flags_from_letters
 flags-more i m d n u v letters x e =
     let never : n ≡ false = ap (λ (f : Flags). f.no_opt) e in
     rw never

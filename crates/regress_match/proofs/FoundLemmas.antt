@@ -2,20 +2,20 @@
 use Rattle.std.proofs.Common.{◌≡◌, ℕ, ◌+◌, ◌≤◌, List, [], ◌∷◌, length, Bool, true, false, refl, sym, ◌∙◌, ap, ap₂, subst, arith, le_refl}
 use Rattle.std.specs.Prelude.{◌==◌, Option, Some, None, IfSome, option_map, option_and_then, if◌then◌else◌, slice_get}
 use Rattle.regex_meaning.specs.Tree.{Node, Tree}
-use Rattle.regex_pattern_front.specs.TreeOf.{tree_of}
+use Rattle.regex_pattern_front.specs.AstToSpecTree.{tree_of}
 use Rattle.regex_pattern_front.specs.declared.ir.Regex.{Regex}
 use Rattle.regex_meaning.specs.Text.{Text, last_place}
-use Rattle.regex_meaning.specs.Offsets.{IsBoundary, IsText, units}
-use Rattle.regex_meaning.specs.Names.{Answer, answers_from}
-use Rattle.regex_meaning.specs.Answers.{answer_at, answer_then_list, answers_on, first_answer, next_start}
+use Rattle.regex_meaning.specs.CodeUnitOffsets.{IsBoundary, IsText, units}
+use Rattle.regex_meaning.specs.Captures.{Answer, answers_from}
+use Rattle.regex_meaning.specs.SearchAnswers.{answer_at, answer_then_list, answers_on, first_answer, next_start}
 use Rattle.regex_meaning.specs.Laws.{Each, IsAnswerOf, IsRange}
 use Rattle.regex_meaning.proofs.AnswerLemmas.{answers-go_on, first_answer-stands}
 use Rattle.regex_meaning.proofs.AtOnePlace.{matches_at-first}
 use Rattle.regex_meaning.proofs.Ordered.{answers-IsAnswerOf}
 use Rattle.regex_meaning.proofs.TextLemmas.{IsBoundary-place, offset-le}
-use Rattle.regress_exec.specs.Answers.{answer_of}
+use Rattle.regress_exec.specs.MatchAnswers.{answer_of}
 use Rattle.regress_exec.specs.declared.exec.Match.{Match}
-use Rattle.regress_match.specs.Replacements.{FitsText, FitsUnits, IsWithin, StandFrom}
+use Rattle.regress_match.specs.Replacements.{MatchFitsText, MatchFitsCodeUnits, IsRangeWithinUnits, MatchesAreOrderedFrom}
 
 module _ (root : Node) (text : Text) (is : IsText text) where
   -- the first answer is the head of the list
@@ -45,36 +45,36 @@ module _ (root : Node) (text : Text) (is : IsText text) where
   -- ---- In 16-bit units
 
   module _ (us : List ℕ) (size : units text ≡ length us) where
-    within : (range : ℕ × ℕ) → IsRange text range → IsWithin us range
+    within : (range : ℕ × ℕ) → IsRange text range → IsRangeWithinUnits us range
     within range h = (h.0, let le = boundary-within range.1 h.2 in omega (arith, le, size))
 
-    all-within : (groups : List (Option (ℕ × ℕ))) → Each (λ g. IfSome g (IsRange text)) groups → Each (λ g. IfSome g (IsWithin us)) groups
+    all-within : (groups : List (Option (ℕ × ℕ))) → Each (λ g. IfSome g (IsRange text)) groups → Each (λ g. IfSome g (IsRangeWithinUnits us)) groups
     all-within [] h = tt
     all-within (None ∷ groups) h = (tt, all-within groups h.1)
     all-within (Some range ∷ groups) h = (within range h.0, all-within groups h.1)
 
     -- the first match from an offset on stands in the text, behind that
-    pub first-fits_units : (start : ℕ) (m : Answer) → first_answer root text start ≡ Some m → FitsUnits us m
+    pub first-fits_units : (start : ℕ) (m : Answer) → first_answer root text start ≡ Some m → MatchFitsCodeUnits us m
     first-fits_units start m e =
         let answer = (subst (Each (IsAnswerOf root text)) (first-heads start m e) (answers-IsAnswerOf root text is start)).0 in
         record { whole = within m.range answer.whole; groups = all-within m.captures answer.groups }
 
     pub found-fits_units : (start : ℕ) (found : Option Match) → option_map answer_of found ≡ first_answer root text start
-        → IfSome found (λ m. FitsUnits us (answer_of m))
+        → IfSome found (λ m. MatchFitsCodeUnits us (answer_of m))
     found-fits_units start None e = tt
     found-fits_units start (Some m) e = first-fits_units start (answer_of m) (sym e)
 
     -- so does the match at an offset
     pub at-fits_units : (at : ℕ) (found : Option Match) → option_map answer_of found ≡ answer_at root text at
-        → IfSome found (λ m. FitsUnits us (answer_of m))
+        → IfSome found (λ m. MatchFitsCodeUnits us (answer_of m))
     at-fits_units at None e = tt
     at-fits_units at (Some m) e = first-fits_units at (answer_of m) (at-first at (answer_of m) (sym e))
 
   -- a match at an offset is of whole characters where those from there are
-  pub at-fits_text : (bytes : List ℕ) (at : ℕ) (found : Option Match) → StandFrom bytes at (answers_from root text at) → option_map answer_of found ≡ answer_at root text at
-      → IfSome found (λ m. FitsText bytes (answer_of m))
+  pub at-fits_text : (bytes : List ℕ) (at : ℕ) (found : Option Match) → MatchesAreOrderedFrom bytes at (answers_from root text at) → option_map answer_of found ≡ answer_at root text at
+      → IfSome found (λ m. MatchFitsText bytes (answer_of m))
   at-fits_text bytes at None stand e = tt
-  at-fits_text bytes at (Some m) stand e = (subst (StandFrom bytes at) (first-heads at (answer_of m) (at-first at (answer_of m) (sym e))) stand).1
+  at-fits_text bytes at (Some m) stand e = (subst (MatchesAreOrderedFrom bytes at) (first-heads at (answer_of m) (at-first at (answer_of m) (sym e))) stand).1
 
 -- what was found at a place by an executor is what is at it, by the program and the text that it was made of
 pub at-found : (make : Bool → Text) (re program : Regex) (tree : Tree) (text : Text) (at : ℕ) (found : Option Answer) → tree ≡ tree_of program

@@ -7,21 +7,21 @@ use Rattle.regex_pattern_front.specs.declared.parse.ParseError.TheVariants as pa
 use Rattle.regress_program.specs.declared.emit.EmitError.{EmitError}
 use Rattle.regress_program.specs.declared.emit.EmitError.TheVariants as emit
 use Rattle.regex_meaning.specs.Tree.{Node, Tree, Flags}
-use Rattle.regex_meaning.specs.Layout.{reads_bytes}
+use Rattle.regex_meaning.specs.CompilationRelation.{reads_bytes}
 use Rattle.regress_match.specs.declared.api.error.Error.{Error}
-use Rattle.regress_program.specs.Refusals.{IsRefused}
+use Rattle.regress_program.specs.CompileRefusals.{IsByteCompileErrorCause}
 use Rattle.regex_grammar.specs.Grammar.{Parses}
-use Rattle.regex_grammar.specs.Standing.{NoTree}
-use Rattle.regress_match.specs.Refusals.{of_parse, of_emit, Refuses}
+use Rattle.regex_grammar.specs.ParserInvariants.{HasNoTree}
+use Rattle.regress_match.specs.CompileErrors.{error_of_parse, error_of_emit, IsPatternRefusedWith}
 
 module _ (flags : Flags) (pattern : List ℕ) where
-  pub parse-refuses : (e : ParseError) → (e ≡ parse.Syntax → NoTree flags pattern) → Refuses flags pattern (of_parse e)
+  pub parse-refuses : (e : ParseError) → (e ≡ parse.Syntax → HasNoTree flags pattern) → IsPatternRefusedWith flags pattern (error_of_parse e)
   parse-refuses parse.Memory none = tt
   parse-refuses parse.Syntax none = none refl
 
   pub emit-refuses : (tree : Tree) → Parses flags pattern tree → (e : EmitError)
-      → ¬ (e ≡ emit.NotWellFormed) → ¬ (e ≡ emit.BytesInUnits) → IsRefused e tree
-      → Refuses flags pattern (of_emit e)
+      → ¬ (e ≡ emit.NotWellFormed) → ¬ (e ≡ emit.BytesInUnits) → IsByteCompileErrorCause e tree
+      → IsPatternRefusedWith flags pattern (error_of_emit e)
   emit-refuses tree parsed emit.NotWellFormed h k refused = h refl
   emit-refuses tree parsed emit.BytesInUnits h k refused = k refl
   emit-refuses tree parsed emit.TooManyGroups h k refused = record { tree = tree; parsed = parsed; refused = refused }

@@ -4,11 +4,11 @@ use Rattle.std.specs.Prelude.{slice_range}
 use Rattle.std.specs.Borrow.{Bor}
 use Rattle.std.specs.List.{Contains}
 use Rattle.regex_meaning.specs.Laws.{StandInOrder}
-use Rattle.regex_meaning.specs.Names.{Answer}
+use Rattle.regex_meaning.specs.Captures.{Answer}
 use Rattle.regex_meaning.specs.Replace.{replaced}
-use Rattle.regress_exec.specs.Answers.{answer_of}
+use Rattle.regress_exec.specs.MatchAnswers.{answer_of}
 use Rattle.regress_exec.specs.declared.exec.Match.{Match}
-use Rattle.regress_match.specs.Closures.{CanBeCalled}
+use Rattle.regress_match.specs.ReplacementClosures.{ClosureCanBeCalled}
 
 -- the first of the matches alone
 pub first-stands : (from : ℕ) (ms : List Answer) → StandInOrder from ms → StandInOrder from (take 1 ms)
@@ -18,15 +18,15 @@ first-stands from (m ∷ ms) h = (h.0, h.1, tt)
 -- ---- A closure that may be called at all matches
 
 -- at those that are left, where these are all
-pub callable-all : (takes : Bor Match → Type 0) (left all : List Answer) → CanBeCalled takes all → left ≡ all → CanBeCalled takes left
-callable-all takes left all h e = subst (CanBeCalled takes) (sym e) h
+pub callable-all : (takes : Bor Match → Type 0) (left all : List Answer) → ClosureCanBeCalled takes all → left ≡ all → ClosureCanBeCalled takes left
+callable-all takes left all h e = subst (ClosureCanBeCalled takes) (sym e) h
 
 -- at the next one
-pub callable-next : (takes : Bor Match → Type 0) (left rest : List Answer) (found : Bor Match) → CanBeCalled takes left → left ≡ answer_of found.now ∷ rest → takes found
+pub callable-next : (takes : Bor Match → Type 0) (left rest : List Answer) (found : Bor Match) → ClosureCanBeCalled takes left → left ≡ answer_of found.now ∷ rest → takes found
 callable-next takes left rest found h e = h found (subst (λ ms. Contains ms (answer_of found.now)) (sym e) (0, omega arith, refl))
 
 -- at the rest
-pub callable-rest : (takes : Bor Match → Type 0) (left rest : List Answer) (m : Answer) → CanBeCalled takes left → left ≡ m ∷ rest → CanBeCalled takes rest
+pub callable-rest : (takes : Bor Match → Type 0) (left rest : List Answer) (m : Answer) → ClosureCanBeCalled takes left → left ≡ m ∷ rest → ClosureCanBeCalled takes rest
 callable-rest takes left rest m h e = λ found among. h found (subst (λ ms. Contains ms (answer_of found.now)) (sym e) (suc among.0, omega (arith, among.1), among.2))
 
 -- ---- Replacements

@@ -4,31 +4,31 @@ use Rattle.std.proofs.Common.{false, refl, sym, ap, ◌∙◌, subst, arith, IsT
 use Rattle.std.proofs.lemmas.Bool.{lt-leb}
 use Rattle.std.specs.Prelude.{nat_le, if◌then◌else◌, option_map, unwrap_or}
 use Rattle.std.specs.Result.{IsErrAnd}
-use Rattle.regex_meaning.specs.Answers.{first_answer, next_start, answer_then_list}
+use Rattle.regex_meaning.specs.SearchAnswers.{first_answer, next_start, answer_then_list}
 use Rattle.regex_meaning.specs.Laws.{Each, IsAnswerOf}
-use Rattle.regex_meaning.specs.Names.{Answer, answers_from}
-use Rattle.regex_meaning.specs.Offsets.{IsBoundary, IsText, units}
-use Rattle.regex_meaning.specs.Steps.{IsNoMore, answers_next, answers_within, end_next, end_within, is_within, left_of, need_from}
+use Rattle.regex_meaning.specs.Captures.{Answer, answers_from}
+use Rattle.regex_meaning.specs.CodeUnitOffsets.{IsBoundary, IsText, units}
+use Rattle.regex_meaning.specs.StepBudget.{IsBudgetAtMost, answers_next, answers_within, end_next, finishes_within, is_within, remaining_budget, need_from}
 use Rattle.regex_meaning.specs.Text.{Text}
 use Rattle.regex_meaning.specs.Tree.{Tree, group_ids}
 use Rattle.regex_meaning.proofs.AnswerLemmas.{answers-go_on, next_start-ahead}
 use Rattle.regex_meaning.proofs.Ordered.{answers-IsAnswerOf}
 use Rattle.regex_meaning.proofs.StepLemmas.{within-some, within-none, beyond}
-use Rattle.regress_exec.specs.Answers.{answer_of}
-use Rattle.regress_exec.specs.Spends.{Spends}
+use Rattle.regress_exec.specs.MatchAnswers.{answer_of}
+use Rattle.regress_exec.specs.StepCosts.{CostsSteps}
 use Rattle.regress_exec.specs.declared.exec.Match.{Match}
 use Rattle.regress_exec.specs.declared.exec.SearchError.{SearchError}
 use Rattle.regress_exec.specs.declared.exec.SearchError.TheVariants.{Memory, StepLimit}
 use Rattle.regress_exec.proofs.Budget.{handed, left-no_more}
 use Rattle.regress_exec.proofs.Coming.{new-comes}
-use Rattle.regress_match.specs.Programs.{IsStart}
-use Rattle.regress_match.specs.Resuming.{GoesFrom, IsOver, StepsTo}
-use Rattle.regress_match.specs.declared.api.resuming.Step.{Step}
+use Rattle.regress_match.specs.RegexPrograms.{IsValidStart}
+use Rattle.regress_match.specs.Resuming.{ResumesFrom, IsExhaustedFrom, FindsNext}
+use Rattle.regress_match.specs.declared.api.resumable_searches.Step.{Step}
 
 abbrev pub greatest : ℕ
 greatest = 2 ^ 64 - 1
 
-IsNoMore-refl : (budget : Option ℕ) → IsNoMore budget budget
+IsNoMore-refl : (budget : Option ℕ) → IsBudgetAtMost budget budget
 IsNoMore-refl None = tt
 IsNoMore-refl (Some n) = le_refl n
 
@@ -48,23 +48,23 @@ place-none offset found last start e at = sym (ap (option_map offset) e) ∙ at
 module _ (tree : Tree) (text : Text) (is : IsText text) where
   -- past the end nothing is to come
   pub past-over : (budget : Option ℕ) (start : ℕ) → None ≡ (if nat_le start (units text) then Some start else None)
-      → IsOver tree text budget start × IsNoMore budget budget
+      → IsExhaustedFrom tree text budget start × IsBudgetAtMost budget budget
   past-over budget start e = let n = new-comes tree text is budget start None e in ((sym n.0, sym n.1), IsNoMore-refl budget)
 
   pub none-over : {X : Type 0} (budget : Option ℕ) (start : ℕ) (x : X) (after : Option ℕ) → None ≡ first_answer tree.root text start
-      → Spends (need_from tree text start) budget (Ok x) after → IsOver tree text budget start × IsNoMore after budget
+      → CostsSteps (need_from tree text start) budget (Ok x) after → IsExhaustedFrom tree text budget start × IsBudgetAtMost after budget
   none-over budget start x after found (within, left) =
-      (within-none tree text is budget start (sym found) within, subst (λ l. IsNoMore l budget) (sym left) (left-no_more budget (need_from tree text start)))
+      (within-none tree text is budget start (sym found) within, subst (λ l. IsBudgetAtMost l budget) (sym left) (left-no_more budget (need_from tree text start)))
 
   -- where the list goes on, as a number
   module _ (fits : units text < greatest) where
     comes-next : (budget next : Option ℕ)
         → (answers_next tree text budget next ≡ answers_within tree text budget (unwrap_or next greatest))
-        × (end_next tree text budget next ≡ end_within tree text budget (unwrap_or next greatest))
+        × (end_next tree text budget next ≡ finishes_within tree text budget (unwrap_or next greatest))
     comes-next budget (Some q) = (refl, refl)
     comes-next budget None = new-comes tree text is budget greatest None (ap (λ b. if b then Some greatest else None) (sym (lt-leb greatest (units text) fits)))
 
-    starts-next : (start : ℕ) (next : Option ℕ) → next ≡ next_start tree.root text start → IsStart text (unwrap_or next greatest)
+    starts-next : (start : ℕ) (next : Option ℕ) → next ≡ next_start tree.root text start → IsValidStart text (unwrap_or next greatest)
     starts-next start (Some q) e = inl (next_start-ahead tree.root text is start q (sym e)).1
     starts-next start None e = inr fits
 
@@ -76,7 +76,7 @@ module _ (tree : Tree) (text : Text) (is : IsText text) where
 
     pub steps-to : {X : Type 0} (budget : Option ℕ) (start : ℕ) (m : Match) (x : X) (next after : Option ℕ) (n : ℕ) → n ≡ unwrap_or next greatest
         → Some (answer_of m) ≡ first_answer tree.root text start → next ≡ next_start tree.root text start
-        → Spends (need_from tree text start) budget (Ok x) after → StepsTo tree text budget start (record { found = m; next = n }) after
+        → CostsSteps (need_from tree text start) budget (Ok x) after → FindsNext tree text budget start (record { found = m; next = n }) after
     steps-to budget start m x next after n e found on (within, left) =
         let w = within-some tree text is budget start (answer_of m) (sym found) within in
         let here = comes-next after next in
@@ -84,24 +84,24 @@ module _ (tree : Tree) (text : Text) (is : IsText text) where
         w.0 ∙ ap (λ l. answer_of m ∷ answers_next tree text l (next_start tree.root text start)) (sym left)
         ∙ ap (λ p. answer_of m ∷ answers_next tree text after p) (sym on) ∙ ap (λ l. answer_of m ∷ l) here.0
         ∙ ap (λ k. answer_of m ∷ answers_within tree text after k) (sym e) in
-        let l : end_within tree text budget start ≡ end_within tree text after n =
+        let l : finishes_within tree text budget start ≡ finishes_within tree text after n =
         w.1 ∙ ap (λ l. end_next tree text l (next_start tree.root text start)) (sym left)
-        ∙ ap (λ p. end_next tree text after p) (sym on) ∙ here.1 ∙ ap (λ k. end_within tree text after k) (sym e) in
+        ∙ ap (λ p. end_next tree text after p) (sym on) ∙ here.1 ∙ ap (λ k. finishes_within tree text after k) (sym e) in
         record {
           answers = a;
           limit = l;
-          starts = subst (λ k. IsStart text k) (sym e) (starts-next start next on);
-          fewer = subst (λ l. IsNoMore l budget) (sym left) (left-no_more budget (need_from tree text start));
+          starts = subst (λ k. IsValidStart text k) (sym e) (starts-next start next on);
+          fewer = subst (λ l. IsBudgetAtMost l budget) (sym left) (left-no_more budget (need_from tree text start));
           groups = answer-groups start (answer_of m) found;
         }
 
   refusal-from : (budget : Option ℕ) (start : ℕ) (e : SearchError) (after : Option ℕ)
-      → Spends {X = Option Step} (need_from tree text start) budget (Err e) after → GoesFrom tree text budget start (Err e) after
+      → CostsSteps {X = Option Step} (need_from tree text start) budget (Err e) after → ResumesFrom tree text budget start (Err e) after
   refusal-from budget start Memory after s = s.0
   refusal-from budget start StepLimit after s = let b = beyond tree text is budget start s.0 in (b.0, b.1, s.1)
 
   pub refused-from : (X : Type 0) (budget : Option ℕ) (start : ℕ) (e : SearchError) (after : Option ℕ) (r : Result (Option Step) SearchError) → IsErrAnd r (λ f. f ≡ e)
-      → Spends {X = X} (need_from tree text start) budget (Err e) after → GoesFrom tree text budget start r after
+      → CostsSteps {X = X} (need_from tree text start) budget (Err e) after → ResumesFrom tree text budget start r after
   refused-from X budget start e after (Ok y) h s = absurd h
   refused-from X budget start e after (Err f) h s =
       refusal-from budget start f after (handed X (Option Step) (need_from tree text start) budget after e (Err f) h s)

@@ -6,29 +6,29 @@ use Rattle.std.proofs.Math.Dec.{leb-zero}
 use Rattle.std.proofs.lemmas.Bool.{le-leb, ltb-false, ltb-true}
 use Rattle.std.proofs.lemmas.Bool.Decides.{leb_tells}
 use Rattle.regex_meaning.specs.Laws.{Each}
-use Rattle.regex_meaning.specs.Offsets.{units}
-use Rattle.regex_meaning.specs.Steps.{answers_within, end_within}
+use Rattle.regex_meaning.specs.CodeUnitOffsets.{units}
+use Rattle.regex_meaning.specs.StepBudget.{answers_within, finishes_within}
 use Rattle.regex_meaning.specs.Text.{Text}
 use Rattle.regex_meaning.specs.Tree.{Tree}
-use Rattle.regress_exec.specs.Worked.{InWork, is_enough}
-use Rattle.regress_exec.specs.declared.exec.worked.WorkError.TheVariants.{Memory, WorkLimit}
-use Rattle.regress_bounded.specs.Bounds.{IsAtStart, IsBoundOf}
-use Rattle.regress_bounded.specs.declared.bounds.WorkBound.{WorkBound}
-use Rattle.regress_match.specs.Work.{AnsweredInWork, AnswerInWork, Bounded, CallsInWork, SearchesAnswerInWork, YieldsInWork, all_work, higher}
+use Rattle.regress_exec.specs.WorkLimits.{WorkView, is_work_enough}
+use Rattle.regress_exec.specs.declared.exec.work_matches.WorkError.TheVariants.{Memory, WorkLimit}
+use Rattle.regress_bounded.specs.ProgramWorkBounds.{IsAtStart, IsBoundOf}
+use Rattle.regress_bounded.specs.declared.work_bound.WorkBound.{WorkBound}
+use Rattle.regress_match.specs.WorkBounds.{NextResultWithinWork, AnswerInWork, BoundedView, CallsYieldWithinWork, SearchesAnswerInWork, YieldsWithinWork, total_work, higher}
 use Rattle.regress_match.specs.declared.api.regex.Regex.{Regex}
 
 -- ---- Calls in a row
 
 -- what has ended answers nothing
-ended-None : (s t : InWork) (rs : List AnsweredInWork) → s.come.ended ≡ true → CallsInWork s rs t → Each (λ r. r ≡ None) rs
+ended-None : (s t : WorkView) (rs : List NextResultWithinWork) → s.come.ended ≡ true → CallsYieldWithinWork s rs t → Each (λ r. r ≡ None) rs
 ended-None s t [] e h = tt
 ended-None s t (None ∷ rs) e (u, h, k) = (refl, ended-None u t rs h.0.1.2 k)
 ended-None s t (Some (Ok m) ∷ rs) e (u, h, k) = absurd (cc (sym e ∙ h.0.1))
 ended-None s t (Some (Err x) ∷ rs) e (u, h, k) = absurd (cc (sym e ∙ h.0.1))
 
 -- it is enough, or there is too little
-calls-Answer : (too_little : Type 0) (s t : InWork) (rs : List AnsweredInWork)
-    → (s.enough ≡ true) ⊎ too_little → CallsInWork s rs t → AnswerInWork too_little s.come.answers rs
+calls-Answer : (too_little : Type 0) (s t : WorkView) (rs : List NextResultWithinWork)
+    → (s.enough ≡ true) ⊎ too_little → CallsYieldWithinWork s rs t → AnswerInWork too_little s.come.answers rs
 calls-Answer too_little s t [] e h = tt
 calls-Answer too_little s t (None ∷ rs) e (u, h, k) = (h.0.0, ended-None u t rs h.0.1.2 k)
 calls-Answer too_little s t (Some (Ok m) ∷ rs) (inl e) (u, h, k) = (u.come.answers, h.0.0, calls-Answer too_little u t rs (inl (h.0.4 e)) k)
@@ -38,18 +38,18 @@ calls-Answer too_little s t (Some (Err WorkLimit) ∷ rs) (inl e) (u, h, k) = ab
 calls-Answer too_little s t (Some (Err WorkLimit) ∷ rs) (inr l) (u, h, k) = (l, ended-None u t rs h.0.2.2 k)
 
 -- no call gives back work that was done
-calls-left : (s t : InWork) (rs : List AnsweredInWork) → CallsInWork s rs t → t.left ≤ s.left
-calls-left s t [] e = subst (λ (x : InWork). t.left ≤ x.left) e (omega arith)
+calls-left : (s t : WorkView) (rs : List NextResultWithinWork) → CallsYieldWithinWork s rs t → t.left ≤ s.left
+calls-left s t [] e = subst (λ (x : WorkView). t.left ≤ x.left) e (omega arith)
 calls-left s t (r ∷ rs) (u, h, k) = let less : t.left ≤ u.left = calls-left u t rs k in let fewer : u.left ≤ s.left = h.1 in omega (arith, less, fewer)
 
 pub searches-AnswerInWork : SearchesAnswerInWork
 searches-AnswerInWork tree text start per_unit work it t rs y k = (
-  subst (λ ms. AnswerInWork (work < all_work per_unit text) ms rs) y.answers (calls-Answer _ it t rs (by (leb_tells (all_work per_unit text) work)) k),
+  subst (λ ms. AnswerInWork (work < total_work per_unit text) ms rs) y.answers (calls-Answer _ it t rs (by (leb_tells (total_work per_unit text) work)) k),
   subst (λ n. t.left ≤ n) y.left (calls-left it t rs k),
 )
   where
-    by : ((nat_le (all_work per_unit text) work ≡ true) × (all_work per_unit text ≤ work)) ⊎ ((nat_le (all_work per_unit text) work ≡ false) × (work < all_work per_unit text))
-        → (it.enough ≡ true) ⊎ (work < all_work per_unit text)
+    by : ((nat_le (total_work per_unit text) work ≡ true) × (total_work per_unit text ≤ work)) ⊎ ((nat_le (total_work per_unit text) work ≡ false) × (work < total_work per_unit text))
+        → (it.enough ≡ true) ⊎ (work < total_work per_unit text)
     by (inl (e, l)) = inl (y.enough l)
     by (inr (e, l)) = inr l
 
@@ -83,20 +83,20 @@ lower-enough few many places work l e =
 
 -- an executor that has tried nothing has all before it, from whatever start
 fresh-enough : (enough : Bool) (ahead : ℕ) (test : Bool) (start : ℕ)
-    → enough ≡ true → ahead ≡ 0 → is_enough enough ahead (if test then Some start else None) ≡ true
+    → enough ≡ true → ahead ≡ 0 → is_work_enough enough ahead (if test then Some start else None) ≡ true
 fresh-enough enough ahead true start e z = rw (e, z) (leb-zero start)
 fresh-enough enough ahead false start e z = e
 
 -- What is to come of an executor at its start is what it yields; the bound of its program is at most `many`.
-abbrev pub HasBegun : (tree : Tree) (text : Text) (budget : Option ℕ) (enough : Bool) (ahead left start : ℕ) (it : InWork) → Type 0
+abbrev pub HasBegun : (tree : Tree) (text : Text) (budget : Option ℕ) (enough : Bool) (ahead left start : ℕ) (it : WorkView) → Type 0
 HasBegun tree text budget enough ahead left start it =
-    (it.come.answers ≡ answers_within tree text budget start) × (it.come.limited ≡ not (end_within tree text budget start)) × (it.come.text_end ≡ units text)
-    × (it.left ≡ left) × (it.enough ≡ is_enough enough ahead (if nat_le start (units text) then Some start else None))
+    (it.come.answers ≡ answers_within tree text budget start) × (it.come.limited ≡ not (finishes_within tree text budget start)) × (it.come.text_end ≡ units text)
+    × (it.left ≡ left) × (it.enough ≡ is_work_enough enough ahead (if nat_le start (units text) then Some start else None))
 
-begun-Yields : (tree : Tree) (text : Text) (few many work : ℕ) (its_tree : Tree) (its_text : Text) (budget : Option ℕ) (enough : Bool) (ahead left start : ℕ) (it : InWork)
+begun-Yields : (tree : Tree) (text : Text) (few many work : ℕ) (its_tree : Tree) (its_text : Text) (budget : Option ℕ) (enough : Bool) (ahead left start : ℕ) (it : WorkView)
     → IsAtStart tree text few work its_tree its_text budget enough ahead left
     → HasBegun its_tree its_text budget enough ahead left start it → few ≤ many
-    → YieldsInWork tree text start many work it
+    → YieldsWithinWork tree text start many work it
 begun-Yields tree text few many work its_tree its_text budget enough ahead left start it s b l = record {
   answers = b.0 ∙ rw (s.of_tree, s.of_text, s.unlimited) refl;
   unlimited = b.1 ∙ rw (s.of_tree, s.of_text, s.unlimited) refl;
@@ -107,12 +107,12 @@ begun-Yields tree text few many work its_tree its_text budget enough ahead left 
 }
 
 -- The same of a pattern with its number, as its fields show it, by a program of one of its trees (`of`).
-pub bound-Yields : {b : Bounded} {own its_tree : Tree} {its_text : Text} {budget : Option ℕ} {enough : Bool} {few many work ahead left start : ℕ} {it : InWork}
+pub bound-Yields : {b : BoundedView} {own its_tree : Tree} {its_text : Text} {budget : Option ℕ} {enough : Bool} {few many work ahead left start : ℕ} {it : WorkView}
     (of : Regex → Tree) (re : Regex) (text_of : Bool → Text) → few ≤ many → record { re = re; per_unit = many } ≡ b → own ≡ of re
     → IsAtStart own (text_of own.flags.unicode) few work its_tree its_text budget enough ahead left
     → HasBegun its_tree its_text budget enough ahead left start it
-    → YieldsInWork (of b.re) (text_of (of b.re).flags.unicode) start b.per_unit work it
+    → YieldsWithinWork (of b.re) (text_of (of b.re).flags.unicode) start b.per_unit work it
 bound-Yields {b} {own} {its_tree} {its_text} {budget} {enough} {few} {many} {work} {ahead} {left} {start} {it} of re text_of l view same s h =
-    subst (λ (v : Bounded). YieldsInWork (of v.re) (text_of (of v.re).flags.unicode) start v.per_unit work it) view
-    (subst (λ (t : Tree). YieldsInWork t (text_of t.flags.unicode) start many work it) same
+    subst (λ (v : BoundedView). YieldsWithinWork (of v.re) (text_of (of v.re).flags.unicode) start v.per_unit work it) view
+    (subst (λ (t : Tree). YieldsWithinWork t (text_of t.flags.unicode) start many work it) same
     (begun-Yields own (text_of own.flags.unicode) few many work its_tree its_text budget enough ahead left start it s h l))

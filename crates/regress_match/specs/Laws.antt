@@ -1,21 +1,22 @@
--- Laws of the public face.
+-- Laws of the public API.
 use Rattle.std.specs.Prelude.{◌≡◌, ℕ, List, IsUtf8, codes, take}
 use Rattle.regex_meaning.specs.Tree.{Tree, Flags}
 use Rattle.regex_meaning.specs.Text.{utf8_text, ascii_text, utf16_text, ucs2_text}
-use Rattle.regex_meaning.specs.Names.{answers_from}
+use Rattle.regex_meaning.specs.Captures.{answers_from}
 use Rattle.regex_meaning.specs.Replace.{replaced}
 use Rattle.regex_grammar.specs.Grammar.{Parses}
-use Rattle.regress_match.specs.Programs.{IsCompiledWith, utf8_answers, ascii_answers, utf16_answers, ucs2_answers}
-use Rattle.regress_match.specs.Replacements.{StandFrom, expanded}
+use Rattle.regress_match.specs.RegexPrograms.{IsCompiledWith, utf8_answers, ascii_answers, utf16_answers, ucs2_answers}
+use Rattle.regress_match.specs.Replacements.{MatchesAreOrderedFrom, expansion_of_each_match}
 use Rattle.regress_match.specs.declared.api.regex.Regex.{Regex}
 
--- `$0` in place of the first match, or of each, gives the text back
+-- Replacing the first match, or all matches, by `$0` gives the text back.
 abbrev pub WholeMatchesGiveBack : Type 0
 WholeMatchesGiveBack = (re : Regex) (text : List ℕ)
     → let answers = utf8_answers re text 0 in
-    (replaced text 0 (expanded text (codes "$0") (take 1 answers)) ≡ text) × (replaced text 0 (expanded text (codes "$0") answers) ≡ text)
+    (replaced text 0 (expansion_of_each_match text (codes "$0") (take 1 answers)) ≡ text) × (replaced text 0 (expansion_of_each_match text (codes "$0") answers) ≡ text)
 
--- What is found in a text, by whichever program, is what the tree says that the grammar has of the pattern.
+-- The matches in a text, in each encoding, are those of the tree that the grammar gives to the
+-- pattern.
 abbrev pub SearchesFollowThePattern : Type 0
 SearchesFollowThePattern = (flags : Flags) (pattern : List ℕ) (re : Regex) (tree : Tree)
     → IsCompiledWith flags pattern re → Parses flags pattern tree → (text : List ℕ) (start : ℕ)
@@ -24,7 +25,7 @@ SearchesFollowThePattern = (flags : Flags) (pattern : List ℕ) (re : Regex) (tr
     × (utf16_answers re text start ≡ answers_from tree.root (utf16_text text flags.unicode) start)
     × (ucs2_answers re text start ≡ answers_from tree.root (ucs2_text text flags.unicode) start)
 
--- the matches from a start on stand in the text: in order from there on, none over another, each match and each of its groups a
--- range of whole characters
+-- The matches from a start on lie in the text, in order and without overlap, and each match and
+-- each of its groups is a range of whole characters.
 abbrev pub MatchesStandInText : Type 0
-MatchesStandInText = (re : Regex) (text : List ℕ) (start : ℕ) → IsUtf8 text → StandFrom text start (utf8_answers re text start)
+MatchesStandInText = (re : Regex) (text : List ℕ) (start : ℕ) → IsUtf8 text → MatchesAreOrderedFrom text start (utf8_answers re text start)

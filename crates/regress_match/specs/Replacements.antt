@@ -1,31 +1,32 @@
--- What replacements write, and what they ask of matches.
+-- Expansions of replacements, and conditions on the ranges of matches.
 use Rattle.std.specs.Prelude.{◌≤◌, ℕ, List, [], ◌∷◌, length, map, IsCharBoundary, IfSome}
 use Rattle.regex_meaning.specs.Laws.{Each}
-use Rattle.regex_meaning.specs.Names.{Answer}
+use Rattle.regex_meaning.specs.Captures.{Answer}
 use Rattle.regex_meaning.specs.Replace.{expansion}
 
--- matches, each with what the replacement says for it
-abbrev pub expanded : (text replacement : List ℕ) → List Answer → List (Answer × List ℕ)
-expanded text replacement answers = map (λ m. (m, expansion text m replacement)) answers
+-- Each match, paired with the expansion of the replacement for it.
+abbrev pub expansion_of_each_match : (text replacement : List ℕ) → List Answer → List (Answer × List ℕ)
+expansion_of_each_match text replacement answers = map (λ m. (m, expansion text m replacement)) answers
 
--- the range is one of whole characters
-abbrev pub IsSlice : (text : List ℕ) → ℕ × ℕ → Type 0
-IsSlice text range = (range.0 ≤ range.1) × IsCharBoundary text range.0 × IsCharBoundary text range.1
+-- The range is in order, and both of its ends are character boundaries of the text.
+abbrev pub IsCharBoundaryRange : (text : List ℕ) → ℕ × ℕ → Type 0
+IsCharBoundaryRange text range = (range.0 ≤ range.1) × IsCharBoundary text range.0 × IsCharBoundary text range.1
 
--- so are that of the match and those of its groups
-pub record FitsText (text : List ℕ) (m : Answer) : Type 0 where
-  pub whole : IsSlice text m.range
-  pub groups : Each (λ g. IfSome g (IsSlice text)) m.captures
+-- The range of the match and the ranges of its groups are slices of the text.
+pub record MatchFitsText (text : List ℕ) (m : Answer) : Type 0 where
+  pub whole : IsCharBoundaryRange text m.range
+  pub groups : Each (λ g. IfSome g (IsCharBoundaryRange text)) m.captures
 
--- each match is such, and none begins before the offset, or before the end of the one in front of it
-abbrev pub StandFrom : (text : List ℕ) → (from : ℕ) → List Answer → Type 0
-StandFrom text from [] = Unit {0}
-StandFrom text from (m ∷ ms) = (from ≤ m.range.0) × FitsText text m × StandFrom text m.range.1 ms
+-- Each match fits the text, and begins no earlier than `from` or the end of the match before it.
+abbrev pub MatchesAreOrderedFrom : (text : List ℕ) → (from : ℕ) → List Answer → Type 0
+MatchesAreOrderedFrom text from [] = Unit {0}
+MatchesAreOrderedFrom text from (m ∷ ms) = (from ≤ m.range.0) × MatchFitsText text m × MatchesAreOrderedFrom text m.range.1 ms
 
--- the range lies within the units of a text, and so do that of the match and those of its groups
-abbrev pub IsWithin : (units : List ℕ) → ℕ × ℕ → Type 0
-IsWithin units range = (range.0 ≤ range.1) × (range.1 ≤ length units)
+-- The range lies within the code units of a text.
+abbrev pub IsRangeWithinUnits : (units : List ℕ) → ℕ × ℕ → Type 0
+IsRangeWithinUnits units range = (range.0 ≤ range.1) × (range.1 ≤ length units)
 
-pub record FitsUnits (units : List ℕ) (m : Answer) : Type 0 where
-  pub whole : IsWithin units m.range
-  pub groups : Each (λ g. IfSome g (IsWithin units)) m.captures
+-- The range of the match and the ranges of its groups lie within the code units of a text.
+pub record MatchFitsCodeUnits (units : List ℕ) (m : Answer) : Type 0 where
+  pub whole : IsRangeWithinUnits units m.range
+  pub groups : Each (λ g. IfSome g (IsRangeWithinUnits units)) m.captures

@@ -1,27 +1,27 @@
-//! What a user of regular expressions calls. The crate's root hands all of it on but the laws.
+//! The public API of the crate. The crate root re-exports all of it except the laws.
 
-mod at_place;
-mod bounded;
+mod code_unit_searches;
 mod diagnosis;
 mod error;
 mod escaping;
 mod flags;
-mod known;
 mod laws;
+mod match_at;
+mod pattern_info;
 mod regex;
 mod replace;
-mod resuming;
-mod units;
+mod resumable_searches;
+mod work_budget_searches;
 
-pub use self::bounded::{BoundedRegex, MatchesInWork};
 pub use self::error::{Error, ReplaceError};
 pub use self::escaping::escape;
 pub use self::flags::Flags;
 pub use self::laws::{matches_stand_in_text, searches_answer_in_turn, searches_answer_in_work};
 pub use self::regex::{AsciiMatches, LimitedMatches, Matches, Regex};
 pub use self::replace::whole_matches_give_back;
-pub use self::resuming::{Step, next_from};
-pub use regex_pattern_front::diagnosis::{Caret, Cause, Diagnosis};
+pub use self::resumable_searches::{Step, next_from};
+pub use self::work_budget_searches::{BoundedRegex, MatchesInWork};
+pub use regex_pattern_front::diagnosis::{CaretDiagnosis, Cause, Diagnosis};
 pub use regress_exec::exec::{Groups, Match, NamedGroups, SearchError, WorkError};
 pub use regress_input::indexing::is_unit_boundary;
 pub use std::ops::Range;

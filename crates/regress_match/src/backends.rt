@@ -1,8 +1,9 @@
-//! What is below a pattern that is compiled: parsing, optimizing, emitting, and searches by an executor that is named.
+//! The stages below a compiled pattern (parsing, optimizing, emitting), and searches with a chosen
+//! executor.
 
 ghost use Rattle.std.specs.Prelude.{◌≡◌, IfErr, IfOk, false, nat_le, not};
-ghost use Rattle.regex_meaning.specs.Offsets.{units};
-ghost use Rattle.regress_match.specs.{Programs.{IsStart, byte_tree}, Refusals.{IsMemory}, Searches.{YieldsMatches}};
+ghost use Rattle.regex_meaning.specs.CodeUnitOffsets.{units};
+ghost use Rattle.regress_match.specs.{RegexPrograms.{IsValidStart, byte_tree}, CompileErrors.{IsOutOfMemory}, SearchResults.{YieldsMatches}};
 
 use crate::api::{Regex, SearchError};
 use crate::executors::search_from;
@@ -16,33 +17,34 @@ use regress_exec::exec::{Executor, Matches};
 pub use regress_pikevm::pikevm::PikeVMExecutor;
 pub use regress_program::emit::{emit, emit_units};
 
-/// The matches of a pattern in a text, as the executor `E` finds them, from an offset on that is a boundary or past the
-/// end. The text is one that `E` can search.
+/// Returns the matches of a pattern in `text` from offset `start` on, as found by the executor `E`.
+///
+/// `start` is a boundary or past the end. The text is one that `E` can search.
 ///
 /// # Errors
 ///
-/// `Memory` where there is no memory for the search.
+/// `Memory` if an allocation for the search fails.
 pub fn find<'a, E: Executor<'a, 'a>>(
     re: &'a Regex,
     text: &'a str,
     start: usize,
 ) -> Result<Matches<E>, SearchError>
     requires can { E.can_search text }
-    requires start { IsStart (E.text_of text (byte_tree re.now).flags.unicode) start }
+    requires start { IsValidStart (E.text_of text (byte_tree re.now).flags.unicode) start }
     ensures answers { IfOk result (YieldsMatches (byte_tree re.now)
         (E.text_of text.entry (byte_tree re.now).flags.unicode) start) }
     ensures ended { IfOk result (λ it. it.ended
         ≡ not (nat_le start (units (E.text_of text.entry (byte_tree re.now).flags.unicode)))) }
-    ensures refused { IfErr result IsMemory }
+    ensures refused { IfErr result IsOutOfMemory }
 {
     search_from::<E>(re.byte_program(), text, start)
 }
 
-/// As `find`, by the executor over texts of ASCII that is of the same kind as `E`.
+/// Like `find`, with the executor over ASCII text that corresponds to `E`.
 ///
 /// # Errors
 ///
-/// `Memory` where there is no memory for the search.
+/// `Memory` if an allocation for the search fails.
 pub fn find_ascii<'a, E: Executor<'a, 'a>>(
     re: &'a Regex,
     text: &'a str,
@@ -51,12 +53,12 @@ pub fn find_ascii<'a, E: Executor<'a, 'a>>(
 where
     E::AsAscii: Executor<'a, 'a>,
     requires can { E.AsAscii.can_search text }
-    requires start { IsStart (E.AsAscii.text_of text (byte_tree re.now).flags.unicode) start }
+    requires start { IsValidStart (E.AsAscii.text_of text (byte_tree re.now).flags.unicode) start }
     ensures answers { IfOk result (YieldsMatches (byte_tree re.now)
         (E.AsAscii.text_of text.entry (byte_tree re.now).flags.unicode) start) }
     ensures ended { IfOk result (λ it. it.ended
         ≡ not (nat_le start (units (E.AsAscii.text_of text.entry (byte_tree re.now).flags.unicode)))) }
-    ensures refused { IfErr result IsMemory }
+    ensures refused { IfErr result IsOutOfMemory }
 {
     search_from::<E::AsAscii>(re.byte_program(), text, start)
 }

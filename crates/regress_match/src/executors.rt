@@ -1,40 +1,40 @@
-//! The executors of the searches, and what makes a search of one.
+//! The executors of the public searches, and the function that starts a search with one.
 
 ghost use Rattle.std.specs.Prelude.{◌≡◌, IfErr, IfOk, nat_le, not};
-ghost use Rattle.regex_meaning.specs.Offsets.{units};
-ghost use Rattle.regex_pattern_front.specs.TreeOf.{tree_of};
-ghost use Rattle.regress_match.specs.{Programs.{IsStart}, Refusals.{IsMemory}, Searches.{YieldsMatches}};
+ghost use Rattle.regex_meaning.specs.CodeUnitOffsets.{units};
+ghost use Rattle.regex_pattern_front.specs.AstToSpecTree.{tree_of};
+ghost use Rattle.regress_match.specs.{RegexPrograms.{IsValidStart}, CompileErrors.{IsOutOfMemory}, SearchResults.{YieldsMatches}};
 
 pub use regress_backtrack::classicalbacktrack::{BacktrackExecutor, LimitedExecutor};
 use regress_exec::exec::{Matches, SearchError, Searcher};
 use regress_input::indexing::{AsciiInput, Ucs2Input, Utf8Input, Utf16Input};
 use regress_program::insn::CompiledRegex;
 
-/// The executor that searches texts in UTF-8.
+/// The executor that searches UTF-8 text.
 pub type DefaultExecutor<'r, 't> = BacktrackExecutor<'r, Utf8Input<'t>>;
 
-/// The executor that searches texts of ASCII.
+/// The executor that searches ASCII text.
 pub type DefaultAsciiExecutor<'r, 't> = BacktrackExecutor<'r, AsciiInput<'t>>;
 
-/// The executor that searches texts in UTF-16.
+/// The executor that searches UTF-16 text.
 pub type DefaultUtf16Executor<'r, 't> = BacktrackExecutor<'r, Utf16Input<'t>>;
 
-/// The executor that searches texts in UCS-2.
+/// The executor that searches UCS-2 text.
 pub type DefaultUcs2Executor<'r, 't> = BacktrackExecutor<'r, Ucs2Input<'t>>;
 
-// The matches from an offset on, as `S` finds them with this program.
+// Returns the matches of this program from an offset on, as found by the executor `S`.
 pub(crate) fn search_from<'r, S: Searcher<'r>>(
     re: &'r CompiledRegex,
     text: S::Text,
     start: usize,
 ) -> Result<Matches<S>, SearchError>
     requires can { S.can_search text }
-    requires start { IsStart (S.text_of text (tree_of re.now).flags.unicode) start }
+    requires start { IsValidStart (S.text_of text (tree_of re.now).flags.unicode) start }
     ensures answers { IfOk result
         (YieldsMatches (tree_of re.now) (S.text_of text (tree_of re.now).flags.unicode) start) }
     ensures ended { IfOk result (λ it. it.ended
         ≡ not (nat_le start (units (S.text_of text (tree_of re.now).flags.unicode)))) }
-    ensures refused { IfErr result IsMemory }
+    ensures refused { IfErr result IsOutOfMemory }
 {
     let executor = S::new(re, text)?;
     Ok(Matches::new(executor, start))

@@ -7,21 +7,22 @@ use std::io;
 use std::io::Write;
 use std::ops::Range;
 
-/// The status where there is a match.
+/// The exit status if there is a match.
 const FOUND: u8 = 0;
 
-/// The status where there is none.
+/// The exit status if there is no match.
 const NOT_FOUND: u8 = 1;
 
-/// The status on a refusal, or where a line cannot be written.
+/// The exit status if the arguments, the pattern or the search are refused, or a line cannot be
+/// written.
 const REFUSED: u8 = 2;
 
-/// Searches a text, and answers the status to end with: 0 with a match, 1 without, 2 on a refusal.
+/// Searches a text, and returns the exit status: 0 with a match, 1 without, 2 on a refusal.
 ///
-/// `words` are the pattern, the flags and the text; a word that is not UTF-8 is `None`. For each match
-/// a line goes to `out`, before the next match is looked for: the range in bytes and those of the groups, `-`
-/// for a group that did not match. A refusal is a line on `err`. Where a line cannot be written the program
-/// ends, and writes nothing more.
+/// `words` are the pattern, the flags and the text; a word that is not UTF-8 is `None`. Each match
+/// is written to `out` as one line, before the next match is searched for: the range in bytes and
+/// the ranges of the groups, with `-` for a group that did not match. A refusal is written to `err`
+/// as one line. If a line cannot be written, the program ends and writes nothing more.
 pub fn run<W: Write, W2: Write>(
     alloc: Global,
     words: &[Option<String>],
@@ -29,25 +30,25 @@ pub fn run<W: Write, W2: Write>(
     err: &mut W2,
 ) -> u8 {
     let [Some(pattern), Some(flags), Some(text)] = words else {
-        return refuse(err, "usage: regress-tool PATTERN FLAGS TEXT");
+        return print_refusal(err, "usage: regress-tool PATTERN FLAGS TEXT");
     };
     match Regex::with_flags(alloc, pattern.as_str(), Flags::from(flags.as_str())) {
         Ok(re) => print_matches(&re, text.as_str(), out, err),
-        Err(Error::Memory) => refuse(err, "out of memory"),
-        Err(_) => refuse(err, "pattern refused"),
+        Err(Error::Memory) => print_refusal(err, "out of memory"),
+        Err(_) => print_refusal(err, "pattern refused"),
     }
 }
 
-// One line on why there is no answer.
-fn refuse<W: Write>(err: &mut W, why: &str) -> u8 {
+// Writes one line that says why there is no answer.
+fn print_refusal<W: Write>(err: &mut W, why: &str) -> u8 {
     let _ = writeln!(err, "{why}");
     REFUSED
 }
 
-// A line for each match.
+// Writes one line for each match.
 fn print_matches<W: Write, W2: Write>(re: &Regex, text: &str, out: &mut W, err: &mut W2) -> u8 {
     let Ok(matches) = re.find_iter(text) else {
-        return refuse(err, "out of memory");
+        return print_refusal(err, "out of memory");
     };
     let mut status = NOT_FOUND;
     for item in matches {
@@ -58,14 +59,14 @@ fn print_matches<W: Write, W2: Write>(re: &Regex, text: &str, out: &mut W, err: 
                 }
                 status = FOUND;
             }
-            Err(SearchError::Memory) => return refuse(err, "out of memory"),
-            Err(SearchError::StepLimit) => return refuse(err, "out of steps"),
+            Err(SearchError::Memory) => return print_refusal(err, "out of memory"),
+            Err(SearchError::StepLimit) => return print_refusal(err, "out of steps"),
         }
     }
     status
 }
 
-// The line of a match.
+// Writes the line of one match.
 fn print_match<W: Write>(found: &Match, out: &mut W) -> io::Result<()> {
     print_range(&found.range, out)?;
     for group in &found.captures {
@@ -80,6 +81,7 @@ fn print_match<W: Write>(found: &Match, out: &mut W) -> io::Result<()> {
     writeln!(out)
 }
 
+// Writes a range as `start..end`.
 fn print_range<W: Write>(range: &Range<usize>, out: &mut W) -> io::Result<()> {
     let start = range.start;
     let end = range.end;

@@ -9,28 +9,28 @@ use Rattle.std.proofs.Math.Bool.{or_assoc}
 use Rattle.regex_meaning.proofs.Booleans.{and-left, and-right}
 use Rattle.regex_meaning.specs.Laws.{Each}
 use Rattle.regex_meaning.specs.Text.{Text, Direction, moved}
-use Rattle.regex_meaning.specs.Offsets.{place_at, offset, units}
-use Rattle.regex_meaning.specs.Layout.{Program}
+use Rattle.regex_meaning.specs.CodeUnitOffsets.{place_at, offset, units}
+use Rattle.regex_meaning.specs.CompilationRelation.{Program}
 use Rattle.regress_machine.specs.Machine.{State, LoopData, Thread, running, test_of}
 use Rattle.regress_machine.proofs.Beside.{moved-zero}
-use Rattle.regress_simulation.specs.Runs.{behind}
-use Rattle.regress_linear.specs.Account.{Agree, outermost}
-use Rattle.regress_linear.specs.Distinct.{IsIn, IsNew, AreDistinct}
-use Rattle.regress_linear.specs.Codes.{Question, is_empty, how_many, answers, digit, answer, code_of, plan_code, plan_codes, key_of, own_row}
-use Rattle.regress_linear.specs.Codes.{IsStateOf}
-use Rattle.regress_linear.specs.RunKeys.{row_by, plan_rows, run_at, insn_before, RunRecords, run_key}
-use Rattle.regress_linear.specs.Plans.{plan_taken}
-use Rattle.regress_linear.specs.Turns.{Key, IsOf, IsKnown, known_to_fail, known_to_reach}
-use Rattle.regress_linear.specs.Weights.{is_one_of}
-use Rattle.regress_linear.proofs.Codes.{plans-tell}
-use Rattle.regress_linear.proofs.Weights.{in-places}
-use Rattle.regress_ledger.specs.declared.ledger.Ledger.{Ledger}
-use Rattle.regress_ledger.specs.Ledger.{line_of, account_of, questions_of, way_of, recorded}
-use Rattle.regress_ledger.specs.Whole.{HasBit, IsLedgerOf}
-use Rattle.regress_ledger.proofs.WholeLemmas.{recorded-is, not-recorded}
-use Rattle.regress_memo.specs.Room.{Known}
-use Rattle.regress_memo.specs.Memo.{same_key, key_at, has_failure, has_end, knows, IsBegun, NotesFailure, NotesEnd}
-use Rattle.regress_memo.specs.Laws.{ledger_keys, KeyFails, KeyReaches, IsTrueOf, Holds, HasMemory, MemosHold, MemosAreTrue, KeysAreThere}
+use Rattle.regress_simulation.specs.CharLoopExitStates.{behind}
+use Rattle.regress_memo_laws.specs.Liveness.{Agree, outermost}
+use Rattle.regress_memo_laws.specs.DistinctLists.{IsIn, IsNew, AreDistinct}
+use Rattle.regress_memo_laws.specs.LoopDataKeyCodes.{Question, is_empty, how_many, answers, bool_as_digit, answer, code_of, plan_code, plan_codes, key_of, own_row}
+use Rattle.regress_memo_laws.specs.LoopDataKeyCodes.{HasSlotsOfProgram}
+use Rattle.regress_memo_laws.specs.CharLoopMemoKeys.{row_by, plan_rows, char_loop_greediness_at, insn_before, CharLoopRecords, run_key}
+use Rattle.regress_memo_laws.specs.MemoPlans.{plan_taken}
+use Rattle.regress_memo_laws.specs.MemoSearch.{Key, KeyStandsFor, IsKnown, known_to_fail, known_to_reach}
+use Rattle.regress_memo_laws.specs.ThreadPotentials.{is_one_of}
+use Rattle.regress_memo_laws.proofs.Codes.{plans-tell}
+use Rattle.regress_memo_laws.proofs.Weights.{in-places}
+use Rattle.regress_memo_analysis.specs.declared.analysis.MemoAnalysis.{MemoAnalysis}
+use Rattle.regress_memo_analysis.specs.AnalysisContents.{insn_analysis_of, liveness_of, key_code_questions_of, insn_direction, recorded}
+use Rattle.regress_memo_analysis.specs.CheckedAnalysis.{HasBit, IsAnalysisOf}
+use Rattle.regress_memo_analysis.proofs.WholeLemmas.{recorded-is, not-recorded}
+use Rattle.regress_memo.specs.MemoContractView.{MemoView}
+use Rattle.regress_memo.specs.MemoContents.{same_key, memo_key_at, has_failure, has_success, knows, IsEmptyMemo, RecordsFailure, RecordsSuccess}
+use Rattle.regress_memo.specs.Laws.{analysis_keys, KeyFails, KeyReaches, IsTrueOf, Holds, HasMemory, RecordingAddsKnownKeys, MemosAreSound, BitsAreKeys}
 use Rattle.regress_memo.proofs.MemoLemmas.{same-is, same-itself, bit-there, line-there}
 
 -- ---- Lists
@@ -69,75 +69,75 @@ or-last false true false = refl
 or-last false false true = refl
 or-last false false false = refl
 
-pub memos-hold : MemosHold
+pub memos-hold : RecordingAddsKnownKeys
 memos-hold = record {
-  begun = λ t places with_ends m b. (
+  begun = λ t places records_successes m b. (
     hold-none (has_failure m) b.failures,
-    hold-none (knows m) (λ k. or_from (has_failure m k) (has_end m k) (b.failures k) (b.ends k)),
+    hold-none (knows m) (λ k. or_from (has_failure m k) (has_success m k) (b.failures k) (b.ends k)),
   );
   new = λ known memory k h unknown. new-key known k unknown memory h.only;
   failure = λ k m n memory notes h. hold-more k (has_failure m) (has_failure n) memory notes.failures h;
   known_failure = λ k m n memory notes h.
       hold-more k (knows m) (knows n) memory
-      (λ j. ap (λ b. b || has_end n j) (notes.failures j) ∙ ap (λ b. (has_failure m j || same_key j k) || b) (notes.ends j)
-      ∙ or-last (has_failure m j) (has_end m j) (same_key j k)) h;
+      (λ j. ap (λ b. b || has_success n j) (notes.failures j) ∙ ap (λ b. (has_failure m j || same_key j k) || b) (notes.ends j)
+      ∙ or-last (has_failure m j) (has_success m j) (same_key j k)) h;
   end = λ k m n memory notes h. hold-same (has_failure m) (has_failure n) memory notes.failures h;
   known_end = λ k m n memory notes h.
       hold-more k (knows m) (knows n) memory
-      (λ j. ap (λ b. b || has_end n j) (notes.failures j) ∙ ap (λ b. has_failure m j || b) (notes.ends j)
-      ∙ sym (or_assoc (has_failure m j) (has_end m j) (same_key j k))) h;
+      (λ j. ap (λ b. b || has_success n j) (notes.failures j) ∙ ap (λ b. has_failure m j || b) (notes.ends j)
+      ∙ sym (or_assoc (has_failure m j) (has_success m j) (same_key j k))) h;
 }
 
 -- ---- Keys that there are
 
-pub records-there : (t : Ledger) (ip : ℕ) → (line_of t ip).records ≡ true → is_one_of (recorded t) ip ≡ true
+pub records-there : (t : MemoAnalysis) (ip : ℕ) → (insn_analysis_of t ip).records ≡ true → is_one_of (recorded t) ip ≡ true
 records-there t ip records = true_from_ne_false (is_one_of (recorded t) ip) (λ other. true≢false (not-recorded t ip other true records))
 
-module _ (program : Program) (text : Text) (t : Ledger) (of : IsLedgerOf program t) where
+module _ (program : Program) (text : Text) (t : MemoAnalysis) (of : IsAnalysisOf program t) where
   key-has-bit : (d : Direction) (k : Key) (ts : List Thread)
-      → IsOf program text (account_of t) (ledger_keys program text t) d k ts → HasBit t (units text + 1) k
+      → KeyStandsFor program text (liveness_of t) (analysis_keys program text t) d k ts → HasBit t (units text + 1) k
   key-has-bit d k ts is =
       let h = is.is_of in
-      let h1 = and-right (nat_lt k.code (plan_codes (questions_of t) k.ip)) _ h in
-      let records : (line_of t k.ip).records ≡ true = recorded-is t k.ip (and-left _ _ (and-right (nat_le k.at (units text)) _ h1)) in
-      let there : k.ip < length t.lines.items = line-there t k.ip (line_of t k.ip) refl records in
-      let code : k.code < plan_codes (questions_of t) k.ip = ltb-true k.code (plan_codes (questions_of t) k.ip) (and-left _ _ h) in
+      let h1 = and-right (nat_lt k.code (plan_codes (key_code_questions_of t) k.ip)) _ h in
+      let records : (insn_analysis_of t k.ip).records ≡ true = recorded-is t k.ip (and-left _ _ (and-right (nat_le k.at (units text)) _ h1)) in
+      let there : k.ip < length t.lines.items = line-there t k.ip (insn_analysis_of t k.ip) refl records in
+      let code : k.code < plan_codes (key_code_questions_of t) k.ip = ltb-true k.code (plan_codes (key_code_questions_of t) k.ip) (and-left _ _ h) in
       let within : k.at ≤ units text = leb-true k.at (units text) (and-left _ _ h1) in
       let counted = of.coded.counted k.ip there in
       record { there = there; records = records; at = omega (arith, within); code = omega (arith, code, counted) }
 
-  key-inside : (k : Key) → HasBit t (units text + 1) k → IsIn k (ledger_keys program text t).all
+  key-inside : (k : Key) → HasBit t (units text + 1) k → IsIn k (analysis_keys program text t).all
   key-inside k has =
       let counted = of.coded.counted k.ip has.there in
       let code = has.code in
       let at = has.at in
-      in-places (units text) (plan_codes (questions_of t)) k.ip k.code k.at (omega (arith, at)) (omega (arith, code, counted))
+      in-places (units text) (plan_codes (key_code_questions_of t)) k.ip k.code k.at (omega (arith, at)) (omega (arith, code, counted))
       (recorded t) (records-there t k.ip has.records)
 
-module _ (program : Program) (text : Text) (t : Ledger) where
-  pub thread-key : (d : Direction) (s : State) (k : Key) → key_at t s ≡ Some k → run_at (insn_before program s.ip) ≡ None
-      → way_of t s.ip ≡ d → IsStateOf program s → Agree (account_of t) (units text) outermost d s s
-      → IsOf program text (account_of t) (ledger_keys program text t) d k (running s ∷ [])
-  thread-key d s k is no_body way of_program sound = by (line_of t s.ip).records refl is
+module _ (program : Program) (text : Text) (t : MemoAnalysis) where
+  pub thread-key : (d : Direction) (s : State) (k : Key) → memo_key_at t s ≡ Some k → char_loop_greediness_at (insn_before program s.ip) ≡ None
+      → insn_direction t s.ip ≡ d → HasSlotsOfProgram program s → Agree (liveness_of t) (units text) outermost d s s
+      → KeyStandsFor program text (liveness_of t) (analysis_keys program text t) d k (running s ∷ [])
+  thread-key d s k is no_body way of_program sound = by (insn_analysis_of t s.ip).records refl is
     where
-      by : (b : Bool) → (line_of t s.ip).records ≡ b → (if b then Some (key_of (plan_code (questions_of t)) s) else None) ≡ Some k
-          → IsOf program text (account_of t) (ledger_keys program text t) d k (running s ∷ [])
+      by : (b : Bool) → (insn_analysis_of t s.ip).records ≡ b → (if b then Some (key_of (plan_code (key_code_questions_of t)) s) else None) ≡ Some k
+          → KeyStandsFor program text (liveness_of t) (analysis_keys program text t) d k (running s ∷ [])
       by false e h = cc
       by true e h =
-          let key = key_of (plan_code (questions_of t)) s in
+          let key = key_of (plan_code (key_code_questions_of t)) s in
           let same : key ≡ k = cc in
-          let rows = plan_rows program text (questions_of t) (way_of t) in
+          let rows = plan_rows program text (key_code_questions_of t) (insn_direction t) in
           let own : rows key ≡ own_row key =
-          ap (λ o. row_by program text (questions_of t) (way_of t) o (test_of program (slice_get program.insns s.ip)) (place_at text s.pos) key) no_body in
-          subst (λ j. IsOf program text (account_of t) (ledger_keys program text t) d j (running s ∷ [])) same
-          (plans-tell.has_key program text (account_of t) (questions_of t) (way_of t) (recorded t) rows (plan_taken program) d s
+          ap (λ o. row_by program text (key_code_questions_of t) (insn_direction t) o (test_of program (slice_get program.insns s.ip)) (place_at text s.pos) key) no_body in
+          subst (λ j. KeyStandsFor program text (liveness_of t) (analysis_keys program text t) d j (running s ∷ [])) same
+          (plans-tell.has_key program text (liveness_of t) (key_code_questions_of t) (insn_direction t) (recorded t) rows (plan_taken program) d s
           (records-there t s.ip e) way of_program sound own)
 
 -- a code asks for the offset and for what loops hold, and for nothing else
 answer-same : (q : Question) (u v : State) → u.pos ≡ v.pos → u.loops ≡ v.loops → answer q u ≡ answer q v
 answer-same (is_empty l) u v pos loops =
-    ap (λ n. unwrap_or (option_map (λ (x : LoopData). digit (x.entry == n)) (slice_get u.loops l)) 0) pos
-    ∙ ap (λ ls. unwrap_or (option_map (λ (x : LoopData). digit (x.entry == v.pos)) (slice_get ls l)) 0) loops
+    ap (λ n. unwrap_or (option_map (λ (x : LoopData). bool_as_digit (x.entry == n)) (slice_get u.loops l)) 0) pos
+    ∙ ap (λ ls. unwrap_or (option_map (λ (x : LoopData). bool_as_digit (x.entry == v.pos)) (slice_get ls l)) 0) loops
 answer-same (how_many l most) u v pos loops = ap (λ ls. unwrap_or (option_map (λ (x : LoopData). min x.iters most) (slice_get ls l)) 0) loops
 
 code-same : (qs : List Question) (u v : State) → u.pos ≡ v.pos → u.loops ≡ v.loops → code_of qs u ≡ code_of qs v
@@ -145,58 +145,58 @@ code-same [] u v pos loops = refl
 code-same (q ∷ qs) u v pos loops =
     ap (λ n. n + answers q * code_of qs u) (answer-same q u v pos loops) ∙ ap (λ n. answer q v + answers q * n) (code-same qs u v pos loops)
 
-run-key-is : (program : Program) (text : Text) (t : Ledger) (d : Direction) (test : ℕ → Bool) (greedy : Bool) (s : State) (place : ℕ)
-    → RunRecords program (account_of t) (questions_of t) (way_of t) (recorded t) d test greedy s.ip
-    → key_at t (record s { ip = s.ip + 1; pos = offset text place })
-    ≡ Some (run_key program text (account_of t) (questions_of t) (way_of t) (recorded t) (plan_taken program) d place s)
+run-key-is : (program : Program) (text : Text) (t : MemoAnalysis) (d : Direction) (test : ℕ → Bool) (greedy : Bool) (s : State) (place : ℕ)
+    → CharLoopRecords program (liveness_of t) (key_code_questions_of t) (insn_direction t) (recorded t) d test greedy s.ip
+    → memo_key_at t (record s { ip = s.ip + 1; pos = offset text place })
+    ≡ Some (run_key program text (liveness_of t) (key_code_questions_of t) (insn_direction t) (recorded t) (plan_taken program) d place s)
 run-key-is program text t d test greedy s place r =
     let u : State = record s { ip = s.ip + 1; pos = offset text place } in
     let v : State = behind text d place s 0 in
-    let records : (line_of t (s.ip + 1)).records ≡ true = recorded-is t (s.ip + 1) r.records in
+    let records : (insn_analysis_of t (s.ip + 1)).records ≡ true = recorded-is t (s.ip + 1) r.records in
     let pos : offset text place ≡ offset text (moved text d 0 place) = ap (λ p. offset text p) (sym (moved-zero text d place)) in
-    let code : code_of (questions_of t (s.ip + 1)) u ≡ code_of (questions_of t (s.ip + 2)) v =
-    ap (λ qs. code_of qs u) r.asks ∙ code-same (questions_of t (s.ip + 2)) u v pos refl in
+    let code : code_of (key_code_questions_of t (s.ip + 1)) u ≡ code_of (key_code_questions_of t (s.ip + 2)) v =
+    ap (λ qs. code_of qs u) r.asks ∙ code-same (key_code_questions_of t (s.ip + 2)) u v pos refl in
     let make : ℕ → Key = λ c. record { ip = s.ip + 1; at = offset text place; code = c } in
-    ap (λ b. if b then Some (key_of (plan_code (questions_of t)) u) else None) records ∙ ap (λ c. Some (make c)) code
+    ap (λ b. if b then Some (key_of (plan_code (key_code_questions_of t)) u) else None) records ∙ ap (λ c. Some (make c)) code
 
-pub keys-are-there : KeysAreThere
+pub keys-are-there : BitsAreKeys
 keys-are-there = record { has_bit = key-has-bit; inside = key-inside; thread = λ program text t of. thread-key program text t; run = run-key-is }
 
 -- ---- What is known is so
 
-true-begun : (program : Program) (text : Text) (t : Ledger) (with_ends : Bool) (m : Known)
-    → IsLedgerOf program t → IsBegun t (units text + 1) with_ends m → IsTrueOf program text m
-true-begun program text t with_ends m of b = record {
-  of = subst (λ x. IsLedgerOf program x) (sym b.ledger) of;
+true-begun : (program : Program) (text : Text) (t : MemoAnalysis) (records_successes : Bool) (m : MemoView)
+    → IsAnalysisOf program t → IsEmptyMemo t (units text + 1) records_successes m → IsTrueOf program text m
+true-begun program text t records_successes m of b = record {
+  of = subst (λ x. IsAnalysisOf program x) (sym b.memo_analysis) of;
   places = b.places;
   fails = λ k h. absurd (both_ways (has_failure m k) (b.failures k) h);
-  reaches = λ k h. absurd (both_ways (has_end m k) (b.ends k) h);
+  reaches = λ k h. absurd (both_ways (has_success m k) (b.ends k) h);
 }
 
-module _ (program : Program) (text : Text) (k : Key) (m n : Known) where
-  true-failure : NotesFailure k m n → KeyFails program text m.ledger k → IsTrueOf program text m → IsTrueOf program text n
+module _ (program : Program) (text : Text) (k : Key) (m n : MemoView) where
+  true-failure : RecordsFailure k m n → KeyFails program text m.memo_analysis k → IsTrueOf program text m → IsTrueOf program text n
   true-failure notes fails is = record {
-    of = subst (λ t. IsLedgerOf program t) (sym notes.same.ledger) is.of;
+    of = subst (λ t. IsAnalysisOf program t) (sym notes.same.memo_analysis) is.of;
     places = notes.same.places ∙ is.places;
     fails = λ j known.
-        subst (λ t. KeyFails program text t j) (sym notes.same.ledger)
+        subst (λ t. KeyFails program text t j) (sym notes.same.memo_analysis)
         (elim (or_cases (has_failure m j) (same_key j k) (sym (notes.failures j) ∙ known)) [
           | inl e ↦ is.fails j e
-          | inr e ↦ subst (λ i. KeyFails program text m.ledger i) (sym (same-is j k e)) fails
+          | inr e ↦ subst (λ i. KeyFails program text m.memo_analysis i) (sym (same-is j k e)) fails
         ]);
-    reaches = λ j known. subst (λ t. KeyReaches program text t j) (sym notes.same.ledger) (is.reaches j (sym (notes.ends j) ∙ known));
+    reaches = λ j known. subst (λ t. KeyReaches program text t j) (sym notes.same.memo_analysis) (is.reaches j (sym (notes.ends j) ∙ known));
   }
 
-  true-end : NotesEnd k m n → KeyReaches program text m.ledger k → IsTrueOf program text m → IsTrueOf program text n
+  true-end : RecordsSuccess k m n → KeyReaches program text m.memo_analysis k → IsTrueOf program text m → IsTrueOf program text n
   true-end notes reaches is = record {
-    of = subst (λ t. IsLedgerOf program t) (sym notes.same.ledger) is.of;
+    of = subst (λ t. IsAnalysisOf program t) (sym notes.same.memo_analysis) is.of;
     places = notes.same.places ∙ is.places;
-    fails = λ j known. subst (λ t. KeyFails program text t j) (sym notes.same.ledger) (is.fails j (sym (notes.failures j) ∙ known));
+    fails = λ j known. subst (λ t. KeyFails program text t j) (sym notes.same.memo_analysis) (is.fails j (sym (notes.failures j) ∙ known));
     reaches = λ j known.
-        subst (λ t. KeyReaches program text t j) (sym notes.same.ledger)
-        (elim (or_cases (has_end m j) (same_key j k) (sym (notes.ends j) ∙ known)) [
+        subst (λ t. KeyReaches program text t j) (sym notes.same.memo_analysis)
+        (elim (or_cases (has_success m j) (same_key j k) (sym (notes.ends j) ∙ known)) [
           | inl e ↦ is.reaches j e
-          | inr e ↦ subst (λ i. KeyReaches program text m.ledger i) (sym (same-is j k e)) reaches
+          | inr e ↦ subst (λ i. KeyReaches program text m.memo_analysis i) (sym (same-is j k e)) reaches
         ]);
   }
 
@@ -259,44 +259,44 @@ chosen-distinct f (k ∷ ks) = by (chosen-distinct (λ i. f i && not (same_key i
     by others on true = (new, others)
     by others on false = on
 
-module _ (program : Program) (text : Text) (m : Known) (is : IsTrueOf program text m) where
-  known-has-bit : (k : Key) → knows m k ≡ true → HasBit m.ledger (units text + 1) k
+module _ (program : Program) (text : Text) (m : MemoView) (is : IsTrueOf program text m) where
+  known-has-bit : (k : Key) → knows m k ≡ true → HasBit m.memo_analysis (units text + 1) k
   known-has-bit k h =
-      subst (λ n. HasBit m.ledger n k) is.places
-      (elim (or_cases (has_failure m k) (has_end m k) h) [
-        | inl e ↦ bit-there m.ledger m.places k (and-left _ _ e)
-        | inr e ↦ bit-there m.ledger m.places k (and-left _ _ (and-right _ _ e))
+      subst (λ n. HasBit m.memo_analysis n k) is.places
+      (elim (or_cases (has_failure m k) (has_success m k) h) [
+        | inl e ↦ bit-there m.memo_analysis m.places k (and-left _ _ e)
+        | inr e ↦ bit-there m.memo_analysis m.places k (and-left _ _ (and-right _ _ e))
       ])
 
-  known-is : (k : Key) → knows m k ≡ true → IsKnown program text (account_of m.ledger) (ledger_keys program text m.ledger) k
-  known-is k h = elim (or_cases (has_failure m k) (has_end m k) h) [
+  known-is : (k : Key) → knows m k ≡ true → IsKnown program text (liveness_of m.memo_analysis) (analysis_keys program text m.memo_analysis) k
+  known-is k h = elim (or_cases (has_failure m k) (has_success m k) h) [
     | inl e ↦ known_to_fail (is.fails k e)
     | inr e ↦ known_to_reach (is.reaches k e)
   ]
 
   has-memory : (known : Key → Bool) → ((k : Key) → known k ≡ true → knows m k ≡ true) → HasMemory program text m known
   has-memory known some =
-      let all = (ledger_keys program text m.ledger).all in
+      let all = (analysis_keys program text m.memo_analysis).all in
       record {
         memory = chosen known all;
         holds = record {
           only = λ k h. (chosen-are known all k h).0;
-          all = λ k h. in-chosen known all k h (key-inside program text m.ledger is.of k (known-has-bit k (some k h)));
+          all = λ k h. in-chosen known all k h (key-inside program text m.memo_analysis is.of k (known-has-bit k (some k h)));
         };
         is = record {
           known =
-              each-in (IsKnown program text (account_of m.ledger) (ledger_keys program text m.ledger)) (chosen known all)
+              each-in (IsKnown program text (liveness_of m.memo_analysis) (analysis_keys program text m.memo_analysis)) (chosen known all)
               (λ k h. known-is k (some k (chosen-are known all k h).0));
           distinct = chosen-distinct known all;
           inside = each-in (λ k. IsIn k all) (chosen known all) (λ k h. (chosen-are known all k h).1);
         };
       }
 
-pub memos-are-true : MemosAreTrue
+pub memos-are-true : MemosAreSound
 memos-are-true = record {
   begun = true-begun;
   failure = true-failure;
   end = true-end;
-  failures = λ program text m is. has-memory program text m is (has_failure m) (λ k h. or_left (has_failure m k) (has_end m k) h);
+  failures = λ program text m is. has-memory program text m is (has_failure m) (λ k h. or_left (has_failure m k) (has_success m k) h);
   all = λ program text m is. has-memory program text m is (knows m) (λ k h. h);
 }

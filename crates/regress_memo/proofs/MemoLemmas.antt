@@ -7,17 +7,17 @@ use Rattle.std.proofs.lemmas.Bool.{both_ways, cases_lt, ltb-true, lt-ltb, eqb-tr
 use Rattle.std.proofs.lemmas.Option.{slice_get_past}
 use Rattle.regex_meaning.proofs.Booleans.{and-left, and-right, same-truth}
 use Rattle.regress_machine.specs.Machine.{State, LoopData}
-use Rattle.regress_linear.specs.Turns.{Key}
-use Rattle.regress_linear.specs.Codes.{code_of, plan_code, plan_codes, key_of}
-use Rattle.regress_linear.proofs.Codes.{plans-tell}
-use Rattle.regress_ledger.specs.declared.ledger.Line.{Line}
-use Rattle.regress_ledger.specs.declared.ledger.Ledger.{Ledger}
-use Rattle.regress_ledger.specs.Ledger.{no_line, line_of, questions_of, bit_of}
-use Rattle.regress_ledger.specs.Whole.{AreCoded, HasBit}
-use Rattle.regress_ledger.proofs.Bits.{bits-apart}
-use Rattle.regress_memo.specs.Bits.{is_set}
-use Rattle.regress_memo.specs.Room.{Known}
-use Rattle.regress_memo.specs.Memo.{same_key, key_at, has_bit, is_noted, NotesFailure, NotesEnd}
+use Rattle.regress_memo_laws.specs.MemoSearch.{Key}
+use Rattle.regress_memo_laws.specs.LoopDataKeyCodes.{code_of, plan_code, plan_codes, key_of}
+use Rattle.regress_memo_laws.proofs.Codes.{plans-tell}
+use Rattle.regress_memo_analysis.specs.declared.analysis.InsnAnalysis.{InsnAnalysis}
+use Rattle.regress_memo_analysis.specs.declared.analysis.MemoAnalysis.{MemoAnalysis}
+use Rattle.regress_memo_analysis.specs.AnalysisContents.{no_insn_analysis, insn_analysis_of, key_code_questions_of, bit_of}
+use Rattle.regress_memo_analysis.specs.CheckedAnalysis.{HasKeyCodes, HasBit}
+use Rattle.regress_memo_analysis.proofs.Bits.{bits-apart}
+use Rattle.regress_memo.specs.BitSet.{is_set}
+use Rattle.regress_memo.specs.MemoContractView.{MemoView}
+use Rattle.regress_memo.specs.MemoContents.{same_key, memo_key_at, has_bit, is_noted, RecordsFailure, RecordsSuccess}
 
 -- ---- Keys
 
@@ -37,7 +37,7 @@ same-itself k =
 
 -- ---- Bits
 
-module _ (t : Ledger) (places : ℕ) where
+module _ (t : MemoAnalysis) (places : ℕ) where
   pub bit-there : (k : Key) → has_bit t places k ≡ true → HasBit t places k
   bit-there k h =
       let h1 = and-right _ _ h in
@@ -46,14 +46,14 @@ module _ (t : Ledger) (places : ℕ) where
         there = ltb-true k.ip (length t.lines.items) (and-left _ _ h);
         records = and-left _ _ h1;
         at = ltb-true k.at places (and-left _ _ h2);
-        code = ltb-true k.code (line_of t k.ip).codes (and-right _ _ h2);
+        code = ltb-true k.code (insn_analysis_of t k.ip).codes (and-right _ _ h2);
       }
 
   pub bit-is : (k : Key) → HasBit t places k → has_bit t places k ≡ true
   bit-is k has =
       and_from (nat_lt k.ip (length t.lines.items)) _ (lt-ltb k.ip (length t.lines.items) has.there)
-      (and_from (line_of t k.ip).records _ has.records
-      (and_from (nat_lt k.at places) _ (lt-ltb k.at places has.at) (lt-ltb k.code (line_of t k.ip).codes has.code)))
+      (and_from (insn_analysis_of t k.ip).records _ has.records
+      (and_from (nat_lt k.at places) _ (lt-ltb k.at places has.at) (lt-ltb k.code (insn_analysis_of t k.ip).codes has.code)))
 
   abbrev bit : Key → ℕ
   bit k = bit_of t places k.ip k.at k.code
@@ -66,7 +66,7 @@ module _ (t : Ledger) (places : ℕ) where
     pub noted-is : (words : List ℕ) → is_set words (bit k) ≡ is_noted t places words k
     noted-is words = sym (ap (λ b. b && is_set words (bit k)) (bit-is k has))
 
-    module _ (coded : AreCoded t) where
+    module _ (coded : HasKeyCodes t) where
       -- another key has another bit
       bit-same : (j : Key) → HasBit t places j → (bit j == bit k) ≡ same_key j k
       bit-same j has_j =
@@ -88,78 +88,78 @@ module _ (t : Ledger) (places : ℕ) where
 -- ---- Codes
 
 -- a line that says something is there
-pub line-there : (t : Ledger) (ip : ℕ) (x : Line) → x ≡ line_of t ip → x.records ≡ true → ip < length t.lines.items
+pub line-there : (t : MemoAnalysis) (ip : ℕ) (x : InsnAnalysis) → x ≡ insn_analysis_of t ip → x.records ≡ true → ip < length t.lines.items
 line-there t ip x is records = elim (cases_lt ip (length t.lines.items)) [
   | inl less ↦ less
   | inr past ↦
-      let none : x ≡ no_line = is ∙ ap (λ o. unwrap_or o no_line) (slice_get_past t.lines.items ip past) in
-      let unset : x.records ≡ false = ap (λ (y : Line). y.records) none in
+      let none : x ≡ no_insn_analysis = is ∙ ap (λ o. unwrap_or o no_insn_analysis) (slice_get_past t.lines.items ip past) in
+      let unset : x.records ≡ false = ap (λ (y : InsnAnalysis). y.records) none in
       absurd (both_ways x.records unset records)
 ]
 
-module _ (t : Ledger) (ip : ℕ) (x : Line) (is : x ≡ line_of t ip) (records : x.records ≡ true) where
-  records-so : (line_of t ip).records ≡ true
-  records-so = ap (λ (y : Line). y.records) (sym is) ∙ records
+module _ (t : MemoAnalysis) (ip : ℕ) (x : InsnAnalysis) (is : x ≡ insn_analysis_of t ip) (records : x.records ≡ true) where
+  records-so : (insn_analysis_of t ip).records ≡ true
+  records-so = ap (λ (y : InsnAnalysis). y.records) (sym is) ∙ records
 
   -- what a code tells is one of so many
-  code-few : AreCoded t → (s : State) → s.ip ≡ ip → code_of (questions_of t ip) s < x.codes
+  code-few : HasKeyCodes t → (s : State) → s.ip ≡ ip → code_of (key_code_questions_of t ip) s < x.codes
   code-few coded s at =
-      let below : code_of (questions_of t ip) s < plan_codes (questions_of t) ip =
-      subst (λ i. code_of (questions_of t i) s < plan_codes (questions_of t) i) at (plans-tell.below (questions_of t) s) in
+      let below : code_of (key_code_questions_of t ip) s < plan_codes (key_code_questions_of t) ip =
+      subst (λ i. code_of (key_code_questions_of t i) s < plan_codes (key_code_questions_of t) i) at (plans-tell.below (key_code_questions_of t) s) in
       let counted = coded.counted ip (line-there t ip x is records) in
-      let same : x.codes ≡ (line_of t ip).codes = ap (λ (y : Line). y.codes) is in
+      let same : x.codes ≡ (insn_analysis_of t ip).codes = ap (λ (y : InsnAnalysis). y.codes) is in
       omega (arith, below, counted, same)
 
-  pub one-code : AreCoded t → x.codes ≡ 1 → (s : State) → s.ip ≡ ip → 0 ≡ code_of (questions_of t ip) s
+  pub one-code : HasKeyCodes t → x.codes ≡ 1 → (s : State) → s.ip ≡ ip → 0 ≡ code_of (key_code_questions_of t ip) s
   one-code coded one s at = let few = code-few coded s at in omega (arith, few, one)
 
-  pub key-is : (s : State) (at code : ℕ) → s.ip ≡ ip → s.pos ≡ at → code ≡ code_of (questions_of t ip) s
-      → Some (record { ip = ip; at = at; code = code }) ≡ key_at t s
+  pub key-is : (s : State) (at code : ℕ) → s.ip ≡ ip → s.pos ≡ at → code ≡ code_of (key_code_questions_of t ip) s
+      → Some (record { ip = ip; at = at; code = code }) ≡ memo_key_at t s
   key-is s at code here there same =
       let make : ℕ → ℕ → ℕ → Key = λ i a c. record { ip = i; at = a; code = c } in
-      let its : code ≡ code_of (questions_of t s.ip) s = same ∙ ap (λ i. code_of (questions_of t i) s) (sym here) in
-      let so : (line_of t s.ip).records ≡ true = ap (λ i. (line_of t i).records) here ∙ records-so in
+      let its : code ≡ code_of (key_code_questions_of t s.ip) s = same ∙ ap (λ i. code_of (key_code_questions_of t i) s) (sym here) in
+      let so : (insn_analysis_of t s.ip).records ≡ true = ap (λ i. (insn_analysis_of t i).records) here ∙ records-so in
       ap (λ i. Some (make i at code)) (sym here) ∙ ap (λ a. Some (make s.ip a code)) (sym there) ∙ ap (λ c. Some (make s.ip s.pos c)) its
-      ∙ ap (λ b. if b then Some (key_of (plan_code (questions_of t)) s) else None) (sym so)
+      ∙ ap (λ b. if b then Some (key_of (plan_code (key_code_questions_of t)) s) else None) (sym so)
 
   pub code-bit : (places at code : ℕ) → code < x.codes → at < places → HasBit t places (record { ip = ip; at = at; code = code })
   code-bit places at code few within = record {
     there = line-there t ip x is records;
     records = records-so;
     at = within;
-    code = let same : x.codes ≡ (line_of t ip).codes = ap (λ (y : Line). y.codes) is in omega (arith, few, same);
+    code = let same : x.codes ≡ (insn_analysis_of t ip).codes = ap (λ (y : InsnAnalysis). y.codes) is in omega (arith, few, same);
   }
 
   -- a code that is so of each state there
-  pub told-bit : AreCoded t → (places at code : ℕ) (loops : List LoopData)
-      → ((s : State) → s.pos ≡ at → s.loops ≡ loops → code ≡ code_of (questions_of t ip) s)
+  pub told-bit : HasKeyCodes t → (places at code : ℕ) (loops : List LoopData)
+      → ((s : State) → s.pos ≡ at → s.loops ≡ loops → code ≡ code_of (key_code_questions_of t ip) s)
       → at < places → HasBit t places (record { ip = ip; at = at; code = code })
   told-bit coded places at code loops told within =
       let s : State = record { ip = ip; pos = at; groups = []; starts = []; loops = loops } in
-      let is : code ≡ code_of (questions_of t ip) s = told s refl refl in
+      let is : code ≡ code_of (key_code_questions_of t ip) s = told s refl refl in
       let few = code-few coded s refl in
       code-bit places at code (omega (arith, is, few)) within
 
 -- ---- Notes
 
-abbrev pub known_by : Ledger → (places : ℕ) → (with_ends : Bool) → (failures ends : List ℕ) → Known
-known_by ledger places with_ends failures ends = record { ledger = ledger; places = places; with_ends = with_ends; failures = failures; ends = ends }
+abbrev pub known_by : MemoAnalysis → (places : ℕ) → (records_successes : Bool) → (failures ends : List ℕ) → MemoView
+known_by memo_analysis places records_successes failures ends = record { memo_analysis = memo_analysis; places = places; records_successes = records_successes; failures = failures; ends = ends }
 
-module _ (m : Known) (coded : AreCoded m.ledger) (k : Key) (has : HasBit m.ledger m.places k) (bit : ℕ)
-    (its : bit ≡ bit_of m.ledger m.places k.ip k.at k.code) (new : List ℕ) where
-  pub notes-failure : ((i : ℕ) → is_set new i ≡ (is_set m.failures i || i == bit)) → NotesFailure k m (record m { failures = new })
+module _ (m : MemoView) (coded : HasKeyCodes m.memo_analysis) (k : Key) (has : HasBit m.memo_analysis m.places k) (bit : ℕ)
+    (its : bit ≡ bit_of m.memo_analysis m.places k.ip k.at k.code) (new : List ℕ) where
+  pub notes-failure : ((i : ℕ) → is_set new i ≡ (is_set m.failures i || i == bit)) → RecordsFailure k m (record m { failures = new })
   notes-failure more = record {
-    same = record { ledger = refl; places = refl; with_ends = refl };
-    failures = noted-more m.ledger m.places k has coded m.failures new (λ i. more i ∙ ap (λ b. is_set m.failures i || i == b) its);
+    same = record { memo_analysis = refl; places = refl; records_successes = refl };
+    failures = noted-more m.memo_analysis m.places k has coded m.failures new (λ i. more i ∙ ap (λ b. is_set m.failures i || i == b) its);
     ends = λ j. refl;
   }
 
-  pub notes-end : m.with_ends ≡ true → ((i : ℕ) → is_set new i ≡ (is_set m.ends i || i == bit)) → NotesEnd k m (record m { ends = new })
+  pub notes-end : m.records_successes ≡ true → ((i : ℕ) → is_set new i ≡ (is_set m.ends i || i == bit)) → RecordsSuccess k m (record m { ends = new })
   notes-end wanted more = record {
-    same = record { ledger = refl; places = refl; with_ends = refl };
+    same = record { memo_analysis = refl; places = refl; records_successes = refl };
     failures = λ j. refl;
     ends = λ j.
-        let one = noted-more m.ledger m.places k has coded m.ends new (λ i. more i ∙ ap (λ b. is_set m.ends i || i == b) its) j in
-        ap (λ b. b && is_noted m.ledger m.places new j) wanted ∙ one
-        ∙ ap (λ b. (b && is_noted m.ledger m.places m.ends j) || same_key j k) (sym wanted);
+        let one = noted-more m.memo_analysis m.places k has coded m.ends new (λ i. more i ∙ ap (λ b. is_set m.ends i || i == b) its) j in
+        ap (λ b. b && is_noted m.memo_analysis m.places new j) wanted ∙ one
+        ∙ ap (λ b. (b && is_noted m.memo_analysis m.places m.ends j) || same_key j k) (sym wanted);
   }

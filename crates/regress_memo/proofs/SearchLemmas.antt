@@ -5,69 +5,69 @@ use Rattle.std.proofs.lemmas.List.{length-replicate}
 use Rattle.regex_meaning.specs.Laws.{Each}
 use Rattle.regex_meaning.proofs.Each.{Each-append}
 use Rattle.regex_meaning.specs.Text.{Text, Direction, rightwards}
-use Rattle.regex_meaning.specs.Offsets.{IsText, units}
-use Rattle.regex_meaning.specs.Layout.{Program}
-use Rattle.regress_machine.specs.Finds.{initial}
+use Rattle.regex_meaning.specs.CodeUnitOffsets.{IsText, units}
+use Rattle.regex_meaning.specs.CompilationRelation.{Program}
+use Rattle.regress_machine.specs.SearchResults.{state_before_first_insn}
 use Rattle.regress_machine.specs.Machine.{State, Thread, running, waiting, goes, act}
-use Rattle.regress_linear.specs.Account.{Agree, outermost, ReadsAsBytes}
-use Rattle.regress_linear.specs.Alike.{AlikeThreads}
-use Rattle.regress_linear.specs.Codes.{IsStateOf, plan_code, key_of}
-use Rattle.regress_linear.specs.Distinct.{IsNew}
-use Rattle.regress_linear.specs.LaidOut.{state_of_thread}
-use Rattle.regress_linear.specs.Paid.{weight_by}
-use Rattle.regress_linear.specs.Plans.{IsRecorded, plan_taken}
-use Rattle.regress_linear.specs.Turns.{Key, Entry, tried, noted, tries, threads_in, at_first, gives, reaches}
-use Rattle.regress_linear.specs.Weights.{is_one_of}
-use Rattle.regress_linear.proofs.Beside.{others-paid}
-use Rattle.regress_linear.proofs.LaidOut.{states-stay}
-use Rattle.regress_linear.proofs.Looks.{soundness-stays}
-use Rattle.regress_linear.proofs.Paid.{turns-paid}
-use Rattle.regress_linear.proofs.Plans.{plans-take}
-use Rattle.regress_linear.proofs.Turns.{threads-tries, threads-joined, turns-right}
-use Rattle.regress_ledger.specs.declared.ledger.Ledger.{Ledger}
-use Rattle.regress_ledger.specs.Bodies.{IsNoBody}
-use Rattle.regress_ledger.specs.Bound.{IsBounded, first_row}
-use Rattle.regress_ledger.specs.Ledger.{line_of, account_of, questions_of, recorded, weights_of, price_of, way_of}
-use Rattle.regress_ledger.specs.Whole.{IsLedgerOf, ip_of, Serves}
-use Rattle.regress_ledger.proofs.NoBodies.{bodies-apart}
-use Rattle.regress_ledger.proofs.Outside.{starts-outside}
-use Rattle.regress_ledger.proofs.Ways.{ways-stay}
-use Rattle.regress_ledger.proofs.WholeLemmas.{recorded-is, ledgers-serve}
-use Rattle.regress_memo.specs.Laws.{ledger_keys, KeyFails}
-use Rattle.regress_memo.specs.Memo.{key_at}
-use Rattle.regress_memo.specs.Search.{IsKeyed, AreKeyed, HasCome, ComesOn, SearchesArePaid}
+use Rattle.regress_memo_laws.specs.Liveness.{Agree, outermost, ReadsAsBytes}
+use Rattle.regress_memo_laws.specs.Bisimulation.{AlikeThreads}
+use Rattle.regress_memo_laws.specs.LoopDataKeyCodes.{HasSlotsOfProgram, plan_code, key_of}
+use Rattle.regress_memo_laws.specs.DistinctLists.{IsNew}
+use Rattle.regress_memo_laws.specs.PreservedSlotCounts.{state_of_thread}
+use Rattle.regress_memo_laws.specs.AmortizedStepCosts.{potential_by}
+use Rattle.regress_memo_laws.specs.MemoPlans.{IsRecorded, plan_taken}
+use Rattle.regress_memo_laws.specs.MemoSearch.{Key, Entry, tried, noted, tries, threads_in, at_first, gives, reaches}
+use Rattle.regress_memo_laws.specs.ThreadPotentials.{is_one_of}
+use Rattle.regress_memo_laws.proofs.Beside.{others-paid}
+use Rattle.regress_memo_laws.proofs.LaidOut.{states-stay}
+use Rattle.regress_memo_laws.proofs.Looks.{soundness-stays}
+use Rattle.regress_memo_laws.proofs.Paid.{turns-paid}
+use Rattle.regress_memo_laws.proofs.Plans.{plans-take}
+use Rattle.regress_memo_laws.proofs.Turns.{threads-tries, threads-joined, turns-right}
+use Rattle.regress_memo_analysis.specs.declared.analysis.MemoAnalysis.{MemoAnalysis}
+use Rattle.regress_memo_analysis.specs.UnreachedCharLoopBodies.{IsNotLoopBody}
+use Rattle.regress_memo_analysis.specs.WorkBound.{IsWorkBounded, first_row}
+use Rattle.regress_memo_analysis.specs.AnalysisContents.{insn_analysis_of, liveness_of, key_code_questions_of, recorded, potentials_of, key_cost_of, insn_direction}
+use Rattle.regress_memo_analysis.specs.CheckedAnalysis.{IsAnalysisOf, ip_of, Serves}
+use Rattle.regress_memo_analysis.proofs.NoBodies.{bodies-apart}
+use Rattle.regress_memo_analysis.proofs.Outside.{starts-outside}
+use Rattle.regress_memo_analysis.proofs.Ways.{ways-stay}
+use Rattle.regress_memo_analysis.proofs.WholeLemmas.{recorded-is, ledgers-serve}
+use Rattle.regress_memo.specs.Laws.{analysis_keys, KeyFails}
+use Rattle.regress_memo.specs.MemoContents.{memo_key_at}
+use Rattle.regress_memo.specs.MemoSearchCosts.{IsKeyed, AreKeyed, HasCome, ComesOn, SearchCostsAreCovered}
 use Rattle.regress_memo.proofs.LawLemmas.{thread-key, records-there}
 
 -- ---- Keys
 
 -- a state has none where its instruction does not record
-pub no-key : (t : Ledger) (s : State) → key_at t s ≡ None → is_one_of (recorded t) s.ip ≡ false
+pub no-key : (t : MemoAnalysis) (s : State) → memo_key_at t s ≡ None → is_one_of (recorded t) s.ip ≡ false
 no-key t s none = by (is_one_of (recorded t) s.ip) refl
   where
     by : (b : Bool) → is_one_of (recorded t) s.ip ≡ b → is_one_of (recorded t) s.ip ≡ false
     by false e = e
     by true e =
-        let some : Some (key_of (plan_code (questions_of t)) s) ≡ None =
-        sym (ap (λ b. if b then Some (key_of (plan_code (questions_of t)) s) else None) (recorded-is t s.ip e)) ∙ none in
+        let some : Some (key_of (plan_code (key_code_questions_of t)) s) ≡ None =
+        sym (ap (λ b. if b then Some (key_of (plan_code (key_code_questions_of t)) s) else None) (recorded-is t s.ip e)) ∙ none in
         absurd (let no : ⊥ = cc in no)
 
 -- where it does, it has this one
-pub record HasKey (t : Ledger) (s : State) (k : Key) : Type 0 where
-  pub records : (line_of t s.ip).records ≡ true
-  pub is : key_of (plan_code (questions_of t)) s ≡ k
+pub record HasKey (t : MemoAnalysis) (s : State) (k : Key) : Type 0 where
+  pub records : (insn_analysis_of t s.ip).records ≡ true
+  pub is : key_of (plan_code (key_code_questions_of t)) s ≡ k
 
-pub has-key : (t : Ledger) (s : State) (k : Key) → key_at t s ≡ Some k → HasKey t s k
-has-key t s k is = by (line_of t s.ip).records refl is
+pub has-key : (t : MemoAnalysis) (s : State) (k : Key) → memo_key_at t s ≡ Some k → HasKey t s k
+has-key t s k is = by (insn_analysis_of t s.ip).records refl is
   where
-    by : (b : Bool) → (line_of t s.ip).records ≡ b → (if b then Some (key_of (plan_code (questions_of t)) s) else None) ≡ Some k → HasKey t s k
+    by : (b : Bool) → (insn_analysis_of t s.ip).records ≡ b → (if b then Some (key_of (plan_code (key_code_questions_of t)) s) else None) ≡ Some k → HasKey t s k
     by false e h = absurd (let no : ⊥ = cc in no)
     by true e h = record { records = e; is = cc }
 
 -- ---- Threads that have keys
 
-module _ (program : Program) (text : Text) (t : Ledger) (d : Direction) where
-  all-keyed : (ts : List Thread) → Each (λ u. IsStateOf program (state_of_thread u)) ts → AlikeThreads (Agree (account_of t) (units text) outermost d) ts ts
-      → Each (λ u. way_of t (ip_of u) ≡ d) ts → Each (λ u. IsNoBody program (ip_of u)) ts → AreKeyed program text t d ts
+module _ (program : Program) (text : Text) (t : MemoAnalysis) (d : Direction) where
+  all-keyed : (ts : List Thread) → Each (λ u. HasSlotsOfProgram program (state_of_thread u)) ts → AlikeThreads (Agree (liveness_of t) (units text) outermost d) ts ts
+      → Each (λ u. insn_direction t (ip_of u) ≡ d) ts → Each (λ u. IsNotLoopBody program (ip_of u)) ts → AreKeyed program text t d ts
   all-keyed [] of sound way apart = tt
   all-keyed (running s ∷ ts) of sound way apart =
       (record { of = of.0; sound = sound.0; way = way.0; no_body = apart.0 }, all-keyed ts of.1 sound.1 way.1 apart.1)
@@ -86,7 +86,7 @@ module _ (program : Program) (text : Text) (t : Ledger) (d : Direction) where
 
 -- ---- Turns
 
-module _ (program : Program) (t : Ledger) (of : IsLedgerOf program t) (bounded : IsBounded t program) (text : Text) (is_text : IsText text) (bytes : ReadsAsBytes program text)
+module _ (program : Program) (t : MemoAnalysis) (of : IsAnalysisOf program t) (bounded : IsWorkBounded t program) (text : Text) (is_text : IsText text) (bytes : ReadsAsBytes program text)
     (less : units text < 2 ^ 63) (d : Direction) (memory : List Key) (first : List Entry) (work : ℕ) (now : List Key) (rest : List Entry) where
   abbrev Come : (work : ℕ) → List Key → List Entry → Type 0
   Come work now row = HasCome program text t d memory first work now row
@@ -98,24 +98,24 @@ module _ (program : Program) (t : Ledger) (of : IsLedgerOf program t) (bounded :
   left-keyed : (s : State) (ts : List Thread) → IsKeyed program text t d s → act program text d s ≡ goes ts → AreKeyed program text t d ts
   left-keyed s ts k turn =
       all-keyed program text t d ts (states-stay program text d s ts k.of turn)
-      ((soundness-stays program text (account_of t) served.plan.account d).goes outermost s ts k.sound turn)
+      ((soundness-stays program text (liveness_of t) served.plan.account d).goes outermost s ts k.sound turn)
       (ways-stay program t of text d s ts k.way turn) (bodies-apart program t of bounded.past text d s ts turn)
 
-  turned : (s : State) (ts : List Thread) → act program text d s ≡ goes ts → key_at t s ≡ None → Come work now (tried (running s) ∷ rest) → Come (work + 1) now (tries ts ++ rest)
+  turned : (s : State) (ts : List Thread) → act program text d s ≡ goes ts → memo_key_at t s ≡ None → Come work now (tried (running s) ∷ rest) → Come (work + 1) now (tries ts ++ rest)
   turned s ts turn none h = record {
     comes = gives work 1 now (tried (running s) ∷ []) (tries ts) rest tt h.comes ((served.serves.gives d now s).turned ts turn)
-        ((turns-paid.threads program (weights_of t) (price_of t) (recorded t) of.paid text (plan_code (questions_of t)) d s).turned ts turn (no-key t s none));
+        ((turns-paid.threads program (potentials_of t) (key_cost_of t) (recorded t) of.paid text (plan_code (key_code_questions_of t)) d s).turned ts turn (no-key t s none));
     keyed = keyed-joined program text t d (tries ts) rest (keyed-tries program text t d ts (left-keyed s ts h.keyed.0 turn)) h.keyed.1;
   }
 
   recorded-key : (s : State) (ts : List Thread) (k : Key) → HasKey t s k → act program text d s ≡ goes ts → IsNew k now → Come work now (tried (running s) ∷ rest)
-      → Come (work + 1) now ((tries ts ++ noted (key_of (plan_code (questions_of t)) s) (running s ∷ []) ∷ []) ++ rest)
+      → Come (work + 1) now ((tries ts ++ noted (key_of (plan_code (key_code_questions_of t)) s) (running s ∷ []) ∷ []) ++ rest)
   recorded-key s ts k has turn new h =
-      let key = key_of (plan_code (questions_of t)) s in
+      let key = key_of (plan_code (key_code_questions_of t)) s in
       let ips = recorded t in
       let keyed = h.keyed.0 in
       let there = records-there t s.ip has.records in
-      let rec : IsRecorded program text (account_of t) (questions_of t) (way_of t) ips (plan_taken program) d now s = record {
+      let rec : IsRecorded program text (liveness_of t) (key_code_questions_of t) (insn_direction t) ips (plan_taken program) d now s = record {
         records = there;
         goes = keyed.way;
         no_body = keyed.no_body;
@@ -126,28 +126,28 @@ module _ (program : Program) (t : Ledger) (of : IsLedgerOf program t) (bounded :
       } in
       record {
         comes = gives work 1 now (tried (running s) ∷ []) (tries ts ++ noted key (running s ∷ []) ∷ []) rest tt h.comes ((served.serves.gives d now s).recorded ts turn rec)
-            ((turns-paid.threads program (weights_of t) (price_of t) ips of.paid text (plan_code (questions_of t)) d s).recorded ts turn there);
+            ((turns-paid.threads program (potentials_of t) (key_cost_of t) ips of.paid text (plan_code (key_code_questions_of t)) d s).recorded ts turn there);
         keyed =
             keyed-joined program text t d (tries ts ++ noted key (running s ∷ []) ∷ []) rest
             (keyed-joined program text t d (tries ts) (noted key (running s ∷ []) ∷ []) (keyed-tries program text t d ts (left-keyed s ts keyed turn)) tt) h.keyed.1;
       }
 
-  with-record : (s : State) (ts : List Thread) (k : Key) → act program text d s ≡ goes ts → key_at t s ≡ Some k → IsNew k now → Come work now (tried (running s) ∷ rest)
+  with-record : (s : State) (ts : List Thread) (k : Key) → act program text d s ≡ goes ts → memo_key_at t s ≡ Some k → IsNew k now → Come work now (tried (running s) ∷ rest)
       → Come (work + 1) now (tries ts ++ noted k (running s ∷ []) ∷ rest)
   with-record s ts k turn is new h =
       let has = has-key t s k is in
       subst (Come (work + 1) now)
-      (append_assoc (tries ts) (noted (key_of (plan_code (questions_of t)) s) (running s ∷ []) ∷ []) rest ∙ ap (λ k. tries ts ++ noted k (running s ∷ []) ∷ rest) has.is)
+      (append_assoc (tries ts) (noted (key_of (plan_code (key_code_questions_of t)) s) (running s ∷ []) ∷ []) rest ∙ ap (λ k. tries ts ++ noted k (running s ∷ []) ∷ rest) has.is)
       (recorded-key s ts k has turn new h)
 
-  known-fails : (s : State) (k : Key) → key_at t s ≡ Some k → KeyFails program text t k → Come work now (tried (running s) ∷ rest) → Come (work + 1) now rest
+  known-fails : (s : State) (k : Key) → memo_key_at t s ≡ Some k → KeyFails program text t k → Come work now (tried (running s) ∷ rest) → Come (work + 1) now rest
   known-fails s k is fails h =
       let keyed = h.keyed.0 in
       let of_key = thread-key program text t d s k is keyed.no_body keyed.way keyed.of keyed.sound in
       record {
         comes = gives work 1 now (tried (running s) ∷ []) [] rest tt h.comes
-            ((turns-right program text (account_of t) (ledger_keys program text t) served.plan.account served.serves.keys d).dropped now k (running s ∷ []) fails of_key)
-            ((others-paid.ends program (weights_of t) (price_of t) (recorded t) s).known (bounded.ready s.ip));
+            ((turns-right program text (liveness_of t) (analysis_keys program text t) served.plan.account served.serves.keys d).dropped now k (running s ∷ []) fails of_key)
+            ((others-paid.ends program (potentials_of t) (key_cost_of t) (recorded t) s).known (bounded.ready s.ip));
         keyed = h.keyed.1;
       }
 
@@ -158,7 +158,7 @@ module _ (program : Program) (t : Ledger) (of : IsLedgerOf program t) (bounded :
     known = known-fails;
     taken_up = λ s h. record {
       comes = gives work 1 now (tried (waiting s) ∷ []) (tried (running s) ∷ []) rest tt h.comes (served.serves.gives d now s).taken_up
-          (turns-paid.threads program (weights_of t) (price_of t) (recorded t) of.paid text (plan_code (questions_of t)) d s).taken_up;
+          (turns-paid.threads program (potentials_of t) (key_cost_of t) (recorded t) of.paid text (plan_code (key_code_questions_of t)) d s).taken_up;
       keyed = (h.keyed.0, h.keyed.1);
     };
     reached = λ k ts h. record { comes = reaches work now k ts rest h.comes; keyed = h.keyed };
@@ -166,17 +166,17 @@ module _ (program : Program) (t : Ledger) (of : IsLedgerOf program t) (bounded :
 
 -- ---- The beginning
 
-first-keyed : (program : Program) (t : Ledger) → IsLedgerOf program t → (text : Text) → IsText text → ReadsAsBytes program text → units text < 2 ^ 63 → (at : ℕ) → at ≤ units text
-    → IsKeyed program text t rightwards (initial program at)
+first-keyed : (program : Program) (t : MemoAnalysis) → IsAnalysisOf program t → (text : Text) → IsText text → ReadsAsBytes program text → units text < 2 ^ 63 → (at : ℕ) → at ≤ units text
+    → IsKeyed program text t rightwards (state_before_first_insn program at)
 first-keyed program t of text is_text bytes less at inside = record {
   of = record { groups = length-replicate _ _; starts = length-replicate _ _; loops = length-replicate _ _ };
-  sound = (soundness-stays program text (account_of t) (ledgers-serve program t of text is_text bytes less).plan.account rightwards).at_first at inside
+  sound = (soundness-stays program text (liveness_of t) (ledgers-serve program t of text is_text bytes less).plan.account rightwards).at_first at inside
       (starts-outside program t of);
   way = of.starts.forward;
   no_body = refl;
 }
 
-pub searches-are-paid : SearchesArePaid
+pub searches-are-paid : SearchCostsAreCovered
 searches-are-paid = record {
   begins = λ program t of text is_text bytes less at inside memory. record {
     comes = at_first;

@@ -1,5 +1,5 @@
-pub mod Bits
-pub mod Room
-pub mod Memo
+pub mod BitSet
+pub mod MemoContractView
+pub mod MemoContents
 pub mod Laws
-pub mod Search
+pub mod MemoSearchCosts

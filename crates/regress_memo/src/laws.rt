@@ -1,25 +1,26 @@
-//! Laws of memories.
+//! Laws of memo tables.
 
-ghost use Rattle.regress_memo.specs.{Laws.{MemosHold, MemosAreTrue, KeysAreThere}, Search.{SearchesArePaid}};
+ghost use Rattle.regress_memo.specs.{Laws.{RecordingAddsKnownKeys, MemosAreSound, BitsAreKeys}, MemoSearchCosts.{SearchCostsAreCovered}};
 
-/// What a memory knows is a list of keys, to which a key is added where one is noted.
-pub fn memos_hold()
-    ensures { MemosHold }
+/// The contents of a memo table are a list of keys, and recording a key adds it to that list.
+pub fn recording_adds_known_keys()
+    ensures { RecordingAddsKnownKeys }
 {}
 
-/// Where only what is so is noted, all that a memory knows is so; then it is a memory of the laws, as a list.
-pub fn memos_are_true()
-    ensures { MemosAreTrue }
+/// If only true facts are recorded, all that a memo table knows is true. As a list of keys it is
+/// then a memory in the terms of `regress_memo_laws`.
+pub fn memos_are_sound()
+    ensures { MemosAreSound }
 {}
 
-/// What is of a key has a bit, and keys that have bits are all that may be remembered; threads at instructions that record
-/// have such keys.
-pub fn keys_are_there()
-    ensures { KeysAreThere }
+/// Each memo key has a bit, and the keys that have bits are exactly those that may be remembered. A
+/// thread at an instruction that records has such a key.
+pub fn bits_are_keys()
+    ensures { BitsAreKeys }
 {}
 
-/// Where a ledger is bounded, each thread of a search has its key where its instruction records, and each turn, each way back and
-/// each record that is reached is paid.
-pub fn searches_are_paid()
-    ensures { SearchesArePaid }
+/// If the memo analysis is bounded, each thread of a search has a key where its instruction
+/// records. The cost of each step, each backtrack and each record that is reached is covered.
+pub fn search_costs_are_covered()
+    ensures { SearchCostsAreCovered }
 {}

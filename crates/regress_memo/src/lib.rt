@@ -1,6 +1,7 @@
-//! What is remembered of a search in a text: which keys are known to fail, and which to find an end.
+//! Memo tables: which memo keys of a search in a text are known to fail, and which are known to
+//! reach an end.
 #![tactic(auto)]
 
-mod bits;
+mod bit_set;
 pub mod laws;
 pub mod memo;

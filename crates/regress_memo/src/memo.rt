@@ -1,197 +1,201 @@
-//! A memory of failures, and of keys that find an end.
+//! The memo table of failures, and of keys that reach an end.
 
 ghost use Rattle.std.specs.Prelude.{◌≡◌, ◌≤◌, ◌<◌, ◌*◌, ◌^◌, ◌↔◌, true, option_map, IfOk, IfSome, IsTrue, MatchOption};
 ghost use Rattle.std.specs.Arc.{arc_value};
 ghost use Rattle.regress_machine.specs.Machine.{State};
-ghost use Rattle.regress_ledger.specs.{Ledger.{bit_of as bit_of_key}, Whole.{AreCoded, HasBit}};
-ghost use Rattle.regress_memo.specs.Memo.{as_key, key_at as key_of_state, has_failure, has_end, IsBegun, NotesFailure, NotesEnd};
-ghost use Rattle.regress_memo.specs.Room.{Known, HasRoom};
+ghost use Rattle.regress_memo_analysis.specs.{AnalysisContents.{bit_of as bit_of_key}, CheckedAnalysis.{HasKeyCodes, HasBit}};
+ghost use Rattle.regress_memo.specs.MemoContents.{as_key, memo_key_at as key_of_state, has_failure, has_success, IsEmptyMemo, RecordsFailure, RecordsSuccess};
+ghost use Rattle.regress_memo.specs.MemoContractView.{MemoView, HasRoom};
 
-use crate::bits::Bits;
-use regress_ledger::codes::HoldsRounds;
-use regress_ledger::ledger::Ledger;
+use crate::bit_set::Bits;
+use regress_memo_analysis::analysis::MemoAnalysis;
+use regress_memo_analysis::key_codes::LoopStates;
 use std::alloc::{AllocError, Global};
 use std::marker::Model;
 use std::sync::Arc;
 
-/// What is remembered of a thread that stands at an instruction and an offset, with a code for what loops hold.
+/// The memo key of a thread: its instruction, its offset, and a code for the states of its loops.
 #[derive(Clone, Copy)]
-pub struct Key {
+pub struct MemoKey {
     pub ip: usize,
     pub at: usize,
     pub code: usize,
 }
 
-/// What is known of a program's keys in a text, by the program's ledger and for so many offsets.
+/// The memo table of a program in a text: what is known of the keys of the program's memo analysis
+/// at `places` offsets.
 #[derive(Drop)]
-pub struct Memo {
-    ledger: Arc<Ledger, Global>,
+pub struct MemoTable {
+    memo_analysis: Arc<MemoAnalysis, Global>,
     places: usize,
-    with_ends: bool,
+    records_successes: bool,
     failures: Bits,
     ends: Bits,
 }
 
-impl Model for Memo {
-    ghost Value = { Known };
+impl Model for MemoTable {
+    ghost Value = { MemoView };
 
     ghost view = { λ m. record {
-      ledger = arc_value m.ledger;
+      memo_analysis = arc_value m.memo_analysis;
       places = m.places;
-      with_ends = m.with_ends;
+      records_successes = m.records_successes;
       failures = m.failures.words.items;
       ends = m.ends.words.items;
     } };
 
-    ghost invariant = { λ m. HasRoom (arc_value m.ledger) m.places m.with_ends m.failures.words.items m.ends.words.items };
+    ghost invariant = { λ m. HasRoom (arc_value m.memo_analysis) m.places m.records_successes m.failures.words.items m.ends.words.items };
 }
 
-impl Memo {
-    /// Nothing is known yet; none where keys cannot be counted. Where ends are not wanted, no key is known to find one.
+impl MemoTable {
+    /// Creates an empty memo table, or returns `None` if the number of keys overflows. Without
+    /// `records_successes`, successes are not recorded.
     ///
     /// # Errors
     ///
-    /// A growth was refused.
+    /// `AllocError` if memory cannot be allocated.
     pub fn new(
         alloc: Global,
-        ledger: Ledger,
+        memo_analysis: MemoAnalysis,
         places: usize,
-        with_ends: bool,
-    ) -> Result<Option<Memo>, AllocError>
-        requires { AreCoded ledger }
-        ensures { IfOk result (λ found. MatchOption found (2 ^ 64 ≤ ledger.codes * places)
-            (IsBegun ledger places with_ends)) }
+        records_successes: bool,
+    ) -> Result<Option<MemoTable>, AllocError>
+        requires { HasKeyCodes memo_analysis }
+        ensures { IfOk result (λ found. MatchOption found (2 ^ 64 ≤ memo_analysis.codes * places)
+            (IsEmptyMemo memo_analysis places records_successes)) }
     {
-        let ledger = Arc::new(alloc, ledger)?;
-        Memo::sharing(alloc, ledger, places, with_ends)
+        let memo_analysis = Arc::new(alloc, memo_analysis)?;
+        MemoTable::new_with_shared_analysis(alloc, memo_analysis, places, records_successes)
     }
 
-    /// The same by a ledger that has other owners.
+    /// Creates an empty memo table like `new`, with a shared memo analysis.
     ///
     /// # Errors
     ///
-    /// A growth was refused.
-    pub fn sharing(
+    /// `AllocError` if memory cannot be allocated.
+    pub fn new_with_shared_analysis(
         alloc: Global,
-        ledger: Arc<Ledger, Global>,
+        memo_analysis: Arc<MemoAnalysis, Global>,
         places: usize,
-        with_ends: bool,
-    ) -> Result<Option<Memo>, AllocError>
-        requires { AreCoded (arc_value ledger) }
-        ensures { IfOk result (λ found. MatchOption found (2 ^ 64 ≤ (arc_value ledger).codes * places)
-            (IsBegun (arc_value ledger) places with_ends)) }
+        records_successes: bool,
+    ) -> Result<Option<MemoTable>, AllocError>
+        requires { HasKeyCodes (arc_value memo_analysis) }
+        ensures { IfOk result (λ found. MatchOption found (2 ^ 64 ≤ (arc_value memo_analysis).codes * places)
+            (IsEmptyMemo (arc_value memo_analysis) places records_successes)) }
     {
-        let Some(count) = ledger.codes.checked_mul(places) else {
+        let Some(count) = memo_analysis.codes.checked_mul(places) else {
             return Ok(None);
         };
         let failures = Bits::new(alloc, count)?;
-        let ends = Bits::new(alloc, if with_ends { count } else { 0 })?;
-        Ok(Some(Memo {
-            ledger,
+        let ends = Bits::new(alloc, if records_successes { count } else { 0 })?;
+        Ok(Some(MemoTable {
+            memo_analysis,
             places,
-            with_ends,
+            records_successes,
             failures,
             ends,
         }))
     }
 
-    /// The ledger of the program.
+    /// Returns the program's memo analysis.
     #[inline(always)]
-    pub fn ledger(&self) -> &Ledger
-        ensures { result.now ≡ self.now.ledger }
+    pub fn memo_analysis(&self) -> &MemoAnalysis
+        ensures { result.now ≡ self.now.memo_analysis }
     {
-        &self.ledger
+        &self.memo_analysis
     }
 
-    /// Whether ends are remembered.
+    /// Returns whether successes are recorded too.
     #[inline(always)]
-    pub fn with_ends(&self) -> bool
-        ensures { result ≡ self.now.with_ends }
+    pub fn records_successes(&self) -> bool
+        ensures { result ≡ self.now.records_successes }
     {
-        self.with_ends
+        self.records_successes
     }
 
-    /// The key of a thread that stands at an instruction and an offset, by what loops hold; none where threads are not recorded.
+    /// Returns the key of a thread at an instruction and an offset with these loop states, or
+    /// `None` if the instruction does not record.
     #[inline(always)]
-    pub fn key_at<R: HoldsRounds>(&self, ip: usize, at: usize, rounds: &R) -> Option<Key>
+    pub fn key_at<R: LoopStates>(&self, ip: usize, at: usize, rounds: &R) -> Option<MemoKey>
         ensures key { (s : State) → s.ip ≡ ip → s.pos ≡ at → s.loops ≡ R.rounds rounds.now
-            → option_map as_key result ≡ key_of_state self.now.ledger s }
+            → option_map as_key result ≡ key_of_state self.now.memo_analysis s }
         ensures bit { at < self.now.places
-            → IfSome result (λ key. HasBit self.now.ledger self.now.places (as_key key)) }
+            → IfSome result (λ key. HasBit self.now.memo_analysis self.now.places (as_key key)) }
     {
-        let line = self.ledger.line(ip);
+        let line = self.memo_analysis.line(ip);
         if !line.records {
             return None;
         }
         let code = if line.codes == 1 {
             0
         } else {
-            self.ledger.code_at(ip, at, rounds)
+            self.memo_analysis.code_at(ip, at, rounds)
         };
-        Some(Key { ip, at, code })
+        Some(MemoKey { ip, at, code })
     }
 
-    /// Whether there is such a key: its instruction records, and there are such an offset and such a code.
-    pub fn has(&self, key: Key) -> bool
-        ensures { IsTrue result ↔ HasBit self.now.ledger self.now.places (as_key key) }
+    /// Checks whether the key exists: its instruction records, and its offset and its code are in
+    /// range.
+    pub fn has(&self, key: MemoKey) -> bool
+        ensures { IsTrue result ↔ HasBit self.now.memo_analysis self.now.places (as_key key) }
     {
-        let line = self.ledger.line(key.ip);
-        key.ip < self.ledger.lines.len()
+        let line = self.memo_analysis.line(key.ip);
+        key.ip < self.memo_analysis.lines.len()
             && line.records
             && key.at < self.places
             && key.code < line.codes
     }
 
-    /// Whether a key is known to fail.
+    /// Checks whether the key is known to fail.
     #[inline(always)]
-    pub fn fails(&self, key: Key) -> bool
-        requires { HasBit self.now.ledger self.now.places (as_key key) }
+    pub fn fails(&self, key: MemoKey) -> bool
+        requires { HasBit self.now.memo_analysis self.now.places (as_key key) }
         ensures { result ≡ has_failure self.now (as_key key) }
     {
-        let bit = bit_of(&self.ledger, self.places, key);
+        let bit = bit_of(&self.memo_analysis, self.places, key);
         self.failures.has(bit)
     }
 
-    /// Whether a key is known to find an end.
+    /// Checks whether the key is known to reach an end.
     #[inline(always)]
-    pub fn reaches(&self, key: Key) -> bool
-        requires { HasBit self.now.ledger self.now.places (as_key key) }
-        ensures { result ≡ has_end self.now (as_key key) }
+    pub fn reaches(&self, key: MemoKey) -> bool
+        requires { HasBit self.now.memo_analysis self.now.places (as_key key) }
+        ensures { result ≡ has_success self.now (as_key key) }
     {
-        let bit = bit_of(&self.ledger, self.places, key);
-        self.with_ends && self.ends.has(bit)
+        let bit = bit_of(&self.memo_analysis, self.places, key);
+        self.records_successes && self.ends.has(bit)
     }
 
-    /// From now on a key is known to fail.
+    /// Records that the key fails.
     #[inline(always)]
-    pub fn note_failure(&mut self, key: Key)
-        requires { HasBit self.old.ledger self.old.places (as_key key) }
-        ensures { NotesFailure (as_key key) self.old self.new }
+    pub fn record_failure(&mut self, key: MemoKey)
+        requires { HasBit self.old.memo_analysis self.old.places (as_key key) }
+        ensures { RecordsFailure (as_key key) self.old self.new }
     {
-        let bit = bit_of(&self.ledger, self.places, key);
+        let bit = bit_of(&self.memo_analysis, self.places, key);
         self.failures.set(bit);
     }
 
-    /// From now on a key is known to find an end.
+    /// Records that the key reaches an end.
     #[inline(always)]
-    pub fn note_end(&mut self, key: Key)
-        requires wanted { self.old.with_ends ≡ true }
-        requires key { HasBit self.old.ledger self.old.places (as_key key) }
-        ensures { NotesEnd (as_key key) self.old self.new }
+    pub fn record_success(&mut self, key: MemoKey)
+        requires wanted { self.old.records_successes ≡ true }
+        requires key { HasBit self.old.memo_analysis self.old.places (as_key key) }
+        ensures { RecordsSuccess (as_key key) self.old self.new }
     {
-        let bit = bit_of(&self.ledger, self.places, key);
+        let bit = bit_of(&self.memo_analysis, self.places, key);
         self.ends.set(bit);
     }
 }
 
-// The number of a key's bit.
+// Returns the index of a key's bit.
 #[inline(always)]
-fn bit_of(ledger: &Ledger, places: usize, key: Key) -> usize
-    requires coded { AreCoded ledger.now }
-    requires key { HasBit ledger.now places (as_key key) }
-    requires fits { ledger.now.codes * places < 2 ^ 64 }
-    ensures bit { result ≡ bit_of_key ledger.now places key.ip key.at key.code }
-    ensures below { result < ledger.now.codes * places }
+fn bit_of(memo_analysis: &MemoAnalysis, places: usize, key: MemoKey) -> usize
+    requires coded { HasKeyCodes memo_analysis.now }
+    requires key { HasBit memo_analysis.now places (as_key key) }
+    requires fits { memo_analysis.now.codes * places < 2 ^ 64 }
+    ensures bit { result ≡ bit_of_key memo_analysis.now places key.ip key.at key.code }
+    ensures below { result < memo_analysis.now.codes * places }
 {
-    ledger.bit_at(places, key.ip, key.at, key.code)
+    memo_analysis.key_bit_index_at(places, key.ip, key.at, key.code)
 }

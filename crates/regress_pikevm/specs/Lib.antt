@@ -1,2 +1,2 @@
 pub mod States
-pub mod Acting
+pub mod InsnEffects

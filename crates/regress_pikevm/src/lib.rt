@@ -1,4 +1,5 @@
-//! Searching a text with a program: the iterator over matches, and the executor that copies its states.
+//! Searching a text with a program: the iterator over matches, and the executor that copies its
+//! states.
 #![tactic(auto)]
 
 pub mod pikevm;

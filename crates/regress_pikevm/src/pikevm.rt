@@ -1,43 +1,44 @@
-//! The executor that copies its states: as plain as can be, each thread still to try a state of its own.
+//! The executor that copies its states. It is as plain as possible: each pending thread has a state
+//! of its own.
 
 ghost use Rattle.std.specs.Prelude.{◌≡◌, ◌<◌, ◌≤◌, ◌++◌, map, IsTrue, IsAscii, IsSome, IfOk, option_map, ⊤};
-ghost use Rattle.regex_meaning.specs.{Text.{ascii_text, ucs2_text, utf16_text, utf8_text}, Offsets.{IsBoundary, units}};
-ghost use Rattle.regex_pattern_front.specs.TreeOf.{tree_of};
-ghost use Rattle.regress_program.specs.{Code.{compiled}, Insns.{insn_of}};
-ghost use Rattle.regress_machine.specs.{Machine.{in_turn}, Turns.{CanTake}};
-ghost use Rattle.regress_exec.specs.{Attempts.{end_from}, Executors.{StartsUnlimited, ReadsAscii, TakesAscii}};
-ghost use Rattle.regress_pikevm.specs.Acting.{end_with, search_at, turn_at, HasRun};
-ghost use Rattle.regress_pikevm.specs.States.{groups_of, next_of, waiting_of, to_try, preferred_last, TakesUp};
+ghost use Rattle.regex_meaning.specs.{Text.{ascii_text, ucs2_text, utf16_text, utf8_text}, CodeUnitOffsets.{IsBoundary, units}};
+ghost use Rattle.regex_pattern_front.specs.AstToSpecTree.{tree_of};
+ghost use Rattle.regress_program.specs.{CodeOfTrees.{compiled}, InsnMeanings.{spec_insn_of}};
+ghost use Rattle.regress_machine.specs.{Machine.{first_runs_others_wait}, InsnEffects.{IsNotStuck}};
+ghost use Rattle.regress_exec.specs.{Attempts.{match_end_at}, Executors.{StartsWithoutStepLimit, ReadsBytesAsAscii, AcceptsAllAsciiTexts}};
+ghost use Rattle.regress_pikevm.specs.InsnEffects.{end_and_groups, search_at, effect_at, HasRun};
+ghost use Rattle.regress_pikevm.specs.States.{groups_of, next_threads, waiting_threads, pending_threads, preferred_last, TakesNextThread};
 
-pub mod actions;
-pub mod passing;
-pub mod runs;
+pub mod char_loops;
+pub mod execute;
+pub mod insn_matchers;
 pub mod states;
 
-use self::actions::take_turn;
-use self::states::{State, Turn, initial_state, resume};
+use self::execute::execute_insn;
+use self::states::{NextStates, State, initial_state, resume_after_lookaround};
 use regress_exec::exec::{Executor, MatchProducer, SearchError, Searcher};
-use regress_exec::places::{Attempts, group_at};
-use regress_exec::searched::Searched;
+use regress_exec::program_and_input::ProgramAndInput;
+use regress_exec::search_loop::{AnchoredSearch, group_at};
 use regress_input::cursor::{Backward, Forward};
 use regress_input::indexing::{AsciiInput, InputIndexer, Ucs2Input, Utf8Input, Utf16Input};
 use regress_input::position::PositionType;
 use regress_program::insn::{CompiledRegex, CompiledUnits, Insn, Program};
 use std::alloc::{AllocError, Global};
 
-/// Runs a program over a text by copies of whole states.
+/// An executor that runs a program over a text and copies whole states.
 #[derive(Drop)]
 pub struct PikeVMExecutor<'r, Input: InputIndexer> {
-    searched: Searched<'r, Input>,
-    // the threads still to try, the next one last
+    searched: ProgramAndInput<'r, Input>,
+    // the pending threads, the next one last
     stack: Vec<State<Input::Position>>,
-    // those of the last attempt that found an end
+    // the groups of the last attempt that found an end
     groups: Vec<Option<(Input::Position, Input::Position)>>,
 }
 
 impl<'r, Input: InputIndexer> PikeVMExecutor<'r, Input> {
-    // The executor that has tried nothing yet. It takes no memory.
-    fn over(searched: Searched<'r, Input>) -> Self
+    // Makes an executor that has not tried anything. It allocates no memory.
+    fn new_executor(searched: ProgramAndInput<'r, Input>) -> Self
         ensures { result.searched ≡ searched.entry }
     {
         let alloc = searched.program.allocator();
@@ -49,32 +50,35 @@ impl<'r, Input: InputIndexer> PikeVMExecutor<'r, Input> {
     }
 }
 
-// One turn in a direction.
+// Executes one instruction in a direction.
 #[inline(always)]
-fn turn_in<Input: InputIndexer>(
-    searched: &Searched<'_, Input>,
+fn execute_in_direction<Input: InputIndexer>(
+    searched: &ProgramAndInput<'_, Input>,
     insns: &[Insn],
     forward: bool,
     state: State<Input::Position>,
-) -> Result<Turn<Input::Position>, AllocError>
-    requires code { map insn_of insns.now ≡ (compiled (tree_of searched.now.program.now)).insns }
+) -> Result<NextStates<Input::Position>, AllocError>
+    requires code { map spec_insn_of insns.now ≡ (compiled (tree_of searched.now.program.now)).insns }
     requires can { let s = searched.now in
-        CanTake (turn_at Input.Position.offset s.program.now (Input.text s.input) forward state) }
+        IsNotStuck (effect_at Input.Position.offset s.program.now (Input.text s.input) forward state) }
     requires inside { Input.Position.offset state.pos ≤ units (Input.text searched.now.input) }
-    ensures { let s = searched.now in IfOk result (λ t. next_of Input.Position.offset t
-        ≡ turn_at Input.Position.offset s.program.now (Input.text s.input) forward state) }
+    ensures { let s = searched.now in IfOk result (λ t. next_threads Input.Position.offset t
+        ≡ effect_at Input.Position.offset s.program.now (Input.text s.input) forward state) }
 {
     if forward {
-        take_turn(searched, insns, Forward, state)
+        execute_insn(searched, insns, Forward, state)
     } else {
-        take_turn(searched, insns, Backward, state)
+        execute_insn(searched, insns, Backward, state)
     }
 }
 
-// The current state, or else the last one of the stack.
+// Returns the current state, or otherwise pops the last one of the stack.
 #[inline(always)]
-fn take_up<P: PositionType>(next: Option<State<P>>, stack: &mut Vec<State<P>>) -> Option<State<P>>
-    ensures { TakesUp P.offset (to_try P.offset next stack.old.items) result stack.new.items }
+fn next_thread<P: PositionType>(
+    next: Option<State<P>>,
+    stack: &mut Vec<State<P>>,
+) -> Option<State<P>>
+    ensures { TakesNextThread P.offset (pending_threads P.offset next stack.old.items) result stack.new.items }
 {
     match next {
         Some(state) => Some(state),
@@ -82,13 +86,13 @@ fn take_up<P: PositionType>(next: Option<State<P>>, stack: &mut Vec<State<P>>) -
     }
 }
 
-// The preferred one of these states, of which the others wait.
-fn take_scanned<P: PositionType>(
+// Returns the preferred one of these states, and pushes the others.
+fn push_loop_exits<P: PositionType>(
     mut states: Vec<State<P>>,
     stack: &mut Vec<State<P>>,
 ) -> Result<Option<State<P>>, AllocError>
-    ensures { IfOk result (λ next. to_try P.offset next stack.new.items
-        ≡ in_turn (preferred_last P.offset states.items) ++ waiting_of P.offset stack.old.items) }
+    ensures { IfOk result (λ next. pending_threads P.offset next stack.new.items
+        ≡ first_runs_others_wait (preferred_last P.offset states.items) ++ waiting_threads P.offset stack.old.items) }
 {
     let Some(next) = states.pop() else {
         return Ok(None);
@@ -97,9 +101,10 @@ fn take_scanned<P: PositionType>(
     Ok(Some(next))
 }
 
-// The preferred end that is reached from a state, in the course of an attempt at a position.
+// Returns the preferred end state that is reached from a state, or `None` if none is reached. The
+// search is part of an attempt at the position `at`.
 fn run<Input: InputIndexer>(
-    searched: &Searched<'_, Input>,
+    searched: &ProgramAndInput<'_, Input>,
     at: Input::Position,
     forward: bool,
     stack: &mut Vec<State<Input::Position>>,
@@ -115,18 +120,18 @@ fn run<Input: InputIndexer>(
     let insns = searched.program.insns();
     let mut next = Some(start);
     'search: loop {
-        let Some(state) = take_up(next, stack) else {
+        let Some(state) = next_thread(next, stack) else {
             return Ok(None);
         };
-        match turn_in(searched, insns, forward, state)? {
-            Turn::Dead => next = None,
-            Turn::Go(state) => next = Some(state),
-            Turn::Fork(preferred, other) => {
+        match execute_in_direction(searched, insns, forward, state)? {
+            NextStates::Dead => next = None,
+            NextStates::Continue(state) => next = Some(state),
+            NextStates::Fork(preferred, other) => {
                 stack.push(other)?;
                 next = Some(preferred);
             }
-            Turn::Scan(_, states) => next = take_scanned(states, stack)?,
-            Turn::Ask {
+            NextStates::CharLoopExits(_, states) => next = push_loop_exits(states, stack)?,
+            NextStates::Lookaround {
                 forward,
                 negate,
                 inner,
@@ -134,29 +139,29 @@ fn run<Input: InputIndexer>(
             } => {
                 let mut alone = Vec::new(*stack.allocator());
                 let found = run(searched, at, forward, &mut alone, inner)?;
-                next = resume(negate, after, found);
+                next = resume_after_lookaround(negate, after, found);
             }
-            Turn::Done(end) => return Ok(Some(end)),
+            NextStates::Accept(end) => return Ok(Some(end)),
         }
     }
 }
 
-// The preferred thread from a position to an end, if there is one.
+// Returns the state at the end of the preferred match from a position, or `None` if there is none.
 fn preferred_end<Input: InputIndexer>(
-    searched: &Searched<'_, Input>,
+    searched: &ProgramAndInput<'_, Input>,
     stack: &mut Vec<State<Input::Position>>,
     pos: Input::Position,
 ) -> Result<Option<State<Input::Position>>, AllocError>
     requires { IsBoundary (Input.text searched.now.input) (Input.Position.offset pos) }
-    ensures { let s = searched.now in IfOk result (λ end. end_with Input.Position.offset end
-        ≡ end_from (tree_of s.program.now) (Input.text s.input) (Input.Position.offset pos)) }
+    ensures { let s = searched.now in IfOk result (λ end. end_and_groups Input.Position.offset end
+        ≡ match_end_at (tree_of s.program.now) (Input.text s.input) (Input.Position.offset pos)) }
 {
     let start = initial_state(searched.program, pos)?;
     let end = run(searched, pos, true, stack, start)?;
     Ok(end)
 }
 
-impl<'r, Input: InputIndexer> Attempts for PikeVMExecutor<'r, Input> {
+impl<'r, Input: InputIndexer> AnchoredSearch for PikeVMExecutor<'r, Input> {
     type Input = Input;
 
     ghost tree = { λ e. tree_of e.searched.program.now };
@@ -194,12 +199,12 @@ impl<'r, Input: InputIndexer> Attempts for PikeVMExecutor<'r, Input> {
         group_at(&self.groups, id)
     }
 
-    fn place_from(&self, pos: Input::Position) -> Option<Input::Position> {
+    fn start_from(&self, pos: Input::Position) -> Option<Input::Position> {
         Some(pos)
     }
 
-    fn place_behind(&self, tried: Input::Position) -> Option<Input::Position> {
-        self.searched.next_try(tried)
+    fn start_after(&self, tried: Input::Position) -> Option<Input::Position> {
+        self.searched.next_candidate(tried)
     }
 }
 
@@ -211,7 +216,7 @@ impl<'r, 't> Searcher<'r> for PikeVMExecutor<'r, Utf8Input<'t>> {
     ghost text_of = { λ text. utf8_text text.now };
 
     fn new(re: &'r CompiledRegex, text: &'t str) -> Result<Self, AllocError> {
-        Ok(PikeVMExecutor::over(Searched::in_utf8(re, text)))
+        Ok(PikeVMExecutor::new_executor(ProgramAndInput::in_utf8(re, text)))
     }
 }
 
@@ -228,7 +233,7 @@ impl<'r, 't> Searcher<'r> for PikeVMExecutor<'r, AsciiInput<'t>> {
     ghost text_of = { λ text. ascii_text text.now };
 
     fn new(re: &'r CompiledRegex, text: &'t str) -> Result<Self, AllocError> {
-        Ok(PikeVMExecutor::over(Searched::in_ascii(re, text)))
+        Ok(PikeVMExecutor::new_executor(ProgramAndInput::in_ascii(re, text)))
     }
 }
 
@@ -241,12 +246,12 @@ impl<'r, 't> PikeVMExecutor<'r, Utf16Input<'t>> {
     ///
     /// # Errors
     ///
-    /// None so far: it takes no memory.
+    /// None so far: it allocates no memory.
     pub fn new_utf16(re: &'r CompiledUnits, text: &'t [u16]) -> Result<Self, AllocError>
         ensures { IfOk result
-            (StartsUnlimited ⟦<PikeVMExecutor<'r, Utf16Input<'t>> as MatchProducer>⟧ (tree_of re.now) (utf16_text text.now)) }
+            (StartsWithoutStepLimit ⟦<PikeVMExecutor<'r, Utf16Input<'t>> as MatchProducer>⟧ (tree_of re.now) (utf16_text text.now)) }
     {
-        Ok(PikeVMExecutor::over(Searched::in_utf16(re, text)))
+        Ok(PikeVMExecutor::new_executor(ProgramAndInput::in_utf16(re, text)))
     }
 }
 
@@ -255,16 +260,16 @@ impl<'r, 't> PikeVMExecutor<'r, Ucs2Input<'t>> {
     ///
     /// # Errors
     ///
-    /// None so far: it takes no memory.
+    /// None so far: it allocates no memory.
     pub fn new_ucs2(re: &'r CompiledUnits, text: &'t [u16]) -> Result<Self, AllocError>
         ensures { IfOk result
-            (StartsUnlimited ⟦<PikeVMExecutor<'r, Ucs2Input<'t>> as MatchProducer>⟧ (tree_of re.now) (ucs2_text text.now)) }
+            (StartsWithoutStepLimit ⟦<PikeVMExecutor<'r, Ucs2Input<'t>> as MatchProducer>⟧ (tree_of re.now) (ucs2_text text.now)) }
     {
-        Ok(PikeVMExecutor::over(Searched::in_ucs2(re, text)))
+        Ok(PikeVMExecutor::new_executor(ProgramAndInput::in_ucs2(re, text)))
     }
 }
 
-// The executors over UTF-8 and over ASCII, and what each names for a text of ASCII.
+// The executors over UTF-8 and over ASCII, and the executor that each names for ASCII texts.
 type OverUtf8 = PikeVMExecutor<'static, Utf8Input<'static>>;
 
 type OverAscii = PikeVMExecutor<'static, AsciiInput<'static>>;
@@ -273,14 +278,16 @@ type OfUtf8 = <OverUtf8 as Executor<'static, 'static>>::AsAscii;
 
 type OfAscii = <OverAscii as Executor<'static, 'static>>::AsAscii;
 
-/// What `AsAscii` of the executor over UTF-8 names takes each text of ASCII, and reads each of its bytes as a character.
+/// States that the `AsAscii` of the executor over UTF-8 takes each ASCII text, and reads each of
+/// its bytes as a character.
 pub fn ascii_is_read_in_bytes()
-    ensures takes { TakesAscii ⟦<OfUtf8 as Searcher<'static>>⟧.can_search }
-    ensures reads { ReadsAscii ⟦<OfUtf8 as Searcher<'static>>⟧.text_of }
+    ensures takes { AcceptsAllAsciiTexts ⟦<OfUtf8 as Searcher<'static>>⟧.can_search }
+    ensures reads { ReadsBytesAsAscii ⟦<OfUtf8 as Searcher<'static>>⟧.text_of }
 {}
 
-/// What `AsAscii` of the executor over ASCII names does so too.
+/// States that the `AsAscii` of the executor over ASCII takes each ASCII text, and reads each of
+/// its bytes as a character.
 pub fn ascii_stays_in_bytes()
-    ensures takes { TakesAscii ⟦<OfAscii as Searcher<'static>>⟧.can_search }
-    ensures reads { ReadsAscii ⟦<OfAscii as Searcher<'static>>⟧.text_of }
+    ensures takes { AcceptsAllAsciiTexts ⟦<OfAscii as Searcher<'static>>⟧.can_search }
+    ensures reads { ReadsBytesAsAscii ⟦<OfAscii as Searcher<'static>>⟧.text_of }
 {}

@@ -11,35 +11,35 @@ use Rattle.std.proofs.lemmas.Grind.{get_or-set_at}
 use Rattle.std.proofs.lemmas.List.{get_or_past, get_or-set_other, length-set}
 use Rattle.std.proofs.lemmas.Option.{slice_get-get_or, slice_get_within}
 use Rattle.regex_meaning.specs.Text.{Text}
-use Rattle.regex_meaning.specs.Units.{Encoding, spelled_in}
-use Rattle.regex_meaning.specs.Layout.{Program, Insn, Char, CharSet, ByteSet, AsciiBracket, Bracket, MatchAny, MatchAnyExceptLineTerminator}
-use Rattle.regex_meaning.specs.Layout.{StartOfLine, WordBoundary, WordBoundaryUnicodeICase, Jump, EnterLoop, Loop1CharBody, ResetCaptureGroup}
-use Rattle.regex_meaning.specs.Layout.{BeginCaptureGroup, EndCaptureGroup, Lookahead, Lookbehind}
+use Rattle.regex_meaning.specs.CodeUnits.{Encoding, spelled_in}
+use Rattle.regex_meaning.specs.CompilationRelation.{Program, Insn, Char, CharSet, ByteSet, AsciiBracket, Bracket, MatchAny, MatchAnyExceptLineTerminator}
+use Rattle.regex_meaning.specs.CompilationRelation.{StartOfLine, WordBoundary, WordBoundaryUnicodeICase, Jump, EnterLoop, Loop1CharBody, ResetCaptureGroup}
+use Rattle.regex_meaning.specs.CompilationRelation.{BeginCaptureGroup, EndCaptureGroup, Lookahead, Lookbehind}
 use Rattle.regex_meaning.proofs.Options.{some-same}
 use Rattle.regress_machine.specs.Machine.{test_of}
-use Rattle.regress_plan.specs.Insns.{insn_of}
-use Rattle.regress_simulation.specs.Excluded.{may_at}
-use Rattle.regress_simulation.specs.Tables.{is_character, first_key}
-use Rattle.regress_simulation.specs.Prefixes.{Allowed, may_stand}
+use Rattle.regress_plan.specs.InsnsAsSpecInsns.{spec_insn_of}
+use Rattle.regress_simulation.specs.FailingInsnsAtOffset.{may_at}
+use Rattle.regress_simulation.specs.FirstSetTables.{is_character, first_unit_key}
+use Rattle.regress_simulation.specs.RequiredPrefixes.{Allowed, unit_is_allowed}
 use Rattle.regress_simulation.proofs.Prefixes.{prefix-none, prefix-less, prefix-on, prefix-either, AreUnits, Reads, prefix-reads, prefix-run}
 use Rattle.regress_plan.specs.declared.first_set.FirstSet.{FirstSet}
-use Rattle.regress_plan.specs.declared.class.Class.{Class}
-use Rattle.regress_plan.specs.declared.prefix.Prefix.{Prefix}
-use Rattle.regress_plan.specs.declared.prefixes.Ahead.{Ahead}
-use Rattle.regress_plan.specs.declared.prefixes.Ahead.TheVariants as ahead
-use Rattle.regress_plan.specs.declared.ops.Bounds.{Bounds}
-use Rattle.regress_plan.specs.declared.ops.Counted.{Counted}
-use Rattle.regress_plan.specs.declared.ops.Edge as edge
+use Rattle.regress_plan.specs.declared.char_class_tables.Class.{Class}
+use Rattle.regress_plan.specs.declared.required_prefix.Prefix.{Prefix}
+use Rattle.regress_plan.specs.declared.required_prefix_analysis.OpPrefixContribution.{OpPrefixContribution}
+use Rattle.regress_plan.specs.declared.required_prefix_analysis.OpPrefixContribution.TheVariants as ahead
+use Rattle.regress_plan.specs.declared.ops.CharLoopBounds.{CharLoopBounds}
+use Rattle.regress_plan.specs.declared.ops.CountedLoop.{CountedLoop}
+use Rattle.regress_plan.specs.declared.ops.WordBoundaryKind as edge
 use Rattle.regress_plan.specs.declared.ops.Look as look
 use Rattle.regress_plan.specs.declared.ops.Op.{Op}
 use Rattle.regress_plan.specs.declared.ops.Op.TheVariants as op
-use Rattle.regress_plan.specs.declared.ops.Run as run
+use Rattle.regress_plan.specs.declared.ops.CharLoop as run
 use Rattle.regress_plan.specs.declared.plan.Plan.{Plan}
-use Rattle.regress_plan.specs.Keys.{key, is_wide, is_told, step_at, table_of}
-use Rattle.regress_plan.specs.Plans.{IsClass, reads_one, run_of, IsOpOf}
-use Rattle.regress_plan.specs.Prefixes.{allowed_of, PrefixAt, IsPrefixAt, StandsNone}
-use Rattle.regress_plan.specs.Leading.{joined_of, then_allowed, unit_of, units_of, leads_on, IsThen, IsOfEither, IsPath, AreOps, PrefixBehind}
-use Rattle.regress_plan.specs.Leading.{UnitsLead, Leads, LeadsFrom, LeadsFromRun}
+use Rattle.regress_plan.specs.TableKeysOfUnits.{key, has_16_bit_units, is_step_right, step_at, unit_table_of_set}
+use Rattle.regress_plan.specs.Plans.{IsClass, reads_class_char, char_loop_of, IsOpOf}
+use Rattle.regress_plan.specs.PrefixesAndPrefilters.{units_allowed_by_prefix, PrefixAt, IsRequiredPrefixAt, ExcludesKeys}
+use Rattle.regress_plan.specs.RequiredPrefixAnalysis.{joined_mask, then_allowed, allows_only_key, allows_keys_of_set, falls_through, IsPrefixConcatenation, IsPrefixUnion, IsPrefixSoFar, AreOpsOfProgram, PrefixAfter}
+use Rattle.regress_plan.specs.RequiredPrefixAnalysis.{PrefixBeginsWith, IsOpPrefixContribution, IsOpPrefixContributionOf, IsOpPrefixContributionOfLoop}
 use Rattle.regress_plan.proofs.KeyLemmas.{first-key-at, first-key-below, key_of_first}
 use Rattle.regress_plan.proofs.ClosingLemmas.{told-some}
 use Rattle.regress_plan.proofs.RowLemmas.{get-below, runs-of}
@@ -56,7 +56,7 @@ moved-bit mask count ahead less =
     sym (bit_at_cat_low (all / 2 ^ 16) 16 (all % 2 ^ 16) ahead less) ∙ ap (λ v. bit_at v ahead) parts ∙ ap (λ v. bit_at v ahead) (let z : all ≡ all + 0 = omega arith in z)
 
 -- the first bits are those of the first mask
-joined-first : (first count behind ahead : ℕ) → ahead < count → count < 16 → bit_at (joined_of first count behind) ahead ≡ bit_at first ahead
+joined-first : (first count behind ahead : ℕ) → ahead < count → count < 16 → bit_at (joined_mask first count behind) ahead ≡ bit_at first ahead
 joined-first first count behind ahead less few =
     let low : bit_at (bit_and first (2 ^ count - 1)) ahead ≡ min (bit_at first ahead) 1 =
     bit_at_and first (2 ^ count - 1) ahead ∙ ap (λ b. min (bit_at first ahead) b) (bit_at_ones count ahead less) in
@@ -67,7 +67,7 @@ joined-first first count behind ahead less few =
     ∙ (let z : max (bit_at (bit_and first (2 ^ count - 1)) ahead) (bit_at (behind * 2 ^ count % 2 ^ 16) ahead) ≡ bit_at first ahead = omega (arith, low, high, small) in z)
 
 -- and those behind them the bits of the other one
-joined-behind : (first count behind ahead : ℕ) → count ≤ ahead → ahead < 16 → bit_at (joined_of first count behind) ahead ≡ bit_at behind (ahead - count)
+joined-behind : (first count behind ahead : ℕ) → count ≤ ahead → ahead < 16 → bit_at (joined_mask first count behind) ahead ≡ bit_at behind (ahead - count)
 joined-behind first count behind ahead more few =
     let low : bit_at (bit_and first (2 ^ count - 1)) ahead ≡ min (bit_at first ahead) 0 =
     bit_at_and first (2 ^ count - 1) ahead ∙ ap (λ b. min (bit_at first ahead) b) (bit_at_ones_above count ahead more) in
@@ -97,11 +97,11 @@ both-set x y ahead set = (by-first (bit_at x ahead == 0) refl, by-second (bit_at
     by-second true is = is ∙ no (and-clear x y ahead (inr (eqb-true (bit_at y ahead) 0 is)))
 
 -- the bits that all masks from a key on have, with that of the next key
-pub barred-next : (prefix : Prefix) (from key barred ahead : ℕ)
-    → ((ahead : ℕ) → (bit_at barred ahead == 0) ≡ false → StandsNone prefix from key ahead)
-    → (bit_at (bit_and barred (slice_index prefix.masks key)) ahead == 0) ≡ false → StandsNone prefix from (key + 1) ahead
-barred-next prefix from key barred ahead before set k more less =
-    let both = both-set barred (slice_index prefix.masks key) ahead set in
+pub barred-next : (prefix : Prefix) (from key positions_excluding_keys ahead : ℕ)
+    → ((ahead : ℕ) → (bit_at positions_excluding_keys ahead == 0) ≡ false → ExcludesKeys prefix from key ahead)
+    → (bit_at (bit_and positions_excluding_keys (slice_index prefix.masks key)) ahead == 0) ≡ false → ExcludesKeys prefix from (key + 1) ahead
+barred-next prefix from key positions_excluding_keys ahead before set k more less =
+    let both = both-set positions_excluding_keys (slice_index prefix.masks key) ahead set in
     elim (cases_lt k key) [
       | inl early ↦ before ahead both.0 k more early
       | inr last ↦
@@ -110,14 +110,14 @@ barred-next prefix from key barred ahead before set k more less =
     ]
 
 -- so many bits from one on are those that were not moved in
-pub clear-between : (from count ahead : ℕ) → from + count < 16 → from ≤ ahead → ahead < from + count → bit_at (joined_of 65535 from (65535 * 2 ^ count % 2 ^ 16)) ahead ≡ 0
+pub clear-between : (from count ahead : ℕ) → from + count < 16 → from ≤ ahead → ahead < from + count → bit_at (joined_mask 65535 from (65535 * 2 ^ count % 2 ^ 16)) ahead ≡ 0
 clear-between from count ahead room more less =
     joined-behind 65535 from (65535 * 2 ^ count % 2 ^ 16) ahead more (omega (arith, room, less))
     ∙ moved-bit 65535 count (ahead - from) (omega (arith, room, less))
     ∙ bit_at_cat_low 65535 count 0 (ahead - from) (omega (arith, more, less)) ∙ bit_at-zero (ahead - from)
 
 -- a key that has no mask is allowed
-allowed-past : (prefix : Prefix) (ahead k : ℕ) → length prefix.masks ≤ k → allowed_of prefix ahead k ≡ true
+allowed-past : (prefix : Prefix) (ahead k : ℕ) → length prefix.masks ≤ k → units_allowed_by_prefix prefix ahead k ≡ true
 allowed-past prefix ahead k past = ap (λ m. bit_at m ahead == 0) (get_or_past prefix.masks k 0 past) ∙ ap (λ b. b == 0) (bit_at-zero ahead)
 
 -- ---- Masks that are changed one after another
@@ -156,48 +156,48 @@ then-late count first after ahead k more = ap (λ (b : Bool). if b then first ah
 
 -- units, and those behind them
 pub then-of : (p q prefix : Prefix) → length prefix.masks ≡ 256 → prefix.len ≡ min (p.len + q.len) 15
-    → ((k : ℕ) → k < 256 → get_or prefix.masks k 0 ≡ joined_of (get_or p.masks k 0) p.len (get_or q.masks k 0)) → IsThen p q.len (allowed_of q) prefix
+    → ((k : ℕ) → k < 256 → get_or prefix.masks k 0 ≡ joined_mask (get_or p.masks k 0) p.len (get_or q.masks k 0)) → IsPrefixConcatenation p q.len (units_allowed_by_prefix q) prefix
 then-of p q prefix sized len each = record { len = len; within = λ ahead k less h. by ahead k less h (cases_lt k 256) }
   where
-    here : (ahead k : ℕ) → ahead < prefix.len → k < 256 → then_allowed p.len (allowed_of p) (allowed_of q) ahead k ≡ true → (ahead < p.len) ⊎ (p.len ≤ ahead)
-        → allowed_of prefix ahead k ≡ true
+    here : (ahead k : ℕ) → ahead < prefix.len → k < 256 → then_allowed p.len (units_allowed_by_prefix p) (units_allowed_by_prefix q) ahead k ≡ true → (ahead < p.len) ⊎ (p.len ≤ ahead)
+        → units_allowed_by_prefix prefix ahead k ≡ true
     here ahead k less below h (inl early) =
         let short = p.short in
         ap (λ m. bit_at m ahead == 0) (each k below)
         ∙ ap (λ b. b == 0) (joined-first (get_or p.masks k 0) p.len (get_or q.masks k 0) ahead early (omega (arith, short)))
-        ∙ sym (then-early p.len (allowed_of p) (allowed_of q) ahead k early) ∙ h
+        ∙ sym (then-early p.len (units_allowed_by_prefix p) (units_allowed_by_prefix q) ahead k early) ∙ h
     here ahead k less below h (inr late) =
         ap (λ m. bit_at m ahead == 0) (each k below)
         ∙ ap (λ b. b == 0) (joined-behind (get_or p.masks k 0) p.len (get_or q.masks k 0) ahead late (omega (arith, less, len)))
-        ∙ sym (then-late p.len (allowed_of p) (allowed_of q) ahead k late) ∙ h
+        ∙ sym (then-late p.len (units_allowed_by_prefix p) (units_allowed_by_prefix q) ahead k late) ∙ h
 
-    by : (ahead k : ℕ) → ahead < prefix.len → then_allowed p.len (allowed_of p) (allowed_of q) ahead k ≡ true → (k < 256) ⊎ (256 ≤ k) → allowed_of prefix ahead k ≡ true
+    by : (ahead k : ℕ) → ahead < prefix.len → then_allowed p.len (units_allowed_by_prefix p) (units_allowed_by_prefix q) ahead k ≡ true → (k < 256) ⊎ (256 ≤ k) → units_allowed_by_prefix prefix ahead k ≡ true
     by ahead k less h (inl below) = here ahead k less below h (cases_lt ahead p.len)
     by ahead k less h (inr past) = allowed-past prefix ahead k (omega (arith, past, sized))
 
 -- units of which bits are cleared
 pub then-cleared : (p prefix : Prefix) (count : ℕ) (has : ℕ → Bool) → length prefix.masks ≡ 256 → prefix.len ≡ min (p.len + count) 15
     → ((k : ℕ) → k < 256 → (ahead : ℕ) → (bit_at (get_or p.masks k 0) ahead ≡ 0) ⊎ ((has k ≡ true) × (p.len ≤ ahead) × (ahead < prefix.len)) → bit_at (get_or prefix.masks k 0) ahead ≡ 0)
-    → IsThen p count (λ ahead k. has k) prefix
+    → IsPrefixConcatenation p count (λ ahead k. has k) prefix
 then-cleared p prefix count has sized len each = record { len = len; within = λ ahead k less h. by ahead k less h (cases_lt k 256) }
   where
-    here : (ahead k : ℕ) → ahead < prefix.len → k < 256 → then_allowed p.len (allowed_of p) (λ ahead k. has k) ahead k ≡ true → (ahead < p.len) ⊎ (p.len ≤ ahead)
-        → allowed_of prefix ahead k ≡ true
+    here : (ahead k : ℕ) → ahead < prefix.len → k < 256 → then_allowed p.len (units_allowed_by_prefix p) (λ ahead k. has k) ahead k ≡ true → (ahead < p.len) ⊎ (p.len ≤ ahead)
+        → units_allowed_by_prefix prefix ahead k ≡ true
     here ahead k less below h (inl early) =
         eq-eqb (bit_at (get_or prefix.masks k 0) ahead) 0
-        (each k below ahead (inl (eqb-true (bit_at (get_or p.masks k 0) ahead) 0 (sym (then-early p.len (allowed_of p) (λ ahead k. has k) ahead k early) ∙ h))))
+        (each k below ahead (inl (eqb-true (bit_at (get_or p.masks k 0) ahead) 0 (sym (then-early p.len (units_allowed_by_prefix p) (λ ahead k. has k) ahead k early) ∙ h))))
     here ahead k less below h (inr late) =
         eq-eqb (bit_at (get_or prefix.masks k 0) ahead) 0
-        (each k below ahead (inr (sym (then-late p.len (allowed_of p) (λ ahead k. has k) ahead k late) ∙ h, late, less)))
+        (each k below ahead (inr (sym (then-late p.len (units_allowed_by_prefix p) (λ ahead k. has k) ahead k late) ∙ h, late, less)))
 
-    by : (ahead k : ℕ) → ahead < prefix.len → then_allowed p.len (allowed_of p) (λ ahead k. has k) ahead k ≡ true → (k < 256) ⊎ (256 ≤ k) → allowed_of prefix ahead k ≡ true
+    by : (ahead k : ℕ) → ahead < prefix.len → then_allowed p.len (units_allowed_by_prefix p) (λ ahead k. has k) ahead k ≡ true → (k < 256) ⊎ (256 ≤ k) → units_allowed_by_prefix prefix ahead k ≡ true
     by ahead k less h (inl below) = here ahead k less below h (cases_lt ahead p.len)
     by ahead k less h (inr past) = allowed-past prefix ahead k (omega (arith, past, sized))
 
 -- those of a set
 pub units-cleared : (p prefix : Prefix) (count kept : ℕ) (has : ℕ → Bool) → length prefix.masks ≡ 256 → prefix.len ≡ min (p.len + count) 15
     → ((ahead : ℕ) → p.len ≤ ahead → ahead < prefix.len → bit_at kept ahead ≡ 0)
-    → ((k : ℕ) → k < 256 → get_or prefix.masks k 0 ≡ bit_and (get_or p.masks k 0) (if has k then kept else 65535)) → IsThen p count (λ ahead k. has k) prefix
+    → ((k : ℕ) → k < 256 → get_or prefix.masks k 0 ≡ bit_and (get_or p.masks k 0) (if has k then kept else 65535)) → IsPrefixConcatenation p count (λ ahead k. has k) prefix
 units-cleared p prefix count kept has sized len clear each = then-cleared p prefix count has sized len
     (λ k below ahead w.
     ap (λ m. bit_at m ahead) (each k below) ∙ and-clear (get_or p.masks k 0) (if has k then kept else 65535) ahead (by k ahead w))
@@ -210,7 +210,7 @@ units-cleared p prefix count kept has sized len clear each = then-cleared p pref
 -- one alone
 pub unit-cleared : (p prefix : Prefix) (key at kept : ℕ) → at ≡ key → length p.masks ≡ 256 → at < 256 → p.len < 15 → prefix.len ≡ p.len + 1
     → ((ahead : ℕ) → p.len ≤ ahead → ahead < p.len + 1 → bit_at kept ahead ≡ 0)
-    → prefix.masks ≡ slice_set p.masks at (bit_and (get_or p.masks at 0) kept) → IsThen p 1 (unit_of key) prefix
+    → prefix.masks ≡ slice_set p.masks at (bit_and (get_or p.masks at 0) kept) → IsPrefixConcatenation p 1 (allows_only_key key) prefix
 unit-cleared p prefix key at kept here sized low room len clear is = then-cleared p prefix 1 (λ k. k == key)
     (ap length is ∙ length-set p.masks at (bit_and (get_or p.masks at 0) kept) ∙ sized) (omega (arith, len, room))
     (λ k below ahead w. ap (λ (l : List ℕ). bit_at (get_or l k 0) ahead) is ∙ by k ahead w (k == key) refl)
@@ -234,7 +234,7 @@ unit-cleared p prefix key at kept here sized low room len clear is = then-cleare
 
 -- either
 pub either-of : (a b prefix : Prefix) → length prefix.masks ≡ 256 → prefix.len ≡ min a.len b.len
-    → ((k : ℕ) → k < 256 → get_or prefix.masks k 0 ≡ joined_of (bit_and (get_or a.masks k 0) (get_or b.masks k 0)) prefix.len 65535) → IsOfEither a b prefix
+    → ((k : ℕ) → k < 256 → get_or prefix.masks k 0 ≡ joined_mask (bit_and (get_or a.masks k 0) (get_or b.masks k 0)) prefix.len 65535) → IsPrefixUnion a b prefix
 either-of a b prefix sized len each = record {
   first = omega (arith, len);
   second = omega (arith, len);
@@ -242,7 +242,7 @@ either-of a b prefix sized len each = record {
   within_second = λ ahead k less h. by ahead k less (inr (eqb-true (bit_at (get_or b.masks k 0) ahead) 0 h)) (cases_lt k 256);
 }
   where
-    by : (ahead k : ℕ) → ahead < prefix.len → (bit_at (get_or a.masks k 0) ahead ≡ 0) ⊎ (bit_at (get_or b.masks k 0) ahead ≡ 0) → (k < 256) ⊎ (256 ≤ k) → allowed_of prefix ahead k ≡ true
+    by : (ahead k : ℕ) → ahead < prefix.len → (bit_at (get_or a.masks k 0) ahead ≡ 0) ⊎ (bit_at (get_or b.masks k 0) ahead ≡ 0) → (k < 256) ⊎ (256 ≤ k) → units_allowed_by_prefix prefix ahead k ≡ true
     by ahead k less h (inl below) =
         let short = prefix.short in
         let both : ℕ = bit_and (get_or a.masks k 0) (get_or b.masks k 0) in
@@ -261,103 +261,103 @@ less-prefix : (wide : Bool) (program : Program) (ip len most : ℕ) (a b : Allow
     → ((ahead k : ℕ) → ahead < len → a ahead k ≡ true → b ahead k ≡ true) → PrefixAt wide program ip len b
 less-prefix wide program ip len most a b prefix le within = λ e same. prefix-less e (key wide) program ip len most a b (prefix e same) le within
 
-pub prefix-unknown : (wide : Bool) (program : Program) (ip : ℕ) (prefix : Prefix) → prefix.len ≡ 0 → IsPrefixAt wide program ip prefix
+pub prefix-unknown : (wide : Bool) (program : Program) (ip : ℕ) (prefix : Prefix) → prefix.len ≡ 0 → IsRequiredPrefixAt wide program ip prefix
 prefix-unknown wide program ip prefix none =
-    let P : ℕ → Type 0 = λ n. PrefixAt wide program ip n (allowed_of prefix) in
-    subst P (sym none) (none-prefix wide program ip (allowed_of prefix))
+    let P : ℕ → Type 0 = λ n. PrefixAt wide program ip n (units_allowed_by_prefix prefix) in
+    subst P (sym none) (none-prefix wide program ip (units_allowed_by_prefix prefix))
 
-pub prefix-of-either : (wide : Bool) (program : Program) (ip x y : ℕ) (a b prefix : Prefix) → Leads wide program ip (ahead.Either x y) → IsPrefixAt wide program x a → IsPrefixAt wide program y b
-    → IsOfEither a b prefix → IsPrefixAt wide program ip prefix
+pub prefix-of-either : (wide : Bool) (program : Program) (ip x y : ℕ) (a b prefix : Prefix) → IsOpPrefixContribution wide program ip (ahead.UnionOf x y) → IsRequiredPrefixAt wide program x a → IsRequiredPrefixAt wide program y b
+    → IsPrefixUnion a b prefix → IsRequiredPrefixAt wide program ip prefix
 prefix-of-either wide program ip x y a b prefix leads first second either =
-    leads prefix.len (allowed_of prefix)
-    (less-prefix wide program x prefix.len a.len (allowed_of a) (allowed_of prefix) first either.first either.within_first)
-    (less-prefix wide program y prefix.len b.len (allowed_of b) (allowed_of prefix) second either.second either.within_second)
+    leads prefix.len (units_allowed_by_prefix prefix)
+    (less-prefix wide program x prefix.len a.len (units_allowed_by_prefix a) (units_allowed_by_prefix prefix) first either.first either.within_first)
+    (less-prefix wide program y prefix.len b.len (units_allowed_by_prefix b) (units_allowed_by_prefix prefix) second either.second either.within_second)
 
 -- ---- The path of operations
 
 -- nothing is known yet
-pub path-start : (wide : Bool) (program : Program) (ip : ℕ) (prefix : Prefix) → prefix.len ≡ 0 → IsPath wide program ip prefix ip
+pub path-start : (wide : Bool) (program : Program) (ip : ℕ) (prefix : Prefix) → prefix.len ≡ 0 → IsPrefixSoFar wide program ip prefix ip
 path-start wide program ip prefix none = record {
   so_far = prefix-unknown wide program ip prefix none;
   on = λ room len allowed there.
-      less-prefix wide program ip (prefix.len + len) len allowed (then_allowed prefix.len (allowed_of prefix) allowed) there (omega (arith, none))
+      less-prefix wide program ip (prefix.len + len) len allowed (then_allowed prefix.len (units_allowed_by_prefix prefix) allowed) there (omega (arith, none))
       (λ ahead k less h.
-      then-late prefix.len (allowed_of prefix) allowed ahead k (omega (arith, none)) ∙ ap (λ n. allowed n k) (let z : ahead - prefix.len ≡ ahead = omega (arith, none) in z) ∙ h);
+      then-late prefix.len (units_allowed_by_prefix prefix) allowed ahead k (omega (arith, none)) ∙ ap (λ n. allowed n k) (let z : ahead - prefix.len ≡ ahead = omega (arith, none) in z) ∙ h);
 }
 
 -- an operation that leads on to another one
-pub path-at : (wide : Bool) (program : Program) (from ip to : ℕ) (prefix : Prefix) → IsPath wide program from prefix ip → Leads wide program ip (ahead.At to) → IsPath wide program from prefix to
+pub path-at : (wide : Bool) (program : Program) (from ip to : ℕ) (prefix : Prefix) → IsPrefixSoFar wide program from prefix ip → IsOpPrefixContribution wide program ip (ahead.SameAs to) → IsPrefixSoFar wide program from prefix to
 path-at wide program from ip to prefix path leads = record { so_far = path.so_far; on = λ room len allowed there. path.on room len allowed (leads len allowed there) }
 
 -- what stands at the operation stands behind the units
-pub path-then : (wide : Bool) (program : Program) (from ip len : ℕ) (prefix next : Prefix) (allowed : Allowed) → IsPath wide program from prefix ip → prefix.len < 15
-    → PrefixAt wide program ip len allowed → IsThen prefix len allowed next → IsPrefixAt wide program from next
+pub path-then : (wide : Bool) (program : Program) (from ip len : ℕ) (prefix next : Prefix) (allowed : Allowed) → IsPrefixSoFar wide program from prefix ip → prefix.len < 15
+    → PrefixAt wide program ip len allowed → IsPrefixConcatenation prefix len allowed next → IsRequiredPrefixAt wide program from next
 path-then wide program from ip len prefix next allowed path room there is =
-    less-prefix wide program from next.len (prefix.len + len) (then_allowed prefix.len (allowed_of prefix) allowed) (allowed_of next) (path.on room len allowed there)
+    less-prefix wide program from next.len (prefix.len + len) (then_allowed prefix.len (units_allowed_by_prefix prefix) allowed) (units_allowed_by_prefix next) (path.on room len allowed there)
     (let l = is.len in omega (arith, l)) (λ ahead k less h. is.within ahead k less h)
 
 -- the units of an operation
-units-there : (wide : Bool) (program : Program) (ip count : ℕ) (units : Allowed) (to : Option ℕ) → UnitsLead wide program ip units count to
+units-there : (wide : Bool) (program : Program) (ip count : ℕ) (units : Allowed) (to : Option ℕ) → PrefixBeginsWith wide program ip units count to
     → PrefixAt wide program ip count units
 units-there wide program ip count units to leads =
     less-prefix wide program ip count (count + 0) (then_allowed count units units) units (leads 0 units (nothing to))
     (omega arith) (λ ahead k less h. sym (then-early count units units ahead k less) ∙ h)
   where
-    nothing : (to : Option ℕ) → PrefixBehind wide program to 0 units
+    nothing : (to : Option ℕ) → PrefixAfter wide program to 0 units
     nothing None = refl
     nothing (Some next) = none-prefix wide program next units
 
-pub path-last : (wide : Bool) (program : Program) (from ip count : ℕ) (units : Allowed) (to : Option ℕ) (prefix next : Prefix) → IsPath wide program from prefix ip → prefix.len < 15
-    → UnitsLead wide program ip units count to → IsThen prefix count units next → IsPrefixAt wide program from next
+pub path-last : (wide : Bool) (program : Program) (from ip count : ℕ) (units : Allowed) (to : Option ℕ) (prefix next : Prefix) → IsPrefixSoFar wide program from prefix ip → prefix.len < 15
+    → PrefixBeginsWith wide program ip units count to → IsPrefixConcatenation prefix count units next → IsRequiredPrefixAt wide program from next
 path-last wide program from ip count units to prefix next path room leads is =
     path-then wide program from ip count prefix next units path room (units-there wide program ip count units to leads) is
 
 -- behind which it leads on
-pub path-units : (wide : Bool) (program : Program) (from ip count to : ℕ) (units : Allowed) (prefix next : Prefix) → IsPath wide program from prefix ip → prefix.len < 15
-    → UnitsLead wide program ip units count (Some to) → IsThen prefix count units next → IsPath wide program from next to
+pub path-units : (wide : Bool) (program : Program) (from ip count to : ℕ) (units : Allowed) (prefix next : Prefix) → IsPrefixSoFar wide program from prefix ip → prefix.len < 15
+    → PrefixBeginsWith wide program ip units count (Some to) → IsPrefixConcatenation prefix count units next → IsPrefixSoFar wide program from next to
 path-units wide program from ip count to units prefix next path room leads is = record {
   so_far = path-last wide program from ip count units (Some to) prefix next path room leads is;
   on = λ more len allowed there.
       let all : next.len ≡ prefix.len + count = let l = is.len in omega (arith, l, more) in
       less-prefix wide program from (next.len + len) (prefix.len + (count + len))
-      (then_allowed prefix.len (allowed_of prefix) (then_allowed count units allowed)) (then_allowed next.len (allowed_of next) allowed)
+      (then_allowed prefix.len (units_allowed_by_prefix prefix) (then_allowed count units allowed)) (then_allowed next.len (units_allowed_by_prefix next) allowed)
       (path.on room (count + len) (then_allowed count units allowed) (leads len allowed there)) (omega (arith, all))
       (λ ahead k less h. by allowed all ahead k h (cases_lt ahead next.len));
 }
   where
-    behind : (allowed : Allowed) → next.len ≡ prefix.len + count → (ahead k : ℕ) → then_allowed prefix.len (allowed_of prefix) (then_allowed count units allowed) ahead k ≡ true
-        → ahead < next.len → (ahead < prefix.len) ⊎ (prefix.len ≤ ahead) → then_allowed prefix.len (allowed_of prefix) units ahead k ≡ true
+    behind : (allowed : Allowed) → next.len ≡ prefix.len + count → (ahead k : ℕ) → then_allowed prefix.len (units_allowed_by_prefix prefix) (then_allowed count units allowed) ahead k ≡ true
+        → ahead < next.len → (ahead < prefix.len) ⊎ (prefix.len ≤ ahead) → then_allowed prefix.len (units_allowed_by_prefix prefix) units ahead k ≡ true
     behind allowed all ahead k h less (inl early) =
-        then-early prefix.len (allowed_of prefix) units ahead k early
-        ∙ sym (then-early prefix.len (allowed_of prefix) (then_allowed count units allowed) ahead k early) ∙ h
+        then-early prefix.len (units_allowed_by_prefix prefix) units ahead k early
+        ∙ sym (then-early prefix.len (units_allowed_by_prefix prefix) (then_allowed count units allowed) ahead k early) ∙ h
     behind allowed all ahead k h less (inr late) =
-        then-late prefix.len (allowed_of prefix) units ahead k late
+        then-late prefix.len (units_allowed_by_prefix prefix) units ahead k late
         ∙ sym (then-early count units allowed (ahead - prefix.len) k (omega (arith, less, late, all)))
-        ∙ sym (then-late prefix.len (allowed_of prefix) (then_allowed count units allowed) ahead k late) ∙ h
+        ∙ sym (then-late prefix.len (units_allowed_by_prefix prefix) (then_allowed count units allowed) ahead k late) ∙ h
 
-    by : (allowed : Allowed) → next.len ≡ prefix.len + count → (ahead k : ℕ) → then_allowed prefix.len (allowed_of prefix) (then_allowed count units allowed) ahead k ≡ true
-        → (ahead < next.len) ⊎ (next.len ≤ ahead) → then_allowed next.len (allowed_of next) allowed ahead k ≡ true
+    by : (allowed : Allowed) → next.len ≡ prefix.len + count → (ahead k : ℕ) → then_allowed prefix.len (units_allowed_by_prefix prefix) (then_allowed count units allowed) ahead k ≡ true
+        → (ahead < next.len) ⊎ (next.len ≤ ahead) → then_allowed next.len (units_allowed_by_prefix next) allowed ahead k ≡ true
     by allowed all ahead k h (inl early) =
-        then-early next.len (allowed_of next) allowed ahead k early
+        then-early next.len (units_allowed_by_prefix next) allowed ahead k early
         ∙ is.within ahead k early (behind allowed all ahead k h early (cases_lt ahead prefix.len))
     by allowed all ahead k h (inr late) =
         let past : prefix.len ≤ ahead = omega (arith, late, all) in
         let beyond : count ≤ ahead - prefix.len = omega (arith, late, all) in
-        then-late next.len (allowed_of next) allowed ahead k late
+        then-late next.len (units_allowed_by_prefix next) allowed ahead k late
         ∙ ap (λ n. allowed n k) (let z : ahead - next.len ≡ ahead - prefix.len - count = omega (arith, late, all) in z)
         ∙ sym (then-late count units allowed (ahead - prefix.len) k beyond)
-        ∙ sym (then-late prefix.len (allowed_of prefix) (then_allowed count units allowed) ahead k past) ∙ h
+        ∙ sym (then-late prefix.len (units_allowed_by_prefix prefix) (then_allowed count units allowed) ahead k past) ∙ h
 
 -- one of two operations
-pub path-either : (wide : Bool) (program : Program) (from ip x y : ℕ) (prefix a b either next : Prefix) → IsPath wide program from prefix ip → prefix.len < 15
-    → Leads wide program ip (ahead.Either x y) → IsPrefixAt wide program x a → IsPrefixAt wide program y b → IsOfEither a b either → IsThen prefix either.len (allowed_of either) next
-    → IsPrefixAt wide program from next
+pub path-either : (wide : Bool) (program : Program) (from ip x y : ℕ) (prefix a b either next : Prefix) → IsPrefixSoFar wide program from prefix ip → prefix.len < 15
+    → IsOpPrefixContribution wide program ip (ahead.UnionOf x y) → IsRequiredPrefixAt wide program x a → IsRequiredPrefixAt wide program y b → IsPrefixUnion a b either → IsPrefixConcatenation prefix either.len (units_allowed_by_prefix either) next
+    → IsRequiredPrefixAt wide program from next
 path-either wide program from ip x y prefix a b either next path room leads first second of is =
-    path-then wide program from ip either.len prefix next (allowed_of either) path room (prefix-of-either wide program ip x y a b either leads first second of) is
+    path-then wide program from ip either.len prefix next (units_allowed_by_prefix either) path room (prefix-of-either wide program ip x y a b either leads first second of) is
 
 -- ---- What operations say
 
-module _ (plan : Plan) {wide : Bool} (program : Program) (ops : AreOps wide program plan) where
+module _ (plan : Plan) {wide : Bool} (program : Program) (ops : AreOpsOfProgram wide program plan) where
   -- the instruction of an operation
   pub insn-of : (o : Op) (ip : ℕ) → slice_get plan.ops.items ip ≡ Some o → (insn : Insn) × (slice_get program.insns ip ≡ Some insn) × IsOpOf program plan o ip insn
   insn-of o ip there =
@@ -370,11 +370,11 @@ pub row-there : {A : Type 0} (rows seen : List A) → seen ≡ rows → (n : ℕ
 row-there rows seen same n row inside is = ap (λ l. slice_get l n) (sym same) ∙ slice_get-get_or seen n row inside ∙ ap Some (sym is)
 
 -- what is said of an operation, by what it is
-pub said-as : (plan : Plan) (ip : ℕ) (said : Ahead) (o shown : Op) → o ≡ shown → LeadsFrom plan shown ip said → LeadsFrom plan o ip said
-said-as plan ip said o shown is leads = let P : Op → Type 0 = λ x. LeadsFrom plan x ip said in subst P (sym is) leads
+pub said-as : (plan : Plan) (ip : ℕ) (said : OpPrefixContribution) (o shown : Op) → o ≡ shown → IsOpPrefixContributionOf plan shown ip said → IsOpPrefixContributionOf plan o ip said
+said-as plan ip said o shown is leads = let P : Op → Type 0 = λ x. IsOpPrefixContributionOf plan x ip said in subst P (sym is) leads
 
 -- what is said of a run, by what its rows say
-pub said-of-run : (plan : Plan) (ip : ℕ) (said : Ahead) (o : Op) (r : run.Run) → run_of o ≡ Some r → LeadsFromRun plan r ip said → LeadsFrom plan o ip said
+pub said-of-run : (plan : Plan) (ip : ℕ) (said : OpPrefixContribution) (o : Op) (r : run.CharLoop) → char_loop_of o ≡ Some r → IsOpPrefixContributionOfLoop plan r ip said → IsOpPrefixContributionOf plan o ip said
 said-of-run plan ip said o r is leads wide program ops there =
     let i = insn-of plan program ops o ip there in
     let h = runs-of program plan o r ip i.0 is i.2 in
@@ -382,7 +382,7 @@ said-of-run plan ip said o r is leads wide program ops there =
 
 -- an instruction that leads on to one other
 led-on : (wide : Bool) (program : Program) (ip to : ℕ) (insn form : Insn) → slice_get program.insns ip ≡ Some insn → insn ≡ form
-    → ((may : ℕ → Bool) → may to ≡ false → (text : Text) (at : ℕ) → may_at program text at may (Some form) ip ≡ false) → Leads wide program ip (ahead.At to)
+    → ((may : ℕ → Bool) → may to ≡ false → (text : Text) (at : ℕ) → may_at program text at may (Some form) ip ≡ false) → IsOpPrefixContribution wide program ip (ahead.SameAs to)
 led-on wide program ip to insn form there is leads len allowed prefix =
     λ e same. prefix-on e (key wide) program ip to len allowed (prefix e same)
     (λ may never text at.
@@ -393,50 +393,50 @@ and-never : (a b : Bool) → b ≡ false → (a && b) ≡ false
 and-never true b h = h
 and-never false b h = refl
 
-said-line : (plan : Plan) (ip : ℕ) (multiline : Bool) → LeadsFrom plan (op.LineStart multiline) ip (ahead.At (ip + 1))
+said-line : (plan : Plan) (ip : ℕ) (multiline : Bool) → IsOpPrefixContributionOf plan (op.LineStart multiline) ip (ahead.SameAs (ip + 1))
 said-line plan ip multiline wide program ops there =
     let i = insn-of plan program ops (op.LineStart multiline) ip there in
     led-on wide program ip (ip + 1) i.0 (StartOfLine multiline) i.1 i.2 (λ may never text at. and-never _ (may (ip + 1)) never)
 
-said-open : (plan : Plan) (ip slot : ℕ) → LeadsFrom plan (op.Open slot) ip (ahead.At (ip + 1))
+said-open : (plan : Plan) (ip slot : ℕ) → IsOpPrefixContributionOf plan (op.OpenGroup slot) ip (ahead.SameAs (ip + 1))
 said-open plan ip slot wide program ops there =
-    let i = insn-of plan program ops (op.Open slot) ip there in
+    let i = insn-of plan program ops (op.OpenGroup slot) ip there in
     led-on wide program ip (ip + 1) i.0 (BeginCaptureGroup slot) i.1 i.2 (λ may never text at. never)
 
-said-close : (plan : Plan) (ip slot : ℕ) → LeadsFrom plan (op.Close slot) ip (ahead.At (ip + 1))
+said-close : (plan : Plan) (ip slot : ℕ) → IsOpPrefixContributionOf plan (op.CloseGroup slot) ip (ahead.SameAs (ip + 1))
 said-close plan ip slot wide program ops there =
-    let i = insn-of plan program ops (op.Close slot) ip there in
+    let i = insn-of plan program ops (op.CloseGroup slot) ip there in
     led-on wide program ip (ip + 1) i.0 (EndCaptureGroup slot) i.1 i.2 (λ may never text at. never)
 
-said-reset : (plan : Plan) (ip slot : ℕ) → LeadsFrom plan (op.Reset slot) ip (ahead.At (ip + 1))
+said-reset : (plan : Plan) (ip slot : ℕ) → IsOpPrefixContributionOf plan (op.ResetGroup slot) ip (ahead.SameAs (ip + 1))
 said-reset plan ip slot wide program ops there =
-    let i = insn-of plan program ops (op.Reset slot) ip there in
+    let i = insn-of plan program ops (op.ResetGroup slot) ip there in
     led-on wide program ip (ip + 1) i.0 (ResetCaptureGroup slot) i.1 i.2 (λ may never text at. never)
 
-said-edge : (plan : Plan) (ip : ℕ) (e : edge.Edge) → LeadsFrom plan (op.WordEdge e) ip (ahead.At (ip + 1))
+said-edge : (plan : Plan) (ip : ℕ) (e : edge.WordBoundaryKind) → IsOpPrefixContributionOf plan (op.WordEdge e) ip (ahead.SameAs (ip + 1))
 said-edge plan ip e wide program ops there =
     let i = insn-of plan program ops (op.WordEdge e) ip there in by e.unicode_icase i.0 i.1 i.2
   where
     by : (icase : Bool) (insn : Insn) → slice_get program.insns ip ≡ Some insn → insn ≡ (if icase then WordBoundaryUnicodeICase e.invert else WordBoundary e.invert)
-        → Leads wide program ip (ahead.At (ip + 1))
+        → IsOpPrefixContribution wide program ip (ahead.SameAs (ip + 1))
     by true insn there is = led-on wide program ip (ip + 1) insn (WordBoundaryUnicodeICase e.invert) there is (λ may never text at. and-never _ (may (ip + 1)) never)
     by false insn there is = led-on wide program ip (ip + 1) insn (WordBoundary e.invert) there is (λ may never text at. and-never _ (may (ip + 1)) never)
 
 -- each that reads nothing and leads on
-pub said-on : (plan : Plan) (ip : ℕ) (o : Op) → leads_on o ≡ true → LeadsFrom plan o ip (ahead.At (ip + 1))
+pub said-on : (plan : Plan) (ip : ℕ) (o : Op) → falls_through o ≡ true → IsOpPrefixContributionOf plan o ip (ahead.SameAs (ip + 1))
 said-on plan ip (op.LineStart multiline) h = said-line plan ip multiline
 said-on plan ip (op.WordEdge e) h = said-edge plan ip e
-said-on plan ip (op.Open slot) h = said-open plan ip slot
-said-on plan ip (op.Close slot) h = said-close plan ip slot
-said-on plan ip (op.Reset slot) h = said-reset plan ip slot
+said-on plan ip (op.OpenGroup slot) h = said-open plan ip slot
+said-on plan ip (op.CloseGroup slot) h = said-close plan ip slot
+said-on plan ip (op.ResetGroup slot) h = said-reset plan ip slot
 said-on plan ip _ h = cc
 
-pub said-go : (plan : Plan) (ip to : ℕ) → LeadsFrom plan (op.Go to) ip (ahead.At to)
+pub said-go : (plan : Plan) (ip to : ℕ) → IsOpPrefixContributionOf plan (op.Goto to) ip (ahead.SameAs to)
 said-go plan ip to wide program ops there =
-    let i = insn-of plan program ops (op.Go to) ip there in
+    let i = insn-of plan program ops (op.Goto to) ip there in
     led-on wide program ip to i.0 (Jump to) i.1 i.2 (λ may never text at. never)
 
-pub said-look : (plan : Plan) (ip : ℕ) (l : look.Look) → LeadsFrom plan (op.Look l) ip (ahead.At l.past)
+pub said-look : (plan : Plan) (ip : ℕ) (l : look.Look) → IsOpPrefixContributionOf plan (op.Look l) ip (ahead.SameAs l.past)
 said-look plan ip l wide program ops there =
     let i = insn-of plan program ops (op.Look l) ip there in by l.forward i.0 i.1 i.2.start_group i.2.end_group i.2.insn_is
   where
@@ -445,12 +445,12 @@ said-look plan ip l wide program ops there =
     never-then false b h = refl
 
     by : (forward : Bool) (insn : Insn) → slice_get program.insns ip ≡ Some insn → (first last : ℕ)
-        → insn ≡ (if forward then Lookahead l.negate first last l.past else Lookbehind l.negate first last l.past) → Leads wide program ip (ahead.At l.past)
+        → insn ≡ (if forward then Lookahead l.negate first last l.past else Lookbehind l.negate first last l.past) → IsOpPrefixContribution wide program ip (ahead.SameAs l.past)
     by true insn there first last is =
         led-on wide program ip l.past insn (Lookahead l.negate first last l.past) there is (λ may never text at. never-then (may l.past) _ never)
     by false insn there first last is = led-on wide program ip l.past insn (Lookbehind l.negate first last l.past) there is (λ may never text at. never)
 
-pub said-either : (plan : Plan) (ip other : ℕ) → LeadsFrom plan (op.Either other) ip (ahead.Either (ip + 1) other)
+pub said-either : (plan : Plan) (ip other : ℕ) → IsOpPrefixContributionOf plan (op.Either other) ip (ahead.UnionOf (ip + 1) other)
 said-either plan ip other wide program ops there len allowed first second =
     let i = insn-of plan program ops (op.Either other) ip there in
     λ e same. prefix-either e (key wide) program ip (ip + 1) other len allowed (first e same) (second e same)
@@ -459,14 +459,14 @@ said-either plan ip other wide program ops there len allowed first second =
     subst P (sym (i.1 ∙ ap Some i.2)) (ap (λ b. b || may other) none ∙ never))
 
 -- the head of a loop that has to come at least once
-pub said-entry : (plan : Plan) (ip number : ℕ) (counted : Counted) → slice_get plan.counted.items number ≡ Some counted → 0 < counted.min
-    → LeadsFrom plan (op.Enter number) ip (ahead.At (ip + 1))
+pub said-entry : (plan : Plan) (ip number : ℕ) (counted : CountedLoop) → slice_get plan.counted.items number ≡ Some counted → 0 < counted.min
+    → IsOpPrefixContributionOf plan (op.Enter number) ip (ahead.SameAs (ip + 1))
 said-entry plan ip number counted here some wide program ops there =
     let i = insn-of plan program ops (op.Enter number) ip there in
     let r = i.2.row in
     let row : Some counted ≡ Some r.counted = sym here ∙ r.is_there in
     let same : counted ≡ r.counted = cc in
-    let least : counted.min ≡ i.2.fields.min_iters = ap (λ (c : Counted). c.min) same ∙ r.is_row.4 in
+    let least : counted.min ≡ i.2.fields.min_iters = ap (λ (c : CountedLoop). c.min) same ∙ r.is_row.4 in
     led-on wide program ip (ip + 1) i.0 (EnterLoop i.2.fields) i.1 i.2.insn_is
     (λ may never text at.
     ap (λ b. b || i.2.fields.min_iters == 0 && may i.2.fields.exit) never
@@ -476,13 +476,13 @@ said-entry plan ip number counted here some wide program ops there =
 
 -- in texts of such units, what passes the test has one unit, of which so many may stand
 abbrev UnitsOf : (wide : Bool) (test : ℕ → Bool) (count : ℕ) → Allowed → Type 0
-UnitsOf wide test count allowed = (e : Encoding) → is_wide e ≡ wide → AreUnits e (key wide) test count allowed
+UnitsOf wide test count allowed = (e : Encoding) → has_16_bit_units e ≡ wide → AreUnits e (key wide) test count allowed
 
 -- one that reads one character, behind which this one stands
 reads-prefix : (wide : Bool) (program : Program) (ip : ℕ) (insn : Insn) (units : Allowed) → slice_get program.insns ip ≡ Some insn
     → ((e : Encoding) → Reads e (key wide) program insn)
     → ((test : ℕ → Bool) → test_of program (Some insn) ≡ Some test → (count : ℕ) (allowed : Allowed) → UnitsOf wide test count (then_allowed count units allowed))
-    → UnitsLead wide program ip units 1 (Some (ip + 1))
+    → PrefixBeginsWith wide program ip units 1 (Some (ip + 1))
 reads-prefix wide program ip insn units there reads are len allowed prefix = λ e same.
     prefix-reads e (key wide) program ip len insn (then_allowed 1 units allowed) allowed there (reads e) (λ test t. are test t 1 allowed e same)
     (λ ahead k.
@@ -490,43 +490,43 @@ reads-prefix wide program ip insn units there reads are len allowed prefix = λ 
     (prefix e same)
 
 -- a character below 128 is its own key, and has one unit
-pub said-unit : (plan : Plan) (ip c : ℕ) → c < 128 → LeadsFrom plan (op.Unit c) ip (ahead.Unit c (ip + 1))
+pub said-unit : (plan : Plan) (ip c : ℕ) → c < 128 → IsOpPrefixContributionOf plan (op.UnitChar c) ip (ahead.OneUnit c (ip + 1))
 said-unit plan ip c low wide program ops there =
-    let i = insn-of plan program ops (op.Unit c) ip there in
-    reads-prefix wide program ip (Char c) (unit_of c) (i.1 ∙ ap Some i.2) (λ e text s. refl)
+    let i = insn-of plan program ops (op.UnitChar c) ip there in
+    reads-prefix wide program ip (Char c) (allows_only_key c) (i.1 ∙ ap Some i.2) (λ e text s. refl)
     (λ test t count allowed e same.
-    let P : (ℕ → Bool) → Type 0 = λ test. AreUnits e (key wide) test count (then_allowed count (unit_of c) allowed) in
+    let P : (ℕ → Bool) → Type 0 = λ test. AreUnits e (key wide) test count (then_allowed count (allows_only_key c) allowed) in
     let tested : (λ d. c == d) ≡ test = some-same (λ d. c == d) test t in
     subst P tested (record {
       keys = λ d is accepted ahead less.
           let one : c ≡ d = eqb-true c d accepted in
-          let at : first_key e (key wide) d ≡ Some c =
+          let at : first_unit_key e (key wide) d ≡ Some c =
           first-key-at e wide same d is ∙ ap Some (ap (key_of_first wide) (sym one) ∙ ascii-key wide c low) in
-          ap (may_stand (then_allowed count (unit_of c) allowed) ahead) at ∙ then-early count (unit_of c) allowed ahead c less ∙ eq-eqb c c refl;
+          ap (unit_is_allowed (then_allowed count (allows_only_key c) allowed) ahead) at ∙ then-early count (allows_only_key c) allowed ahead c less ∙ eq-eqb c c refl;
       single = λ d is accepted. ap (λ (d : ℕ). length (spelled_in e d)) (sym (eqb-true c d accepted)) ∙ one-unit e c low;
     }))
 
 -- the characters of a class of single units
 class-units : (wide : Bool) (program : Program) (class : Class) (set : FirstSet) (insn : Insn) → IsClass wide program class → class.single_unit ≡ true
-    → insn ≡ insn_of class.insn
-    → ((k : ℕ) → k < 256 → (table_of set).keys k ≡ not (slice_index_or class.steps k 0 == 0)) → (test : ℕ → Bool) → test_of program (Some insn) ≡ Some test
-    → (count : ℕ) (allowed : Allowed) → UnitsOf wide test count (then_allowed count (units_of set) allowed)
+    → insn ≡ spec_insn_of class.insn
+    → ((k : ℕ) → k < 256 → (unit_table_of_set set).keys k ≡ not (slice_index_or class.steps k 0 == 0)) → (test : ℕ → Bool) → test_of program (Some insn) ≡ Some test
+    → (count : ℕ) (allowed : Allowed) → UnitsOf wide test count (then_allowed count (allows_keys_of_set set) allowed)
 class-units wide program class set insn is single_unit same keys test t count allowed e units = record {
   keys = λ c character accepted ahead less.
-      ap (may_stand (then_allowed count (units_of set) allowed) ahead) (first-key-at e wide units c character)
-      ∙ then-early count (units_of set) allowed ahead (key_of_first wide c) less
+      ap (unit_is_allowed (then_allowed count (allows_keys_of_set set) allowed) ahead) (first-key-at e wide units c character)
+      ∙ then-early count (allows_keys_of_set set) allowed ahead (key_of_first wide c) less
       ∙ keys (key_of_first wide c) (first-key-below e wide units c character)
       ∙ ap not (ne_eqb (slice_index_or class.steps (key_of_first wide c) 0) 0 (some c character accepted));
   single = λ c character accepted.
       let step = slice_index_or class.steps (key_of_first wide c) 0 in
       let one : step ≡ 1 = let most = is.single_unit single_unit (key_of_first wide c) in least step (some c character accepted) most in
-      let h : is_told 1 true (length (spelled_in e c)) ≡ true = ap (λ s. is_told s true (length (spelled_in e c))) (sym one) ∙ ap (λ a. is_told step a (length (spelled_in e c))) (sym accepted) ∙ told c character in
+      let h : is_step_right 1 true (length (spelled_in e c)) ≡ true = ap (λ s. is_step_right s true (length (spelled_in e c))) (sym one) ∙ ap (λ a. is_step_right step a (length (spelled_in e c))) (sym accepted) ∙ told c character in
       sym (eqb-true 1 (length (spelled_in e c)) h);
 }
   where
-    told : (c : ℕ) → is_character e c ≡ true → is_told (slice_index_or class.steps (key_of_first wide c) 0) (test c) (length (spelled_in e c)) ≡ true
+    told : (c : ℕ) → is_character e c ≡ true → is_step_right (slice_index_or class.steps (key_of_first wide c) 0) (test c) (length (spelled_in e c)) ≡ true
     told c character =
-        ap (λ o. is_told (step_at class.steps o) (test c) (length (spelled_in e c))) (sym (first-key-at e wide units c character))
+        ap (λ o. is_step_right (step_at class.steps o) (test c) (length (spelled_in e c))) (sym (first-key-at e wide units c character))
         ∙ is.steps test (ap (λ i. test_of program (Some i)) (sym same) ∙ t) e units c character
 
     some : (c : ℕ) → is_character e c ≡ true → test c ≡ true → slice_index_or class.steps (key_of_first wide c) 0 ≢ 0
@@ -536,7 +536,7 @@ class-units wide program class set insn is single_unit same keys test t count al
     least zero none most = absurd (none refl)
     least (suc n) none most = omega (arith, most)
 
-reads-as : (wide : Bool) (program : Program) (insn : Insn) → reads_one insn ≡ true → (e : Encoding) → Reads e (key wide) program insn
+reads-as : (wide : Bool) (program : Program) (insn : Insn) → reads_class_char insn ≡ true → (e : Encoding) → Reads e (key wide) program insn
 reads-as wide program (CharSet members) r = λ e text s. refl
 reads-as wide program (ByteSet members) r = λ e text s. refl
 reads-as wide program (AsciiBracket members) r = λ e text s. refl
@@ -546,23 +546,23 @@ reads-as wide program MatchAnyExceptLineTerminator r = λ e text s. refl
 reads-as wide program _ r = cc
 
 pub said-class : (plan : Plan) (ip number : ℕ) (class : Class) (set : FirstSet) → slice_get plan.classes.items number ≡ Some class → class.single_unit ≡ true
-    → ((k : ℕ) → k < 256 → (table_of set).keys k ≡ not (slice_index_or class.steps k 0 == 0)) → LeadsFrom plan (op.One number) ip (ahead.Units set 1 (Some (ip + 1)))
+    → ((k : ℕ) → k < 256 → (unit_table_of_set set).keys k ≡ not (slice_index_or class.steps k 0 == 0)) → IsOpPrefixContributionOf plan (op.One number) ip (ahead.Units set 1 (Some (ip + 1)))
 said-class plan ip number class set here single_unit keys wide program ops there =
     let i = insn-of plan program ops (op.One number) ip there in
     let h = i.2.0 in
     let same = some-same h.class class (sym h.is_there ∙ here) in
-    reads-prefix wide program ip i.0 (units_of set) i.1 (reads-as wide program i.0 i.2.1)
-    (class-units wide program class set i.0 (ops.classes number class here) single_unit (h.is_class ∙ ap (λ (c : Class). insn_of c.insn) same) keys)
+    reads-prefix wide program ip i.0 (allows_keys_of_set set) i.1 (reads-as wide program i.0 i.2.1)
+    (class-units wide program class set i.0 (ops.classes number class here) single_unit (h.is_class ∙ ap (λ (c : Class). spec_insn_of c.insn) same) keys)
 
-pub said-run : (plan : Plan) (ip : ℕ) (r : run.Run) (class : Class) (bounds : Bounds) (set : FirstSet) (to : Option ℕ) → slice_get plan.classes.items r.class ≡ Some class
+pub said-run : (plan : Plan) (ip : ℕ) (r : run.CharLoop) (class : Class) (bounds : CharLoopBounds) (set : FirstSet) (to : Option ℕ) → slice_get plan.classes.items r.class ≡ Some class
     → slice_get plan.bounds.items r.bounds ≡ Some bounds → class.single_unit ≡ true
-    → ((k : ℕ) → k < 256 → (table_of set).keys k ≡ not (slice_index_or class.steps k 0 == 0))
-    → ((to ≡ Some (ip + 2)) × (bounds.min ≡ bounds.max)) ⊎ (to ≡ None) → LeadsFromRun plan r ip (ahead.Units set bounds.min to)
+    → ((k : ℕ) → k < 256 → (unit_table_of_set set).keys k ≡ not (slice_index_or class.steps k 0 == 0))
+    → ((to ≡ Some (ip + 2)) × (bounds.min ≡ bounds.max)) ⊎ (to ≡ None) → IsOpPrefixContributionOfLoop plan r ip (ahead.Units set bounds.min to)
 said-run plan ip r class bounds set to here bounded single_unit keys way wide program ops greedy insn there runs len allowed behind =
-    λ e same. prefix-run e (key wide) program ip len bounds.min bounds.max greedy (then_allowed bounds.min (units_of set) allowed) allowed
-    (there ∙ ap Some (runs.insn_is ∙ ap (λ (b : Bounds). Loop1CharBody b.min b.max greedy) same_bounds)) (λ test t. are test t e same)
+    λ e same. prefix-run e (key wide) program ip len bounds.min bounds.max greedy (then_allowed bounds.min (allows_keys_of_set set) allowed) allowed
+    (there ∙ ap Some (runs.insn_is ∙ ap (λ (b : CharLoopBounds). Loop1CharBody b.min b.max greedy) same_bounds)) (λ test t. are test t e same)
     (λ ahead k.
-    then-late bounds.min (units_of set) allowed (bounds.min + ahead) k (omega arith)
+    then-late bounds.min (allows_keys_of_set set) allowed (bounds.min + ahead) k (omega arith)
     ∙ ap (λ n. allowed n k) (let z : bounds.min + ahead - bounds.min ≡ ahead = omega arith in z))
     (exactly way) (prefix way e same)
   where
@@ -570,25 +570,25 @@ said-run plan ip r class bounds set to here bounded single_unit keys way wide pr
     same_bounds = let e : Some runs.bounds ≡ Some bounds = sym runs.are_there ∙ bounded in cc
 
     are : (test : ℕ → Bool) → test_of program (slice_get program.insns (ip + 1)) ≡ Some test
-        → UnitsOf wide test bounds.min (then_allowed bounds.min (units_of set) allowed)
+        → UnitsOf wide test bounds.min (then_allowed bounds.min (allows_keys_of_set set) allowed)
     are test t = by (slice_get program.insns (ip + 1)) refl t
       where
         by : (o : Option Insn) → slice_get program.insns (ip + 1) ≡ o → test_of program o ≡ Some test
-            → UnitsOf wide test bounds.min (then_allowed bounds.min (units_of set) allowed)
+            → UnitsOf wide test bounds.min (then_allowed bounds.min (allows_keys_of_set set) allowed)
         by None at t = cc
         by (Some read) at t =
             let h = runs.body read at in
             let same = some-same h.class class (sym h.is_there ∙ here) in
-            class-units wide program class set read (ops.classes r.class class here) single_unit (h.is_class ∙ ap (λ (c : Class). insn_of c.insn) same) keys test t bounds.min allowed
+            class-units wide program class set read (ops.classes r.class class here) single_unit (h.is_class ∙ ap (λ (c : Class). spec_insn_of c.insn) same) keys test t bounds.min allowed
 
     exactly : ((to ≡ Some (ip + 2)) × (bounds.min ≡ bounds.max)) ⊎ (to ≡ None) → (bounds.min ≡ bounds.max) ⊎ (len ≡ 0)
     exactly (inl more) = inl more.1
-    exactly (inr none) = let P : Option ℕ → Type 0 = λ o. PrefixBehind wide program o len allowed in inr (subst P none behind)
+    exactly (inr none) = let P : Option ℕ → Type 0 = λ o. PrefixAfter wide program o len allowed in inr (subst P none behind)
 
     prefix : ((to ≡ Some (ip + 2)) × (bounds.min ≡ bounds.max)) ⊎ (to ≡ None) → PrefixAt wide program (ip + 2) len allowed
-    prefix (inl more) = let P : Option ℕ → Type 0 = λ o. PrefixBehind wide program o len allowed in subst P more.0 behind
+    prefix (inl more) = let P : Option ℕ → Type 0 = λ o. PrefixAfter wide program o len allowed in subst P more.0 behind
     prefix (inr none) =
-        let P : Option ℕ → Type 0 = λ o. PrefixBehind wide program o len allowed in
+        let P : Option ℕ → Type 0 = λ o. PrefixAfter wide program o len allowed in
         let zero_len : len ≡ 0 = subst P none behind in
         let Q : ℕ → Type 0 = λ n. PrefixAt wide program (ip + 2) n allowed in
         subst Q (sym zero_len) (none-prefix wide program (ip + 2) allowed)

@@ -1,21 +1,22 @@
-//! What is looked for before each of the first units of a match is asked.
+//! Prefilters: what is searched for before the units of a required prefix are checked.
 
 ghost use Rattle.std.specs.Prelude.{◌≡◌, ◌<◌, ◌≤◌, ℕ, true, IfSome};
-ghost use Rattle.regress_plan.specs.{Prefixes.{allowed_of, passes as has_bits, IsRare, IsLiteral, IsProbe, AreProbes, IsPrefilter}, Keys.{wide_of}};
+ghost use Rattle.regress_plan.specs.{PrefixesAndPrefilters.{units_allowed_by_prefix, unit_passes_probe as has_bits, IsRequiredUnit, IsRequiredLiteral, IsUnitBitsProbe, AreUnitBitsProbes, IsPrefilter}, TableKeysOfUnits.{is_16_bit_width}};
 
-use crate::keys::{KEYS, Units};
-use crate::prefix::{Literal, MOST, Prefix, Rare, is_clear};
+use crate::required_prefix::{Literal, MOST, Prefix, RequiredUnit, is_clear};
+use crate::table_keys_of_units::{KEYS, UnitWidth};
 
-/// What the low eight bits of the unit so many units on must have: of these bits those, and no others, are set.
+/// A test of the unit `ahead` units after the start: of the bits in `mask`, exactly those in `bits`
+/// are set in its low eight bits.
 #[derive(Clone, Copy)]
-pub struct Probe {
+pub struct UnitBitsProbe {
     pub ahead: usize,
     pub mask: u8,
     pub bits: u8,
 }
 
-impl Probe {
-    /// Whether a unit has the bits.
+impl UnitBitsProbe {
+    /// Checks whether a unit passes the test.
     #[inline(always)]
     pub fn passes(&self, unit: u32) -> bool
         ensures { result ≡ has_bits self.now unit }
@@ -24,49 +25,51 @@ impl Probe {
     }
 }
 
-/// Units in a row. In texts that are short it takes longer to look for these than for one that is seldom, or for bits.
+/// A literal to search for. In short texts, this takes longer than searching for a rare unit or for
+/// probes.
 #[derive(Clone, Copy)]
-pub struct Known {
+pub struct LiteralPrefilter {
     pub literal: Literal,
-    pub rare: Option<Rare>,
-    pub probes: Option<[Probe; 4]>,
+    pub rare: Option<RequiredUnit>,
+    pub probes: Option<[UnitBitsProbe; 4]>,
 }
 
-/// What is looked for before each of the first units is asked.
+/// What is searched for before the units of a required prefix are checked.
 #[derive(Clone, Copy)]
 pub enum Prefilter {
     /// Nothing.
     Absent,
-    /// Units that are known, in bytes.
-    Known(Known),
+    /// A literal, in bytes.
+    ByLiteral(LiteralPrefilter),
     /// Bits of some units.
-    Probes([Probe; 4]),
+    Probes([UnitBitsProbe; 4]),
 }
 
-/// A unit that stands so often, in a thousand, is not looked for alone.
+/// A unit at least as frequent as this, in a thousand, is not searched for alone.
 const OFTEN: u32 = 15;
 
-/// As often as a unit can stand, in a thousand.
+/// The maximum frequency of a unit, in a thousand.
 const ALWAYS: u32 = 1000;
 
-/// How seldom bits have to be to be looked for.
+/// How rare the bits of probes have to be.
 #[derive(Clone, Copy)]
-struct Limits {
-    /// The most seldom of them stand so often, in a thousand, at most.
+struct ProbeRarityLimits {
+    /// The maximum frequency of the rarest probe, in a thousand.
     most: u32,
-    /// So many places in a million have all of them, at most.
+    /// The maximum number of positions, in a million, that pass all probes.
     pass: u32,
 }
 
-impl Limits {
-    // In bytes masks go over a text fast. In 16-bit units each place would be asked.
-    fn of(units: Units) -> Limits {
+impl ProbeRarityLimits {
+    // Returns the limits. In bytes, a search by masks is fast. In 16-bit units, each position would
+    // be tested.
+    fn of(units: UnitWidth) -> ProbeRarityLimits {
         match units {
-            Units::Bytes => Limits {
+            UnitWidth::Bytes => ProbeRarityLimits {
                 most: 50,
                 pass: 40_000,
             },
-            Units::Wide => Limits {
+            UnitWidth::Wide => ProbeRarityLimits {
                 most: ALWAYS,
                 pass: 100_000,
             },
@@ -74,28 +77,28 @@ impl Limits {
     }
 }
 
-/// What the units have in common that may stand somewhere: the bits that all of them have, and those that some have. And
-/// how many they are, and how often they stand in texts.
+/// What the units that may occur at a position have in common: the bits that all of them have, and
+/// the bits that some have. Also their number, and how often they occur in texts.
 #[derive(Clone, Copy)]
-struct Common {
+struct CommonBitsOfUnits {
     all: u8,
     some: u8,
     count: u32,
     often: u32,
 }
 
-const NO_UNIT: Common = Common {
+const NO_UNIT: CommonBitsOfUnits = CommonBitsOfUnits {
     all: 0xFF,
     some: 0,
     count: 0,
     often: 0,
 };
 
-impl Common {
-    // The same of one unit more, which stands so often in texts.
+impl CommonBitsOfUnits {
+    // Adds a unit that occurs in texts with this frequency.
     #[inline(always)]
-    fn with(self, unit: u8, often: u8) -> Common {
-        Common {
+    fn with(self, unit: u8, often: u8) -> CommonBitsOfUnits {
+        CommonBitsOfUnits {
             all: self.all & unit,
             some: self.some | unit,
             count: self.count.saturating_add(1),
@@ -103,14 +106,14 @@ impl Common {
         }
     }
 
-    // Whether it is one unit alone.
+    // Checks whether it is one unit alone.
     fn is_unit(self) -> bool {
         self.count == 1
     }
 
-    // How often units with these bits stand in texts, roughly, in a thousand: as often as those that may stand there, for
-    // each of them.
-    fn how_often(self) -> u32 {
+    // Estimates how often units with these bits occur in texts, in a thousand. Each is taken to be
+    // as frequent as the units that may occur are on average.
+    fn frequency(self) -> u32 {
         if self.some >= 128 || self.count == 0 {
             return ALWAYS;
         }
@@ -118,9 +121,9 @@ impl Common {
         (self.often.min(ALWAYS) << free).min(1_000_000) / self.count.max(1)
     }
 
-    // The bits, so many units on.
-    fn probe(self, ahead: usize) -> Probe {
-        Probe {
+    // Returns the probe for these bits, `ahead` units after the start.
+    fn probe(self, ahead: usize) -> UnitBitsProbe {
+        UnitBitsProbe {
             ahead,
             mask: !(self.all ^ self.some),
             bits: self.all,
@@ -129,18 +132,19 @@ impl Common {
 }
 
 impl Prefix {
-    /// What to look for first: in bytes units that are known, where some stand in a row; else bits of some units, if few
-    /// places have them. Most patterns have none, and its room is cleared where it is called, so this stands apart.
+    /// Chooses the prefilter: in bytes a literal, if there is one; otherwise probes, if few
+    /// positions pass them. Not inlined, since most patterns have no prefilter, and its buffers
+    /// would be cleared in the caller.
     #[inline(never)]
-    pub(crate) fn prefilter(&self, units: Units) -> Option<Prefilter>
-        ensures { IfSome result (IsPrefilter (wide_of units) self.now) }
+    pub(crate) fn prefilter(&self, units: UnitWidth) -> Option<Prefilter>
+        ensures { IfSome result (IsPrefilter (is_16_bit_width units) self.now) }
     {
         let commons = self.commons();
-        let probes = self.probes(&commons, Limits::of(units));
-        if let Units::Bytes = units {
+        let probes = self.probes(&commons, ProbeRarityLimits::of(units));
+        if let UnitWidth::Bytes = units {
             if let Some(literal) = self.literal(&commons) {
                 let rare = self.rare(&commons);
-                return Some(Prefilter::Known(Known {
+                return Some(Prefilter::ByLiteral(LiteralPrefilter {
                     literal,
                     rare,
                     probes,
@@ -151,27 +155,27 @@ impl Prefix {
             return Some(Prefilter::Probes(probes));
         }
         match units {
-            Units::Bytes => Some(Prefilter::Absent),
-            Units::Wide => None,
+            UnitWidth::Bytes => Some(Prefilter::Absent),
+            UnitWidth::Wide => None,
         }
     }
 
-    // What the units have in common that may stand there, by how many units on that is; nothing where some are not below
-    // 128.
-    fn commons(&self) -> [Common; 16] {
-        let others = !self.barred(128, KEYS);
+    // Returns, for each position, what the units that may occur there have in common; `NO_UNIT`
+    // where some are not below 128.
+    fn commons(&self) -> [CommonBitsOfUnits; 16] {
+        let others = !self.positions_excluding_keys(128, KEYS);
         let mut commons = [NO_UNIT; 16];
         for block in 0..8 {
             let from = block * 16;
-            if self.barred(from, from + 16) | others != u16::MAX {
+            if self.positions_excluding_keys(from, from + 16) | others != u16::MAX {
                 self.add_keys(from, others, &mut commons);
             }
         }
         commons
     }
 
-    // Adds the units of 16 keys from one on, but those where others may stand.
-    fn add_keys(&self, from: usize, others: u16, commons: &mut [Common; 16])
+    // Adds the units of 16 keys from `from` on, except at positions in the mask `others`.
+    fn add_keys(&self, from: usize, others: u16, commons: &mut [CommonBitsOfUnits; 16])
         requires { from ≤ 240 }
     {
         for key in from..from + 16 {
@@ -182,11 +186,11 @@ impl Prefix {
         }
     }
 
-    // The longest row of units that are known, if it is not a single one of more.
-    fn literal(&self, commons: &[Common; 16]) -> Option<Literal>
-        ensures { IfSome result (IsLiteral self.now) }
+    // Returns the longest literal, unless it is a single unit of a longer prefix.
+    fn literal(&self, commons: &[CommonBitsOfUnits; 16]) -> Option<Literal>
+        ensures { IfSome result (IsRequiredLiteral self.now) }
     {
-        let literal = longest(commons, self.len);
+        let literal = longest_literal(commons, self.len);
         if (literal.len > 1 || literal.len == self.len) && self.has_literal(&literal) {
             Some(literal)
         } else {
@@ -194,16 +198,16 @@ impl Prefix {
         }
     }
 
-    // Whether each of these units alone may stand where it stands.
+    // Checks whether each unit of the literal is the only one that may occur at its position.
     fn has_literal(&self, literal: &Literal) -> bool
-        ensures { result ≡ true → IsLiteral self.now literal.now }
+        ensures { result ≡ true → IsRequiredLiteral self.now literal.now }
     {
         let Literal { units, len, ahead } = *literal;
         if len == 0 || len > self.len || ahead > self.len - len {
             return false;
         }
         for i in 0..len {
-            let unit = Rare {
+            let unit = RequiredUnit {
                 unit: units[i],
                 ahead: ahead + i,
             };
@@ -214,20 +218,20 @@ impl Prefix {
         true
     }
 
-    // The unit to look for, if each is known and one stands in texts seldom.
-    fn rare(&self, commons: &[Common; 16]) -> Option<Rare>
-        ensures { IfSome result (λ rare. IsRare self.now rare) }
+    // Returns the rarest unit, if each position allows one unit alone and this one is rare.
+    fn rare(&self, commons: &[CommonBitsOfUnits; 16]) -> Option<RequiredUnit>
+        ensures { IfSome result (λ rare. IsRequiredUnit self.now rare) }
     {
-        let mut rare = Rare { unit: 0, ahead: 0 };
+        let mut rare = RequiredUnit { unit: 0, ahead: 0 };
         let mut least = OFTEN;
         for ahead in 0..self.len {
             let common = commons[ahead];
             if !common.is_unit() {
                 return None;
             }
-            if common.how_often() < least {
-                least = common.how_often();
-                rare = Rare {
+            if common.frequency() < least {
+                least = common.frequency();
+                rare = RequiredUnit {
                     unit: common.all,
                     ahead,
                 };
@@ -240,22 +244,26 @@ impl Prefix {
         }
     }
 
-    // Whether this unit may stand there, and no other.
-    fn has_alone(&self, rare: Rare) -> bool
-        ensures { result ≡ true → IsRare self.now rare }
+    // Checks whether this unit may occur at its position, and no other.
+    fn has_alone(&self, rare: RequiredUnit) -> bool
+        ensures { result ≡ true → IsRequiredUnit self.now rare }
     {
         if rare.ahead >= self.len {
             return false;
         }
         let unit = usize::from(rare.unit);
-        self.may_stand(unit, rare.ahead)
-            && self.stands_none(0, unit, rare.ahead)
-            && self.stands_none(unit + 1, KEYS, rare.ahead)
+        self.is_key_allowed(unit, rare.ahead)
+            && self.excludes_keys_at(0, unit, rare.ahead)
+            && self.excludes_keys_at(unit + 1, KEYS, rare.ahead)
     }
 
-    // Bits to look for, if they are seldom.
-    fn probes(&self, commons: &[Common; 16], limits: Limits) -> Option<[Probe; 4]>
-        ensures { IfSome result (λ probes. AreProbes self.now probes) }
+    // Returns the probes to search for, if they are rare.
+    fn probes(
+        &self,
+        commons: &[CommonBitsOfUnits; 16],
+        limits: ProbeRarityLimits,
+    ) -> Option<[UnitBitsProbe; 4]>
+        ensures { IfSome result (λ probes. AreUnitBitsProbes self.now probes) }
     {
         let [a, b, c, d] = seldom(commons, limits)?;
         if self.has_probe(a) && self.has_probe(b) && self.has_probe(c) && self.has_probe(d) {
@@ -265,35 +273,36 @@ impl Prefix {
         }
     }
 
-    // Whether only units below 128 that pass may stand there.
-    fn has_probe(&self, probe: Probe) -> bool
-        ensures { result ≡ true → IsProbe self.now probe }
+    // Checks whether only units below 128 that pass the probe may occur at its position.
+    fn has_probe(&self, probe: UnitBitsProbe) -> bool
+        ensures { result ≡ true → IsUnitBitsProbe self.now probe }
     {
-        probe.ahead < self.len && self.is_in_ascii_at(probe.ahead) && self.ascii_passes(probe)
+        probe.ahead < self.len && self.allows_only_ascii_at(probe.ahead) && self.ascii_passes(probe)
     }
 
-    // Whether of the units below 128 only those that pass may stand there.
-    fn ascii_passes(&self, probe: Probe) -> bool
+    // Checks whether, of the units below 128, only those that pass the probe may occur at its
+    // position.
+    fn ascii_passes(&self, probe: UnitBitsProbe) -> bool
         requires { probe.ahead < 16 }
         ensures { result ≡ true → (k : ℕ) → k < 128
-            → allowed_of self.now probe.ahead k ≡ true → has_bits probe k ≡ true }
+            → units_allowed_by_prefix self.now probe.ahead k ≡ true → has_bits probe k ≡ true }
     {
         let mut others = false;
         for key in 0..128 {
-            others |= self.may_stand(key, probe.ahead) & !probe.passes(key as u32);
+            others |= self.is_key_allowed(key, probe.ahead) & !probe.passes(key as u32);
         }
         !others
     }
 }
 
-// The longest row of units of which each is one alone, of so many.
-fn longest(commons: &[Common; 16], len: usize) -> Literal {
+// Returns the longest sequence of positions below `len` that allow one unit each.
+fn longest_literal(commons: &[CommonBitsOfUnits; 16], len: usize) -> Literal {
     let none = Literal {
         units: [0; 15],
         len: 0,
         ahead: 0,
     };
-    let mut longest = none;
+    let mut longest_literal = none;
     let mut row = none;
     for ahead in 0..MOST {
         if ahead < len && commons[ahead].is_unit() && row.len < MOST {
@@ -305,16 +314,16 @@ fn longest(commons: &[Common; 16], len: usize) -> Literal {
                 ..none
             };
         }
-        if row.len > longest.len {
-            longest = row;
+        if row.len > longest_literal.len {
+            longest_literal = row;
         }
     }
-    longest
+    longest_literal
 }
 
-// One key more, wherever its mask lets it stand: so many units on, at most.
-fn add_key(commons: &mut [Common; 16], len: usize, mask: u16, key: u8) {
-    let often = how_often(key);
+// Adds a key at each position below `len` at which its mask allows it.
+fn add_key(commons: &mut [CommonBitsOfUnits; 16], len: usize, mask: u16, key: u8) {
+    let often = frequency(key);
     for ahead in 0..len.min(16) {
         if is_clear(mask, ahead) {
             commons[ahead] = commons[ahead].with(key, often);
@@ -322,11 +331,14 @@ fn add_key(commons: &mut [Common; 16], len: usize, mask: u16, key: u8) {
     }
 }
 
-// The four that texts have most seldom, the most seldom one first, if they are seldom.
-fn seldom(commons: &[Common; 16], limits: Limits) -> Option<[Probe; 4]> {
+// Returns the four rarest probes, the rarest one first, if they are rare enough.
+fn seldom(
+    commons: &[CommonBitsOfUnits; 16],
+    limits: ProbeRarityLimits,
+) -> Option<[UnitBitsProbe; 4]> {
     let mut often = [ALWAYS; 16];
     for ahead in 0..16 {
-        often[ahead] = commons[ahead].how_often().min(ALWAYS);
+        often[ahead] = commons[ahead].frequency().min(ALWAYS);
     }
     if often[least(&often)] > limits.most {
         return None;
@@ -346,7 +358,7 @@ fn seldom(commons: &[Common; 16], limits: Limits) -> Option<[Probe; 4]> {
     }
 }
 
-// The index of the least number.
+// Returns the index of the smallest number.
 fn least(numbers: &[u32; 16]) -> usize
     ensures { result < 16 }
 {
@@ -359,8 +371,8 @@ fn least(numbers: &[u32; 16]) -> usize
     at
 }
 
-// How often a unit stands in texts, roughly, in a thousand.
-fn how_often(unit: u8) -> u8 {
+// Estimates how often a unit occurs in texts, in a thousand.
+fn frequency(unit: u8) -> u8 {
     match unit {
         b' ' => 150,
         b'e' | b't' | b'a' | b'o' | b'i' | b'n' | b's' | b'r' | b'h' | b'l' | b'd' | b'u' => 50,

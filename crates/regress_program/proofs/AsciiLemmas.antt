@@ -7,14 +7,14 @@ use Rattle.std.specs.Prelude.{nat_lt, nat_le, ◌||◌, ◌&&◌}
 use Rattle.std.specs.List.{list_all}
 use Rattle.std.specs.Int.{is_in_range}
 use Rattle.regex_meaning.specs.Outcomes.{in_intervals}
-use Rattle.regex_meaning.specs.StartPredicate.{bytes_where}
+use Rattle.regex_meaning.specs.StartPredicate.{bytes_that_pass}
 use Rattle.regex_pattern_front.proofs.ByteLemmas.{bytes_where-same, bytes_where-none}
 use Rattle.std.proofs.lemmas.List.{length-map}
 use Rattle.regex_meaning.proofs.Booleans.{and-left, and-right}
 use Rattle.std.proofs.lemmas.Bool.{and_left, and_right, and_from}
 use Rattle.std.proofs.lemmas.List.Folds.{list_any_more}
 use Rattle.std.proofs.Math.ListN.{get_or-map}
-use Rattle.regex_meaning.specs.Lists.{contains}
+use Rattle.regex_meaning.specs.NumberListHelpers.{contains}
 use Rattle.regex_meaning.proofs.FirstBytes.{in_range-below, in_range-true}
 use Rattle.regex_pattern_front.proofs.ByteLemmas.{contains-bytes_where}
 
@@ -44,20 +44,20 @@ outside_ascii (i ∷ intervals) b h e =
 
 -- if each interval is empty or below 128, the members below 128 are all members
 pub ascii_bytes : (intervals : List (ℕ × ℕ)) → list_all (λ i. nat_lt i.1 128 || nat_lt i.1 i.0) intervals ≡ true
-    → bytes_where (λ b. nat_lt b 128 && in_intervals intervals b) ≡ bytes_where (in_intervals intervals)
+    → bytes_that_pass (λ b. nat_lt b 128 && in_intervals intervals b) ≡ bytes_that_pass (in_intervals intervals)
 ascii_bytes intervals e = bytes_where-same _ _ (λ b h. elim (cases_lt b 128) [
   | inl below ↦ rw (lt-ltb b 128 below)
   | inr above ↦ rw (le-ltb b 128 above) (sym (outside_ascii intervals b above e))
 ])
 
-pub ascii_none : [] ≡ bytes_where (λ b. nat_lt b 128 && in_intervals [] b)
+pub ascii_none : [] ≡ bytes_that_pass (λ b. nat_lt b 128 && in_intervals [] b)
 ascii_none = sym (bytes_where-none _ (λ b h. and_right (nat_lt b 128) false refl))
 
 -- the members of one interval more
 pub ascii_more : {A : Type 0} (f : A → ℕ × ℕ) (items : List A) (i : ℕ) (d : A) (now next : List ℕ) → i < length items
-    → now ≡ bytes_where (λ b. nat_lt b 128 && in_intervals (take i (map f items)) b)
-    → next ≡ bytes_where (λ b. contains now b || (nat_lt b 128 && is_in_range (f (get_or items i d)).0 (f (get_or items i d)).1 b))
-    → next ≡ bytes_where (λ b. nat_lt b 128 && in_intervals (take (i + 1) (map f items)) b)
+    → now ≡ bytes_that_pass (λ b. nat_lt b 128 && in_intervals (take i (map f items)) b)
+    → next ≡ bytes_that_pass (λ b. contains now b || (nat_lt b 128 && is_in_range (f (get_or items i d)).0 (f (get_or items i d)).1 b))
+    → next ≡ bytes_that_pass (λ b. nat_lt b 128 && in_intervals (take (i + 1) (map f items)) b)
 ascii_more f items i d now next h e g = g ∙ bytes_where-same _ _ (λ b k.
     rw (e, contains-bytes_where (λ b. nat_lt b 128 && in_intervals (take i (map f items)) b) b k)
     (rw (list_any_more (λ j. is_in_range j.0 j.1 b) (map f items) i (f d) (omega (arith, length-map items f)), get_or-map f items i d)

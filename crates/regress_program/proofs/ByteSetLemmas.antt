@@ -4,11 +4,11 @@ use Rattle.std.proofs.Common.{Some, None, drop-cons, refl, sym, ap, ◌∙◌, a
 use Rattle.std.specs.Prelude.{◌==◌, ◌&&◌, nat_le}
 use Rattle.std.specs.List.{list_any}
 use Rattle.std.proofs.lemmas.List.{drop_all}
-use Rattle.regex_meaning.specs.Lists.{contains, numbers_from}
+use Rattle.regex_meaning.specs.NumberListHelpers.{contains, numbers_from}
 use Rattle.regex_meaning.specs.Tree.{Intervals}
-use Rattle.regex_meaning.specs.StartPredicate.{bytes_where, begun_by, meet, union, first_byte}
+use Rattle.regex_meaning.specs.StartPredicate.{bytes_that_pass, chars_with_first_byte, intersects, union, first_byte_as_set}
 use Rattle.regex_pattern_front.proofs.ByteLemmas.{contains-bytes_where, bytes_where-same}
-use Rattle.regress_program.specs.Beginnings.{bytes_from}
+use Rattle.regress_program.specs.NodeStarts.{set_bytes_from}
 use Rattle.std.proofs.Math.Bool.{or-false, or_assoc}
 
 or-comm : (s t : Bool) → (s || t) ≡ (t || s)
@@ -19,17 +19,17 @@ or-comm false false = refl
 
 -- ---- Unions
 
-pub union-none : (p : ℕ → Bool) → union (bytes_where p) [] ≡ bytes_where p
-union-none p = bytes_where-same _ _ (λ b h. or-false (contains (bytes_where p) b) ∙ contains-bytes_where p b h)
+pub union-none : (p : ℕ → Bool) → union (bytes_that_pass p) [] ≡ bytes_that_pass p
+union-none p = bytes_where-same _ _ (λ b h. or-false (contains (bytes_that_pass p) b) ∙ contains-bytes_where p b h)
 
-pub union-more : (old new rest : List ℕ) (byte : ℕ) → new ≡ bytes_where (λ b. b == byte || contains old b)
+pub union-more : (old new rest : List ℕ) (byte : ℕ) → new ≡ bytes_that_pass (λ b. b == byte || contains old b)
     → union new rest ≡ union old (byte ∷ rest)
 union-more old new rest byte e = bytes_where-same _ _ (λ b h.
     ap (λ t. t || contains rest b) (ap (λ s. contains s b) e ∙ contains-bytes_where (λ c. c == byte || contains old c) b h ∙ or-comm (b == byte) (contains old b))
     ∙ or_assoc (contains old b) (b == byte) (contains rest b))
 
 -- a byte of a list, where the rest is to come
-pub union-next : (old new bytes : List ℕ) (i : ℕ) → i < length bytes → new ≡ bytes_where (λ b. b == get_or bytes i 0 || contains old b)
+pub union-next : (old new bytes : List ℕ) (i : ℕ) → i < length bytes → new ≡ bytes_that_pass (λ b. b == get_or bytes i 0 || contains old b)
     → union new (drop (i + 1) bytes) ≡ union old (drop i bytes)
 union-next old new bytes i h e =
     let next : suc i ≡ i + 1 = omega arith in
@@ -37,12 +37,12 @@ union-next old new bytes i h e =
     ∙ ap (union old) (sym (drop-cons bytes i 0 h ∙ ap (λ (k : ℕ). get_or bytes i 0 ∷ drop k bytes) next))
 
 -- the first byte of a list alone
-pub union-no_first : (p : ℕ → Bool) (bytes : List ℕ) → slice_get bytes 0 ≡ None → bytes_where p ≡ union (bytes_where p) (first_byte bytes)
+pub union-no_first : (p : ℕ → Bool) (bytes : List ℕ) → slice_get bytes 0 ≡ None → bytes_that_pass p ≡ union (bytes_that_pass p) (first_byte_as_set bytes)
 union-no_first p [] h = sym (union-none p)
 union-no_first p (x ∷ xs) h = cc
 
-pub union-first : (old new bytes : List ℕ) (byte : ℕ) → slice_get bytes 0 ≡ Some byte → new ≡ bytes_where (λ b. b == byte || contains old b)
-    → new ≡ union old (first_byte bytes)
+pub union-first : (old new bytes : List ℕ) (byte : ℕ) → slice_get bytes 0 ≡ Some byte → new ≡ bytes_that_pass (λ b. b == byte || contains old b)
+    → new ≡ union old (first_byte_as_set bytes)
 union-first old new [] byte h e = cc
 union-first old new (x ∷ xs) byte h e =
     let is : byte ≡ x = cc in
@@ -77,15 +77,15 @@ union-same xs ys = union-comm (union xs ys) ys ∙ ap (union ys) (union-comm xs 
 
 -- the set and the first bytes of these code points
 abbrev pub with_first_bytes : List ℕ → Intervals → List ℕ
-with_first_bytes set intervals = bytes_where (λ b. contains set b || meet (begun_by b) intervals)
+with_first_bytes set intervals = bytes_that_pass (λ b. contains set b || intersects (chars_with_first_byte b) intervals)
 
-meet-none : (xs : Intervals) → meet xs [] ≡ false
+meet-none : (xs : Intervals) → intersects xs [] ≡ false
 meet-none [] = refl
 meet-none (x ∷ xs) = meet-none xs
 
-pub first_bytes-none : (p : ℕ → Bool) → with_first_bytes (bytes_where p) [] ≡ bytes_where p
+pub first_bytes-none : (p : ℕ → Bool) → with_first_bytes (bytes_that_pass p) [] ≡ bytes_that_pass p
 first_bytes-none p =
-    bytes_where-same _ _ (λ b h. ap (λ t. contains (bytes_where p) b || t) (meet-none (begun_by b)) ∙ or-false (contains (bytes_where p) b) ∙ contains-bytes_where p b h)
+    bytes_where-same _ _ (λ b h. ap (λ t. contains (bytes_that_pass p) b || t) (meet-none (chars_with_first_byte b)) ∙ or-false (contains (bytes_that_pass p) b) ∙ contains-bytes_where p b h)
 
 four : (s t u v : Bool) → ((s || t) || (u || v)) ≡ (((s || false) || u) || (t || v))
 four true t u v = refl
@@ -96,19 +96,19 @@ four false false u v = refl
 touches : (x y : ℕ × ℕ) → Bool
 touches x y = nat_le x.0 x.1 && nat_le y.0 y.1 && nat_le x.0 y.1 && nat_le y.0 x.1
 
-meet-cons : (xs : Intervals) (y : ℕ × ℕ) (ys : Intervals) → meet xs (y ∷ ys) ≡ (meet xs (y ∷ []) || meet xs ys)
+meet-cons : (xs : Intervals) (y : ℕ × ℕ) (ys : Intervals) → intersects xs (y ∷ ys) ≡ (intersects xs (y ∷ []) || intersects xs ys)
 unfolding touches
 meet-cons [] y ys = refl
 meet-cons (x ∷ xs) y ys =
     ap (λ t. (touches x y || list_any (touches x) ys) || t) (meet-cons xs y ys)
-    ∙ four (touches x y) (list_any (touches x) ys) (meet xs (y ∷ [])) (meet xs ys)
+    ∙ four (touches x y) (list_any (touches x) ys) (intersects xs (y ∷ [])) (intersects xs ys)
 
 pub first_bytes-more : (old new : List ℕ) (i : ℕ × ℕ) (rest : Intervals) → new ≡ with_first_bytes old (i ∷ [])
     → with_first_bytes new rest ≡ with_first_bytes old (i ∷ rest)
 first_bytes-more old new i rest e = bytes_where-same _ _ (λ b h.
-    ap (λ t. t || meet (begun_by b) rest) (ap (λ s. contains s b) e ∙ contains-bytes_where (λ c. contains old c || meet (begun_by c) (i ∷ [])) b h)
-    ∙ or_assoc (contains old b) (meet (begun_by b) (i ∷ [])) (meet (begun_by b) rest)
-    ∙ ap (λ t. contains old b || t) (sym (meet-cons (begun_by b) i rest)))
+    ap (λ t. t || intersects (chars_with_first_byte b) rest) (ap (λ s. contains s b) e ∙ contains-bytes_where (λ c. contains old c || intersects (chars_with_first_byte c) (i ∷ [])) b h)
+    ∙ or_assoc (contains old b) (intersects (chars_with_first_byte b) (i ∷ [])) (intersects (chars_with_first_byte b) rest)
+    ∙ ap (λ t. contains old b || t) (sym (meet-cons (chars_with_first_byte b) i rest)))
 
 -- an item of a list, where the rest is to come
 pub first_bytes-next : {A : Type 0} (f : A → ℕ × ℕ) (old new : List ℕ) (items : List A) (i : ℕ) (d : A) → i < length items
@@ -120,28 +120,28 @@ first_bytes-next {A = A} f old new items i d h e =
 
 -- no item is left
 pub first_bytes-end : {A : Type 0} (f : A → ℕ × ℕ) (p : ℕ → Bool) (items : List A) (i : ℕ) → length items ≤ i
-    → bytes_where p ≡ with_first_bytes (bytes_where p) (map f (drop i items))
-first_bytes-end {A = A} f p items i h = sym (first_bytes-none p) ∙ ap (λ (xs : List A). with_first_bytes (bytes_where p) (map f xs)) (sym (drop_all i items h))
+    → bytes_that_pass p ≡ with_first_bytes (bytes_that_pass p) (map f (drop i items))
+first_bytes-end {A = A} f p items i h = sym (first_bytes-none p) ∙ ap (λ (xs : List A). with_first_bytes (bytes_that_pass p) (map f xs)) (sym (drop_all i items h))
 
 -- ---- Members one after another
 
-bytes_from-cons : (set : List ℕ) (n : ℕ) → n < 256 → bytes_from set n ≡ (if contains set n then n ∷ bytes_from set (n + 1) else bytes_from set (n + 1))
-unfolding bytes_from
+bytes_from-cons : (set : List ℕ) (n : ℕ) → n < 256 → set_bytes_from set n ≡ (if contains set n then n ∷ set_bytes_from set (n + 1) else set_bytes_from set (n + 1))
+unfolding set_bytes_from
 bytes_from-cons set n h = let e : 256 - n ≡ suc (256 - (n + 1)) = omega arith in ap (λ k. filter (contains set) (numbers_from n k)) e
 
-pub bytes_from-next : (set : List ℕ) (n : ℕ) → n < 256 → contains set n ≡ true → bytes_from set n ≡ n ∷ bytes_from set (n + 1)
-bytes_from-next set n h e = bytes_from-cons set n h ∙ ap (λ t. if t then n ∷ bytes_from set (n + 1) else bytes_from set (n + 1)) e
+pub bytes_from-next : (set : List ℕ) (n : ℕ) → n < 256 → contains set n ≡ true → set_bytes_from set n ≡ n ∷ set_bytes_from set (n + 1)
+bytes_from-next set n h e = bytes_from-cons set n h ∙ ap (λ t. if t then n ∷ set_bytes_from set (n + 1) else set_bytes_from set (n + 1)) e
 
-pub bytes_from-skip : (set : List ℕ) (n : ℕ) → n < 256 → contains set n ≡ false → bytes_from set n ≡ bytes_from set (n + 1)
-bytes_from-skip set n h e = bytes_from-cons set n h ∙ ap (λ t. if t then n ∷ bytes_from set (n + 1) else bytes_from set (n + 1)) e
+pub bytes_from-skip : (set : List ℕ) (n : ℕ) → n < 256 → contains set n ≡ false → set_bytes_from set n ≡ set_bytes_from set (n + 1)
+bytes_from-skip set n h e = bytes_from-cons set n h ∙ ap (λ t. if t then n ∷ set_bytes_from set (n + 1) else set_bytes_from set (n + 1)) e
 
-pub bytes_from-end : (set : List ℕ) (n : ℕ) → 256 ≤ n → bytes_from set n ≡ []
-unfolding bytes_from
+pub bytes_from-end : (set : List ℕ) (n : ℕ) → 256 ≤ n → set_bytes_from set n ≡ []
+unfolding set_bytes_from
 bytes_from-end set n h = let e : 256 - n ≡ 0 = omega arith in ap (λ k. filter (contains set) (numbers_from n k)) e
 
-from_first : (set : List ℕ) → bytes_from set 0 ≡ bytes_where (contains set)
-unfolding bytes_from bytes_where
+from_first : (set : List ℕ) → set_bytes_from set 0 ≡ bytes_that_pass (contains set)
+unfolding set_bytes_from bytes_that_pass
 from_first set = refl
 
-pub bytes_from-all : (p : ℕ → Bool) → bytes_from (bytes_where p) 0 ≡ bytes_where p
-bytes_from-all p = from_first (bytes_where p) ∙ bytes_where-same _ p (contains-bytes_where p)
+pub bytes_from-all : (p : ℕ → Bool) → set_bytes_from (bytes_that_pass p) 0 ≡ bytes_that_pass p
+bytes_from-all p = from_first (bytes_that_pass p) ∙ bytes_where-same _ p (contains-bytes_where p)

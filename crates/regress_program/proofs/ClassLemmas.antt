@@ -9,7 +9,7 @@ use Rattle.std.proofs.lemmas.Bool.Decides.{nat_tests}
 use Rattle.std.proofs.lemmas.List.Folds.{list_any-append}
 use Rattle.regex_meaning.specs.Tree.{Intervals}
 use Rattle.regex_meaning.specs.Outcomes.{in_intervals}
-use Rattle.regex_meaning.specs.StartPredicate.{begun_by, meet, first_bytes, outside, without}
+use Rattle.regex_meaning.specs.StartPredicate.{chars_with_first_byte, intersects, first_bytes, interval_minus, intervals_minus}
 use Rattle.regex_meaning.proofs.FirstBytes.{in_range-true, true-in_range}
 use Rattle.regex_pattern_front.proofs.ByteLemmas.{bytes_where-same}
 use Rattle.regex_meaning.proofs.Booleans.{and-left, and-right, same-truth}
@@ -56,7 +56,7 @@ shared x y h =
     (leb-true y.0 x.1 (and-right _ _ h))
 
 -- so do two sets
-meet_at : (xs ys : Intervals) (c : ℕ) → in_intervals xs c ≡ true → in_intervals ys c ≡ true → meet xs ys ≡ true
+meet_at : (xs ys : Intervals) (c : ℕ) → in_intervals xs c ≡ true → in_intervals ys c ≡ true → intersects xs ys ≡ true
 meet_at xs ys c h k =
     let x = some (λ i. is_in_range i.0 i.1 c) xs h in
     let y = some (λ i. is_in_range i.0 i.1 c) ys k in
@@ -67,7 +67,7 @@ record Shared (xs ys : Intervals) : Type 0 where
   left : in_intervals xs number ≡ true
   right : in_intervals ys number ≡ true
 
-met : (xs ys : Intervals) → meet xs ys ≡ true → Shared xs ys
+met : (xs ys : Intervals) → intersects xs ys ≡ true → Shared xs ys
 met xs ys h =
     let x = some (λ i. list_any (touches i) ys) xs h in
     let y = some (touches x.this) ys x.passes in
@@ -75,12 +75,12 @@ met xs ys h =
     let c = max x.this.0 y.this.0 in
     record { number = c; left = x.stands (λ i. is_in_range i.0 i.1 c) both.0; right = y.stands (λ i. is_in_range i.0 i.1 c) both.1 }
 
-meet_same : (xs ys zs : Intervals) → ((c : ℕ) → in_intervals ys c ≡ in_intervals zs c) → meet xs ys ≡ true → meet xs zs ≡ true
+meet_same : (xs ys zs : Intervals) → ((c : ℕ) → in_intervals ys c ≡ in_intervals zs c) → intersects xs ys ≡ true → intersects xs zs ≡ true
 meet_same xs ys zs e h = let at = met xs ys h in meet_at xs zs at.number at.left (sym (e at.number) ∙ at.right)
 
 pub first_bytes-same : (xs ys : Intervals) → ((c : ℕ) → in_intervals xs c ≡ in_intervals ys c) → first_bytes xs ≡ first_bytes ys
 first_bytes-same xs ys e =
-    bytes_where-same _ _ (λ b h. same-truth _ _ (meet_same (begun_by b) xs ys e) (meet_same (begun_by b) ys xs (λ c. sym (e c))))
+    bytes_where-same _ _ (λ b h. same-truth _ _ (meet_same (chars_with_first_byte b) xs ys e) (meet_same (chars_with_first_byte b) ys xs (λ c. sym (e c))))
 
 -- ---- Complements
 
@@ -106,7 +106,7 @@ empty_other : (inside : Bool) (first last c : ℕ) → last < first → (inside 
 empty_other true first last c h = grind (arith, nat_tests)
 empty_other false first last c h = refl
 
-in_outside : (other this : ℕ × ℕ) (c : ℕ) → in_intervals (outside other this) c ≡ (is_in_range this.0 this.1 c && not (is_in_range other.0 other.1 c))
+in_outside : (other this : ℕ × ℕ) (c : ℕ) → in_intervals (interval_minus other this) c ≡ (is_in_range this.0 this.1 c && not (is_in_range other.0 other.1 c))
 in_outside other this c =
     elim (cases_lt other.1 other.0) [
       | inl none ↦ rw (lt-ltb other.1 other.0 none) (empty_other (is_in_range this.0 this.1 c) other.0 other.1 c none)
@@ -124,11 +124,11 @@ both_out true false true = refl
 both_out true false false = refl
 both_out false b n = refl
 
-in_each_outside : (other : ℕ × ℕ) (these : Intervals) (c : ℕ) → in_intervals (flat_map (outside other) these) c ≡ (in_intervals these c && not (is_in_range other.0 other.1 c))
+in_each_outside : (other : ℕ × ℕ) (these : Intervals) (c : ℕ) → in_intervals (flat_map (interval_minus other) these) c ≡ (in_intervals these c && not (is_in_range other.0 other.1 c))
 in_each_outside other [] c = refl
 in_each_outside other (i ∷ these) c =
-    list_any-append (λ j. is_in_range j.0 j.1 c) (outside other i) (flat_map (outside other) these)
-    ∙ ap (λ t. t || in_intervals (flat_map (outside other) these) c) (in_outside other i c)
+    list_any-append (λ j. is_in_range j.0 j.1 c) (interval_minus other i) (flat_map (interval_minus other) these)
+    ∙ ap (λ t. t || in_intervals (flat_map (interval_minus other) these) c) (in_outside other i c)
     ∙ ap (λ t. (is_in_range i.0 i.1 c && not (is_in_range other.0 other.1 c)) || t) (in_each_outside other these c)
     ∙ both_out (is_in_range i.0 i.1 c) (in_intervals these c) (not (is_in_range other.0 other.1 c))
 
@@ -141,10 +141,10 @@ neither true true d = refl
 neither true false d = refl
 neither false b d = refl
 
-in_without : (these others : Intervals) (c : ℕ) → in_intervals (without these others) c ≡ (in_intervals these c && not (in_intervals others c))
+in_without : (these others : Intervals) (c : ℕ) → in_intervals (intervals_minus these others) c ≡ (in_intervals these c && not (in_intervals others c))
 in_without these [] c = no_other (in_intervals these c)
 in_without these (other ∷ others) c =
-    in_without (flat_map (outside other) these) others c
+    in_without (flat_map (interval_minus other) these) others c
     ∙ ap (λ t. t && not (in_intervals others c)) (in_each_outside other these c)
     ∙ neither (in_intervals these c) (is_in_range other.0 other.1 c) (in_intervals others c)
 
@@ -153,7 +153,7 @@ a_code_point c = grind (arith, nat_tests)
 
 -- all code points but these, however they are given
 pub first_bytes-inverted : (these others : Intervals) → ((c : ℕ) → in_intervals others c ≡ (nat_le c 0x10_FFFF && not (in_intervals these c)))
-    → first_bytes others ≡ first_bytes (without ((0, 0x10_FFFF) ∷ []) these)
+    → first_bytes others ≡ first_bytes (intervals_minus ((0, 0x10_FFFF) ∷ []) these)
 first_bytes-inverted these others e =
-    first_bytes-same others (without ((0, 0x10_FFFF) ∷ []) these)
+    first_bytes-same others (intervals_minus ((0, 0x10_FFFF) ∷ []) these)
     (λ c. e c ∙ ap (λ t. t && not (in_intervals these c)) (sym (a_code_point c)) ∙ sym (in_without ((0, 0x10_FFFF) ∷ []) these c))

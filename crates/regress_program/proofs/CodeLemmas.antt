@@ -5,18 +5,18 @@ use Rattle.std.specs.Prelude.{MatchBool}
 use Rattle.regex_meaning.specs.Tree.{Node, BracketContents, empty, goal, char, char_set, byte_set, byte_sequence, cat, end_of_cat, alt, bracket}
 use Rattle.regex_meaning.specs.Tree.{string_set, match_any, match_any_except_line_terminator, anchor, word_boundary, capture_group, back_ref}
 use Rattle.regex_meaning.specs.Tree.{lookaround, loop, loop_1_char_body, Tree}
-use Rattle.regex_meaning.specs.Outcomes.{most_of, in_intervals}
-use Rattle.regex_meaning.specs.StartPredicate.{bytes_where}
-use Rattle.regex_meaning.specs.WellFormed.{IsWellFormed}
-use Rattle.regex_meaning.specs.Layout.{Insn, JustFail, Char, MatchAny, MatchAnyExceptLineTerminator, BackRef, Alt, Jump, EnterLoop, LoopAgain, Goal}
-use Rattle.regex_meaning.specs.Layout.{BeginCaptureGroup, EndCaptureGroup, Loop1CharBody, AsciiBracket, Bracket, ByteSeq, Mark, Program, HasAll}
-use Rattle.regex_meaning.specs.Layout.{IsStringCode, AreStringsCode, IsCode, IsByteCodeOf, lookaround_insn, ordered, is_ascii_set, char_set_insn}
-use Rattle.regex_meaning.specs.Layout.{byte_set_insn, anchor_insn, word_boundary_insn, chunks}
+use Rattle.regex_meaning.specs.Outcomes.{max_iterations, in_intervals}
+use Rattle.regex_meaning.specs.StartPredicate.{bytes_that_pass}
+use Rattle.regex_meaning.specs.WellFormedTrees.{IsWellFormed}
+use Rattle.regex_meaning.specs.CompilationRelation.{Insn, JustFail, Char, MatchAny, MatchAnyExceptLineTerminator, BackRef, Alt, Jump, EnterLoop, LoopAgain, Goal}
+use Rattle.regex_meaning.specs.CompilationRelation.{BeginCaptureGroup, EndCaptureGroup, Loop1CharBody, AsciiBracket, Bracket, ByteSeq, Counters, Program, HasInsnsBetween}
+use Rattle.regex_meaning.specs.CompilationRelation.{IsStringCode, AreStringsCode, IsCode, IsByteCodeOf, lookaround_insn, ordered, is_ascii_set, char_set_insn}
+use Rattle.regex_meaning.specs.CompilationRelation.{byte_set_insn, anchor_insn, word_boundary_insn, chunks}
 use Rattle.regex_meaning.proofs.Clean.{predicate-sound}
-use Rattle.regress_program.specs.Code.{size, strings_size, loop_count, brackets_of, string_code, strings_code, resets, code_of, compiled}
+use Rattle.regress_program.specs.CodeOfTrees.{node_insn_count, strings_size, loop_count, brackets_of, string_code, strings_code, group_reset_insns, code_of, compiled}
 use Rattle.regress_program.proofs.EmitLemmas.{length-code_of, length-string_code, length-resets}
 
-abbrev mark : (insn loop bracket : ℕ) → Mark
+abbrev mark : (insn loop bracket : ℕ) → Counters
 mark i l b = record { insn = i; loop = l; bracket = b }
 
 slice_get-seam : {A : Type 0} → (pre : List A) (x : A) (post : List A) → slice_get (pre ++ x ∷ post) (length pre) ≡ Some x
@@ -32,14 +32,14 @@ module _ (p : Program) where
   has_one pre post x at a e = ap (λ is. slice_get is at) e ∙ ap (λ n. slice_get (pre ++ x ∷ post) n) a ∙ slice_get-seam pre x post
 
   has_all : (xs pre post : List Insn) (at l b end : ℕ) → at ≡ length pre → p.insns ≡ pre ++ (xs ++ post) → end ≡ at + length xs
-      → HasAll p xs (record { insn = at; loop = l; bracket = b }) (record { insn = end; loop = l; bracket = b })
-  has_all [] pre post at l b end a e n = ap (λ i. let m : Mark = record { insn = i; loop = l; bracket = b } in m) (omega arith)
+      → HasInsnsBetween p xs (record { insn = at; loop = l; bracket = b }) (record { insn = end; loop = l; bracket = b })
+  has_all [] pre post at l b end a e n = ap (λ i. let m : Counters = record { insn = i; loop = l; bracket = b } in m) (omega arith)
   has_all (x ∷ xs) pre post at l b end a e n = (
     has_one pre (xs ++ post) x at a e,
     has_all xs (pre ++ x ∷ []) post (at + 1) l b end (omega (arith, length-append pre (x ∷ []))) (e ∙ sym (append_assoc pre (x ∷ []) (xs ++ post))) (omega arith),
   )
 
-  string_is_code : (icase d : Bool) (s : List ℕ) (pre post : List Insn) (at l b : ℕ) (n : Mark) → at ≡ length pre
+  string_is_code : (icase d : Bool) (s : List ℕ) (pre post : List Insn) (at l b : ℕ) (n : Counters) → at ≡ length pre
       → p.insns ≡ pre ++ (string_code p.flags.unicode icase d s ++ post) → n ≡ mark (at + length s) l b
       → IsStringCode p icase d s (mark at l b) n
   string_is_code icase d s pre post at l b n a e k =
@@ -47,10 +47,10 @@ module _ (p : Program) where
       (has_all (string_code p.flags.unicode icase d s) pre post at l b (at + length s) a e (omega (arith, length-string_code p.flags.unicode icase d s)))
 
   -- one instruction
-  single : (x : Insn) (pre post : List Insn) (at l b : ℕ) (n : Mark) → at ≡ length pre → p.insns ≡ pre ++ x ∷ post
-      → n ≡ mark (at + 1) (l + 0) (b + 0) → HasAll p (x ∷ []) (mark at l b) n
+  single : (x : Insn) (pre post : List Insn) (at l b : ℕ) (n : Counters) → at ≡ length pre → p.insns ≡ pre ++ x ∷ post
+      → n ≡ mark (at + 1) (l + 0) (b + 0) → HasInsnsBetween p (x ∷ []) (mark at l b) n
   single x pre post at l b n a e k =
-      subst (λ m. HasAll p (x ∷ []) (mark at l b) m) (sym (k ∙ same_mark (at + 1) (at + 1) (l + 0) l (b + 0) b refl (omega arith) (omega arith)))
+      subst (λ m. HasInsnsBetween p (x ∷ []) (mark at l b) m) (sym (k ∙ same_mark (at + 1) (at + 1) (l + 0) l (b + 0) b refl (omega arith) (omega arith)))
       (has_all (x ∷ []) pre post at l b (at + 1) a e refl)
 
   -- what stands behind a part
@@ -61,11 +61,11 @@ module _ (p : Program) where
   brackets_behind : (pre xs ys post : List BracketContents) → p.brackets ≡ pre ++ ((xs ++ ys) ++ post) → p.brackets ≡ (pre ++ xs) ++ (ys ++ post)
   brackets_behind pre xs ys post e = e ∙ ap (λ is. pre ++ is) (append_assoc xs ys post) ∙ sym (append_assoc pre xs (ys ++ post))
 
-  strings_are_code : (icase d : Bool) (strings : List (List ℕ)) (pre post : List Insn) (at l b : ℕ) (n : Mark) → at ≡ length pre
+  strings_are_code : (icase d : Bool) (strings : List (List ℕ)) (pre post : List Insn) (at l b : ℕ) (n : Counters) → at ≡ length pre
       → p.insns ≡ pre ++ (strings_code p.flags.unicode icase d strings at ++ post) → n ≡ mark (at + strings_size strings) l b
       → AreStringsCode p icase d strings (mark at l b) n
   strings_are_code icase d [] pre post at l b n a e k =
-      subst (λ x. HasAll p (JustFail ∷ []) (mark at l b) x) (sym k) (has_all (JustFail ∷ []) pre post at l b (at + 1) a e refl)
+      subst (λ x. HasInsnsBetween p (JustFail ∷ []) (mark at l b) x) (sym k) (has_all (JustFail ∷ []) pre post at l b (at + 1) a e refl)
   strings_are_code icase d (s ∷ []) pre post at l b n a e k = string_is_code icase d s pre post at l b n a e k
   strings_are_code icase d (s ∷ t ∷ more) pre post at l b n a e k =
       let u = p.flags.unicode in
@@ -94,24 +94,24 @@ module _ (p : Program) where
       )
 
   -- a bracket, as its set is one of bytes or not
-  bracket_is_code : (ascii : Bool) (contents : BracketContents) (pre post : List Insn) (pre_b post_b : List BracketContents) (at l b : ℕ) (n : Mark) → at ≡ length pre
-      → p.insns ≡ pre ++ (((if ascii then AsciiBracket (bytes_where (in_intervals contents.intervals)) else Bracket b) ∷ []) ++ post)
+  bracket_is_code : (ascii : Bool) (contents : BracketContents) (pre post : List Insn) (pre_b post_b : List BracketContents) (at l b : ℕ) (n : Counters) → at ≡ length pre
+      → p.insns ≡ pre ++ (((if ascii then AsciiBracket (bytes_that_pass (in_intervals contents.intervals)) else Bracket b) ∷ []) ++ post)
       → b ≡ length pre_b → p.brackets ≡ pre_b ++ ((if ascii then [] else contents ∷ []) ++ post_b)
       → n ≡ mark (at + 1) (l + 0) (b + length (if ascii then [] else contents ∷ []))
-      → MatchBool ascii (HasAll p (AsciiBracket (bytes_where (in_intervals contents.intervals)) ∷ []) (mark at l b) n)
-      (HasAll p (Bracket b ∷ []) (mark at l (b + 1)) n × (slice_get p.brackets b ≡ Some contents))
-  bracket_is_code true contents pre post pre_b post_b at l b n a e ab eb k = single (AsciiBracket (bytes_where (in_intervals contents.intervals))) pre post at l b n a e k
+      → MatchBool ascii (HasInsnsBetween p (AsciiBracket (bytes_that_pass (in_intervals contents.intervals)) ∷ []) (mark at l b) n)
+      (HasInsnsBetween p (Bracket b ∷ []) (mark at l (b + 1)) n × (slice_get p.brackets b ≡ Some contents))
+  bracket_is_code true contents pre post pre_b post_b at l b n a e ab eb k = single (AsciiBracket (bytes_that_pass (in_intervals contents.intervals))) pre post at l b n a e k
   bracket_is_code false contents pre post pre_b post_b at l b n a e ab eb k = (
     single (Bracket b) pre post at l (b + 1) n a e (k ∙ same_mark (at + 1) (at + 1) (l + 0) (l + 0) (b + 1) (b + 1 + 0) refl refl (omega arith)),
     ap (λ bs. slice_get bs b) eb ∙ ap (λ i. slice_get (pre_b ++ contents ∷ post_b) i) ab ∙ slice_get-seam pre_b contents post_b,
   )
 
-  code_stands : (d : Bool) (node : Node) (pre post : List Insn) (pre_b post_b : List BracketContents) (at l b : ℕ) (n : Mark)
+  code_stands : (d : Bool) (node : Node) (pre post : List Insn) (pre_b post_b : List BracketContents) (at l b : ℕ) (n : Counters)
       → at ≡ length pre → p.insns ≡ pre ++ (code_of p.flags.unicode d node at l b ++ post)
       → b ≡ length pre_b → p.brackets ≡ pre_b ++ (brackets_of node ++ post_b)
-      → n ≡ mark (at + size node) (l + loop_count node) (b + length (brackets_of node))
+      → n ≡ mark (at + node_insn_count node) (l + loop_count node) (b + length (brackets_of node))
       → IsCode p d node (mark at l b) n
-  unfolding IsCode code_of size loop_count brackets_of
+  unfolding IsCode code_of node_insn_count loop_count brackets_of
   code_stands d empty pre post pre_b post_b at l b n a e ab eb k = sym (k ∙ same_mark (at + 0) at (l + 0) l (b + 0) b (omega arith) (omega arith) (omega arith))
   code_stands d goal pre post pre_b post_b at l b n a e ab eb k = single Goal pre post at l b n a e k
   code_stands d (char c) pre post pre_b post_b at l b n a e ab eb k = single (Char c) pre post at l b n a e k
@@ -120,18 +120,18 @@ module _ (p : Program) where
   code_stands d (byte_sequence bytes) pre post pre_b post_b at l b n a e ab eb k =
       let cs = map ByteSeq (ordered d (chunks bytes)) in
       let len : length cs ≡ length (chunks bytes) = length-code_of p.flags.unicode d (byte_sequence bytes) at l b in
-      subst (λ x. HasAll p cs (mark at l b) x) (sym (k ∙ same_mark _ _ (l + 0) l (b + 0) b refl (omega arith) (omega arith)))
+      subst (λ x. HasInsnsBetween p cs (mark at l b) x) (sym (k ∙ same_mark _ _ (l + 0) l (b + 0) b refl (omega arith) (omega arith)))
       (has_all cs pre post at l b (at + length (chunks bytes)) a e (omega arith))
   code_stands d (cat first rest) pre post pre_b post_b at l b n a e ab eb k =
       let u = p.flags.unicode in
       let ca = code_of u d first at l b in
       let ba = brackets_of first in
       let bb = brackets_of rest in
-      let cb = code_of u d rest (at + size first) (l + loop_count first) (b + length ba) in (
-        mark (at + size first) (l + loop_count first) (b + length ba),
-        code_stands d first pre (cb ++ post) pre_b (bb ++ post_b) at l b (mark (at + size first) (l + loop_count first) (b + length ba)) a
+      let cb = code_of u d rest (at + node_insn_count first) (l + loop_count first) (b + length ba) in (
+        mark (at + node_insn_count first) (l + loop_count first) (b + length ba),
+        code_stands d first pre (cb ++ post) pre_b (bb ++ post_b) at l b (mark (at + node_insn_count first) (l + loop_count first) (b + length ba)) a
             (e ∙ ap (λ is. pre ++ is) (append_assoc ca cb post)) ab (eb ∙ ap (λ is. pre_b ++ is) (append_assoc ba bb post_b)) refl,
-        code_stands d rest (pre ++ ca) post (pre_b ++ ba) post_b (at + size first) (l + loop_count first) (b + length ba) n
+        code_stands d rest (pre ++ ca) post (pre_b ++ ba) post_b (at + node_insn_count first) (l + loop_count first) (b + length ba) n
             (omega (arith, length-append pre ca, length-code_of u d first at l b)) (behind pre ca cb post e)
             (omega (arith, length-append pre_b ba)) (brackets_behind pre_b ba bb post_b eb)
             (k ∙ same_mark _ _ _ _ _ _ (omega arith) (omega arith) (omega (arith, length-append ba bb))),
@@ -139,12 +139,12 @@ module _ (p : Program) where
   code_stands d end_of_cat pre post pre_b post_b at l b n a e ab eb k = sym (k ∙ same_mark (at + 0) at (l + 0) l (b + 0) b (omega arith) (omega arith) (omega arith))
   code_stands d (alt left right) pre post pre_b post_b at l b n a e ab eb k =
       let u = p.flags.unicode in
-      let second = at + size left + 2 in
+      let second = at + node_insn_count left + 2 in
       let branch = Alt second in
       let ba = brackets_of left in
       let bb = brackets_of right in
       let ca = code_of u d left (at + 1) l b in
-      let jump = Jump (second + size right) in
+      let jump = Jump (second + node_insn_count right) in
       let cb = code_of u d right second (l + loop_count left) (b + length ba) in
       let pre1 = pre ++ branch ∷ [] in
       let e1 : p.insns ≡ pre1 ++ (ca ++ (jump ∷ (cb ++ post))) =
@@ -153,16 +153,16 @@ module _ (p : Program) where
       let pre2 = (pre1 ++ ca) ++ jump ∷ [] in
       let e3 : p.insns ≡ pre2 ++ (cb ++ post) = e2 ∙ sym (append_assoc (pre1 ++ ca) (jump ∷ []) (cb ++ post)) in
       let a1 : at + 1 ≡ length pre1 = omega (arith, length-append pre (branch ∷ [])) in
-      let a2 : at + 1 + size left ≡ length (pre1 ++ ca) = omega (arith, length-append pre1 ca, length-code_of u d left (at + 1) l b) in
-      let a3 : at + 1 + size left + 1 ≡ length pre2 = omega (arith, length-append (pre1 ++ ca) (jump ∷ [])) in
-      let at_second : at + 1 + size left + 1 ≡ second = omega arith in
-      let at_end : second + size right ≡ n.insn = omega (arith, ap (λ m. m.insn) k) in (
-        mark (at + 1 + size left) (l + loop_count left) (b + length ba),
+      let a2 : at + 1 + node_insn_count left ≡ length (pre1 ++ ca) = omega (arith, length-append pre1 ca, length-code_of u d left (at + 1) l b) in
+      let a3 : at + 1 + node_insn_count left + 1 ≡ length pre2 = omega (arith, length-append (pre1 ++ ca) (jump ∷ [])) in
+      let at_second : at + 1 + node_insn_count left + 1 ≡ second = omega arith in
+      let at_end : second + node_insn_count right ≡ n.insn = omega (arith, ap (λ m. m.insn) k) in (
+        mark (at + 1 + node_insn_count left) (l + loop_count left) (b + length ba),
         has_one pre ((ca ++ jump ∷ cb) ++ post) branch at a e ∙ ap (λ i. Some (Alt i)) (sym at_second),
-        code_stands d left pre1 (jump ∷ (cb ++ post)) pre_b (bb ++ post_b) (at + 1) l b (mark (at + 1 + size left) (l + loop_count left) (b + length ba)) a1 e1
+        code_stands d left pre1 (jump ∷ (cb ++ post)) pre_b (bb ++ post_b) (at + 1) l b (mark (at + 1 + node_insn_count left) (l + loop_count left) (b + length ba)) a1 e1
             ab (eb ∙ ap (λ is. pre_b ++ is) (append_assoc ba bb post_b)) refl,
-        has_one (pre1 ++ ca) (cb ++ post) jump (at + 1 + size left) a2 e2 ∙ ap (λ i. Some (Jump i)) at_end,
-        code_stands d right pre2 post (pre_b ++ ba) post_b (at + 1 + size left + 1) (l + loop_count left) (b + length ba) n a3
+        has_one (pre1 ++ ca) (cb ++ post) jump (at + 1 + node_insn_count left) a2 e2 ∙ ap (λ i. Some (Jump i)) at_end,
+        code_stands d right pre2 post (pre_b ++ ba) post_b (at + 1 + node_insn_count left + 1) (l + loop_count left) (b + length ba) n a3
             (e3 ∙ ap (λ i. pre2 ++ (code_of u d right i (l + loop_count left) (b + length ba) ++ post)) (sym at_second))
             (omega (arith, length-append pre_b ba)) (brackets_behind pre_b ba bb post_b eb)
             (k ∙ same_mark _ _ _ _ _ _ (omega arith) (omega arith) (omega (arith, length-append ba bb))),
@@ -184,39 +184,39 @@ module _ (p : Program) where
       e ∙ ap (λ is. pre ++ open_group ∷ is) (append_assoc inside (close ∷ []) post) ∙ sym (append_assoc pre (open_group ∷ []) (inside ++ (close ∷ post))) in
       let e2 : p.insns ≡ (pre1 ++ inside) ++ close ∷ post = e1 ∙ sym (append_assoc pre1 inside (close ∷ post)) in
       let a1 : at + 1 ≡ length pre1 = omega (arith, length-append pre (open_group ∷ [])) in
-      let a2 : at + 1 + size contents ≡ length (pre1 ++ inside) = omega (arith, length-append pre1 inside, length-code_of u d contents (at + 1) l b) in
-      let m = mark (at + 1 + size contents) (l + loop_count contents) (b + length (brackets_of contents)) in (
+      let a2 : at + 1 + node_insn_count contents ≡ length (pre1 ++ inside) = omega (arith, length-append pre1 inside, length-code_of u d contents (at + 1) l b) in
+      let m = mark (at + 1 + node_insn_count contents) (l + loop_count contents) (b + length (brackets_of contents)) in (
         m,
         has_one pre ((inside ++ close ∷ []) ++ post) open_group at a e,
         code_stands d contents pre1 (close ∷ post) pre_b post_b (at + 1) l b m a1 e1 ab eb refl,
-        single close (pre1 ++ inside) post (at + 1 + size contents) (l + loop_count contents) (b + length (brackets_of contents)) n a2 e2
+        single close (pre1 ++ inside) post (at + 1 + node_insn_count contents) (l + loop_count contents) (b + length (brackets_of contents)) n a2 e2
             (k ∙ same_mark _ _ _ _ _ _ (omega arith) (omega arith) (omega arith)),
       )
   code_stands d (back_ref group icase) pre post pre_b post_b at l b n a e ab eb k = single (BackRef (group - 1) icase) pre post at l b n a e k
   code_stands d (lookaround look contents) pre post pre_b post_b at l b n a e ab eb k =
       let u = p.flags.unicode in
-      let head = lookaround_insn look (at + size contents + 2) in
+      let head = lookaround_insn look (at + node_insn_count contents + 2) in
       let inside = code_of u look.backwards contents (at + 1) l b in
       let pre1 = pre ++ head ∷ [] in
       let e1 : p.insns ≡ pre1 ++ (inside ++ (Goal ∷ post)) =
       e ∙ ap (λ is. pre ++ head ∷ is) (append_assoc inside (Goal ∷ []) post) ∙ sym (append_assoc pre (head ∷ []) (inside ++ (Goal ∷ post))) in
       let e2 : p.insns ≡ (pre1 ++ inside) ++ Goal ∷ post = e1 ∙ sym (append_assoc pre1 inside (Goal ∷ post)) in
       let a1 : at + 1 ≡ length pre1 = omega (arith, length-append pre (head ∷ [])) in
-      let a2 : at + 1 + size contents ≡ length (pre1 ++ inside) = omega (arith, length-append pre1 inside, length-code_of u look.backwards contents (at + 1) l b) in
-      let m = mark (at + 1 + size contents) (l + loop_count contents) (b + length (brackets_of contents)) in
-      let at_end : at + size contents + 2 ≡ n.insn = omega (arith, ap (λ m. m.insn) k) in (
+      let a2 : at + 1 + node_insn_count contents ≡ length (pre1 ++ inside) = omega (arith, length-append pre1 inside, length-code_of u look.backwards contents (at + 1) l b) in
+      let m = mark (at + 1 + node_insn_count contents) (l + loop_count contents) (b + length (brackets_of contents)) in
+      let at_end : at + node_insn_count contents + 2 ≡ n.insn = omega (arith, ap (λ m. m.insn) k) in (
         m,
         has_one pre ((inside ++ Goal ∷ []) ++ post) head at a e ∙ ap (λ i. Some (lookaround_insn look i)) at_end,
         code_stands look.backwards contents pre1 (Goal ∷ post) pre_b post_b (at + 1) l b m a1 e1 ab eb refl,
-        single Goal (pre1 ++ inside) post (at + 1 + size contents) (l + loop_count contents) (b + length (brackets_of contents)) n a2 e2
+        single Goal (pre1 ++ inside) post (at + 1 + node_insn_count contents) (l + loop_count contents) (b + length (brackets_of contents)) n a2 e2
             (k ∙ same_mark _ _ _ _ _ _ (omega arith) (omega arith) (omega arith)),
       )
   code_stands d (loop q g h loopee) pre post pre_b post_b at l b n a e ab eb k =
       let u = p.flags.unicode in
       let body = at + 1 + (h - g) in
-      let head = λ (exit : ℕ). EnterLoop (record { loop_id = l; min_iters = q.min; max_iters = most_of q; greedy = q.greedy; exit = exit }) in
-      let exit = body + size loopee + 1 in
-      let rs = resets g h in
+      let head = λ (exit : ℕ). EnterLoop (record { loop_id = l; min_iters = q.min; max_iters = max_iterations q; greedy = q.greedy; exit = exit }) in
+      let exit = body + node_insn_count loopee + 1 in
+      let rs = group_reset_insns g h in
       let inside = code_of u d loopee body (l + 1) b in
       let again = LoopAgain at in
       let heads = head exit ∷ rs in
@@ -227,18 +227,18 @@ module _ (p : Program) where
       let e2 : p.insns ≡ pre1 ++ (inside ++ (again ∷ post)) = e1 ∙ sym (append_assoc pre heads (inside ++ (again ∷ post))) in
       let e3 : p.insns ≡ (pre1 ++ inside) ++ again ∷ post = e2 ∙ sym (append_assoc pre1 inside (again ∷ post)) in
       let a1 : body ≡ length pre1 = omega (arith, length-append pre heads, length-resets g h) in
-      let a2 : body + size loopee ≡ length (pre1 ++ inside) = omega (arith, length-append pre1 inside, length-code_of u d loopee body (l + 1) b) in
+      let a2 : body + node_insn_count loopee ≡ length (pre1 ++ inside) = omega (arith, length-append pre1 inside, length-code_of u d loopee body (l + 1) b) in
       let m1 = mark body (l + 1) b in
-      let m2 = mark (body + size loopee) (l + 1 + loop_count loopee) (b + length (brackets_of loopee)) in (
+      let m2 = mark (body + node_insn_count loopee) (l + 1 + loop_count loopee) (b + length (brackets_of loopee)) in (
         m1,
         m2,
-        subst (λ x. HasAll p (head x ∷ rs) (mark at (l + 1) b) m1) at_end (has_all heads pre (inside ++ (again ∷ post)) at (l + 1) b body a e1 (omega (arith, length-resets g h))),
+        subst (λ x. HasInsnsBetween p (head x ∷ rs) (mark at (l + 1) b) m1) at_end (has_all heads pre (inside ++ (again ∷ post)) at (l + 1) b body a e1 (omega (arith, length-resets g h))),
         code_stands d loopee pre1 (again ∷ post) pre_b post_b body (l + 1) b m2 a1 e2 ab eb refl,
-        single again (pre1 ++ inside) post (body + size loopee) (l + 1 + loop_count loopee) (b + length (brackets_of loopee)) n a2 e3
+        single again (pre1 ++ inside) post (body + node_insn_count loopee) (l + 1 + loop_count loopee) (b + length (brackets_of loopee)) n a2 e3
             (k ∙ same_mark _ _ _ _ _ _ (omega arith) (omega arith) (omega arith)),
       )
   code_stands d (loop_1_char_body q loopee) pre post pre_b post_b at l b n a e ab eb k =
-      let head = Loop1CharBody q.min (most_of q) q.greedy in (
+      let head = Loop1CharBody q.min (max_iterations q) q.greedy in (
         has_one pre (code_of p.flags.unicode d loopee (at + 1) l b ++ post) head at a e,
         code_stands d loopee (pre ++ head ∷ []) post pre_b post_b (at + 1) l b n (omega (arith, length-append pre (head ∷ [])))
             (e ∙ sym (append_assoc pre (head ∷ []) (code_of p.flags.unicode d loopee (at + 1) l b ++ post))) ab eb
@@ -246,7 +246,7 @@ module _ (p : Program) where
       )
 
 -- it has as many instructions as the tree is large
-pub compiled-length : (t : Tree) → length (compiled t).insns ≡ size t.root
+pub compiled-length : (t : Tree) → length (compiled t).insns ≡ node_insn_count t.root
 unfolding compiled
 compiled-length t = length-code_of t.flags.unicode false t.root 0 0 0
 
@@ -255,7 +255,7 @@ pub compiled-is_code : (t : Tree) → IsWellFormed t.root → IsByteCodeOf (comp
 unfolding compiled
 compiled-is_code t w =
     let p = compiled t in
-    let len : length p.insns ≡ size t.root = length-code_of t.flags.unicode false t.root 0 0 0 in
+    let len : length p.insns ≡ node_insn_count t.root = length-code_of t.flags.unicode false t.root 0 0 0 in
     record {
       code = record {
         code = code_stands p false t.root [] [] [] [] 0 0 0 (mark (length p.insns) p.loops (length p.brackets)) refl (sym (append-nil p.insns)) refl (sym (append-nil p.brackets))

@@ -3,25 +3,25 @@ use Rattle.std.proofs.Common.{◌≡◌, ℕ, ◌+◌, ◌-◌, ◌<◌, ◌^◌
 use Rattle.std.proofs.Common.{append-nil, length-append, slice_set}
 use Rattle.std.proofs.Math.Seq.{set-append_seam}
 use Rattle.std.proofs.lemmas.List.{length-map, length-reverse}
-use Rattle.regex_meaning.specs.Lists.{numbers_from}
+use Rattle.regex_meaning.specs.NumberListHelpers.{numbers_from}
 use Rattle.regex_meaning.specs.Tree.{BracketContents, Quantifier, Lookaround, Node, empty, goal, char, char_set, byte_set, byte_sequence, cat}
 use Rattle.regex_meaning.specs.Tree.{end_of_cat, alt, bracket, string_set, match_any, match_any_except_line_terminator, anchor, word_boundary}
 use Rattle.regex_meaning.specs.Tree.{capture_group, back_ref, lookaround, loop, loop_1_char_body}
-use Rattle.regex_meaning.specs.Outcomes.{most_of, in_intervals}
-use Rattle.regex_meaning.specs.StartPredicate.{bytes_where}
-use Rattle.regex_meaning.specs.Layout.{Insn, AsciiBracket, Bracket, is_ascii_set, Alt, Jump, EnterLoop, LoopAgain, Loop1CharBody, Goal}
-use Rattle.regex_meaning.specs.Layout.{BeginCaptureGroup, lookaround_insn, EndCaptureGroup, ByteSeq, ResetCaptureGroup, ordered, chunks}
-use Rattle.regress_program.specs.Code.{size, strings_size, loop_count, brackets_of, string_code, strings_code, resets, code_of}
-use Rattle.regress_program.specs.Emitting.{State, HasRoom, with_code, with_insn, with_insns, with_insn_at, with_loop, with_bracket}
+use Rattle.regex_meaning.specs.Outcomes.{max_iterations, in_intervals}
+use Rattle.regex_meaning.specs.StartPredicate.{bytes_that_pass}
+use Rattle.regex_meaning.specs.CompilationRelation.{Insn, AsciiBracket, Bracket, is_ascii_set, Alt, Jump, EnterLoop, LoopAgain, Loop1CharBody, Goal}
+use Rattle.regex_meaning.specs.CompilationRelation.{BeginCaptureGroup, lookaround_insn, EndCaptureGroup, ByteSeq, ResetCaptureGroup, ordered, chunks}
+use Rattle.regress_program.specs.CodeOfTrees.{node_insn_count, strings_size, loop_count, brackets_of, string_code, strings_code, group_reset_insns, code_of}
+use Rattle.regress_program.specs.EmitterModel.{EmitterState, HasIndexRoom, with_code, with_insn, with_insns, with_insn_at, with_loop, with_bracket}
 use Rattle.regex_meaning.proofs.Lists.{length-numbers_from}
 
 -- ---- States
 
-pub same_state : (s t : State) → s.insns ≡ t.insns → s.loops ≡ t.loops → s.brackets ≡ t.brackets → s ≡ t
+pub same_state : (s t : EmitterState) → s.insns ≡ t.insns → s.loops ≡ t.loops → s.brackets ≡ t.brackets → s ≡ t
 same_state s t ei el eb =
-    ap (λ x. let r : State = record { insns = x; loops = s.loops; brackets = s.brackets } in r) ei
-    ∙ ap (λ x. let r : State = record { insns = t.insns; loops = x; brackets = s.brackets } in r) el
-    ∙ ap (λ x. let r : State = record { insns = t.insns; loops = t.loops; brackets = x } in r) eb
+    ap (λ x. let r : EmitterState = record { insns = x; loops = s.loops; brackets = s.brackets } in r) ei
+    ∙ ap (λ x. let r : EmitterState = record { insns = t.insns; loops = x; brackets = s.brackets } in r) el
+    ∙ ap (λ x. let r : EmitterState = record { insns = t.insns; loops = t.loops; brackets = x } in r) eb
 
 -- ---- The length of code
 
@@ -29,7 +29,7 @@ pub length-ordered : {A : Type 0} → (d : Bool) (xs : List A) → length (order
 length-ordered true xs = length-reverse xs
 length-ordered false xs = refl
 
-pub length-resets : (g e : ℕ) → length (resets g e) ≡ e - g
+pub length-resets : (g e : ℕ) → length (group_reset_insns g e) ≡ e - g
 length-resets g e = length-map (numbers_from g (e - g)) ResetCaptureGroup ∙ length-numbers_from g (e - g)
 
 pub length-string_code : (u icase d : Bool) (s : List ℕ) → length (string_code u icase d s) ≡ length s
@@ -47,8 +47,8 @@ length-strings_code u icase d (s ∷ t ∷ more) at =
       length-append (string_code u icase d s) (Jump (at + length s + 2 + strings_size (t ∷ more)) ∷ later),
     )
 
-pub length-code_of : (u d : Bool) (n : Node) (at l b : ℕ) → length (code_of u d n at l b) ≡ size n
-unfolding code_of size
+pub length-code_of : (u d : Bool) (n : Node) (at l b : ℕ) → length (code_of u d n at l b) ≡ node_insn_count n
+unfolding code_of node_insn_count
 length-code_of u d empty at l b = refl
 length-code_of u d goal at l b = refl
 length-code_of u d (char c) at l b = refl
@@ -58,17 +58,17 @@ length-code_of u d (byte_sequence bytes) at l b = length-map (ordered d (chunks 
 length-code_of u d (cat first rest) at l b =
     omega (
       arith,
-      length-append (code_of u d first at l b) (code_of u d rest (at + size first) (l + loop_count first) (b + length (brackets_of first))),
+      length-append (code_of u d first at l b) (code_of u d rest (at + node_insn_count first) (l + loop_count first) (b + length (brackets_of first))),
       length-code_of u d first at l b,
-      length-code_of u d rest (at + size first) (l + loop_count first) (b + length (brackets_of first)),
+      length-code_of u d rest (at + node_insn_count first) (l + loop_count first) (b + length (brackets_of first)),
     )
 length-code_of u d end_of_cat at l b = refl
 length-code_of u d (alt left right) at l b =
-    let second = at + size left + 2 in
+    let second = at + node_insn_count left + 2 in
     let r = code_of u d right second (l + loop_count left) (b + length (brackets_of left)) in
     omega (
       arith,
-      length-append (code_of u d left (at + 1) l b) (Jump (second + size right) ∷ r),
+      length-append (code_of u d left (at + 1) l b) (Jump (second + node_insn_count right) ∷ r),
       length-code_of u d left (at + 1) l b,
       length-code_of u d right second (l + loop_count left) (b + length (brackets_of left)),
     )
@@ -87,32 +87,32 @@ length-code_of u d (loop q g e loopee) at l b =
     let body = code_of u d loopee (at + 1 + (e - g)) (l + 1) b in
     omega (
       arith,
-      length-append (resets g e) (body ++ LoopAgain at ∷ []),
+      length-append (group_reset_insns g e) (body ++ LoopAgain at ∷ []),
       length-append body (LoopAgain at ∷ []),
       length-resets g e,
       length-code_of u d loopee (at + 1 + (e - g)) (l + 1) b,
     )
 length-code_of u d (loop_1_char_body q loopee) at l b = omega (arith, length-code_of u d loopee (at + 1) l b)
 
-pub length-with_code : (u d : Bool) (n : Node) (s : State) → length (with_code u d n s).insns ≡ length s.insns + size n
+pub length-with_code : (u d : Bool) (n : Node) (s : EmitterState) → length (with_code u d n s).insns ≡ length s.insns + node_insn_count n
 length-with_code u d n s = omega (arith, length-append s.insns (code_of u d n (length s.insns) s.loops (length s.brackets)), length-code_of u d n (length s.insns) s.loops (length s.brackets))
 
 -- ---- Rows
 
-pub with_code-end_of_cat : (u d : Bool) (s : State) → with_code u d end_of_cat s ≡ s
+pub with_code-end_of_cat : (u d : Bool) (s : EmitterState) → with_code u d end_of_cat s ≡ s
 unfolding code_of loop_count brackets_of
 with_code-end_of_cat u d s = same_state (with_code u d end_of_cat s) s (append-nil s.insns) (omega arith) (append-nil s.brackets)
 
-pub with_code-cat : (u d : Bool) (a b : Node) (s : State) → with_code u d (cat a b) s ≡ with_code u d b (with_code u d a s)
+pub with_code-cat : (u d : Bool) (a b : Node) (s : EmitterState) → with_code u d (cat a b) s ≡ with_code u d b (with_code u d a s)
 unfolding code_of loop_count brackets_of
 with_code-cat u d a b s =
     let at = length s.insns in
     let k = length s.brackets in
     let ca = code_of u d a at s.loops k in
-    let len : length (s.insns ++ ca) ≡ at + size a = length-with_code u d a s in
+    let len : length (s.insns ++ ca) ≡ at + node_insn_count a = length-with_code u d a s in
     let len_b = length-append s.brackets (brackets_of a) in
     same_state (with_code u d (cat a b) s) (with_code u d b (with_code u d a s))
-    (sym (append_assoc s.insns ca (code_of u d b (at + size a) (s.loops + loop_count a) (k + length (brackets_of a))))
+    (sym (append_assoc s.insns ca (code_of u d b (at + node_insn_count a) (s.loops + loop_count a) (k + length (brackets_of a))))
     ∙ ap (λ n. (s.insns ++ ca) ++ code_of u d b n (s.loops + loop_count a) (k + length (brackets_of a))) (sym len)
     ∙ ap (λ n. (s.insns ++ ca) ++ code_of u d b (length (s.insns ++ ca)) (s.loops + loop_count a) n) (sym len_b))
     (omega arith)
@@ -153,7 +153,7 @@ alt_patched ca_at cb_at na nb base c1 c2 c3 c4 c5 x y la lb e1 e2 e3 e4 e5 =
     ∙ set-append_seam (base ++ i ∷ ca) y cb j
     ∙ append_assoc base (i ∷ ca) (j ∷ cb)
 
-pub with_code-alt : (u d : Bool) (a b : Node) (s s1 s2 s3 s4 s5 s6 : State) (x y : Insn)
+pub with_code-alt : (u d : Bool) (a b : Node) (s s1 s2 s3 s4 s5 s6 : EmitterState) (x y : Insn)
     → s1 ≡ with_insn x s → s2 ≡ with_code u d a s1 → s3 ≡ with_insn y s2 → s4 ≡ with_insn_at (length s.insns) (Alt (length s3.insns)) s3
     → s5 ≡ with_code u d b s4 → s6 ≡ with_insn_at (length s2.insns) (Jump (length s5.insns)) s5
     → s6 ≡ with_code u d (alt a b) s
@@ -178,34 +178,34 @@ with_code-alt u d a b s s1 s2 s3 s4 s5 s6 x y e1 e2 e3 e4 e5 e6 =
     ap (λ r. r.insns) e5 ∙ ap (λ n. s4.insns ++ code_of u d b (length s4.insns) n (length s4.brackets)) l4 ∙ ap (λ n. s4.insns ++ code_of u d b (length s4.insns) (s.loops + loop_count a) n) k4 in
     same_state s6 (with_code u d (alt a b) s)
     (ap (λ r. r.insns) e6
-    ∙ alt_patched ca_at cb_at (size a) (size b) s.insns s1.insns s2.insns s3.insns s4.insns s5.insns x y
+    ∙ alt_patched ca_at cb_at (node_insn_count a) (node_insn_count b) s.insns s1.insns s2.insns s3.insns s4.insns s5.insns x y
     (λ m. length-code_of u d a m s.loops k) (λ m. length-code_of u d b m (s.loops + loop_count a) (k + length (brackets_of a)))
     (ap (λ r. r.insns) e1) i2 (ap (λ r. r.insns) e3) (ap (λ r. r.insns) e4) i5)
     in_loops b6
 
 -- ---- Room
 
-pub room-first : (s : State) (a b : Node) → HasRoom s (cat a b) → HasRoom s a
-unfolding size loop_count
+pub room-first : (s : EmitterState) (a b : Node) → HasIndexRoom s (cat a b) → HasIndexRoom s a
+unfolding node_insn_count loop_count
 room-first s a b r = record { insns = omega (arith, r.insns); loops = omega (arith, r.loops) }
 
-pub room-rest : (u d : Bool) (s t : State) (a b : Node) → HasRoom s (cat a b) → t ≡ with_code u d a s → HasRoom t b
-unfolding size loop_count
+pub room-rest : (u d : Bool) (s t : EmitterState) (a b : Node) → HasIndexRoom s (cat a b) → t ≡ with_code u d a s → HasIndexRoom t b
+unfolding node_insn_count loop_count
 room-rest u d s t a b r e = record { insns = omega (arith, r.insns, ap (λ x. length x.insns) e, length-with_code u d a s); loops = omega (arith, r.loops, ap (λ x. x.loops) e) }
 
-length-with_insn : (x : Insn) (s : State) → length (with_insn x s).insns ≡ length s.insns + 1
+length-with_insn : (x : Insn) (s : EmitterState) → length (with_insn x s).insns ≡ length s.insns + 1
 length-with_insn x s = length-append s.insns (x ∷ [])
 
 -- the length before the right arm
-pub length-left : (u d : Bool) (a : Node) (s s1 s2 s3 : State) (x y : Insn)
-    → s1 ≡ with_insn x s → s2 ≡ with_code u d a s1 → s3 ≡ with_insn y s2 → length s3.insns ≡ length s.insns + size a + 2
+pub length-left : (u d : Bool) (a : Node) (s s1 s2 s3 : EmitterState) (x y : Insn)
+    → s1 ≡ with_insn x s → s2 ≡ with_code u d a s1 → s3 ≡ with_insn y s2 → length s3.insns ≡ length s.insns + node_insn_count a + 2
 length-left u d a s s1 s2 s3 x y e1 e2 e3 =
     omega (arith, ap (λ z. length z.insns) e1, length-with_insn x s, ap (λ z. length z.insns) e2, length-with_code u d a s1, ap (λ z. length z.insns) e3, length-with_insn y s2)
 
 -- ---- A part between a head and a tail
 
 -- the code of a node behind one instruction
-after_head : (u d : Bool) (n : Node) (s s1 s2 : State) (x : Insn) → s1 ≡ with_insn x s → s2 ≡ with_code u d n s1
+after_head : (u d : Bool) (n : Node) (s s1 s2 : EmitterState) (x : Insn) → s1 ≡ with_insn x s → s2 ≡ with_code u d n s1
     → s2.insns ≡ s.insns ++ x ∷ code_of u d n (length s.insns + 1) s.loops (length s.brackets)
 after_head u d n s s1 s2 x e1 e2 =
     let at = length s.insns in
@@ -219,13 +219,13 @@ after_head u d n s s1 s2 x e1 e2 =
     ∙ append_assoc s.insns (x ∷ []) (code (at + 1) s.loops (length s.brackets))
 
 -- and one instruction behind it
-between : (u d : Bool) (n : Node) (s s1 s2 s3 : State) (x y : Insn) → s1 ≡ with_insn x s → s2 ≡ with_code u d n s1 → s3 ≡ with_insn y s2
+between : (u d : Bool) (n : Node) (s s1 s2 s3 : EmitterState) (x y : Insn) → s1 ≡ with_insn x s → s2 ≡ with_code u d n s1 → s3 ≡ with_insn y s2
     → s3.insns ≡ s.insns ++ x ∷ (code_of u d n (length s.insns + 1) s.loops (length s.brackets) ++ y ∷ [])
 between u d n s s1 s2 s3 x y e1 e2 e3 =
     ap (λ r. r.insns) e3 ∙ ap (λ is. is ++ y ∷ []) (after_head u d n s s1 s2 x e1 e2)
     ∙ append_assoc s.insns (x ∷ code_of u d n (length s.insns + 1) s.loops (length s.brackets)) (y ∷ [])
 
-pub with_code-capture_group : (u d : Bool) (id : ℕ) (name : List ℕ) (n : Node) (s s1 s2 s3 : State)
+pub with_code-capture_group : (u d : Bool) (id : ℕ) (name : List ℕ) (n : Node) (s s1 s2 s3 : EmitterState)
     → s1 ≡ with_insn (BeginCaptureGroup id) s → s2 ≡ with_code u d n s1 → s3 ≡ with_insn (EndCaptureGroup id) s2 → s3 ≡ with_code u d (capture_group id name n) s
 unfolding code_of loop_count brackets_of
 with_code-capture_group u d id name n s s1 s2 s3 e1 e2 e3 =
@@ -233,20 +233,20 @@ with_code-capture_group u d id name n s s1 s2 s3 e1 e2 e3 =
     (omega (arith, ap (λ r. r.loops) e1, ap (λ r. r.loops) e2, ap (λ r. r.loops) e3))
     (ap (λ r. r.brackets) e3 ∙ ap (λ r. r.brackets) e2 ∙ ap (λ r. r.brackets ++ brackets_of n) e1)
 
-pub with_code-loop_1_char_body : (u d : Bool) (q : Quantifier) (n : Node) (s s1 s2 : State)
-    → s1 ≡ with_insn (Loop1CharBody q.min (most_of q) q.greedy) s → s2 ≡ with_code u d n s1 → s2 ≡ with_code u d (loop_1_char_body q n) s
+pub with_code-loop_1_char_body : (u d : Bool) (q : Quantifier) (n : Node) (s s1 s2 : EmitterState)
+    → s1 ≡ with_insn (Loop1CharBody q.min (max_iterations q) q.greedy) s → s2 ≡ with_code u d n s1 → s2 ≡ with_code u d (loop_1_char_body q n) s
 unfolding code_of loop_count brackets_of
 with_code-loop_1_char_body u d q n s s1 s2 e1 e2 =
-    same_state s2 (with_code u d (loop_1_char_body q n) s) (after_head u d n s s1 s2 (Loop1CharBody q.min (most_of q) q.greedy) e1 e2)
+    same_state s2 (with_code u d (loop_1_char_body q n) s) (after_head u d n s s1 s2 (Loop1CharBody q.min (max_iterations q) q.greedy) e1 e2)
     (omega (arith, ap (λ r. r.loops) e1, ap (λ r. r.loops) e2))
     (ap (λ r. r.brackets) e2 ∙ ap (λ r. r.brackets ++ brackets_of n) e1)
 
-pub length-between : (u d : Bool) (n : Node) (s s1 s2 s3 : State) (x y : Insn) → s1 ≡ with_insn x s → s2 ≡ with_code u d n s1 → s3 ≡ with_insn y s2
-    → length s3.insns ≡ length s.insns + size n + 2
+pub length-between : (u d : Bool) (n : Node) (s s1 s2 s3 : EmitterState) (x y : Insn) → s1 ≡ with_insn x s → s2 ≡ with_code u d n s1 → s3 ≡ with_insn y s2
+    → length s3.insns ≡ length s.insns + node_insn_count n + 2
 length-between u d n s s1 s2 s3 x y e1 e2 e3 = length-left u d n s s1 s2 s3 x y e1 e2 e3
 
 -- the head is written again once the length is known
-pub with_code-lookaround : (u d : Bool) (l : Lookaround) (n : Node) (s s1 s2 s3 s4 : State) (x : Insn)
+pub with_code-lookaround : (u d : Bool) (l : Lookaround) (n : Node) (s s1 s2 s3 s4 : EmitterState) (x : Insn)
     → s1 ≡ with_insn x s → s2 ≡ with_code u l.backwards n s1 → s3 ≡ with_insn Goal s2 → s4 ≡ with_insn_at (length s.insns) (lookaround_insn l (length s3.insns)) s3
     → s4 ≡ with_code u d (lookaround l n) s
 unfolding code_of loop_count brackets_of
@@ -265,26 +265,26 @@ with_code-lookaround u d l n s s1 s2 s3 s4 x e1 e2 e3 e4 =
 -- ---- Loops
 
 -- the length behind the resets, and behind the whole loop
-length-resets_done : (g e : ℕ) (s s1 s2 s3 : State) (x : Insn) → s1 ≡ with_insn x s → s2 ≡ with_loop s1 → s3 ≡ with_insns (resets g e) s2
+length-resets_done : (g e : ℕ) (s s1 s2 s3 : EmitterState) (x : Insn) → s1 ≡ with_insn x s → s2 ≡ with_loop s1 → s3 ≡ with_insns (group_reset_insns g e) s2
     → length s3.insns ≡ length s.insns + 1 + (e - g)
 length-resets_done g e s s1 s2 s3 x e1 e2 e3 =
-    omega (arith, ap (λ r. length r.insns) e1, length-with_insn x s, ap (λ r. length r.insns) e2, ap (λ r. length r.insns) e3, length-append s2.insns (resets g e), length-resets g e)
+    omega (arith, ap (λ r. length r.insns) e1, length-with_insn x s, ap (λ r. length r.insns) e2, ap (λ r. length r.insns) e3, length-append s2.insns (group_reset_insns g e), length-resets g e)
 
-pub length-loop : (u d : Bool) (n : Node) (g e : ℕ) (s s1 s2 s3 s4 s5 : State) (x y : Insn) → s1 ≡ with_insn x s → s2 ≡ with_loop s1 → s3 ≡ with_insns (resets g e) s2
-    → s4 ≡ with_code u d n s3 → s5 ≡ with_insn y s4 → length s5.insns ≡ length s.insns + 1 + (e - g) + size n + 1
+pub length-loop : (u d : Bool) (n : Node) (g e : ℕ) (s s1 s2 s3 s4 s5 : EmitterState) (x y : Insn) → s1 ≡ with_insn x s → s2 ≡ with_loop s1 → s3 ≡ with_insns (group_reset_insns g e) s2
+    → s4 ≡ with_code u d n s3 → s5 ≡ with_insn y s4 → length s5.insns ≡ length s.insns + 1 + (e - g) + node_insn_count n + 1
 length-loop u d n g e s s1 s2 s3 s4 s5 x y e1 e2 e3 e4 e5 =
     omega (arith, length-resets_done g e s s1 s2 s3 x e1 e2 e3, ap (λ r. length r.insns) e4, length-with_code u d n s3, ap (λ r. length r.insns) e5, length-with_insn y s4)
 
-pub with_code-loop : (u d : Bool) (q : Quantifier) (g e : ℕ) (n : Node) (head : ℕ → Insn) (s s1 s2 s3 s4 s5 s6 : State) (x : Insn)
-    → ((exit : ℕ) → head exit ≡ EnterLoop (record { loop_id = s.loops; min_iters = q.min; max_iters = most_of q; greedy = q.greedy; exit = exit }))
-    → s1 ≡ with_insn x s → s2 ≡ with_loop s1 → s3 ≡ with_insns (resets g e) s2 → s4 ≡ with_code u d n s3 → s5 ≡ with_insn (LoopAgain (length s.insns)) s4
+pub with_code-loop : (u d : Bool) (q : Quantifier) (g e : ℕ) (n : Node) (head : ℕ → Insn) (s s1 s2 s3 s4 s5 s6 : EmitterState) (x : Insn)
+    → ((exit : ℕ) → head exit ≡ EnterLoop (record { loop_id = s.loops; min_iters = q.min; max_iters = max_iterations q; greedy = q.greedy; exit = exit }))
+    → s1 ≡ with_insn x s → s2 ≡ with_loop s1 → s3 ≡ with_insns (group_reset_insns g e) s2 → s4 ≡ with_code u d n s3 → s5 ≡ with_insn (LoopAgain (length s.insns)) s4
     → s6 ≡ with_insn_at (length s.insns) (head (length s5.insns)) s5 → s6 ≡ with_code u d (loop q g e n) s
 unfolding code_of loop_count brackets_of
 with_code-loop u d q g e n head s s1 s2 s3 s4 s5 s6 x is_head e1 e2 e3 e4 e5 e6 =
     let at = length s.insns in
     let body = at + 1 + (e - g) in
     let b = length s.brackets in
-    let rs = resets g e in
+    let rs = group_reset_insns g e in
     let inside = code_of u d n body (s.loops + 1) b in
     let again = LoopAgain at in
     let len3 = length-resets_done g e s s1 s2 s3 x e1 e2 e3 in
@@ -306,30 +306,30 @@ with_code-loop u d q g e n head s s1 s2 s3 s4 s5 s6 x is_head e1 e2 e3 e4 e5 e6 
     ∙ ap (λ is. slice_set is at (head (length s5.insns))) (insns5 ∙ flat)
     ∙ set-append_seam s.insns x rest (head (length s5.insns))
     ∙ ap (λ m. s.insns ++ head m ∷ rest) len5
-    ∙ ap (λ h. s.insns ++ h ∷ rest) (is_head (body + size n + 1)))
+    ∙ ap (λ h. s.insns ++ h ∷ rest) (is_head (body + node_insn_count n + 1)))
     (omega (arith, ap (λ r. r.loops) e4, ap (λ r. r.loops) e5, ap (λ r. r.loops) e6))
     (ap (λ r. r.brackets) e6 ∙ ap (λ r. r.brackets) e5 ∙ ap (λ r. r.brackets) e4 ∙ ap (λ bs. bs ++ brackets_of n) brackets3)
 
 -- ---- Room inside
 
-pub loop_fits : (q : Quantifier) (g h : ℕ) (n : Node) (s s1 : State) (x : Insn) → HasRoom s (loop q g h n) → s1 ≡ with_insn x s → s1.loops + 1 < 2 ^ 16
+pub loop_fits : (q : Quantifier) (g h : ℕ) (n : Node) (s s1 : EmitterState) (x : Insn) → HasIndexRoom s (loop q g h n) → s1 ≡ with_insn x s → s1.loops + 1 < 2 ^ 16
 unfolding loop_count
 loop_fits q g h n s s1 x r e = omega (arith, r.loops, ap (λ y. y.loops) e)
 
-pub room-unnamed : (id : ℕ) (name : List ℕ) (n : Node) (s : State) → HasRoom s (capture_group id name n) → HasRoom s (capture_group id [] n)
-unfolding size loop_count
+pub room-unnamed : (id : ℕ) (name : List ℕ) (n : Node) (s : EmitterState) → HasIndexRoom s (capture_group id name n) → HasIndexRoom s (capture_group id [] n)
+unfolding node_insn_count loop_count
 room-unnamed id name n s r = record { insns = r.insns; loops = r.loops }
 
 -- ---- Brackets
 
-pub with_code-ascii : (u d : Bool) (contents : BracketContents) (s : State) → is_ascii_set contents ≡ true
-    → with_code u d (bracket contents) s ≡ with_insn (AsciiBracket (bytes_where (in_intervals contents.intervals))) s
+pub with_code-ascii : (u d : Bool) (contents : BracketContents) (s : EmitterState) → is_ascii_set contents ≡ true
+    → with_code u d (bracket contents) s ≡ with_insn (AsciiBracket (bytes_that_pass (in_intervals contents.intervals))) s
 unfolding code_of loop_count brackets_of
 with_code-ascii u d contents s ascii =
-    same_state (with_code u d (bracket contents) s) (with_insn (AsciiBracket (bytes_where (in_intervals contents.intervals))) s)
+    same_state (with_code u d (bracket contents) s) (with_insn (AsciiBracket (bytes_that_pass (in_intervals contents.intervals))) s)
     (rw ascii) (omega arith) (rw ascii (append-nil s.brackets))
 
-pub with_code-bracket : (u d : Bool) (contents : BracketContents) (s s1 s2 : State) (index : ℕ) → is_ascii_set contents ≡ false
+pub with_code-bracket : (u d : Bool) (contents : BracketContents) (s s1 s2 : EmitterState) (index : ℕ) → is_ascii_set contents ≡ false
     → index ≡ length s.brackets → s1 ≡ with_insn (Bracket index) s → s2 ≡ with_bracket contents s1 → s2 ≡ with_code u d (bracket contents) s
 unfolding code_of loop_count brackets_of
 with_code-bracket u d contents s s1 s2 index ascii i e1 e2 =

@@ -7,18 +7,18 @@ use Rattle.std.proofs.lemmas.Bool.{cases_eq, cases_lt, ne_eqb, eq-eqb, eqb-true,
 use Rattle.std.proofs.lemmas.Bool.{or_cases, or_from, not-true, false_from_ne_true}
 use Rattle.std.proofs.lemmas.List.{length-replicate}
 use Rattle.std.proofs.lemmas.List.Sums.{sum_by-cons}
-use Rattle.regex_meaning.specs.Lists.{contains, numbers_from}
-use Rattle.regex_meaning.specs.Tree.{Node, cat, alt, capture_group, lookaround, loop, loop_1_char_body, group_ids, every}
-use Rattle.regex_meaning.specs.WellFormed.{encloses, each_id_stands_once, IsWellFormed, goal_is_last, names_the_groups_inside, refers_to_a_group}
-use Rattle.regex_meaning.specs.WellFormed.{has_order_in_quantifier, has_one_character_body, has_text_in_sequence, fits_instructions}
+use Rattle.regex_meaning.specs.NumberListHelpers.{contains, numbers_from}
+use Rattle.regex_meaning.specs.Tree.{Node, cat, alt, capture_group, lookaround, loop, loop_1_char_body, group_ids, every_node_passes}
+use Rattle.regex_meaning.specs.WellFormedTrees.{encloses, each_id_stands_once, IsWellFormed, goal_is_last, names_the_groups_inside, refers_to_a_group}
+use Rattle.regex_meaning.specs.WellFormedTrees.{has_order_in_quantifier, has_one_character_body, has_text_in_sequence, fits_instructions}
 use Rattle.regex_meaning.proofs.WellFormedLemmas.{clauses, by_clauses}
 use Rattle.regex_meaning.proofs.Sound.{all-contains}
 use Rattle.regex_pattern_front.proofs.Bits.{has_bit, with_bit, no-bits, bit-set}
 use Rattle.regex_pattern_front.proofs.ByteLemmas.{contains-numbers_from}
-use Rattle.regress_program.specs.Nodes.{is_leaf}
-use Rattle.regress_program.specs.Spans.{as_span}
-use Rattle.regress_program.specs.declared.emit.ids.Span as spans
-use Rattle.regress_program.specs.Ids.{is_past, is_seen, are_fresh, least, past, Span, span_of, joined, ids_stand, is_sound_by_itself}
+use Rattle.regress_program.specs.NodeListsAndLeaves.{is_leaf}
+use Rattle.regress_program.specs.GroupIdSpans.{as_number_span}
+use Rattle.regress_program.specs.declared.emit.group_id_checks.GroupIdSpan as spans
+use Rattle.regress_program.specs.GroupIds.{is_outside_bitmap, is_group_id_seen, are_distinct_unseen, least, id_end, GroupIdSpanNumbers, span_of_group_ids, joined, has_valid_group_ids, is_well_formed_node}
 use Rattle.regex_meaning.proofs.Booleans.{or-false-left, or-false-right, same-truth, and-left, and-right}
 use Rattle.std.proofs.Math.Bool.{or-false, or_assoc, and-true, and_assoc}
 use Rattle.regex_meaning.proofs.Lists.{list_all-members}
@@ -42,18 +42,18 @@ six a b c d e f = ap (λ t. t && (e && f)) (four a b c d) ∙ four (a && c) (b &
 
 -- ---- The table
 
-pub none-seen : (n k : ℕ) → is_seen (replicate n 0) k ≡ is_past n k
-none-seen n k = ap₂ (λ l b. is_past l k || b) (length-replicate n 0) (no-bits n k) ∙ or-false (is_past n k)
+pub none-seen : (n k : ℕ) → is_group_id_seen (replicate n 0) k ≡ is_outside_bitmap n k
+none-seen n k = ap₂ (λ l b. is_outside_bitmap l k || b) (length-replicate n 0) (no-bits n k) ∙ or-false (is_outside_bitmap n k)
 
-pub seen-set : (bits : List ℕ) (id k : ℕ) → id / 64 < length bits → is_seen (with_bit bits id) k ≡ (is_seen bits k || k == id)
+pub seen-set : (bits : List ℕ) (id k : ℕ) → id / 64 < length bits → is_group_id_seen (with_bit bits id) k ≡ (is_group_id_seen bits k || k == id)
 seen-set bits id k within =
-    ap₂ (λ l b. is_past l k || b) (length-set bits (id / 64) _) (bit-set bits id k within) ∙ sym (or_assoc (is_past (length bits) k) (has_bit bits k) (k == id))
+    ap₂ (λ l b. is_outside_bitmap l k || b) (length-set bits (id / 64) _) (bit-set bits id k within) ∙ sym (or_assoc (is_outside_bitmap (length bits) k) (has_bit bits k) (k == id))
 
 -- one past the words is seen already
-pub seen-past : (bits : List ℕ) (id : ℕ) → length bits ≤ id / 64 → id < 65536 → is_seen bits id ≡ true
-seen-past bits id past h =
+pub seen-past : (bits : List ℕ) (id : ℕ) → length bits ≤ id / 64 → id < 65536 → is_group_id_seen bits id ≡ true
+seen-past bits id id_end h =
     let few : (length bits == 1024) ≡ false = ne_eqb (length bits) 1024 (λ e. absurd (omega arith)) in
-    or_left (is_past (length bits) id) _ (and_from (not (length bits == 1024)) (nat_le (length bits) (id / 64)) (ap not few) (le-leb (length bits) (id / 64) past))
+    or_left (is_outside_bitmap (length bits) id) _ (and_from (not (length bits == 1024)) (nat_le (length bits) (id / 64)) (ap not few) (le-leb (length bits) (id / 64) id_end))
 
 pub seen-again : (f : ℕ → Bool) (id k : ℕ) → f id ≡ true → f k ≡ (f k || k == id)
 seen-again f id k h =
@@ -62,52 +62,52 @@ seen-again f id k h =
 
 -- ---- Fresh ids
 
-pub fresh-same : (f g : ℕ → Bool) (ids : List ℕ) → ((k : ℕ) → f k ≡ g k) → are_fresh f ids ≡ are_fresh g ids
-unfolding are_fresh
+pub fresh-same : (f g : ℕ → Bool) (ids : List ℕ) → ((k : ℕ) → f k ≡ g k) → are_distinct_unseen f ids ≡ are_distinct_unseen g ids
+unfolding are_distinct_unseen
 fresh-same f g [] e = refl
 fresh-same f g (id ∷ ids) e = rw (e id, fresh-same (λ k. f k || k == id) (λ k. g k || k == id) ids (λ k. ap (λ b. b || k == id) (e k)))
 
-pub fresh-append : (f : ℕ → Bool) (xs ys : List ℕ) → are_fresh f (xs ++ ys) ≡ (are_fresh f xs && are_fresh (λ k. f k || contains xs k) ys)
-unfolding are_fresh
+pub fresh-append : (f : ℕ → Bool) (xs ys : List ℕ) → are_distinct_unseen f (xs ++ ys) ≡ (are_distinct_unseen f xs && are_distinct_unseen (λ k. f k || contains xs k) ys)
+unfolding are_distinct_unseen
 fresh-append f [] ys = fresh-same f (λ k. f k || false) ys (λ k. sym (or-false (f k)))
 fresh-append f (x ∷ xs) ys =
     let g = λ (k : ℕ). f k || k == x in
-    ap (λ b. not (f x) && b) (fresh-append g xs ys ∙ ap (λ b. are_fresh g xs && b)
+    ap (λ b. not (f x) && b) (fresh-append g xs ys ∙ ap (λ b. are_distinct_unseen g xs && b)
     (fresh-same (λ k. g k || contains xs k) (λ k. f k || contains (x ∷ xs) k) ys (λ k. or_assoc (f k) (k == x) (contains xs k))))
-    ∙ sym (and_assoc (not (f x)) (are_fresh g xs) (are_fresh (λ k. f k || contains (x ∷ xs) k) ys))
+    ∙ sym (and_assoc (not (f x)) (are_distinct_unseen g xs) (are_distinct_unseen (λ k. f k || contains (x ∷ xs) k) ys))
 
 pub contains-append : (xs ys : List ℕ) (k : ℕ) → contains (xs ++ ys) k ≡ (contains xs k || contains ys k)
 contains-append [] ys k = refl
 contains-append (x ∷ xs) ys k = ap (λ b. nat_eq k x || b) (contains-append xs ys k) ∙ sym (or_assoc (nat_eq k x) (contains xs k) (contains ys k))
 
-fresh-unseen : (ids : List ℕ) (f : ℕ → Bool) (k : ℕ) → are_fresh f ids ≡ true → contains ids k ≡ true → f k ≡ false
-unfolding are_fresh
+fresh-unseen : (ids : List ℕ) (f : ℕ → Bool) (k : ℕ) → are_distinct_unseen f ids ≡ true → contains ids k ≡ true → f k ≡ false
+unfolding are_distinct_unseen
 fresh-unseen [] f k h c = cc
 fresh-unseen (id ∷ ids) f k h c =
-    let here = not-true (f id) (and-left (not (f id)) (are_fresh (λ j. f j || j == id) ids) h) in
+    let here = not-true (f id) (and-left (not (f id)) (are_distinct_unseen (λ j. f j || j == id) ids) h) in
     ⊎_elim (λ (e : nat_eq k id ≡ true). ap f (eqb-true k id e) ∙ here)
-    (λ (e : contains ids k ≡ true). or-false-left (f k) (k == id) (fresh-unseen ids (λ j. f j || j == id) k (and-right (not (f id)) (are_fresh (λ j. f j || j == id) ids) h) e))
+    (λ (e : contains ids k ≡ true). or-false-left (f k) (k == id) (fresh-unseen ids (λ j. f j || j == id) k (and-right (not (f id)) (are_distinct_unseen (λ j. f j || j == id) ids) h) e))
     (or_cases (nat_eq k id) (contains ids k) c)
 
-fresh-change : (ids : List ℕ) (f g : ℕ → Bool) → are_fresh f ids ≡ true → ((k : ℕ) → contains ids k ≡ true → g k ≡ false) → are_fresh g ids ≡ true
-unfolding are_fresh
+fresh-change : (ids : List ℕ) (f g : ℕ → Bool) → are_distinct_unseen f ids ≡ true → ((k : ℕ) → contains ids k ≡ true → g k ≡ false) → are_distinct_unseen g ids ≡ true
+unfolding are_distinct_unseen
 fresh-change [] f g h u = refl
 fresh-change (id ∷ ids) f g h u =
-    let rest = and-right (not (f id)) (are_fresh (λ j. f j || j == id) ids) h in
+    let rest = and-right (not (f id)) (are_distinct_unseen (λ j. f j || j == id) ids) h in
     let here : g id ≡ false = u id (or_left (nat_eq id id) (contains ids id) (nat_eq-refl id)) in
     let later = fresh-change ids (λ j. f j || j == id) (λ j. g j || j == id) rest
     (λ k c. or_from (g k) (k == id) (u k (or_right (nat_eq k id) (contains ids k) c)) (or-false-right (f k) (k == id) (fresh-unseen ids (λ j. f j || j == id) k rest c))) in
     rw (here, later)
 
 -- where there is a bit for each id, and none is set, none is seen
-pub none_stand : (n : Node) → ids_stand (is_seen (replicate 1024 0)) n ≡ ids_stand (λ k. false) n
-none_stand n = ap (λ b. b && every names_the_groups_inside n) (fresh-same (is_seen (replicate 1024 0)) (λ k. false) (group_ids n) (none-seen 1024))
+pub none_stand : (n : Node) → has_valid_group_ids (is_group_id_seen (replicate 1024 0)) n ≡ has_valid_group_ids (λ k. false) n
+none_stand n = ap (λ b. b && every_node_passes names_the_groups_inside n) (fresh-same (is_group_id_seen (replicate 1024 0)) (λ k. false) (group_ids n) (none-seen 1024))
 
 -- ids that are fresh at all are where none is seen
-pub unseen_stand : (n : Node) (f : ℕ → Bool) → true ≡ ids_stand f n → true ≡ ids_stand (λ k. false) n
+pub unseen_stand : (n : Node) (f : ℕ → Bool) → true ≡ has_valid_group_ids f n → true ≡ has_valid_group_ids (λ k. false) n
 unseen_stand n f h =
-    let fresh = fresh-change (group_ids n) f (λ k. false) (and-left (are_fresh f (group_ids n)) (every names_the_groups_inside n) (sym h)) (λ k c. refl) in
-    sym (and_from (are_fresh (λ k. false) (group_ids n)) (every names_the_groups_inside n) fresh (and-right (are_fresh f (group_ids n)) (every names_the_groups_inside n) (sym h)))
+    let fresh = fresh-change (group_ids n) f (λ k. false) (and-left (are_distinct_unseen f (group_ids n)) (every_node_passes names_the_groups_inside n) (sym h)) (λ k c. refl) in
+    sym (and_from (are_distinct_unseen (λ k. false) (group_ids n)) (every_node_passes names_the_groups_inside n) fresh (and-right (are_distinct_unseen f (group_ids n)) (every_node_passes names_the_groups_inside n) (sym h)))
 
 -- ---- How many numbers below n are seen
 
@@ -163,12 +163,12 @@ count-add f id n =
     by_seen false e h = omega (arith, count-new f id n h (sym e))
 
 -- fresh ids below n are as many as there is room for
-fresh-length : (ids : List ℕ) (f : ℕ → Bool) (n : ℕ) → are_fresh f ids ≡ true → past ids ≤ n → length ids + seen_count f n ≤ n
-unfolding are_fresh past
+fresh-length : (ids : List ℕ) (f : ℕ → Bool) (n : ℕ) → are_distinct_unseen f ids ≡ true → id_end ids ≤ n → length ids + seen_count f n ≤ n
+unfolding are_distinct_unseen id_end
 fresh-length [] f n h p = omega (arith, count-le f n)
 fresh-length (id ∷ ids) f n h p =
-    let new = not-true (f id) (and-left (not (f id)) (are_fresh (λ j. f j || j == id) ids) h) in
-    omega (arith, fresh-length ids (λ j. f j || j == id) n (and-right (not (f id)) (are_fresh (λ j. f j || j == id) ids) h) (omega arith), count-new f id n (omega arith) new)
+    let new = not-true (f id) (and-left (not (f id)) (are_distinct_unseen (λ j. f j || j == id) ids) h) in
+    omega (arith, fresh-length ids (λ j. f j || j == id) n (and-right (not (f id)) (are_distinct_unseen (λ j. f j || j == id) ids) h) (omega arith), count-new f id n (omega arith) new)
 
 all_seen : (g : ℕ → Bool) (m : ℕ) → ((q : ℕ) → q < m → g q ≡ true) → m ≤ seen_count g m
 unfolding seen_count
@@ -183,8 +183,8 @@ covers (id ∷ ids) f n c =
 
 -- if so and there are no more, none stands twice, and none is past them
 covers-fresh : (ids : List ℕ) (f : ℕ → Bool) (n : ℕ) → ((q : ℕ) → q < n → (f q || contains ids q) ≡ true) → seen_count f n + length ids ≡ n
-    → (are_fresh f ids ≡ true) × (past ids ≤ n)
-unfolding are_fresh past
+    → (are_distinct_unseen f ids ≡ true) × (id_end ids ≤ n)
+unfolding are_distinct_unseen id_end
 covers-fresh [] f n c e = (refl, omega arith)
 covers-fresh (id ∷ ids) f n c e =
     ⊎_elim (λ (h : id < n). by_seen (f id) refl h (λ m. covers-fresh ids (λ j. f j || j == id) n rest_is m))
@@ -197,12 +197,12 @@ covers-fresh (id ∷ ids) f n c e =
     rest_covers = covers ids (λ j. f j || j == id) n rest_is
 
     by_seen : (t : Bool) → t ≡ f id → id < n
-        → (seen_count (λ j. f j || j == id) n + length ids ≡ n → (are_fresh (λ j. f j || j == id) ids ≡ true) × (past ids ≤ n))
-        → ((not (f id) && are_fresh (λ j. f j || j == id) ids) ≡ true) × (max (id + 1) (past ids) ≤ n)
+        → (seen_count (λ j. f j || j == id) n + length ids ≡ n → (are_distinct_unseen (λ j. f j || j == id) ids ≡ true) × (id_end ids ≤ n))
+        → ((not (f id) && are_distinct_unseen (λ j. f j || j == id) ids) ≡ true) × (max (id + 1) (id_end ids) ≤ n)
     by_seen true s h go = absurd (omega (arith, rest_covers, count-again f id n (sym s)))
     by_seen false s h go =
         let later = go (omega (arith, count-new f id n h (sym s))) in
-        (and_from (not (f id)) (are_fresh (λ j. f j || j == id) ids) (ap not (sym s)) later.0, omega (arith, later.1))
+        (and_from (not (f id)) (are_distinct_unseen (λ j. f j || j == id) ids) (ap not (sym s)) later.0, omega (arith, later.1))
 
 count-below : (s n : ℕ) → seen_count (λ k. nat_lt k s) n ≡ min s n
 unfolding seen_count
@@ -214,11 +214,11 @@ count-below s (suc n) =
 
 -- ---- Spans
 
-pub same_span : (a b : Span) → a.count ≡ b.count → a.low ≡ b.low → a.high ≡ b.high → a ≡ b
+pub same_span : (a b : GroupIdSpanNumbers) → a.count ≡ b.count → a.low ≡ b.low → a.high ≡ b.high → a ≡ b
 same_span a b ec el eh =
-    ap (λ x. let r : Span = record { count = x; low = a.low; high = a.high } in r) ec
-    ∙ ap (λ x. let r : Span = record { count = b.count; low = x; high = a.high } in r) el
-    ∙ ap (λ x. let r : Span = record { count = b.count; low = b.low; high = x } in r) eh
+    ap (λ x. let r : GroupIdSpanNumbers = record { count = x; low = a.low; high = a.high } in r) ec
+    ∙ ap (λ x. let r : GroupIdSpanNumbers = record { count = b.count; low = x; high = a.high } in r) el
+    ∙ ap (λ x. let r : GroupIdSpanNumbers = record { count = b.count; low = b.low; high = x } in r) eh
 
 none_are_seen : (n : ℕ) → seen_count (λ k. false) n ≡ 0
 unfolding seen_count
@@ -235,8 +235,8 @@ unfolding least
 least-append [] ys = omega (arith, least-most ys)
 least-append (x ∷ xs) ys = omega (arith, least-append xs ys)
 
-past-append : (xs ys : List ℕ) → past (xs ++ ys) ≡ max (past xs) (past ys)
-unfolding past
+past-append : (xs ys : List ℕ) → id_end (xs ++ ys) ≡ max (id_end xs) (id_end ys)
+unfolding id_end
 past-append [] ys = omega arith
 past-append (x ∷ xs) ys = omega (arith, past-append xs ys)
 
@@ -246,8 +246,8 @@ least-le [] k c = cc
 least-le (id ∷ ids) k c =
     ⊎_elim (λ (e : nat_eq k id ≡ true). omega (arith, eqb-true k id e)) (λ (e : contains ids k ≡ true). omega (arith, least-le ids k e)) (or_cases (nat_eq k id) (contains ids k) c)
 
-past-gt : (ids : List ℕ) (k : ℕ) → contains ids k ≡ true → k < past ids
-unfolding past
+past-gt : (ids : List ℕ) (k : ℕ) → contains ids k ≡ true → k < id_end ids
+unfolding id_end
 past-gt [] k c = cc
 past-gt (id ∷ ids) k c =
     ⊎_elim (λ (e : nat_eq k id ≡ true). omega (arith, eqb-true k id e)) (λ (e : contains ids k ≡ true). omega (arith, past-gt ids k e)) (or_cases (nat_eq k id) (contains ids k) c)
@@ -258,8 +258,8 @@ le-least [] s b h = b
 le-least (id ∷ ids) s b h =
     omega (arith, h id (or_left (nat_eq id id) (contains ids id) (nat_eq-refl id)), le-least ids s b (λ k c. h k (or_right (nat_eq k id) (contains ids k) c)))
 
-past-le : (ids : List ℕ) (e : ℕ) → ((k : ℕ) → contains ids k ≡ true → k < e) → past ids ≤ e
-unfolding past
+past-le : (ids : List ℕ) (e : ℕ) → ((k : ℕ) → contains ids k ≡ true → k < e) → id_end ids ≤ e
+unfolding id_end
 past-le [] e h = omega arith
 past-le (id ∷ ids) e h =
     omega (arith, h id (or_left (nat_eq id id) (contains ids id) (nat_eq-refl id)), past-le ids e (λ k c. h k (or_right (nat_eq k id) (contains ids k) c)))
@@ -276,8 +276,8 @@ numbers-contain first (suc count) k c =
 -- ---- Distinct ids of a span
 
 -- where they are as many as the span is wide, each of it is there
-all_there : (ids : List ℕ) (f : ℕ → Bool) (s e q : ℕ) → are_fresh f ids ≡ true → s ≤ least ids → past ids ≤ e → e ≤ length ids + s → s ≤ q → q < e → contains ids q ≡ true
-unfolding are_fresh past
+all_there : (ids : List ℕ) (f : ℕ → Bool) (s e q : ℕ) → are_distinct_unseen f ids ≡ true → s ≤ least ids → id_end ids ≤ e → e ≤ length ids + s → s ≤ q → q < e → contains ids q ≡ true
+unfolding are_distinct_unseen id_end
 all_there ids f s e q fresh low high enough above below = by_test (contains ids q) refl
   where
     by_test : (t : Bool) → t ≡ contains ids q → t ≡ true
@@ -286,30 +286,30 @@ all_there ids f s e q fresh low high enough above below = by_test (contains ids 
         let seen = λ (k : ℕ). nat_lt k s in
         let unseen : (k : ℕ) → contains ids k ≡ true → (nat_lt k s || k == q) ≡ false =
         λ k c. or_from (nat_lt k s) (k == q) (le-ltb k s (omega (arith, least-le ids k c))) (ne_eqb k q (λ (same : k ≡ q). false_is_true (g ∙ ap (contains ids) (sym same) ∙ c))) in
-        let rest : are_fresh (λ k. nat_lt k s || k == q) ids ≡ true = fresh-change ids f (λ k. nat_lt k s || k == q) fresh unseen in
-        let whole : are_fresh seen (q ∷ ids) ≡ true = and_from (not (nat_lt q s)) (are_fresh (λ k. nat_lt k s || k == q) ids) (ap not (le-ltb q s above)) rest in
+        let rest : are_distinct_unseen (λ k. nat_lt k s || k == q) ids ≡ true = fresh-change ids f (λ k. nat_lt k s || k == q) fresh unseen in
+        let whole : are_distinct_unseen seen (q ∷ ids) ≡ true = and_from (not (nat_lt q s)) (are_distinct_unseen (λ k. nat_lt k s || k == q) ids) (ap not (le-ltb q s above)) rest in
         absurd (omega (arith, fresh-length (q ∷ ids) seen e whole (omega arith), count-below s e))
 
-as_many : (ids : List ℕ) (f : ℕ → Bool) (s e : ℕ) → are_fresh f ids ≡ true → s ≤ e → ((k : ℕ) → contains ids k ≡ true → s ≤ k) → past ids ≤ e → length ids + s ≤ e
+as_many : (ids : List ℕ) (f : ℕ → Bool) (s e : ℕ) → are_distinct_unseen f ids ≡ true → s ≤ e → ((k : ℕ) → contains ids k ≡ true → s ≤ k) → id_end ids ≤ e → length ids + s ≤ e
 as_many ids f s e fresh order low high =
     let seen = λ (k : ℕ). nat_lt k s in
     let again = fresh-change ids f seen fresh (λ k c. le-ltb k s (low k c)) in
     omega (arith, fresh-length ids seen e again high, count-below s e)
 
-pub encloses-fills : (contents : Node) (f : ℕ → Bool) (s e : ℕ) → s ≤ 2 ^ 16 → e ≤ 2 ^ 16 → are_fresh f (group_ids contents) ≡ true
-    → (nat_le s e && (min (length (group_ids contents)) (2 ^ 64 - 1) == (e - s)) && nat_le s (least (group_ids contents)) && nat_le (past (group_ids contents)) e) ≡ encloses s e contents
+pub encloses-fills : (contents : Node) (f : ℕ → Bool) (s e : ℕ) → s ≤ 2 ^ 16 → e ≤ 2 ^ 16 → are_distinct_unseen f (group_ids contents) ≡ true
+    → (nat_le s e && (min (length (group_ids contents)) (2 ^ 64 - 1) == (e - s)) && nat_le s (least (group_ids contents)) && nat_le (id_end (group_ids contents)) e) ≡ encloses s e contents
 encloses-fills contents f s e bs be fresh =
     let ids = group_ids contents in
     let named = numbers_from s (e - s) in
     let count = min (length ids) (2 ^ 64 - 1) == (e - s) in
-    same-truth (nat_le s e && count && nat_le s (least ids) && nat_le (past ids) e) (encloses s e contents)
+    same-truth (nat_le s e && count && nat_le s (least ids) && nat_le (id_end ids) e) (encloses s e contents)
     (λ h.
-    let h3 = and-left (nat_le s e && count && nat_le s (least ids)) (nat_le (past ids) e) h in
+    let h3 = and-left (nat_le s e && count && nat_le s (least ids)) (nat_le (id_end ids) e) h in
     let h2 = and-left (nat_le s e && count) (nat_le s (least ids)) h3 in
     let order : s ≤ e = leb-true s e (and-left (nat_le s e) count h2) in
     let many : min (length ids) (2 ^ 64 - 1) ≡ e - s = eqb-true _ _ (and-right (nat_le s e) count h2) in
     let low : s ≤ least ids = leb-true s (least ids) (and-right (nat_le s e && count) (nat_le s (least ids)) h3) in
-    let high : past ids ≤ e = leb-true (past ids) e (and-right (nat_le s e && count && nat_le s (least ids)) (nat_le (past ids) e) h) in
+    let high : id_end ids ≤ e = leb-true (id_end ids) e (and-right (nat_le s e && count && nat_le s (least ids)) (nat_le (id_end ids) e) h) in
     and_from (nat_le s e && list_all (contains named) ids) (list_all (contains ids) named)
     (and_from (nat_le s e) (list_all (contains named) ids) (le-leb s e order)
     (list_all-members (contains named) ids (λ k c. contains-numbers_from k s (e - s) (omega (arith, least-le ids k c)) (omega (arith, past-gt ids k c)))))
@@ -320,16 +320,16 @@ encloses-fills contents f s e bs be fresh =
     let inside = λ (k : ℕ) (c : contains ids k ≡ true). numbers-contain s (e - s) k (all-contains (contains named) ids k (and-right (nat_le s e) (list_all (contains named) ids) h2) c) in
     let there = λ (q : ℕ) (c : contains named q ≡ true). all-contains (contains ids) named q (and-right (nat_le s e && list_all (contains named) ids) (list_all (contains ids) named) h) c in
     let low : s ≤ least ids = le-least ids s bs (λ k c. (inside k c).0) in
-    let high : past ids ≤ e = past-le ids e (λ k c. omega (arith, (inside k c).1)) in
+    let high : id_end ids ≤ e = past-le ids e (λ k c. omega (arith, (inside k c).1)) in
     let most : length ids + s ≤ e = as_many ids f s e fresh order (λ k c. (inside k c).0) high in
     let seen = λ (k : ℕ). nat_lt k s in
     let fewest : e ≤ seen_count seen e + length ids =
     covers ids seen e (λ q b. ⊎_elim (λ (g : q < s). or_left (nat_lt q s) (contains ids q) (lt-ltb q s g))
     (λ (g : s ≤ q). or_right (nat_lt q s) (contains ids q) (there q (contains-numbers_from q s (e - s) g (omega arith)))) (cases_lt q s)) in
     let many : min (length ids) (2 ^ 64 - 1) ≡ e - s = omega (arith, count-below s e) in
-    and_from (nat_le s e && count && nat_le s (least ids)) (nat_le (past ids) e)
+    and_from (nat_le s e && count && nat_le s (least ids)) (nat_le (id_end ids) e)
     (and_from (nat_le s e && count) (nat_le s (least ids)) (and_from (nat_le s e) count (le-leb s e order) (eq-eqb _ _ many)) (le-leb s (least ids) low))
-    (le-leb (past ids) e high))
+    (le-leb (id_end ids) e high))
 
 -- ---- Each id once
 
@@ -342,11 +342,11 @@ count-none q (id ∷ ids) h =
 pub count_by-first : (q id : ℕ) (ids : List ℕ) → count_by (nat_eq q) (id ∷ ids) ≡ (if nat_eq q id then 1 else 0) + count_by (nat_eq q) ids
 count_by-first q id ids = sum_by-cons (λ x. if nat_eq q x then 1 else 0) id ids
 
-count-one : (q : ℕ) (ids : List ℕ) (f : ℕ → Bool) → are_fresh f ids ≡ true → contains ids q ≡ true → count_by (nat_eq q) ids ≡ 1
-unfolding are_fresh
+count-one : (q : ℕ) (ids : List ℕ) (f : ℕ → Bool) → are_distinct_unseen f ids ≡ true → contains ids q ≡ true → count_by (nat_eq q) ids ≡ 1
+unfolding are_distinct_unseen
 count-one q [] f h c = cc
 count-one q (id ∷ ids) f h c =
-    let later = and-right (not (f id)) (are_fresh (λ j. f j || j == id) ids) h in
+    let later = and-right (not (f id)) (are_distinct_unseen (λ j. f j || j == id) ids) h in
     by_test (nat_eq q id) refl (fresh-unseen ids (λ j. f j || j == id) q later) (count-one q ids (λ j. f j || j == id) later)
   where
     by_test : (t : Bool) → t ≡ nat_eq q id → (contains ids q ≡ true → (f q || q == id) ≡ false) → (contains ids q ≡ true → count_by (nat_eq q) ids ≡ 1) → count_by (nat_eq q) (id ∷ ids) ≡ 1
@@ -357,14 +357,14 @@ count-one q (id ∷ ids) f h c =
         let there : contains ids q ≡ true = ap (λ t. t || contains ids q) e ∙ c in
         count_by-first q id ids ∙ rw (← e) (omega (arith, go there))
 
-pub each_once : (root : Node) (f : ℕ → Bool) → are_fresh f (group_ids root) ≡ true → past (group_ids root) ≤ length (group_ids root) → each_id_stands_once root ≡ true
+pub each_once : (root : Node) (f : ℕ → Bool) → are_distinct_unseen f (group_ids root) ≡ true → id_end (group_ids root) ≤ length (group_ids root) → each_id_stands_once root ≡ true
 each_once root f fresh high =
     let ids = group_ids root in
     list_all-members (λ id. count_by (nat_eq id) ids == 1) (numbers_from 0 (length ids))
     (λ q c. let within = numbers-contain 0 (length ids) q c in
     eq-eqb _ 1 (count-one q ids f fresh (all_there ids f 0 (length ids) q fresh (omega arith) high (omega arith) (omega arith) (omega (arith, within.1)))))
 
-pub once_each : (root : Node) → each_id_stands_once root ≡ true → (are_fresh (λ k. false) (group_ids root) ≡ true) × (past (group_ids root) ≤ length (group_ids root))
+pub once_each : (root : Node) → each_id_stands_once root ≡ true → (are_distinct_unseen (λ k. false) (group_ids root) ≡ true) × (id_end (group_ids root) ≤ length (group_ids root))
 once_each root h =
     let ids = group_ids root in
     let none = λ (k : ℕ). false in
@@ -384,15 +384,15 @@ once_each root h =
 
 -- ---- Both spans
 
-pub span-append : (xs ys : List ℕ) → joined (span_of xs) (span_of ys) ≡ span_of (xs ++ ys)
+pub span-append : (xs ys : List ℕ) → joined (span_of_group_ids xs) (span_of_group_ids ys) ≡ span_of_group_ids (xs ++ ys)
 span-append xs ys =
-    same_span (joined (span_of xs) (span_of ys)) (span_of (xs ++ ys)) (omega (arith, length-append xs ys)) (sym (least-append xs ys)) (sym (past-append xs ys))
+    same_span (joined (span_of_group_ids xs) (span_of_group_ids ys)) (span_of_group_ids (xs ++ ys)) (omega (arith, length-append xs ys)) (sym (least-append xs ys)) (sym (past-append xs ys))
 
 -- ---- What is found of two parts
 
 pub found_both : (f : ℕ → Bool) (xs ys : List ℕ) (p q : Bool)
-    → ((are_fresh f xs && p) && (are_fresh (λ k. f k || contains xs k) ys && q)) ≡ (are_fresh f (xs ++ ys) && (p && q))
-found_both f xs ys p q = shuffle (are_fresh f xs) p (are_fresh (λ k. f k || contains xs k) ys) q ∙ ap (λ b. b && (p && q)) (sym (fresh-append f xs ys))
+    → ((are_distinct_unseen f xs && p) && (are_distinct_unseen (λ k. f k || contains xs k) ys && q)) ≡ (are_distinct_unseen f (xs ++ ys) && (p && q))
+found_both f xs ys p q = shuffle (are_distinct_unseen f xs) p (are_distinct_unseen (λ k. f k || contains xs k) ys) q ∙ ap (λ b. b && (p && q)) (sym (fresh-append f xs ys))
   where
     shuffle : (a b c d : Bool) → ((a && b) && (c && d)) ≡ ((a && c) && (b && d))
     shuffle true true c d = refl
@@ -401,36 +401,36 @@ found_both f xs ys p q = shuffle (are_fresh f xs) p (are_fresh (λ k. f k || con
     shuffle false b c d = refl
 
 -- the first part decides, where it fails
-pub first_fails : (f : ℕ → Bool) (xs ys : List ℕ) (p q : Bool) → false ≡ (are_fresh f xs && p) → false ≡ (are_fresh f (xs ++ ys) && (p && q))
-first_fails f xs ys p q h = ap (λ b. b && (are_fresh (λ k. f k || contains xs k) ys && q)) h ∙ found_both f xs ys p q
+pub first_fails : (f : ℕ → Bool) (xs ys : List ℕ) (p q : Bool) → false ≡ (are_distinct_unseen f xs && p) → false ≡ (are_distinct_unseen f (xs ++ ys) && (p && q))
+first_fails f xs ys p q h = ap (λ b. b && (are_distinct_unseen (λ k. f k || contains xs k) ys && q)) h ∙ found_both f xs ys p q
 
 -- and else the second
-pub second_decides : (f g : ℕ → Bool) (xs ys : List ℕ) (p q t : Bool) → true ≡ (are_fresh f xs && p) → ((k : ℕ) → g k ≡ (f k || contains xs k))
-    → t ≡ (are_fresh g ys && q) → t ≡ (are_fresh f (xs ++ ys) && (p && q))
+pub second_decides : (f g : ℕ → Bool) (xs ys : List ℕ) (p q t : Bool) → true ≡ (are_distinct_unseen f xs && p) → ((k : ℕ) → g k ≡ (f k || contains xs k))
+    → t ≡ (are_distinct_unseen g ys && q) → t ≡ (are_distinct_unseen f (xs ++ ys) && (p && q))
 second_decides f g xs ys p q t h same e =
     e ∙ ap (λ b. b && q) (fresh-same g (λ k. f k || contains xs k) ys same)
-    ∙ ap (λ b. b && (are_fresh (λ k. f k || contains xs k) ys && q)) h ∙ found_both f xs ys p q
+    ∙ ap (λ b. b && (are_distinct_unseen (λ k. f k || contains xs k) ys && q)) h ∙ found_both f xs ys p q
 
-pub one_is_fresh : (f : ℕ → Bool) (id : ℕ) (t : Bool) → t ≡ not (f id) → t ≡ (are_fresh f (id ∷ []) && true)
-unfolding are_fresh
+pub one_is_fresh : (f : ℕ → Bool) (id : ℕ) (t : Bool) → t ≡ not (f id) → t ≡ (are_distinct_unseen f (id ∷ []) && true)
+unfolding are_distinct_unseen
 one_is_fresh f id t e = e ∙ sym (and-true (not (f id))) ∙ sym (and-true (not (f id) && true))
 
 pub one_contained : (f : ℕ → Bool) (id k : ℕ) → (f k || k == id) ≡ (f k || contains (id ∷ []) k)
 one_contained f id k = ap (λ t. f k || t) (sym (or-false (k == id)))
 
-pub joined_same : (a a' b b' : Span) → a ≡ a' → b ≡ b' → joined a b ≡ joined a' b'
+pub joined_same : (a a' b b' : GroupIdSpanNumbers) → a ≡ a' → b ≡ b' → joined a b ≡ joined a' b'
 joined_same a a' b b' e f = ap (λ x. joined x b) e ∙ ap (joined a') f
 
-pub joined-assoc : (a b c : Span) → joined (joined a b) c ≡ joined a (joined b c)
+pub joined-assoc : (a b c : GroupIdSpanNumbers) → joined (joined a b) c ≡ joined a (joined b c)
 joined-assoc a b c = same_span (joined (joined a b) c) (joined a (joined b c)) (omega arith) (omega arith) (omega arith)
 
 -- what the first fields say of a test of the span
 pub fills-encloses : (contents : Node) (f : ℕ → Bool) (s e count low high : ℕ) (t p : Bool) → s < 2 ^ 16 → e < 2 ^ 16
-    → true ≡ (are_fresh f (group_ids contents) && p) → count ≡ min (length (group_ids contents)) (2 ^ 64 - 1) → low ≡ least (group_ids contents) → high ≡ past (group_ids contents)
-    → t ≡ (nat_le s e && (count == (e - s)) && nat_le s low && nat_le high e) → t ≡ (are_fresh f (group_ids contents) && (encloses s e contents && p))
+    → true ≡ (are_distinct_unseen f (group_ids contents) && p) → count ≡ min (length (group_ids contents)) (2 ^ 64 - 1) → low ≡ least (group_ids contents) → high ≡ id_end (group_ids contents)
+    → t ≡ (nat_le s e && (count == (e - s)) && nat_le s low && nat_le high e) → t ≡ (are_distinct_unseen f (group_ids contents) && (encloses s e contents && p))
 fills-encloses contents f s e count low high t p bs be found ec el eh et =
-    let fresh = and-left (are_fresh f (group_ids contents)) p (sym found) in
-    let named = and-right (are_fresh f (group_ids contents)) p (sym found) in
+    let fresh = and-left (are_distinct_unseen f (group_ids contents)) p (sym found) in
+    let named = and-right (are_distinct_unseen f (group_ids contents)) p (sym found) in
     let filled = encloses-fills contents f s e (omega arith) (omega arith) fresh in
     et ∙ ap (λ n. nat_le s e && (n == (e - s)) && nat_le s low && nat_le high e) ec
     ∙ ap (λ n. nat_le s e && (min (length (group_ids contents)) (2 ^ 64 - 1) == (e - s)) && nat_le s n && nat_le high e) el
@@ -439,37 +439,37 @@ fills-encloses contents f s e count low high t p bs be found ec el eh et =
 
 -- ---- Tests of each node
 
-every-and : (f g : Node → Bool) (n : Node) → every (λ x. f x && g x) n ≡ (every f n && every g n)
-every-and f g (cat a b) = rw (every-and f g a, every-and f g b) (six (f (cat a b)) (g (cat a b)) (every f a) (every g a) (every f b) (every g b))
-every-and f g (alt a b) = rw (every-and f g a, every-and f g b) (six (f (alt a b)) (g (alt a b)) (every f a) (every g a) (every f b) (every g b))
-every-and f g (capture_group id name n) = rw (every-and f g n) (four (f (capture_group id name n)) (g (capture_group id name n)) (every f n) (every g n))
-every-and f g (lookaround l n) = rw (every-and f g n) (four (f (lookaround l n)) (g (lookaround l n)) (every f n) (every g n))
-every-and f g (loop q s e n) = rw (every-and f g n) (four (f (loop q s e n)) (g (loop q s e n)) (every f n) (every g n))
-every-and f g (loop_1_char_body q n) = rw (every-and f g n) (four (f (loop_1_char_body q n)) (g (loop_1_char_body q n)) (every f n) (every g n))
+every-and : (f g : Node → Bool) (n : Node) → every_node_passes (λ x. f x && g x) n ≡ (every_node_passes f n && every_node_passes g n)
+every-and f g (cat a b) = rw (every-and f g a, every-and f g b) (six (f (cat a b)) (g (cat a b)) (every_node_passes f a) (every_node_passes g a) (every_node_passes f b) (every_node_passes g b))
+every-and f g (alt a b) = rw (every-and f g a, every-and f g b) (six (f (alt a b)) (g (alt a b)) (every_node_passes f a) (every_node_passes g a) (every_node_passes f b) (every_node_passes g b))
+every-and f g (capture_group id name n) = rw (every-and f g n) (four (f (capture_group id name n)) (g (capture_group id name n)) (every_node_passes f n) (every_node_passes g n))
+every-and f g (lookaround l n) = rw (every-and f g n) (four (f (lookaround l n)) (g (lookaround l n)) (every_node_passes f n) (every_node_passes g n))
+every-and f g (loop q s e n) = rw (every-and f g n) (four (f (loop q s e n)) (g (loop q s e n)) (every_node_passes f n) (every_node_passes g n))
+every-and f g (loop_1_char_body q n) = rw (every-and f g n) (four (f (loop_1_char_body q n)) (g (loop_1_char_body q n)) (every_node_passes f n) (every_node_passes g n))
 every-and f g n = refl
 
-pub every-sound : (m : ℕ) (n : Node) → every (is_sound_by_itself m) n
-    ≡ (every (refers_to_a_group m) n && every has_order_in_quantifier n && every has_one_character_body n && every has_text_in_sequence n && every fits_instructions n)
+pub every-sound : (m : ℕ) (n : Node) → every_node_passes (is_well_formed_node m) n
+    ≡ (every_node_passes (refers_to_a_group m) n && every_node_passes has_order_in_quantifier n && every_node_passes has_one_character_body n && every_node_passes has_text_in_sequence n && every_node_passes fits_instructions n)
 every-sound m n =
     every-and (λ x. refers_to_a_group m x && has_order_in_quantifier x && has_one_character_body x && has_text_in_sequence x) fits_instructions n
-    ∙ ap (λ b. b && every fits_instructions n)
+    ∙ ap (λ b. b && every_node_passes fits_instructions n)
     (every-and (λ x. refers_to_a_group m x && has_order_in_quantifier x && has_one_character_body x) has_text_in_sequence n
-    ∙ ap (λ b. b && every has_text_in_sequence n)
+    ∙ ap (λ b. b && every_node_passes has_text_in_sequence n)
     (every-and (λ x. refers_to_a_group m x && has_order_in_quantifier x) has_one_character_body n
-    ∙ ap (λ b. b && every has_one_character_body n) (every-and (refers_to_a_group m) has_order_in_quantifier n)))
+    ∙ ap (λ b. b && every_node_passes has_one_character_body n) (every-and (refers_to_a_group m) has_order_in_quantifier n)))
 
 -- ---- The whole test
 
-pub sound_is_well_formed : (root : Node) (f : ℕ → Bool) (count : ℕ) → goal_is_last root ≡ true → true ≡ (are_fresh f (group_ids root) && every names_the_groups_inside root)
-    → count ≡ length (group_ids root) → past (group_ids root) ≤ count → every (is_sound_by_itself count) root ≡ true → IsWellFormed root
+pub sound_is_well_formed : (root : Node) (f : ℕ → Bool) (count : ℕ) → goal_is_last root ≡ true → true ≡ (are_distinct_unseen f (group_ids root) && every_node_passes names_the_groups_inside root)
+    → count ≡ length (group_ids root) → id_end (group_ids root) ≤ count → every_node_passes (is_well_formed_node count) root ≡ true → IsWellFormed root
 sound_is_well_formed root f count last found many high sound =
-    let fresh = and-left (are_fresh f (group_ids root)) (every names_the_groups_inside root) (sym found) in
-    let named = and-right (are_fresh f (group_ids root)) (every names_the_groups_inside root) (sym found) in
-    let r = every (refers_to_a_group count) root in
-    let o = every has_order_in_quantifier root in
-    let b = every has_one_character_body root in
-    let t = every has_text_in_sequence root in
-    let s = every fits_instructions root in
+    let fresh = and-left (are_distinct_unseen f (group_ids root)) (every_node_passes names_the_groups_inside root) (sym found) in
+    let named = and-right (are_distinct_unseen f (group_ids root)) (every_node_passes names_the_groups_inside root) (sym found) in
+    let r = every_node_passes (refers_to_a_group count) root in
+    let o = every_node_passes has_order_in_quantifier root in
+    let b = every_node_passes has_one_character_body root in
+    let t = every_node_passes has_text_in_sequence root in
+    let s = every_node_passes fits_instructions root in
     let all : (r && o && b && t && s) ≡ true = sym (every-sound count root) ∙ sound in
     let all4 = and-left (r && o && b && t) s all in
     let all3 = and-left (r && o && b) t all4 in
@@ -478,43 +478,43 @@ sound_is_well_formed root f count last found many high sound =
       goal_last = last;
       ids = each_once root f fresh (omega arith);
       enclosed = named;
-      references = sym (ap (λ n. every (refers_to_a_group n) root) many) ∙ and-left r o all2;
+      references = sym (ap (λ n. every_node_passes (refers_to_a_group n) root) many) ∙ and-left r o all2;
       quantifiers = and-right r o all2;
       bodies = and-right (r && o) b all3;
       sequences = and-right (r && o && b) t all4;
       sets = and-right (r && o && b && t) s all;
     })
 
-pub well_formed_is_sound : (root : Node) (count : ℕ) → count ≡ length (group_ids root) → IsWellFormed root → every (is_sound_by_itself count) root ≡ true
+pub well_formed_is_sound : (root : Node) (count : ℕ) → count ≡ length (group_ids root) → IsWellFormed root → every_node_passes (is_well_formed_node count) root ≡ true
 well_formed_is_sound root count many well_formed =
     let w = clauses root well_formed in
-    let r = every (refers_to_a_group count) root in
-    let o = every has_order_in_quantifier root in
-    let b = every has_one_character_body root in
-    let t = every has_text_in_sequence root in
-    let s = every fits_instructions root in
-    let refers : r ≡ true = ap (λ n. every (refers_to_a_group n) root) many ∙ w.references in
+    let r = every_node_passes (refers_to_a_group count) root in
+    let o = every_node_passes has_order_in_quantifier root in
+    let b = every_node_passes has_one_character_body root in
+    let t = every_node_passes has_text_in_sequence root in
+    let s = every_node_passes fits_instructions root in
+    let refers : r ≡ true = ap (λ n. every_node_passes (refers_to_a_group n) root) many ∙ w.references in
     every-sound count root ∙ and_from (r && o && b && t) s (and_from (r && o && b) t (and_from (r && o) b (and_from r o refers w.quantifiers) w.bodies) w.sequences) w.sets
 
-pub well_formed_is_found : (root : Node) (f : ℕ → Bool) → ((k : ℕ) → f k ≡ false) → IsWellFormed root → (are_fresh f (group_ids root) && every names_the_groups_inside root) ≡ true
+pub well_formed_is_found : (root : Node) (f : ℕ → Bool) → ((k : ℕ) → f k ≡ false) → IsWellFormed root → (are_distinct_unseen f (group_ids root) && every_node_passes names_the_groups_inside root) ≡ true
 well_formed_is_found root f none well_formed =
     let w = clauses root well_formed in
-    and_from (are_fresh f (group_ids root)) (every names_the_groups_inside root) (fresh-same f (λ k. false) (group_ids root) none ∙ (once_each root w.ids).0) w.enclosed
+    and_from (are_distinct_unseen f (group_ids root)) (every_node_passes names_the_groups_inside root) (fresh-same f (λ k. false) (group_ids root) none ∙ (once_each root w.ids).0) w.enclosed
 
-pub well_formed_has_room : (root : Node) → IsWellFormed root → past (group_ids root) ≤ length (group_ids root)
+pub well_formed_has_room : (root : Node) → IsWellFormed root → id_end (group_ids root) ≤ length (group_ids root)
 well_formed_has_room root w = (once_each root (clauses root w).ids).1
 
 -- so many ids can be counted
-pub few_ids : (root : Node) (f : ℕ → Bool) (p : Bool) → true ≡ (are_fresh f (group_ids root) && p) → past (group_ids root) ≤ 65536 → length (group_ids root) ≤ 65536
+pub few_ids : (root : Node) (f : ℕ → Bool) (p : Bool) → true ≡ (are_distinct_unseen f (group_ids root) && p) → id_end (group_ids root) ≤ 65536 → length (group_ids root) ≤ 65536
 few_ids root f p found high =
-    omega (arith, fresh-length (group_ids root) f 65536 (and-left (are_fresh f (group_ids root)) p (sym found)) high)
+    omega (arith, fresh-length (group_ids root) f 65536 (and-left (are_distinct_unseen f (group_ids root)) p (sym found)) high)
 
-pub joined-none : (ids : List ℕ) → joined (record { count = 0; low = 65536; high = 0 }) (span_of ids) ≡ span_of ids
-joined-none ids = same_span (joined (record { count = 0; low = 65536; high = 0 }) (span_of ids)) (span_of ids) (omega arith) (omega (arith, least-most ids)) (omega arith)
+pub joined-none : (ids : List ℕ) → joined (record { count = 0; low = 65536; high = 0 }) (span_of_group_ids ids) ≡ span_of_group_ids ids
+joined-none ids = same_span (joined (record { count = 0; low = 65536; high = 0 }) (span_of_group_ids ids)) (span_of_group_ids ids) (omega arith) (omega (arith, least-most ids)) (omega arith)
 
-pub joined-last : (s : Span) → s.count < 2 ^ 64 → s.low ≤ 65536 → joined s (span_of []) ≡ s
-unfolding least past
-joined-last s c l = same_span (joined s (span_of [])) s (omega arith) (omega arith) (omega arith)
+pub joined-last : (s : GroupIdSpanNumbers) → s.count < 2 ^ 64 → s.low ≤ 65536 → joined s (span_of_group_ids []) ≡ s
+unfolding least id_end
+joined-last s c l = same_span (joined s (span_of_group_ids [])) s (omega arith) (omega arith) (omega arith)
 
 pub seen_next : (f g h : ℕ → Bool) (xs ys all : List ℕ) → ((k : ℕ) → g k ≡ (f k || contains xs k)) → ((k : ℕ) → (f k || contains (xs ++ ys) k) ≡ (h k || contains all k))
     → (k : ℕ) → (g k || contains ys k) ≡ (h k || contains all k)
@@ -525,48 +525,48 @@ seen_next f g h xs ys all a b k =
 
 -- What a walk over the rest of the ids comes to, from what is seen and their span so far, one over all of them comes to
 -- from the start. Tests go along with the ids.
-pub record IsLeft (at_first : ℕ → Bool) (first : Span) (all : List ℕ) (named : Bool) (f : ℕ → Bool) (s : Span) (ids : List ℕ) (p : Bool) : Type 0 where
-  pub found : (are_fresh f ids && p) ≡ (are_fresh at_first all && named)
-  pub span : joined s (span_of ids) ≡ joined first (span_of all)
+pub record IsLeft (at_first : ℕ → Bool) (first : GroupIdSpanNumbers) (all : List ℕ) (named : Bool) (f : ℕ → Bool) (s : GroupIdSpanNumbers) (ids : List ℕ) (p : Bool) : Type 0 where
+  pub found : (are_distinct_unseen f ids && p) ≡ (are_distinct_unseen at_first all && named)
+  pub span : joined s (span_of_group_ids ids) ≡ joined first (span_of_group_ids all)
   pub seen : (k : ℕ) → (f k || contains ids k) ≡ (at_first k || contains all k)
 
-pub left-same : (at_first : ℕ → Bool) (first : Span) (all : List ℕ) (named : Bool) (f : ℕ → Bool) (s : Span) (n m : Node) → n ≡ m
-    → IsLeft at_first first all named f s (group_ids n) (every names_the_groups_inside n) → IsLeft at_first first all named f s (group_ids m) (every names_the_groups_inside m)
+pub left-same : (at_first : ℕ → Bool) (first : GroupIdSpanNumbers) (all : List ℕ) (named : Bool) (f : ℕ → Bool) (s : GroupIdSpanNumbers) (n m : Node) → n ≡ m
+    → IsLeft at_first first all named f s (group_ids n) (every_node_passes names_the_groups_inside n) → IsLeft at_first first all named f s (group_ids m) (every_node_passes names_the_groups_inside m)
 left-same at_first first all named f s n m e l = record {
-  found = sym (ap (λ x. are_fresh f (group_ids x) && every names_the_groups_inside x) e) ∙ l.found;
-  span = sym (ap (λ x. joined s (span_of (group_ids x))) e) ∙ l.span;
+  found = sym (ap (λ x. are_distinct_unseen f (group_ids x) && every_node_passes names_the_groups_inside x) e) ∙ l.found;
+  span = sym (ap (λ x. joined s (span_of_group_ids (group_ids x))) e) ∙ l.span;
   seen = λ k. sym (ap (λ x. f k || contains (group_ids x) k) e) ∙ l.seen k;
 }
 
 -- the first ones have been seen
-pub left-next : (at_first : ℕ → Bool) (first : Span) (all : List ℕ) (named : Bool) (f g : ℕ → Bool) (s t : Span) (xs ys : List ℕ) (p q : Bool)
-    → IsLeft at_first first all named f s (xs ++ ys) (p && q) → true ≡ (are_fresh f xs && p) → t ≡ joined s (span_of xs) → ((k : ℕ) → g k ≡ (f k || contains xs k))
+pub left-next : (at_first : ℕ → Bool) (first : GroupIdSpanNumbers) (all : List ℕ) (named : Bool) (f g : ℕ → Bool) (s t : GroupIdSpanNumbers) (xs ys : List ℕ) (p q : Bool)
+    → IsLeft at_first first all named f s (xs ++ ys) (p && q) → true ≡ (are_distinct_unseen f xs && p) → t ≡ joined s (span_of_group_ids xs) → ((k : ℕ) → g k ≡ (f k || contains xs k))
     → IsLeft at_first first all named g t ys q
 left-next at_first first all named f g s t xs ys p q l went span seen = record {
-  found = second_decides f g xs ys p q (are_fresh g ys && q) went seen refl ∙ l.found;
-  span = joined_same t (joined s (span_of xs)) (span_of ys) (span_of ys) span refl ∙ joined-assoc s (span_of xs) (span_of ys) ∙ ap (joined s) (span-append xs ys) ∙ l.span;
+  found = second_decides f g xs ys p q (are_distinct_unseen g ys && q) went seen refl ∙ l.found;
+  span = joined_same t (joined s (span_of_group_ids xs)) (span_of_group_ids ys) (span_of_group_ids ys) span refl ∙ joined-assoc s (span_of_group_ids xs) (span_of_group_ids ys) ∙ ap (joined s) (span-append xs ys) ∙ l.span;
   seen = seen_next f g at_first xs ys all seen l.seen;
 }
 
 -- one of the first ones is not as it has to be
-pub left-fails : (at_first : ℕ → Bool) (first : Span) (all : List ℕ) (named : Bool) (f : ℕ → Bool) (s : Span) (xs ys : List ℕ) (p q : Bool)
-    → IsLeft at_first first all named f s (xs ++ ys) (p && q) → false ≡ (are_fresh f xs && p) → false ≡ (are_fresh at_first all && named)
+pub left-fails : (at_first : ℕ → Bool) (first : GroupIdSpanNumbers) (all : List ℕ) (named : Bool) (f : ℕ → Bool) (s : GroupIdSpanNumbers) (xs ys : List ℕ) (p q : Bool)
+    → IsLeft at_first first all named f s (xs ++ ys) (p && q) → false ≡ (are_distinct_unseen f xs && p) → false ≡ (are_distinct_unseen at_first all && named)
 left-fails at_first first all named f s xs ys p q l fails = first_fails f xs ys p q fails ∙ l.found
 
 -- none is left
-pub left-found : (at_first : ℕ → Bool) (first : Span) (all : List ℕ) (named : Bool) (f : ℕ → Bool) (s : Span) → IsLeft at_first first all named f s [] true → true ≡ (are_fresh at_first all && named)
-unfolding are_fresh
+pub left-found : (at_first : ℕ → Bool) (first : GroupIdSpanNumbers) (all : List ℕ) (named : Bool) (f : ℕ → Bool) (s : GroupIdSpanNumbers) → IsLeft at_first first all named f s [] true → true ≡ (are_distinct_unseen at_first all && named)
+unfolding are_distinct_unseen
 left-found at_first first all named f s l = l.found
 
-pub left-span : (at_first : ℕ → Bool) (first : Span) (all : List ℕ) (named : Bool) (f : ℕ → Bool) (s : Span) → s.count < 2 ^ 64 → s.low ≤ 65536
-    → IsLeft at_first first all named f s [] true → s ≡ joined first (span_of all)
+pub left-span : (at_first : ℕ → Bool) (first : GroupIdSpanNumbers) (all : List ℕ) (named : Bool) (f : ℕ → Bool) (s : GroupIdSpanNumbers) → s.count < 2 ^ 64 → s.low ≤ 65536
+    → IsLeft at_first first all named f s [] true → s ≡ joined first (span_of_group_ids all)
 left-span at_first first all named f s c h l = sym (joined-last s c h) ∙ l.span
 
-pub left-seen : (at_first : ℕ → Bool) (first : Span) (all : List ℕ) (named : Bool) (f : ℕ → Bool) (s : Span) → IsLeft at_first first all named f s [] true
+pub left-seen : (at_first : ℕ → Bool) (first : GroupIdSpanNumbers) (all : List ℕ) (named : Bool) (f : ℕ → Bool) (s : GroupIdSpanNumbers) → IsLeft at_first first all named f s [] true
     → (k : ℕ) → f k ≡ (at_first k || contains all k)
 left-seen at_first first all named f s l k = sym (or-false (f k)) ∙ l.seen k
 
-leaf-ids : (n : Node) → is_leaf n ≡ true → (group_ids n ≡ []) × (every names_the_groups_inside n ≡ true)
+leaf-ids : (n : Node) → is_leaf n ≡ true → (group_ids n ≡ []) × (every_node_passes names_the_groups_inside n ≡ true)
 leaf-ids (cat a b) h = (cc, cc)
 leaf-ids (alt a b) h = (cc, cc)
 leaf-ids (capture_group id name n) h = (cc, cc)
@@ -575,15 +575,15 @@ leaf-ids (loop q s e n) h = (cc, cc)
 leaf-ids (loop_1_char_body q n) h = (cc, cc)
 leaf-ids n h = (refl, refl)
 
-pub left-leaf : (at_first : ℕ → Bool) (first : Span) (all : List ℕ) (named : Bool) (f : ℕ → Bool) (s : Span) (n : Node) → is_leaf n ≡ true
-    → IsLeft at_first first all named f s (group_ids n) (every names_the_groups_inside n) → IsLeft at_first first all named f s [] true
+pub left-leaf : (at_first : ℕ → Bool) (first : GroupIdSpanNumbers) (all : List ℕ) (named : Bool) (f : ℕ → Bool) (s : GroupIdSpanNumbers) (n : Node) → is_leaf n ≡ true
+    → IsLeft at_first first all named f s (group_ids n) (every_node_passes names_the_groups_inside n) → IsLeft at_first first all named f s [] true
 left-leaf at_first first all named f s n h l = let none = leaf-ids n h in rw (none.0, none.1) at l
 
 -- what a walk from no id has seen is all
-pub all_ids : (s none t : spans.Span) (n : Node) → s ≡ t → as_span none ≡ span_of [] → as_span t ≡ joined (as_span none) (span_of (group_ids n)) → as_span s ≡ span_of (group_ids n)
-unfolding least past
+pub all_ids : (s none t : spans.GroupIdSpan) (n : Node) → s ≡ t → as_number_span none ≡ span_of_group_ids [] → as_number_span t ≡ joined (as_number_span none) (span_of_group_ids (group_ids n)) → as_number_span s ≡ span_of_group_ids (group_ids n)
+unfolding least id_end
 all_ids s none t n e from_none h =
-    ap as_span e ∙ h ∙ ap (λ x. joined x (span_of (group_ids n))) from_none ∙ joined-none (group_ids n)
+    ap as_number_span e ∙ h ∙ ap (λ x. joined x (span_of_group_ids (group_ids n))) from_none ∙ joined-none (group_ids n)
 
 pub some_bytes : (bytes : List ℕ) (b : Bool) → b ≡ true → not (length bytes == 0) ≡ (nat_lt 0 (length bytes) && b)
 some_bytes [] b e = refl

@@ -1,10 +1,10 @@
 -- What a node is that is none of some kinds.
 use Rattle.std.proofs.Common.{◌≡◌, ℕ, Bool, true, false, List, [], ◌∷◌, Option, Some, refl, sym, ap, ◌∙◌, Vec, Global, Box, String}
-use Rattle.regex_meaning.specs.Layout.{is_of_bytes}
+use Rattle.regex_meaning.specs.CompilationRelation.{is_byte_node}
 use Rattle.regex_meaning.specs.Tree as tree
-use Rattle.regex_meaning.specs.Names.{named_ids}
-use Rattle.regex_meaning.specs.StartPredicate.{beginning}
-use Rattle.regex_pattern_front.specs.TreeOf.{node_of}
+use Rattle.regex_meaning.specs.Captures.{capturing_group_ids_and_names}
+use Rattle.regex_meaning.specs.StartPredicate.{abstract_start_predicate}
+use Rattle.regex_pattern_front.specs.AstToSpecTree.{node_of}
 use Rattle.regex_pattern_front.specs.declared.ir.Node.{Node}
 use Rattle.regex_pattern_front.specs.declared.ir.Node.TheVariants.{Goal, CharSet, ByteSet, ByteSequence, Cat, Alt, StringSet, CaptureGroup}
 use Rattle.regex_pattern_front.specs.declared.ir.Node.TheVariants.{LookaroundAssertion, BackRef, Loop, Loop1CharBody, rolls-Cat, rolls-Alt}
@@ -14,15 +14,15 @@ use Rattle.regex_pattern_front.specs.declared.ir.Node.TheViews.{roll-Node}
 use Rattle.regex_pattern_front.specs.declared.ir.Node.TheFolds.{ind-Node}
 use denote.Hole.Carrier.{roll}
 use Rattle.regex_pattern_front.proofs.NodeLemmas.{HasNone}
-use Rattle.regress_program.specs.Ids.{is_sound_by_itself}
-use Rattle.regress_program.specs.Nodes.{cat_of, is_leaf, is_narrowed}
-use Rattle.regress_program.specs.Predicates.{is_open}
-use Rattle.regex_meaning.specs.WellFormed.{ends_in_goal}
+use Rattle.regress_program.specs.GroupIds.{is_well_formed_node}
+use Rattle.regress_program.specs.NodeListsAndLeaves.{cat_of, is_leaf, becomes_char_loop}
+use Rattle.regress_program.specs.StartPredicates.{reads_nothing_at_start}
+use Rattle.regex_meaning.specs.WellFormedTrees.{ends_in_goal}
 use Rattle.regex_pattern_front.specs.declared.ir.Quantifier.{Quantifier}
 use Rattle.std.specs.declared.ops.Range.{Range}
-use Rattle.regress_program.specs.Filing.{is_nameless}
-use Rattle.regress_program.specs.Goals.{with_goals}
-use Rattle.regress_program.specs.declared.emit.wellformed.Goals.{Goals}
+use Rattle.regress_program.specs.GroupNames.{is_nameless}
+use Rattle.regress_program.specs.GoalNodes.{visit_goal}
+use Rattle.regress_program.specs.declared.emit.well_formedness_check.SingleGoalCheck.{SingleGoalCheck}
 use Rattle.regress_program.proofs.NodeLemmas.{node_of-Cat}
 
 -- ---- One that holds no other
@@ -59,33 +59,33 @@ row f a v none some = ap f (node_of-Cat v) ∙ by v.items
     by [] = none
     by (m ∷ ms) = some (node_of m) (cat_of ms)
 
-goals-rolled : (x : Node-F Node) (it : Goals) → (roll-Node x ≡ Goal → ⊥) → with_goals (node_of (roll-Node x)) it ≡ Some it
+goals-rolled : (x : Node-F Node) (it : SingleGoalCheck) → (roll-Node x ≡ Goal → ⊥) → visit_goal (node_of (roll-Node x)) it ≡ Some it
 unfolding node_of roll-Node roll
 goals-rolled Node-F.Goal it h = absurd (h refl)
-goals-rolled (Node-F.Cat v) it h = row (λ n. with_goals n it) (Some it) v refl (λ first rest. refl)
+goals-rolled (Node-F.Cat v) it h = row (λ n. visit_goal n it) (Some it) v refl (λ first rest. refl)
 goals-rolled _ it h = refl
 
-pub goals-other : (n : Node) (it : Goals) → (n ≡ Goal → ⊥) → with_goals (node_of n) it ≡ Some it
-goals-other = ind-Node (λ n. (it : Goals) → (n ≡ Goal → ⊥) → with_goals (node_of n) it ≡ Some it) (λ x y is. goals-rolled x)
+pub goals-other : (n : Node) (it : SingleGoalCheck) → (n ≡ Goal → ⊥) → visit_goal (node_of n) it ≡ Some it
+goals-other = ind-Node (λ n. (it : SingleGoalCheck) → (n ≡ Goal → ⊥) → visit_goal (node_of n) it ≡ Some it) (λ x y is. goals-rolled x)
 
-bytes-rolled : (x : Node-F Node) → ((v : Vec ℕ Global) → roll-Node x ≡ ByteSet v → ⊥) → ((v : Vec ℕ Global) → roll-Node x ≡ ByteSequence v → ⊥) → is_of_bytes (node_of (roll-Node x)) ≡ false
+bytes-rolled : (x : Node-F Node) → ((v : Vec ℕ Global) → roll-Node x ≡ ByteSet v → ⊥) → ((v : Vec ℕ Global) → roll-Node x ≡ ByteSequence v → ⊥) → is_byte_node (node_of (roll-Node x)) ≡ false
 unfolding node_of roll-Node roll
 bytes-rolled (Node-F.ByteSet v) h k = absurd (h v refl)
 bytes-rolled (Node-F.ByteSequence v) h k = absurd (k v refl)
-bytes-rolled (Node-F.Cat v) h k = row is_of_bytes false v refl (λ first rest. refl)
+bytes-rolled (Node-F.Cat v) h k = row is_byte_node false v refl (λ first rest. refl)
 bytes-rolled _ h k = refl
 
-pub bytes-other : (n : Node) → ((v : Vec ℕ Global) → n ≡ ByteSet v → ⊥) → ((v : Vec ℕ Global) → n ≡ ByteSequence v → ⊥) → is_of_bytes (node_of n) ≡ false
-bytes-other = ind-Node (λ n. ((v : Vec ℕ Global) → n ≡ ByteSet v → ⊥) → ((v : Vec ℕ Global) → n ≡ ByteSequence v → ⊥) → is_of_bytes (node_of n) ≡ false) (λ x y is. bytes-rolled x)
+pub bytes-other : (n : Node) → ((v : Vec ℕ Global) → n ≡ ByteSet v → ⊥) → ((v : Vec ℕ Global) → n ≡ ByteSequence v → ⊥) → is_byte_node (node_of n) ≡ false
+bytes-other = ind-Node (λ n. ((v : Vec ℕ Global) → n ≡ ByteSet v → ⊥) → ((v : Vec ℕ Global) → n ≡ ByteSequence v → ⊥) → is_byte_node (node_of n) ≡ false) (λ x y is. bytes-rolled x)
 
-narrowed-rolled : (x : Node-F Node) → ((loopee : Box Node Global) (q : Quantifier) (groups : Range ℕ) → roll-Node x ≡ Loop loopee q groups → ⊥) → is_narrowed (node_of (roll-Node x)) ≡ false
+narrowed-rolled : (x : Node-F Node) → ((loopee : Box Node Global) (q : Quantifier) (groups : Range ℕ) → roll-Node x ≡ Loop loopee q groups → ⊥) → becomes_char_loop (node_of (roll-Node x)) ≡ false
 unfolding node_of roll-Node roll
 narrowed-rolled (Node-F.Loop loopee q groups) h = absurd (h loopee q groups (sym (rolls-Loop loopee q groups)))
-narrowed-rolled (Node-F.Cat v) h = row is_narrowed false v refl (λ first rest. refl)
+narrowed-rolled (Node-F.Cat v) h = row becomes_char_loop false v refl (λ first rest. refl)
 narrowed-rolled _ h = refl
 
-pub narrowed-other : (n : Node) → ((loopee : Box Node Global) (q : Quantifier) (groups : Range ℕ) → n ≡ Loop loopee q groups → ⊥) → is_narrowed (node_of n) ≡ false
-narrowed-other = ind-Node (λ n. ((loopee : Box Node Global) (q : Quantifier) (groups : Range ℕ) → n ≡ Loop loopee q groups → ⊥) → is_narrowed (node_of n) ≡ false) (λ x y is. narrowed-rolled x)
+pub narrowed-other : (n : Node) → ((loopee : Box Node Global) (q : Quantifier) (groups : Range ℕ) → n ≡ Loop loopee q groups → ⊥) → becomes_char_loop (node_of n) ≡ false
+narrowed-other = ind-Node (λ n. ((loopee : Box Node Global) (q : Quantifier) (groups : Range ℕ) → n ≡ Loop loopee q groups → ⊥) → becomes_char_loop (node_of n) ≡ false) (λ x y is. narrowed-rolled x)
 
 names-rolled : (x : Node-F Node) → ((id : ℕ) (contents : Box Node Global) (name : Option (String Global)) → roll-Node x ≡ CaptureGroup id contents name → ⊥) → is_nameless (node_of (roll-Node x)) ≡ true
 unfolding node_of roll-Node roll
@@ -108,7 +108,7 @@ ends-other = ind-Node (λ n. (n ≡ Goal → ⊥) → ((v : Vec Node Global) →
 sound-rolled : (groups : ℕ) (x : Node-F Node) → ((v : Vec ℕ Global) → roll-Node x ≡ CharSet v → ⊥) → ((v : Vec ℕ Global) → roll-Node x ≡ ByteSet v → ⊥) → ((v : Vec ℕ Global) → roll-Node x ≡ ByteSequence v → ⊥)
     → ((strings : Vec (Vec ℕ Global) Global) (icase : Bool) → roll-Node x ≡ StringSet strings icase → ⊥) → ((group : ℕ) (icase : Bool) → roll-Node x ≡ BackRef group icase → ⊥)
     → ((loopee : Box Node Global) (q : Quantifier) (groups : Range ℕ) → roll-Node x ≡ Loop loopee q groups → ⊥) → ((loopee : Box Node Global) (q : Quantifier) → roll-Node x ≡ Loop1CharBody loopee q → ⊥)
-    → is_sound_by_itself groups (node_of (roll-Node x)) ≡ true
+    → is_well_formed_node groups (node_of (roll-Node x)) ≡ true
 unfolding node_of roll-Node roll
 sound-rolled groups (Node-F.CharSet v) h1 h2 h3 h4 h5 h6 h7 = absurd (h1 v refl)
 sound-rolled groups (Node-F.ByteSet v) h1 h2 h3 h4 h5 h6 h7 = absurd (h2 v refl)
@@ -117,27 +117,27 @@ sound-rolled groups (Node-F.StringSet v i) h1 h2 h3 h4 h5 h6 h7 = absurd (h4 v i
 sound-rolled groups (Node-F.BackRef g i) h1 h2 h3 h4 h5 h6 h7 = absurd (h5 g i refl)
 sound-rolled groups (Node-F.Loop b q g) h1 h2 h3 h4 h5 h6 h7 = absurd (h6 b q g (sym (rolls-Loop b q g)))
 sound-rolled groups (Node-F.Loop1CharBody b q) h1 h2 h3 h4 h5 h6 h7 = absurd (h7 b q (sym (rolls-Loop1CharBody b q)))
-sound-rolled groups (Node-F.Cat v) h1 h2 h3 h4 h5 h6 h7 = row (is_sound_by_itself groups) true v refl (λ first rest. refl)
+sound-rolled groups (Node-F.Cat v) h1 h2 h3 h4 h5 h6 h7 = row (is_well_formed_node groups) true v refl (λ first rest. refl)
 sound-rolled groups _ h1 h2 h3 h4 h5 h6 h7 = refl
 
 pub sound-other : (groups : ℕ) (n : Node) → ((v : Vec ℕ Global) → n ≡ CharSet v → ⊥) → ((v : Vec ℕ Global) → n ≡ ByteSet v → ⊥) → ((v : Vec ℕ Global) → n ≡ ByteSequence v → ⊥)
     → ((strings : Vec (Vec ℕ Global) Global) (icase : Bool) → n ≡ StringSet strings icase → ⊥) → ((group : ℕ) (icase : Bool) → n ≡ BackRef group icase → ⊥)
     → ((loopee : Box Node Global) (q : Quantifier) (groups : Range ℕ) → n ≡ Loop loopee q groups → ⊥) → ((loopee : Box Node Global) (q : Quantifier) → n ≡ Loop1CharBody loopee q → ⊥)
-    → is_sound_by_itself groups (node_of n) ≡ true
+    → is_well_formed_node groups (node_of n) ≡ true
 sound-other groups = ind-Node (λ n. ((v : Vec ℕ Global) → n ≡ CharSet v → ⊥) → ((v : Vec ℕ Global) → n ≡ ByteSet v → ⊥) → ((v : Vec ℕ Global) → n ≡ ByteSequence v → ⊥)
     → ((strings : Vec (Vec ℕ Global) Global) (icase : Bool) → n ≡ StringSet strings icase → ⊥) → ((group : ℕ) (icase : Bool) → n ≡ BackRef group icase → ⊥)
     → ((loopee : Box Node Global) (q : Quantifier) (groups : Range ℕ) → n ≡ Loop loopee q groups → ⊥) → ((loopee : Box Node Global) (q : Quantifier) → n ≡ Loop1CharBody loopee q → ⊥)
-    → is_sound_by_itself groups (node_of n) ≡ true) (λ x y is. sound-rolled groups x)
+    → is_well_formed_node groups (node_of n) ≡ true) (λ x y is. sound-rolled groups x)
 
 -- ---- What no leaf has
 
 -- it has no name, and reads something or may stand before anything
 pub record IsBare (n : tree.Node) : Type 0 where
-  pub named : named_ids n ≡ []
-  pub reads : is_open (beginning n) ≡ false
+  pub named : capturing_group_ids_and_names n ≡ []
+  pub reads : reads_nothing_at_start (abstract_start_predicate n) ≡ false
 
 pub leaf-bare : (n : tree.Node) → is_leaf n ≡ true → IsBare n
-unfolding beginning
+unfolding abstract_start_predicate
 leaf-bare (tree.byte_sequence []) h = record { named = refl; reads = refl }
 leaf-bare (tree.byte_sequence (b ∷ bytes)) h = record { named = refl; reads = refl }
 leaf-bare (tree.cat first rest) h = absurd (let no : ⊥ = cc in no)

@@ -3,12 +3,12 @@ pub use Rattle.regex_pattern_front.proofs.NodeLemmas.{node_of-Cat}
 use Rattle.std.proofs.Common.{◌≡◌, ℕ, ◌+◌, ◌<◌, ◌-◌, suc, true, false, List, [], ◌∷◌, length, slice_get, Some, None, get_or, drop, drop-cons}
 use Rattle.std.proofs.Common.{add-one, sym, ap, ◌∙◌, refl, arith}
 use Rattle.regex_meaning.specs.Tree as tree
-use Rattle.regex_pattern_front.specs.TreeOf.{node_of}
+use Rattle.regex_pattern_front.specs.AstToSpecTree.{node_of}
 use Rattle.regex_pattern_front.specs.declared.ir.Node.{Node}
-use Rattle.regex_meaning.specs.WellFormed.{ends_in_goal, is_one_character}
+use Rattle.regex_meaning.specs.WellFormedTrees.{ends_in_goal, is_one_character}
 use Rattle.regex_meaning.specs.StartPredicate.{is_anchored}
-use Rattle.regress_program.specs.Nodes.{cat_of, is_leaf}
-use Rattle.regress_program.specs.Code.{own_size}
+use Rattle.regress_program.specs.NodeListsAndLeaves.{cat_of, is_leaf}
+use Rattle.regress_program.specs.CodeOfTrees.{own_size}
 
 -- the rest of a row, from a node on
 pub cat_of-drop : (nodes : List Node) (i : ℕ) (n : Node) → i < length nodes → n ≡ get_or nodes i n

@@ -3,18 +3,18 @@ use Rattle.std.proofs.Common.{◌≡◌, ◌≤◌, ◌<◌, ◌^◌, ◌∙◌,
 use Rattle.std.proofs.lemmas.List.{length-map}
 use Rattle.std.specs.Prelude.{if◌then◌else◌}
 use Rattle.regex_meaning.specs.Tree.{Node, Tree, group_ids}
-use Rattle.regex_meaning.specs.Layout.{Insn, reads_bytes}
-use Rattle.regex_meaning.specs.Names.{names_by_id}
-use Rattle.regex_meaning.specs.WellFormed.{is_well_formed}
-use Rattle.regex_pattern_front.specs.Optimized.{optimized}
+use Rattle.regex_meaning.specs.CompilationRelation.{Insn, reads_bytes}
+use Rattle.regex_meaning.specs.Captures.{group_names_by_id}
+use Rattle.regex_meaning.specs.WellFormedTrees.{is_well_formed}
+use Rattle.regex_pattern_front.specs.OptimizedTrees.{optimized}
 use Rattle.regex_pattern_front.proofs.OptimizedLemmas.{well_formed-optimized, group_ids-optimized, names_by_id-optimized, reads_bytes-optimized}
-use Rattle.regress_program.specs.Code.{compiled, brackets_of, size}
-use Rattle.regress_program.specs.Emitting.{shaped_tree}
-use Rattle.regress_program.specs.Insns.{insn_of}
-use Rattle.regress_program.specs.Programs.{IsCodeIn}
-use Rattle.regress_program.specs.declared.insn.emitted.Emitted.{Emitted}
+use Rattle.regress_program.specs.CodeOfTrees.{compiled, brackets_of, node_insn_count}
+use Rattle.regress_program.specs.EmitterModel.{tree_with_char_loops}
+use Rattle.regress_program.specs.InsnMeanings.{spec_insn_of}
+use Rattle.regress_program.specs.ProgramFields.{IsCodeOfTree}
+use Rattle.regress_program.specs.declared.insn.emitted_code.EmittedCode.{EmittedCode}
 use Rattle.regress_program.proofs.CodeLemmas.{compiled-length}
-use Rattle.regress_program.specs.Running.{tree_to_run, planned_tree}
+use Rattle.regress_program.specs.TreeToRun.{tree_to_run, planned_tree}
 use Rattle.regress_program.proofs.ShapedLemmas.{brackets-optimized, shaped-narrow, size-shaped}
 
 -- what optimizing leaves of a tree
@@ -65,19 +65,19 @@ to_run-same t same = go t.flags.no_opt
     go false = ap (λ (n : Node). record { root = n; flags = t.flags }) same
 
 -- the tree with narrow loops is that which is run, unless the flags say that there is none
-pub to_run-shaped : (t : Tree) → t.flags.no_opt ≡ false → shaped_tree true t ≡ tree_to_run t
+pub to_run-shaped : (t : Tree) → t.flags.no_opt ≡ false → tree_with_char_loops true t ≡ tree_to_run t
 to_run-shaped t h = ap (λ (n : Node). record { root = n; flags = t.flags }) (shaped-narrow t.root ∙ sym (to_run-optimized t h))
 
-pub size-to_run : (t : Tree) → size (tree_to_run t).root ≤ size t.root
+pub size-to_run : (t : Tree) → node_insn_count (tree_to_run t).root ≤ node_insn_count t.root
 size-to_run t = go t.flags.no_opt
   where
-    go : (b : Bool) → size (if b then t.root else optimized t.root) ≤ size t.root
+    go : (b : Bool) → node_insn_count (if b then t.root else optimized t.root) ≤ node_insn_count t.root
     go true = le_refl _
-    go false = subst (λ n. size n ≤ size t.root) (shaped-narrow t.root) (size-shaped true t.root)
+    go false = subst (λ n. node_insn_count n ≤ node_insn_count t.root) (shaped-narrow t.root) (size-shaped true t.root)
 
 pub names-planned : (wide : Bool) (t : Tree) → (compiled (planned_tree wide t)).group_names ≡ (compiled t).group_names
 unfolding compiled
-names-planned wide t = planned-same names_by_id wide t (names_by_id-optimized t.root)
+names-planned wide t = planned-same group_names_by_id wide t (names_by_id-optimized t.root)
 
 -- what the program of the tree that is run has of the program of the tree
 pub run-groups : (t u : Tree) → u ≡ tree_to_run t → (compiled t).groups ≡ (compiled u).groups
@@ -94,6 +94,6 @@ pub run-well_formed : (t u : Tree) → u ≡ tree_to_run t → IsTrue (is_well_f
 run-well_formed t u is h = subst (λ (x : Tree). IsTrue (is_well_formed x.root)) (sym is) (well_formed-planned true t h)
 
 -- the code of the tree that is run has numbers of 32 bits where the tree's has
-pub run-fits : (t : Tree) (code : Emitted) → IsCodeIn (tree_to_run t) code → size t.root < 2 ^ 32 → length code.insns.items < 2 ^ 32
+pub run-fits : (t : Tree) (code : EmittedCode) → IsCodeOfTree (tree_to_run t) code → node_insn_count t.root < 2 ^ 32 → length code.insns.items < 2 ^ 32
 run-fits t code is fits =
-    omega (arith, fits, size-to_run t, ap (λ (l : List Insn). length l) is.insns, length-map code.insns.items insn_of, compiled-length (tree_to_run t))
+    omega (arith, fits, size-to_run t, ap (λ (l : List Insn). length l) is.insns, length-map code.insns.items spec_insn_of, compiled-length (tree_to_run t))

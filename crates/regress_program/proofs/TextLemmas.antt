@@ -3,13 +3,13 @@ use Rattle.std.proofs.Common.{◌≡◌, ℕ, zero, suc, ◌+◌, ◌-◌, ◌*�
 use Rattle.std.proofs.Common.{drop, get_or, slice_get, Some, Vec, refl, sym, ap, ◌∙◌, arith, append_assoc, append-nil, length-append, length-drop}
 use Rattle.std.proofs.Common.{drop-cons, ◌==◌, if◌then◌else◌}
 use Rattle.std.proofs.Math.Seq.{drop-nil}
-use Rattle.regex_meaning.specs.Lists.{numbers_from}
+use Rattle.regex_meaning.specs.NumberListHelpers.{numbers_from}
 use Rattle.std.proofs.lemmas.List.{length-map, get_or-reverse, drop-map, drop_all}
 use Rattle.std.proofs.lemmas.Option.{get_or_from_slice_get}
-use Rattle.regex_meaning.specs.Layout.{Insn, Alt, Jump, ByteSeq, ResetCaptureGroup, ordered, chunks, chunks_of}
+use Rattle.regex_meaning.specs.CompilationRelation.{Insn, Alt, Jump, ByteSeq, ResetCaptureGroup, ordered, chunks, chunks_of}
 use Rattle.regex_meaning.specs.Tree.{byte_sequence, string_set}
-use Rattle.regress_program.specs.Code.{resets, string_code, strings_code, strings_size, code_of, loop_count, brackets_of}
-use Rattle.regress_program.specs.Emitting.{State, with_code, with_insn, with_insns, code_points_of}
+use Rattle.regress_program.specs.CodeOfTrees.{group_reset_insns, string_code, strings_code, strings_size, code_of, loop_count, brackets_of}
+use Rattle.regress_program.specs.EmitterModel.{EmitterState, with_code, with_insn, with_insns, strings_as_code_points}
 use Rattle.regress_program.proofs.EmitLemmas.{same_state, length-string_code, length-ordered}
 
 -- ---- Chunks
@@ -93,29 +93,29 @@ strings_code-next u icase d s (t ∷ more) at h = refl
 
 -- ---- States
 
-pub insns_step : (x : Insn) (xs : List Insn) (s t : State) → t ≡ with_insn x s → with_insns xs t ≡ with_insns (x ∷ xs) s
+pub insns_step : (x : Insn) (xs : List Insn) (s t : EmitterState) → t ≡ with_insn x s → with_insns xs t ≡ with_insns (x ∷ xs) s
 insns_step x xs s t e =
     same_state (with_insns xs t) (with_insns (x ∷ xs) s)
     (ap (λ r. r.insns ++ xs) e ∙ append_assoc s.insns (x ∷ []) xs) (ap (λ r. r.loops) e) (ap (λ r. r.brackets) e)
 
-pub parts_step : {A : Type 0} (f : A → Insn) (ys : List A) (at : ℕ) (y : A) (s t whole : State) → drop at ys ≡ y ∷ drop (at + 1) ys
+pub parts_step : {A : Type 0} (f : A → Insn) (ys : List A) (at : ℕ) (y : A) (s t whole : EmitterState) → drop at ys ≡ y ∷ drop (at + 1) ys
     → t ≡ with_insn (f y) s → with_insns (map f (drop at ys)) s ≡ whole → with_insns (map f (drop (at + 1) ys)) t ≡ whole
 parts_step f ys at y s t whole next e inv =
     insns_step (f y) (map f (drop (at + 1) ys)) s t e ∙ sym (ap (λ zs. with_insns (map f zs) s) next) ∙ inv
 
-pub with_insns-none : (s : State) → with_insns [] s ≡ s
+pub with_insns-none : (s : EmitterState) → with_insns [] s ≡ s
 with_insns-none s = same_state (with_insns [] s) s (append-nil s.insns) refl refl
 
 -- the parts are all there
-pub parts_end : {A : Type 0} (f : A → Insn) (ys : List A) (at : ℕ) (s whole : State) → length ys ≤ at → with_insns (map f (drop at ys)) s ≡ whole → s ≡ whole
+pub parts_end : {A : Type 0} (f : A → Insn) (ys : List A) (at : ℕ) (s whole : EmitterState) → length ys ≤ at → with_insns (map f (drop at ys)) s ≡ whole → s ≡ whole
 parts_end f ys at s whole h inv = sym (with_insns-none s) ∙ sym (ap (λ zs. with_insns (map f zs) s) (drop_all at ys h)) ∙ inv
 
-pub with_code-byte_sequence : (u d : Bool) (bytes : List ℕ) (s : State) → with_code u d (byte_sequence bytes) s ≡ with_insns (map ByteSeq (ordered d (chunks bytes))) s
+pub with_code-byte_sequence : (u d : Bool) (bytes : List ℕ) (s : EmitterState) → with_code u d (byte_sequence bytes) s ≡ with_insns (map ByteSeq (ordered d (chunks bytes))) s
 unfolding code_of loop_count brackets_of
 with_code-byte_sequence u d bytes s =
     same_state (with_code u d (byte_sequence bytes) s) (with_insns (map ByteSeq (ordered d (chunks bytes))) s) refl (omega arith) (append-nil s.brackets)
 
-pub with_code-string_set : (u d icase : Bool) (strings : List (List ℕ)) (s : State) → with_code u d (string_set strings icase) s ≡ with_insns (strings_code u icase d strings (length s.insns)) s
+pub with_code-string_set : (u d icase : Bool) (strings : List (List ℕ)) (s : EmitterState) → with_code u d (string_set strings icase) s ≡ with_insns (strings_code u icase d strings (length s.insns)) s
 unfolding code_of loop_count brackets_of
 with_code-string_set u d icase strings s =
     same_state (with_code u d (string_set strings icase) s) (with_insns (strings_code u icase d strings (length s.insns)) s) refl (omega arith) (append-nil s.brackets)
@@ -123,14 +123,14 @@ with_code-string_set u d icase strings s =
 -- ---- Vectors of code points
 
 pub front_size-next : {R : Type 0} → (strings : List (Vec ℕ R)) (i : ℕ) (s : Vec ℕ R) → i < length strings → s ≡ get_or strings i s
-    → front_size (code_points_of (drop i strings)) ≡ length s.items + 2 + front_size (code_points_of (drop (i + 1) strings))
+    → front_size (strings_as_code_points (drop i strings)) ≡ length s.items + 2 + front_size (strings_as_code_points (drop (i + 1) strings))
 unfolding front_size
 front_size-next strings i s h e =
     let next : suc i ≡ i + 1 = omega arith in
-    ap (λ xs. front_size (code_points_of xs)) (drop-cons strings i s h ∙ ap (λ x. x ∷ drop (suc i) strings) (sym e) ∙ ap (λ (n : ℕ). s ∷ drop n strings) next)
+    ap (λ xs. front_size (strings_as_code_points xs)) (drop-cons strings i s h ∙ ap (λ x. x ∷ drop (suc i) strings) (sym e) ∙ ap (λ (n : ℕ). s ∷ drop n strings) next)
 
 pub code_points-next : {R : Type 0} → (strings : List (Vec ℕ R)) (i : ℕ) (s : Vec ℕ R) → i < length strings → s ≡ get_or strings i s
-    → drop i (code_points_of strings) ≡ s.items ∷ drop (i + 1) (code_points_of strings)
+    → drop i (strings_as_code_points strings) ≡ s.items ∷ drop (i + 1) (strings_as_code_points strings)
 code_points-next {R = R} strings i s h e =
     let next : suc i ≡ i + 1 = omega arith in
     let items = λ (v : Vec ℕ R). v.items in
@@ -138,24 +138,24 @@ code_points-next {R = R} strings i s h e =
     ∙ ap (map items) (drop-cons strings i s h ∙ ap (λ x. x ∷ drop (suc i) strings) (sym e) ∙ ap (λ (n : ℕ). s ∷ drop n strings) next)
     ∙ ap (λ xs. s.items ∷ xs) (sym (drop-map items (i + 1) strings))
 
-pub length-code_points : {R : Type 0} → (strings : List (Vec ℕ R)) (i : ℕ) → length (drop i (code_points_of strings)) ≡ length strings - i
-length-code_points strings i = length-drop i (code_points_of strings) ∙ ap (λ n. n - i) (length-map strings _)
+pub length-code_points : {R : Type 0} → (strings : List (Vec ℕ R)) (i : ℕ) → length (drop i (strings_as_code_points strings)) ≡ length strings - i
+length-code_points strings i = length-drop i (strings_as_code_points strings) ∙ ap (λ n. n - i) (length-map strings _)
 
 -- what the rest takes, from one that is not the last
 pub size_from : {R : Type 0} → (strings : List (Vec ℕ R)) (i : ℕ) (s : Vec ℕ R) → i + 1 < length strings → s ≡ get_or strings i s
-    → strings_size (drop i (code_points_of strings)) ≡ length s.items + 2 + strings_size (drop (i + 1) (code_points_of strings))
+    → strings_size (drop i (strings_as_code_points strings)) ≡ length s.items + 2 + strings_size (drop (i + 1) (strings_as_code_points strings))
 size_from strings i s h e =
     ap strings_size (code_points-next strings i s (omega arith) e)
-    ∙ strings_size-next s.items (drop (i + 1) (code_points_of strings)) (omega (arith, length-code_points strings (i + 1)))
+    ∙ strings_size-next s.items (drop (i + 1) (strings_as_code_points strings)) (omega (arith, length-code_points strings (i + 1)))
 
 pub last_code : {R : Type 0} → (u icase d : Bool) (strings : List (Vec ℕ R)) (i at : ℕ) (s : Vec ℕ R) → i + 1 ≡ length strings → s ≡ get_or strings i s
-    → strings_code u icase d (drop i (code_points_of strings)) at ≡ string_code u icase d s.items
+    → strings_code u icase d (drop i (strings_as_code_points strings)) at ≡ string_code u icase d s.items
 last_code {R = R} u icase d strings i at s h e =
-    let none : drop (i + 1) (code_points_of strings) ≡ [] = drop_all (i + 1) (code_points_of strings) (omega (arith, length-map strings (λ (v : Vec ℕ R). v.items))) in
+    let none : drop (i + 1) (strings_as_code_points strings) ≡ [] = drop_all (i + 1) (strings_as_code_points strings) (omega (arith, length-map strings (λ (v : Vec ℕ R). v.items))) in
     ap (λ xs. strings_code u icase d xs at) (code_points-next strings i s (omega arith) e ∙ ap (λ xs. s.items ∷ xs) none)
 
 -- a branch, a string and a jump
-pub strings_step : (u icase d : Bool) (str : List ℕ) (rest : List (List ℕ)) (s s1 s2 s3 : State) (second target : ℕ) → 0 < length rest
+pub strings_step : (u icase d : Bool) (str : List ℕ) (rest : List (List ℕ)) (s s1 s2 s3 : EmitterState) (second target : ℕ) → 0 < length rest
     → second ≡ length s.insns + length str + 2 → target ≡ second + strings_size rest
     → s1 ≡ with_insn (Alt second) s → s2 ≡ with_insns (string_code u icase d str) s1 → s3 ≡ with_insn (Jump target) s2
     → with_insns (strings_code u icase d rest (length s3.insns)) s3 ≡ with_insns (strings_code u icase d (str ∷ rest) (length s.insns)) s
@@ -177,7 +177,7 @@ strings_step u icase d str rest s s1 s2 s3 second target h es et e1 e2 e3 =
     (ap (λ r. r.loops) e3 ∙ ap (λ r. r.loops) e2 ∙ ap (λ r. r.loops) e1)
     (ap (λ r. r.brackets) e3 ∙ ap (λ r. r.brackets) e2 ∙ ap (λ r. r.brackets) e1)
 
-pub strings_target : (u icase d : Bool) (str : List ℕ) (s s1 s2 s3 : State) (second target : ℕ)
+pub strings_target : (u icase d : Bool) (str : List ℕ) (s s1 s2 s3 : EmitterState) (second target : ℕ)
     → second ≡ length s.insns + length str + 2 → s1 ≡ with_insn (Alt second) s → s2 ≡ with_insns (string_code u icase d str) s1 → s3 ≡ with_insn (Jump target) s2
     → length s3.insns ≡ second
 strings_target u icase d str s s1 s2 s3 second target es e1 e2 e3 =
@@ -195,10 +195,10 @@ strings_target u icase d str s s1 s2 s3 second target es e1 e2 e3 =
 
 -- ---- Resets
 
-pub resets-next : (g e : ℕ) → g < e → resets g e ≡ ResetCaptureGroup g ∷ resets (g + 1) e
+pub resets-next : (g e : ℕ) → g < e → group_reset_insns g e ≡ ResetCaptureGroup g ∷ group_reset_insns (g + 1) e
 resets-next g e h = let n : e - g ≡ suc (e - (g + 1)) = omega arith in ap (λ k. map ResetCaptureGroup (numbers_from g k)) n
 
-pub resets-past : (g e : ℕ) → e ≤ g → resets g e ≡ []
+pub resets-past : (g e : ℕ) → e ≤ g → group_reset_insns g e ≡ []
 resets-past g e h = let n : e - g ≡ 0 = omega arith in ap (λ k. map ResetCaptureGroup (numbers_from g k)) n
 
 -- ---- Empty lists

@@ -1,37 +1,37 @@
-//! From trees to programs.
+//! The compiler from pattern trees to programs.
 
 ghost use Rattle.std.specs.Prelude.{◌≡◌, ◌<◌, ◌^◌, true, false, length, IfOk, OnOk, IfErr};
 ghost use Rattle.std.specs.Arc.{arc_value};
-ghost use Rattle.regex_meaning.specs.{Tree.{group_ids}, Layout.{IsByteCodeOf, IsUnitCodeOf}};
-ghost use Rattle.regex_pattern_front.specs.{TreeOf.{tree_of}, declared.ir.Regex.{Regex}};
-ghost use Rattle.regress_program.specs.{Code.{compiled, size}, Emitting.{shaped_tree}, Programs.{IsCodeIn, IsRunOf}, Running.{tree_to_run}};
-ghost use Rattle.regress_program.specs.Refusals.{IsRefused, IsRefusedInUnits, IsRefusedWith, FitsLimits};
+ghost use Rattle.regex_meaning.specs.{Tree.{group_ids}, CompilationRelation.{IsByteCodeOf, IsUnitCodeOf}};
+ghost use Rattle.regex_pattern_front.specs.{AstToSpecTree.{tree_of}, declared.ir.Regex.{Regex}};
+ghost use Rattle.regress_program.specs.{CodeOfTrees.{compiled, node_insn_count}, EmitterModel.{tree_with_char_loops}, ProgramFields.{IsCodeOfTree, IsUnitPlanOf}, TreeToRun.{tree_to_run}};
+ghost use Rattle.regress_program.specs.CompileRefusals.{IsByteCompileErrorCause, IsUnitCompileErrorCause, IsCompileErrorCause, FitsLimits};
 
 mod brackets;
-mod bytes;
+mod byte_node_checks;
 mod emitter;
-mod ids;
-mod leaves;
-mod names;
-mod nodes;
-mod tally;
-mod texts;
-mod walk;
-mod wellformed;
+mod group_id_checks;
+mod group_names;
+mod leaf_insns;
+mod literals;
+mod nested_nodes;
+mod program_size;
+mod tree_walk;
+mod well_formedness_check;
 
-use crate::carried::Carried;
-use crate::emit::bytes::{narrows_nothing, reads_bytes};
-use crate::emit::emitter::{Emitter, Mode};
-use crate::emit::names::names_by_id;
-use crate::emit::tally::Tally;
-pub use crate::emit::wellformed::is_well_formed;
-use crate::insn::{CompiledRegex, CompiledUnits, Emitted, GroupNames, Program, Run};
+use crate::emit::byte_node_checks::{has_no_one_char_loop, reads_bytes};
+use crate::emit::emitter::{EmitMode, Emitter};
+use crate::emit::group_names::names_by_id;
+use crate::emit::program_size::ProgramSize;
+pub use crate::emit::well_formedness_check::is_well_formed;
+use crate::ghost_source_tree::GhostSourceTree;
+use crate::insn::{CodeUnitPlan, CompiledRegex, CompiledUnits, EmittedCode, GroupNames, Program};
 use crate::startpredicate::predicate_for_re;
 use regex_pattern_front::ir;
 use regex_pattern_front::optimizer::optimize;
 use regex_pattern_front::types::{LoopID, MAX_CAPTURE_GROUPS};
-use regress_plan::keys::Units;
-use regress_plan::plan::{Code, Plan};
+use regress_plan::plan::{Plan, PlanInput};
+use regress_plan::table_keys_of_units::UnitWidth;
 use std::alloc::{AllocError, Global};
 use std::sync::Arc;
 use thiserror::Error;
@@ -42,7 +42,7 @@ pub enum EmitError {
     /// The tree is not well formed.
     #[error("the tree is not well formed")]
     NotWellFormed,
-    /// A byte set or a byte sequence stands in a tree for 16-bit units.
+    /// A tree for 16-bit code units contains a byte set or a byte sequence.
     #[error("bytes stand in a tree for 16-bit units")]
     BytesInUnits,
     /// There are more than `MAX_CAPTURE_GROUPS` groups.
@@ -54,7 +54,7 @@ pub enum EmitError {
     /// There are more than `u32::MAX` instructions.
     #[error("too many instructions")]
     TooManyInstructions,
-    /// A growth was refused.
+    /// An allocation failed.
     #[error("out of memory")]
     Memory,
 }
@@ -70,71 +70,78 @@ impl From<AllocError> for EmitError {
     }
 }
 
-/// The program of a tree for texts in bytes, or the first cause for which there is none.
+/// Compiles a tree to a program for texts in bytes.
 ///
 /// # Errors
 ///
-/// In this order, each only where its cause holds: `NotWellFormed`, `TooManyGroups`, `TooManyLoops`,
-/// `TooManyInstructions`, `Memory`. A growth is refused only of a tree that is compiled.
+/// Returns the first of these whose cause holds, in this order: `NotWellFormed`, `TooManyGroups`,
+/// `TooManyLoops`, `TooManyInstructions`, `Memory`. An allocation failure is returned only for a
+/// tree that passes all the other checks.
 pub fn emit(alloc: Global, re: &ir::Regex) -> Result<CompiledRegex, EmitError>
     ensures tree { IfOk result (λ p. p ≡ re.now) }
     ensures code { OnOk result (IsByteCodeOf (compiled (tree_of re.now)) (tree_of re.now)) }
     ensures fits { OnOk result (FitsLimits (tree_of re.now)) }
-    ensures refused { IfErr result (λ e. IsRefused e (tree_of re.now)) }
+    ensures refused { IfErr result (λ e. IsByteCompileErrorCause e (tree_of re.now)) }
 {
-    let program = compile(alloc, re, false)?;
-    let cr = for_bytes(alloc, re, program)?;
+    let program = compile_common_part(alloc, re, false)?;
+    let cr = byte_program_of(alloc, re, program)?;
     Ok(cr)
 }
 
-/// The program of a tree for texts of 16-bit units, or the first cause for which there is none.
+/// Compiles a tree to a program for texts of 16-bit code units.
 ///
 /// # Errors
 ///
-/// In this order, each only where its cause holds: `NotWellFormed`, `BytesInUnits`, `TooManyGroups`, `TooManyLoops`,
-/// `TooManyInstructions`, `Memory`. A growth is refused only of a tree that is compiled.
+/// Returns the first of these whose cause holds, in this order: `NotWellFormed`, `BytesInUnits`,
+/// `TooManyGroups`, `TooManyLoops`, `TooManyInstructions`, `Memory`. An allocation failure is
+/// returned only for a tree that passes all the other checks.
 pub fn emit_units(alloc: Global, re: &ir::Regex) -> Result<CompiledUnits, EmitError>
     ensures tree { IfOk result (λ p. p ≡ re.now) }
     ensures code { OnOk result (IsUnitCodeOf (compiled (tree_of re.now)) (tree_of re.now)) }
     ensures fits { OnOk result (FitsLimits (tree_of re.now)) }
-    ensures refused { IfErr result (λ e. IsRefusedInUnits e (tree_of re.now)) }
+    ensures refused { IfErr result (λ e. IsUnitCompileErrorCause e (tree_of re.now)) }
 {
-    let program = compile(alloc, re, reads_bytes(&re.node))?;
+    let program = compile_common_part(alloc, re, reads_bytes(&re.node))?;
     let code = code_to_run(alloc, re, &program)?;
-    let run = run_of(alloc, code, program.groups())?;
+    let run = unit_plan_of(alloc, code, program.groups())?;
     Ok(CompiledUnits { program, run })
 }
 
-/// The programs of a parsed tree: that for texts of 16-bit units is of the tree, that for texts in bytes of the tree that
-/// is run in its place; or the first cause for which there are none. What is the same in both they share.
+/// Compiles a parsed tree for both kinds of texts. The program for 16-bit code units is of the tree
+/// itself. The program for bytes is of the tree to run, which is optimized unless the flag `no_opt`
+/// is set. The two programs share what is the same in both.
 ///
 /// # Errors
 ///
-/// Those of `emit_units`.
+/// Returns the errors of `emit_units`.
 pub fn emit_both(alloc: Global, re: ir::Regex) -> Result<(CompiledRegex, CompiledUnits), EmitError>
     ensures units { IfOk result (λ both. both.1 ≡ re) }
     ensures bytes { IfOk result (λ both. tree_of both.0 ≡ tree_to_run (tree_of re)) }
     ensures unit_code { OnOk result (IsUnitCodeOf (compiled (tree_of re)) (tree_of re)) }
     ensures byte_code { OnOk result (let run = tree_to_run (tree_of re) in IsByteCodeOf (compiled run) run) }
-    ensures refused { IfErr result (λ e. IsRefusedInUnits e (tree_of re)) }
+    ensures refused { IfErr result (λ e. IsUnitCompileErrorCause e (tree_of re)) }
 {
-    let program = compile(alloc, &re, reads_bytes(&re.node))?;
+    let program = compile_common_part(alloc, &re, reads_bytes(&re.node))?;
     let code = code_to_run(alloc, &re, &program)?;
-    let run = run_of(alloc, code.clone()?, program.groups())?;
+    let run = unit_plan_of(alloc, code.clone()?, program.groups())?;
     let tree = to_run(re);
     let optimized = program.with_code(code, &tree)?;
-    let cr = for_bytes(alloc, &tree, optimized)?;
+    let cr = byte_program_of(alloc, &tree, optimized)?;
     Ok((cr, CompiledUnits { program, run }))
 }
 
-// The program of a tree for texts in bytes, of what programs of both kinds hold.
-fn for_bytes(alloc: Global, re: &ir::Regex, program: Program) -> Result<CompiledRegex, AllocError>
-    requires fits { size (tree_of re.now).root < 2 ^ 32 }
+// Builds the program for texts in bytes from the part that both kinds of programs have.
+fn byte_program_of(
+    alloc: Global,
+    re: &ir::Regex,
+    program: Program,
+) -> Result<CompiledRegex, AllocError>
+    requires fits { node_insn_count (tree_of re.now).root < 2 ^ 32 }
     requires same { program ≡ re.now }
     ensures { IfOk result (λ p. p ≡ re.now) }
 {
     let start_pred = predicate_for_re(alloc, re)?;
-    let plan = program.planned(Units::Bytes)?;
+    let plan = program.planned(UnitWidth::Bytes)?;
     Ok(CompiledRegex {
         program,
         start_pred,
@@ -142,7 +149,7 @@ fn for_bytes(alloc: Global, re: &ir::Regex, program: Program) -> Result<Compiled
     })
 }
 
-// The tree that is run in place of one.
+// Returns the tree to run: the optimized tree, or the tree itself if the flag `no_opt` is set.
 fn to_run(mut tree: ir::Regex) -> ir::Regex
     ensures { tree_of result ≡ tree_to_run (tree_of tree) }
 {
@@ -153,23 +160,24 @@ fn to_run(mut tree: ir::Regex) -> ir::Regex
     tree
 }
 
-// The code of the tree that is run in place of one with this program, which is the program's where these are the same.
+// Returns the code of the tree to run. It shares the code of `program`, the program of the tree
+// `re`, if the tree to run is `re` itself.
 fn code_to_run(
     alloc: Global,
     re: &ir::Regex,
     program: &Program,
-) -> Result<Arc<Emitted, Global>, AllocError>
+) -> Result<Arc<EmittedCode, Global>, AllocError>
     requires fits { FitsLimits (tree_of re.now) }
     requires same { program.now ≡ re.now }
-    ensures { IfOk result (λ code. IsCodeIn (tree_to_run (tree_of re.now)) (arc_value code)) }
+    ensures { IfOk result (λ code. IsCodeOfTree (tree_to_run (tree_of re.now)) (arc_value code)) }
 {
     if is_run_itself(re) {
         return program.code();
     }
-    emitted(alloc, re, true, program.insns().len())
+    emit_code(alloc, re, true, program.insns().len())
 }
 
-// Whether a tree is run itself, since nothing of it is to be optimized.
+// Checks whether the tree to run is the tree itself, because optimizing changes nothing or is off.
 fn is_run_itself(re: &ir::Regex) -> bool
     ensures itself { result ≡ true → tree_to_run (tree_of re.now) ≡ tree_of re.now }
     ensures optimized { result ≡ false → re.now.flags.no_opt ≡ false }
@@ -177,36 +185,42 @@ fn is_run_itself(re: &ir::Regex) -> bool
     if re.flags.no_opt {
         return true;
     }
-    narrows_nothing(&re.node)
+    has_no_one_char_loop(&re.node)
 }
 
-// What is run in place of a tree with so many groups, of whose place this code is.
-fn run_of(alloc: Global, code: Arc<Emitted, Global>, groups: u32) -> Result<Run, AllocError>
+// Builds the plan for 16-bit code units from the code of the tree to run. `groups` is the number of
+// capture groups.
+fn unit_plan_of(
+    alloc: Global,
+    code: Arc<EmittedCode, Global>,
+    groups: u32,
+) -> Result<CodeUnitPlan, AllocError>
     requires { length (arc_value code).insns.items < 2 ^ 32 }
-    ensures { IfOk result (λ run. (re : Regex) → IsCodeIn (tree_to_run (tree_of re)) (arc_value code)
-        → groups ≡ (compiled (tree_of re)).groups → IsRunOf re run) }
+    ensures { IfOk result (λ run. (re : Regex) → IsCodeOfTree (tree_to_run (tree_of re)) (arc_value code)
+        → groups ≡ (compiled (tree_of re)).groups → IsUnitPlanOf re run) }
 {
-    let parts = Code {
+    let parts = PlanInput {
         insns: &code.insns,
         brackets: &code.brackets,
         groups,
     };
-    let plan = Plan::new(alloc, parts, Units::Wide)?;
-    Ok(Run { plan, code })
+    let plan = Plan::new(alloc, parts, UnitWidth::Wide)?;
+    Ok(CodeUnitPlan { plan, code })
 }
 
-// The code of a tree, which has so many instructions; loops over one character are narrow in it or not.
-fn emitted(
+// Emits the code of a tree. `narrow` says whether each loop over a node that reads one character
+// becomes a char loop. `room` is the number of instructions to reserve memory for.
+fn emit_code(
     alloc: Global,
     re: &ir::Regex,
     narrow: bool,
     room: usize,
-) -> Result<Arc<Emitted, Global>, AllocError>
+) -> Result<Arc<EmittedCode, Global>, AllocError>
     requires { FitsLimits (tree_of re.now) }
-    ensures { IfOk result (λ code. IsCodeIn (shaped_tree narrow (tree_of re.now)) (arc_value code)) }
+    ensures { IfOk result (λ code. IsCodeOfTree (tree_with_char_loops narrow (tree_of re.now)) (arc_value code)) }
 {
     let mut emitter = Emitter::new(alloc, room)?;
-    let mode = Mode {
+    let mode = EmitMode {
         unicode: re.flags.unicode,
         narrow,
         behind: false,
@@ -216,42 +230,46 @@ fn emitted(
     Ok(Arc::new(alloc, code)?)
 }
 
-// What programs of both kinds hold, or why there is none; `bytes_in_units` says whether the tree is for 16-bit units
-// and has nodes that read bytes.
-fn compile(alloc: Global, re: &ir::Regex, bytes_in_units: bool) -> Result<Program, EmitError>
+// Compiles the part that both kinds of programs have. `bytes_in_units` says that the tree is for
+// 16-bit code units and has nodes that read bytes, which is an error.
+fn compile_common_part(
+    alloc: Global,
+    re: &ir::Regex,
+    bytes_in_units: bool,
+) -> Result<Program, EmitError>
     ensures tree { IfOk result (λ p. p ≡ re.now) }
     ensures fits { OnOk result (FitsLimits (tree_of re.now)) }
     ensures no_bytes { OnOk result (bytes_in_units ≡ false) }
-    ensures refused { IfErr result (λ e. IsRefusedWith bytes_in_units e (tree_of re.now)) }
+    ensures refused { IfErr result (λ e. IsCompileErrorCause bytes_in_units e (tree_of re.now)) }
 {
-    let Counts {
+    let GroupAndInsnCounts {
         groups,
         insns: room,
     } = check_limits(re, bytes_in_units)?;
-    let code = emitted(alloc, re, false, room)?;
+    let code = emit_code(alloc, re, false, room)?;
     let group_names = GroupNames::shared(names_by_id(alloc, &re.node, groups)?)?;
     Ok(Program {
         code,
         groups,
         group_names,
         flags: re.flags,
-        tree: Carried::of(re),
+        tree: GhostSourceTree::of(re),
     })
 }
 
-// How many groups and instructions a tree has.
+// The number of groups and the number of instructions of a tree.
 #[derive(Clone, Copy)]
-struct Counts {
+struct GroupAndInsnCounts {
     groups: u32,
     insns: usize,
 }
 
-// How many groups and instructions a tree has, where it is one that is compiled.
-fn check_limits(re: &ir::Regex, bytes_in_units: bool) -> Result<Counts, EmitError>
+// Counts the groups and instructions of a tree, or returns why the tree is not compiled.
+fn check_limits(re: &ir::Regex, bytes_in_units: bool) -> Result<GroupAndInsnCounts, EmitError>
     ensures groups { IfOk result (λ counts. counts.groups ≡ length (group_ids (tree_of re.now).root)) }
     ensures fits { OnOk result (FitsLimits (tree_of re.now)) }
     ensures no_bytes { OnOk result (bytes_in_units ≡ false) }
-    ensures refused { IfErr result (λ e. IsRefusedWith bytes_in_units e (tree_of re.now)) }
+    ensures refused { IfErr result (λ e. IsCompileErrorCause bytes_in_units e (tree_of re.now)) }
 {
     if !is_well_formed(re) {
         return Err(EmitError::NotWellFormed);
@@ -259,9 +277,9 @@ fn check_limits(re: &ir::Regex, bytes_in_units: bool) -> Result<Counts, EmitErro
     if bytes_in_units {
         return Err(EmitError::BytesInUnits);
     }
-    let mut tally = Tally::new();
+    let mut tally = ProgramSize::new();
     tally.add(&re.node);
-    let Tally {
+    let ProgramSize {
         groups,
         loops,
         insns,
@@ -275,7 +293,7 @@ fn check_limits(re: &ir::Regex, bytes_in_units: bool) -> Result<Counts, EmitErro
     if insns > u32::MAX as usize {
         return Err(EmitError::TooManyInstructions);
     }
-    Ok(Counts {
+    Ok(GroupAndInsnCounts {
         groups: groups as u32,
         insns,
     })

@@ -1,7 +1,7 @@
-//! Programs: the instructions that a pattern tree is compiled to, and the compiler.
+//! The instructions that a pattern tree is compiled to, and the compiler.
 #![tactic(auto)]
 
-mod carried;
 pub mod emit;
+mod ghost_source_tree;
 pub mod insn;
 pub mod startpredicate;

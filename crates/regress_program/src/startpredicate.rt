@@ -1,68 +1,72 @@
-//! What a text has to start with where a pattern matches.
-#![tactic(auto, unfolding(regex_pattern_front::specs::TreeOf::node_of, crate::specs::Weights::weight))]
+//! Computes the start predicate of a tree.
+#![tactic(auto, unfolding(regex_pattern_front::specs::AstToSpecTree::node_of, crate::specs::InnerNodeCounts::inner_node_count))]
 
 ghost use Rattle.std.specs.Prelude.{◌≡◌, ◌&&◌, not, false, IfOk, IsOk};
-ghost use Rattle.regex_meaning.specs.StartPredicate.{IsSound, is_anchored, start_predicate, start_of as predicate_of, sequence, one_of};
-ghost use Rattle.regex_meaning.specs.WellFormed.{IsWellFormed};
-ghost use Rattle.regex_pattern_front.specs.{ByteSets.{byte_bitmap_bytes}, TreeOf.{node_of, tree_of}};
-ghost use Rattle.regress_program.specs.{Beginnings.{beginning_of}, Insns.{start_of}, Predicates.{IsShort, is_sequence, may_take_memory}};
+ghost use Rattle.regex_meaning.specs.StartPredicate.{IsSound, is_anchored, start_predicate, resolved_start_predicate as predicate_of, sequence, one_of};
+ghost use Rattle.regex_meaning.specs.WellFormedTrees.{IsWellFormed};
+ghost use Rattle.regex_pattern_front.specs.{ByteSetMembers.{byte_bitmap_bytes}, AstToSpecTree.{node_of, tree_of}};
+ghost use Rattle.regress_program.specs.{NodeStarts.{as_abstract_start_predicate}, InsnMeanings.{start_predicate_of}, StartPredicates.{IsCompactPredicate, is_sequence, predicate_may_allocate}};
 
-mod beginnings;
-mod bytesets;
+mod abstract_start;
+mod first_bytes;
 
 use crate::insn::StartPredicate;
-use crate::startpredicate::beginnings::{Beginning, begins};
-use crate::startpredicate::bytesets::next_member;
+use crate::startpredicate::abstract_start::{AbstractStartPredicate, abstract_start_of};
+use crate::startpredicate::first_bytes::next_member;
 use regex_pattern_front::bytesearch::ByteBitmap;
 use regex_pattern_front::ir;
 use regex_pattern_front::ir::{AnchorType, Node};
 use std::alloc::{AllocError, Global};
 
-/// What a text in bytes has to start with where the pattern matches: given bytes, one byte of a set, or anything; or
-/// that the pattern matches at the left end alone, as one that begins with `^` does. Else the first node that reads
-/// something decides, and alternatives give what they have in common. Which nodes give what is a rule of this crate
+/// Computes the start predicate of a tree, for texts in bytes: given bytes, one byte of a set, or
+/// anything. If the pattern matches only at the left end of the text, as one that begins with `^`
+/// does, the predicate says so. Otherwise the first node that reads something decides, and
+/// alternatives give what they have in common. Which nodes give what is a rule of this crate
 /// (`start_predicate` of `regex_meaning`).
 ///
-/// For a well-formed tree it is sound: it holds at each place where the pattern matches, and the byte that it looks for
-/// first begins a character.
+/// The predicate is sound for a well-formed tree: it holds at each offset where the pattern
+/// matches, and the byte that it looks for first is the first byte of a character.
 ///
 /// # Errors
 ///
-/// A growth was refused. Memory is taken for the bytes of a sequence and for an inverted class alone: none where the
-/// tree is anchored, or where neither a byte sequence nor an inverted class is met before it is decided.
+/// Returns `Err` if an allocation fails. Memory is allocated only for the bytes of a sequence and
+/// for an inverted class. None is allocated if the tree is anchored, or if neither a byte sequence
+/// nor an inverted class is reached before the predicate is decided.
 pub fn predicate_for_re(alloc: Global, re: &ir::Regex) -> Result<StartPredicate, AllocError>
-    ensures predicate { IfOk result (λ p. start_of p ≡ start_predicate (tree_of re.now)) }
+    ensures predicate { IfOk result (λ p. start_predicate_of p ≡ start_predicate (tree_of re.now)) }
     ensures sound { IsWellFormed (tree_of re.now).root
-        → IfOk result (λ p. IsSound (start_of p) (tree_of re.now).root) }
-    ensures short { IfOk result IsShort }
-    ensures no_memory { may_take_memory (tree_of re.now) ≡ false → IsOk result }
+        → IfOk result (λ p. IsSound (start_predicate_of p) (tree_of re.now).root) }
+    ensures short { IfOk result IsCompactPredicate }
+    ensures no_memory { predicate_may_allocate (tree_of re.now) ≡ false → IsOk result }
 {
     if matches_at_left_end(re) {
         return Ok(StartPredicate::StartAnchored);
     }
-    let beginning = begins(&re.node)?;
+    let beginning = abstract_start_of(&re.node)?;
     beginning_predicate(alloc, beginning)
 }
 
 fn beginning_predicate(
     alloc: Global,
-    beginning: Beginning<'_>,
+    beginning: AbstractStartPredicate<'_>,
 ) -> Result<StartPredicate, AllocError>
-    ensures predicate { IfOk result (λ p. start_of p ≡ predicate_of (beginning_of beginning.entry)) }
-    ensures short { IfOk result IsShort }
-    ensures no_memory { is_sequence (beginning_of beginning.entry) ≡ false → IsOk result }
+    ensures predicate { IfOk result (λ p. start_predicate_of p ≡ predicate_of (as_abstract_start_predicate beginning.entry)) }
+    ensures short { IfOk result IsCompactPredicate }
+    ensures no_memory { is_sequence (as_abstract_start_predicate beginning.entry) ≡ false → IsOk result }
 {
     match beginning {
-        Beginning::Open | Beginning::Anything => Ok(StartPredicate::Arbitrary),
-        Beginning::Sequence(bytes) => bytes_predicate(alloc, bytes),
-        Beginning::OneOf(set) => Ok(set_predicate(set)),
+        AbstractStartPredicate::Open | AbstractStartPredicate::Anything => Ok(
+            StartPredicate::Arbitrary,
+        ),
+        AbstractStartPredicate::Sequence(bytes) => bytes_predicate(alloc, bytes),
+        AbstractStartPredicate::OneOf(set) => Ok(set_predicate(set)),
     }
 }
 
-// That a text starts with these bytes.
+// Returns the predicate that a text starts with these bytes.
 fn bytes_predicate(alloc: Global, bytes: &[u8]) -> Result<StartPredicate, AllocError>
-    ensures predicate { IfOk result (λ p. start_of p ≡ predicate_of (sequence bytes.now)) }
-    ensures short { IfOk result IsShort }
+    ensures predicate { IfOk result (λ p. start_predicate_of p ≡ predicate_of (sequence bytes.now)) }
+    ensures short { IfOk result IsCompactPredicate }
 {
     match bytes {
         [] => Ok(StartPredicate::Arbitrary),
@@ -71,10 +75,10 @@ fn bytes_predicate(alloc: Global, bytes: &[u8]) -> Result<StartPredicate, AllocE
     }
 }
 
-// That a text starts with a member.
+// Returns the predicate that a text starts with a byte of the set.
 fn set_predicate(set: ByteBitmap) -> StartPredicate
-    ensures predicate { start_of result ≡ predicate_of (one_of (byte_bitmap_bytes set)) }
-    ensures short { IsShort result }
+    ensures predicate { start_predicate_of result ≡ predicate_of (one_of (byte_bitmap_bytes set)) }
+    ensures short { IsCompactPredicate result }
 {
     let Some(a) = next_member(&set, 0) else {
         return StartPredicate::Arbitrary;
@@ -91,14 +95,14 @@ fn set_predicate(set: ByteBitmap) -> StartPredicate
     }
 }
 
-// Whether the tree matches at the left end of a text alone.
+// Checks whether the tree matches only at the left end of a text.
 fn matches_at_left_end(re: &ir::Regex) -> bool
     ensures { result ≡ (not (tree_of re.now).flags.multiline && is_anchored (tree_of re.now).root) }
 {
     !re.flags.multiline && is_start_anchored(&re.node)
 }
 
-// Whether the node matches at the left end alone.
+// Checks whether the node matches only at the left end.
 fn is_start_anchored(node: &Node) -> bool
     ensures { result ≡ is_anchored (node_of node.now) }
 {

@@ -1,8 +1,8 @@
 //! Which arms of alternations may match by what stands next, in words.
 
 use regex_pattern_front::ir::Regex;
-use regress_plan::choices::{Choice, Choices};
-use regress_plan::keys::KEYS;
+use regress_plan::alternation_dispatch::{ArmDispatchTable, ArmDispatchTables};
+use regress_plan::table_keys_of_units::KEYS;
 use regress_program::emit::{emit, emit_units};
 use std::alloc::{AllocError, Global};
 
@@ -31,7 +31,7 @@ pub(crate) fn write_unit_choices(
 }
 
 // Each choice behind the operation at which its alternation begins.
-fn write_each(text: &mut String, choices: &Choices) -> Result<(), AllocError> {
+fn write_each(text: &mut String, choices: &ArmDispatchTables) -> Result<(), AllocError> {
     for (head, number) in choices.heads.iter().enumerate() {
         if let Some(choice) = choices.choices.get(usize::from(*number)) {
             if !text.is_empty() {
@@ -49,7 +49,11 @@ fn write_each(text: &mut String, choices: &Choices) -> Result<(), AllocError> {
 }
 
 // The arms behind the first key of each row of keys that have them, and behind the end if they are not those of the last key.
-fn write_rows(text: &mut String, choices: &Choices, choice: &Choice) -> Result<(), AllocError> {
+fn write_rows(
+    text: &mut String,
+    choices: &ArmDispatchTables,
+    choice: &ArmDispatchTable,
+) -> Result<(), AllocError> {
     let mut before = None;
     for (seen, first) in choice.first.iter().enumerate() {
         if before != Some(*first) {
@@ -66,7 +70,11 @@ fn write_rows(text: &mut String, choices: &Choices, choice: &Choice) -> Result<(
 }
 
 // The operations of a row of arms from one of them on.
-fn write_arms(text: &mut String, choices: &Choices, first: usize) -> Result<(), AllocError> {
+fn write_arms(
+    text: &mut String,
+    choices: &ArmDispatchTables,
+    first: usize,
+) -> Result<(), AllocError> {
     for arm in choices.arms.get(first..).unwrap_or(&[]) {
         write!(text, "{}", arm.op)?;
         if !arm.more {

@@ -2,7 +2,7 @@
 
 use crate::predicates::write_bytes;
 use regex_pattern_front::ir::Regex;
-use regress_plan::class::Class;
+use regress_plan::char_class_tables::Class;
 use regress_plan::plan::Plan;
 use regress_program::emit::{emit, emit_units};
 use std::alloc::{AllocError, Global};

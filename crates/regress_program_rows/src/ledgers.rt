@@ -1,10 +1,10 @@
 //! Which instructions of programs record, with how many codes, and what a place pays for all of them; and codes of threads.
 
-ghost use Rattle.regress_ledger.specs.Whole.{AreCoded};
+ghost use Rattle.regress_memo_analysis.specs.CheckedAnalysis.{HasKeyCodes};
 
 use regex_pattern_front::ir::Regex;
-use regress_ledger::codes::Round;
-use regress_ledger::ledger::Ledger;
+use regress_memo_analysis::analysis::MemoAnalysis;
+use regress_memo_analysis::key_codes::LoopState;
 use regress_program::emit::emit;
 use std::alloc::{AllocError, Global};
 
@@ -18,16 +18,16 @@ pub(crate) fn write_ledger(
         return text.push_str("no program");
     };
     let loops = program.program().loops() as usize;
-    match Ledger::new(alloc, program.insns(), loops)? {
-        Some(ledger) => write_records(text, &ledger),
+    match MemoAnalysis::new(alloc, program.insns(), loops)? {
+        Some(memo_analysis) => write_records(text, &memo_analysis),
         None => text.push_str("none"),
     }
 }
 
 // Each instruction that records and its codes, and the prices of all these together.
-fn write_records(text: &mut String, ledger: &Ledger) -> Result<(), AllocError> {
+fn write_records(text: &mut String, memo_analysis: &MemoAnalysis) -> Result<(), AllocError> {
     let mut all = 0u64;
-    for (ip, line) in ledger.lines.iter().enumerate() {
+    for (ip, line) in memo_analysis.lines.iter().enumerate() {
         if line.records {
             write!(text, "{ip}x{} ", line.codes)?;
             let price = u64::from(line.price).saturating_mul(line.codes as u64);
@@ -47,8 +47,8 @@ pub(crate) fn write_codes(
         return text.push_str("no program");
     };
     let loops = program.program().loops() as usize;
-    match Ledger::new(alloc, program.insns(), loops)? {
-        Some(ledger) => write_each(alloc, text, &ledger, loops),
+    match MemoAnalysis::new(alloc, program.insns(), loops)? {
+        Some(memo_analysis) => write_each(alloc, text, &memo_analysis, loops),
         None => text.push_str("none"),
     }
 }
@@ -57,19 +57,19 @@ pub(crate) fn write_codes(
 fn write_each(
     alloc: Global,
     text: &mut String,
-    ledger: &Ledger,
+    memo_analysis: &MemoAnalysis,
     loops: usize,
 ) -> Result<(), AllocError>
-    requires { AreCoded ledger.now }
+    requires { HasKeyCodes memo_analysis.now }
 {
-    for ip in 0..ledger.lines.len() {
-        let line = ledger.line(ip);
+    for ip in 0..memo_analysis.lines.len() {
+        let line = memo_analysis.line(ip);
         if line.records && line.codes > 1 {
             if !text.is_empty() {
                 text.push_str("; ")?;
             }
             write!(text, "{ip}:")?;
-            write_codes_at(alloc, text, ledger, loops, ip)?;
+            write_codes_at(alloc, text, memo_analysis, loops, ip)?;
         }
     }
     if text.is_empty() {
@@ -84,20 +84,20 @@ fn write_each(
 fn write_codes_at(
     alloc: Global,
     text: &mut String,
-    ledger: &Ledger,
+    memo_analysis: &MemoAnalysis,
     loops: usize,
     ip: usize,
 ) -> Result<(), AllocError>
-    requires { AreCoded ledger.now }
+    requires { HasKeyCodes memo_analysis.now }
 {
     for number in 0..10usize {
-        let round = Round {
+        let round = LoopState {
             iters: number / 2,
             entry: number % 2,
         };
         let rounds = Vec::from_elem(alloc, round, loops)?;
-        let code = ledger.code_at(ip, 1, &rounds);
-        let mark = if ledger.is_sound(ip, 1, 1, &rounds) {
+        let code = memo_analysis.code_at(ip, 1, &rounds);
+        let mark = if memo_analysis.is_reachable_loop_state(ip, 1, 1, &rounds) {
             ""
         } else {
             "!"

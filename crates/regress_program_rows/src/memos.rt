@@ -1,11 +1,11 @@
 //! Memories of three places: how many keys there are, each of which is noted by itself.
 
 ghost use Rattle.std.specs.Prelude.{IfOk, IfSome};
-ghost use Rattle.regress_ledger.specs.Whole.{AreCoded};
+ghost use Rattle.regress_memo_analysis.specs.CheckedAnalysis.{HasKeyCodes};
 
 use regex_pattern_front::ir::Regex;
-use regress_ledger::ledger::Ledger;
-use regress_memo::memo::{Key, Memo};
+use regress_memo::memo::{MemoKey, MemoTable};
+use regress_memo_analysis::analysis::MemoAnalysis;
 use regress_program::emit::emit;
 use std::alloc::{AllocError, Global};
 
@@ -17,17 +17,17 @@ const CODES: usize = 7;
 // How many keys the program of a tree for texts in bytes has, if it has a ledger; and whether there may be a memory of all
 // places that can be counted.
 pub(crate) fn write_memo(alloc: Global, text: &mut String, tree: &Regex) -> Result<(), AllocError> {
-    let Some(ledger) = ledger_of(alloc, tree)? else {
+    let Some(memo_analysis) = ledger_of(alloc, tree)? else {
         return text.push_str("none");
     };
-    match Memo::new(alloc, ledger, PLACES, true)? {
+    match MemoTable::new(alloc, memo_analysis, PLACES, true)? {
         Some(mut memo) => write_keys(text, &mut memo)?,
         None => text.push_str("too many")?,
     }
-    let Some(ledger) = ledger_of(alloc, tree)? else {
+    let Some(memo_analysis) = ledger_of(alloc, tree)? else {
         return text.push_str("none");
     };
-    match Memo::new(alloc, ledger, usize::MAX, false) {
+    match MemoTable::new(alloc, memo_analysis, usize::MAX, false) {
         Ok(Some(_memo)) => text.push_str(", in all places"),
         Ok(None) => text.push_str(", too many"),
         Err(_) => text.push_str(", refused"),
@@ -35,24 +35,24 @@ pub(crate) fn write_memo(alloc: Global, text: &mut String, tree: &Regex) -> Resu
 }
 
 // The ledger of a program, if it has one.
-fn ledger_of(alloc: Global, tree: &Regex) -> Result<Option<Ledger>, AllocError>
-    ensures { IfOk result (λ found. IfSome found AreCoded) }
+fn ledger_of(alloc: Global, tree: &Regex) -> Result<Option<MemoAnalysis>, AllocError>
+    ensures { IfOk result (λ found. IfSome found HasKeyCodes) }
 {
     let Ok(program) = emit(alloc, tree) else {
         return Ok(None);
     };
     let loops = program.program().loops() as usize;
-    Ledger::new(alloc, program.insns(), loops)
+    MemoAnalysis::new(alloc, program.insns(), loops)
 }
 
 // Notes all keys, one by one, that they fail, and then that they find an end. Each is counted, unless more or others are known
 // then.
-fn write_keys(text: &mut String, memo: &mut Memo) -> Result<(), AllocError> {
+fn write_keys(text: &mut String, memo: &mut MemoTable) -> Result<(), AllocError> {
     let mut noted = 0usize;
-    for ip in 0..memo.ledger().lines.len() {
+    for ip in 0..memo.memo_analysis().lines.len() {
         for at in 0..PLACES + 1 {
             for code in 0..CODES {
-                if fails_alone(memo, Key { ip, at, code }) {
+                if fails_alone(memo, MemoKey { ip, at, code }) {
                     noted = noted.wrapping_add(1);
                 }
             }
@@ -60,10 +60,10 @@ fn write_keys(text: &mut String, memo: &mut Memo) -> Result<(), AllocError> {
     }
     write!(text, "{noted} fail")?;
     let mut noted = 0usize;
-    for ip in 0..memo.ledger().lines.len() {
+    for ip in 0..memo.memo_analysis().lines.len() {
         for at in 0..PLACES + 1 {
             for code in 0..CODES {
-                if reaches_alone(memo, Key { ip, at, code }) {
+                if reaches_alone(memo, MemoKey { ip, at, code }) {
                     noted = noted.wrapping_add(1);
                 }
             }
@@ -73,34 +73,34 @@ fn write_keys(text: &mut String, memo: &mut Memo) -> Result<(), AllocError> {
 }
 
 // Whether a key was not known to fail and is now, and no other one besides.
-fn fails_alone(memo: &mut Memo, key: Key) -> bool {
+fn fails_alone(memo: &mut MemoTable, key: MemoKey) -> bool {
     if !memo.has(key) || memo.fails(key) {
         return false;
     }
     let before = known(memo);
-    memo.note_failure(key);
+    memo.record_failure(key);
     let after = known(memo);
     memo.fails(key) && after.0 == before.0.wrapping_add(1) && after.1 == before.1
 }
 
 // The same of ends.
-fn reaches_alone(memo: &mut Memo, key: Key) -> bool {
-    if !memo.has(key) || memo.reaches(key) || !memo.with_ends() {
+fn reaches_alone(memo: &mut MemoTable, key: MemoKey) -> bool {
+    if !memo.has(key) || memo.reaches(key) || !memo.records_successes() {
         return false;
     }
     let before = known(memo);
-    memo.note_end(key);
+    memo.record_success(key);
     let after = known(memo);
     memo.reaches(key) && after.1 == before.1.wrapping_add(1) && after.0 == before.0
 }
 
 // How many keys are known to fail, and how many to find an end.
-fn known(memo: &Memo) -> (usize, usize) {
+fn known(memo: &MemoTable) -> (usize, usize) {
     let (mut failures, mut ends) = (0usize, 0usize);
-    for ip in 0..memo.ledger().lines.len() {
+    for ip in 0..memo.memo_analysis().lines.len() {
         for at in 0..PLACES + 1 {
             for code in 0..CODES {
-                let key = Key { ip, at, code };
+                let key = MemoKey { ip, at, code };
                 if memo.has(key) && memo.fails(key) {
                     failures = failures.wrapping_add(1);
                 }

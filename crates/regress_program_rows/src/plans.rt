@@ -4,13 +4,13 @@ ghost use Rattle.std.specs.Prelude.{◌<◌};
 
 use regex_pattern_front::codepointset::Interval;
 use regex_pattern_front::ir::Regex;
-use regress_plan::before::Before;
 use regress_plan::first_set::FirstSet;
-use regress_plan::keys::KEYS;
+use regress_plan::lookbehind_filter::LookbehindFilter;
 use regress_plan::ops::Op;
-use regress_plan::plan::{ANYTHING, Plan, Start};
-use regress_plan::prefilters::{Known, Prefilter, Probe};
-use regress_plan::prefix::{Literal, Prefix};
+use regress_plan::plan::{ANYTHING, CandidateStarts, Plan};
+use regress_plan::prefilters::{LiteralPrefilter, Prefilter, UnitBitsProbe};
+use regress_plan::required_prefix::{Literal, Prefix};
+use regress_plan::table_keys_of_units::KEYS;
 use regress_program::emit::{emit, emit_units};
 use std::alloc::{AllocError, Global};
 
@@ -37,17 +37,17 @@ pub(crate) fn write_unit_plan(
 // Where a search has to try, and what may stand behind each run.
 fn write_sets(text: &mut String, plan: &Plan) -> Result<(), AllocError> {
     match plan.start {
-        Start::Anywhere => text.push_str("anywhere")?,
-        Start::Among { set } => write_set(text, plan, "among", set)?,
-        Start::Few { units, len } => write!(text, "few {len} {units:?}")?,
-        Start::Behind(before) => write_before(text, before)?,
-        Start::Prefix { prefix, prefilter } => write_prefix(text, &prefix, prefilter)?,
+        CandidateStarts::Anywhere => text.push_str("anywhere")?,
+        CandidateStarts::InSet { set } => write_set(text, plan, "among", set)?,
+        CandidateStarts::FewUnits { units, len } => write!(text, "few {len} {units:?}")?,
+        CandidateStarts::Behind(before) => write_before(text, before)?,
+        CandidateStarts::Prefix { prefix, prefilter } => write_prefix(text, &prefix, prefilter)?,
     }
     for op in &plan.ops {
         match op {
-            Op::PossessiveRun(run) => write_set(text, plan, ", apart", run.next)?,
-            Op::Run(run) => write_set(text, plan, ", run", run.next)?,
-            Op::LazyRun(run) => write_set(text, plan, ", lazy", run.next)?,
+            Op::PossessiveCharLoop(run) => write_set(text, plan, ", apart", run.next)?,
+            Op::GreedyCharLoop(run) => write_set(text, plan, ", run", run.next)?,
+            Op::LazyCharLoop(run) => write_set(text, plan, ", lazy", run.next)?,
             _ => {}
         }
     }
@@ -66,8 +66,8 @@ fn write_rows(text: &mut String, plan: &Plan) -> Result<(), AllocError> {
 }
 
 // The keys of which one must begin the character before, and whether the left end serves too.
-fn write_before(text: &mut String, before: Before) -> Result<(), AllocError> {
-    let Before { keys, len, edge } = before;
+fn write_before(text: &mut String, before: LookbehindFilter) -> Result<(), AllocError> {
+    let LookbehindFilter { keys, len, edge } = before;
     write!(text, "behind {len} {keys:?}")?;
     if edge { text.push_str(" edge") } else { Ok(()) }
 }
@@ -87,13 +87,13 @@ fn write_prefix(
     }
     match prefilter {
         Prefilter::Absent => Ok(()),
-        Prefilter::Known(known) => write_known(text, &known),
+        Prefilter::ByLiteral(known) => write_known(text, &known),
         Prefilter::Probes(probes) => write_probes(text, &probes),
     }
 }
 
 // The units that are looked for in a row, and how many units on, and what is looked for in a short text.
-fn write_known(text: &mut String, known: &Known) -> Result<(), AllocError> {
+fn write_known(text: &mut String, known: &LiteralPrefilter) -> Result<(), AllocError> {
     let Literal { units, len, ahead } = &known.literal;
     write!(text, " row {len} of {units:?} at {ahead}")?;
     if let Some(rare) = known.rare {
@@ -106,9 +106,9 @@ fn write_known(text: &mut String, known: &Known) -> Result<(), AllocError> {
 }
 
 // The masks that are looked through, with the bits that stay, and how many units on.
-fn write_probes(text: &mut String, probes: &[Probe]) -> Result<(), AllocError> {
+fn write_probes(text: &mut String, probes: &[UnitBitsProbe]) -> Result<(), AllocError> {
     for probe in probes {
-        let Probe { ahead, mask, bits } = *probe;
+        let UnitBitsProbe { ahead, mask, bits } = *probe;
         write!(text, " bits {bits} of {mask} at {ahead}")?;
     }
     Ok(())
@@ -120,7 +120,7 @@ fn keys_at(prefix: &Prefix, ahead: usize) -> FirstSet
 {
     let mut keys = [false; 256];
     for key in 0..KEYS {
-        keys[key] = prefix.may_stand(key, ahead);
+        keys[key] = prefix.is_key_allowed(key, ahead);
     }
     FirstSet { keys, end: false }
 }

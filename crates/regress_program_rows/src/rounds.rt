@@ -1,7 +1,7 @@
 //! Over which units loops go that cannot be left before them, in words.
 
 use regex_pattern_front::ir::Regex;
-use regress_plan::rounds::{Over, Rounds};
+use regress_plan::must_iterate_tables::{MustIterateTable, MustIterateTables};
 use regress_program::emit::{emit, emit_units};
 use std::alloc::{AllocError, Global};
 
@@ -30,7 +30,7 @@ pub(crate) fn write_unit_rounds(
 }
 
 // Those of each loop behind the operation at which its body ends.
-fn write_each(text: &mut String, rounds: &Rounds) -> Result<(), AllocError> {
+fn write_each(text: &mut String, rounds: &MustIterateTables) -> Result<(), AllocError> {
     for (end, number) in rounds.ends.iter().enumerate() {
         if let Some(over) = rounds.units.get(usize::from(*number)) {
             if !text.is_empty() {
@@ -48,7 +48,7 @@ fn write_each(text: &mut String, rounds: &Rounds) -> Result<(), AllocError> {
 }
 
 // The keys at which rows of keys begin and end.
-fn write_keys(text: &mut String, over: &Over) -> Result<(), AllocError> {
+fn write_keys(text: &mut String, over: &MustIterateTable) -> Result<(), AllocError> {
     let mut before = false;
     for (key, is) in over.keys.iter().enumerate() {
         if before != *is {

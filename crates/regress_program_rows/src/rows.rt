@@ -48,7 +48,7 @@ fn write_answer(
         "unit_rounds" => write_unit_rounds(alloc, text, tree),
         "classes" => write_classes(alloc, text, tree),
         "unit_classes" => write_unit_classes(alloc, text, tree),
-        "ledger" => write_ledger(alloc, text, tree),
+        "memo_analysis" => write_ledger(alloc, text, tree),
         "codes" => write_codes(alloc, text, tree),
         "memo" => write_memo(alloc, text, tree),
         _ => text.push_str("no question"),

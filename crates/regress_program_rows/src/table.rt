@@ -236,24 +236,24 @@ units cat:2 loop:0,0,0 a goal → EnterLoop 0 0 18446744073709551615 true 3, Cha
 optimized cat:2 loop:0,0,0 a goal → Loop1CharBody 0 18446744073709551615 true, Char 97, Goal
 units cat:2 loop1:0 a goal → Loop1CharBody 0 18446744073709551615 true, Char 97, Goal
 unit_plan cat:3 loop:0,0,0 a b goal → few 2 [97, 98, 0], apart 98 99
-ledger /abc/ → for 0
-ledger /a*/ → 1x1 for 4
-ledger /(?:ab)*c/ → 1x1 4x1 for 12
-ledger /(?:a*)*b/ → 2x2 3x2 4x1 for 26
-ledger /(?:a*){2,}b/ → 2x6 3x6 4x1 for 70
-ledger /(?:ab){2,4}/ → 1x4 for 32
-ledger /(?:ab|cd){0,100}/ → none
-ledger /(a)\\1/ → none
-ledger /(?=(a))b/ → none
-ledger /(?!(a))b/ → for 0
-ledger /(?:(?=a)b)*d/ → 4x1 6x1 for 14
-ledger /(x+x+)+y/ → 1x1 4x1 6x1 7x1 9x1 for 28
-ledger /^(\\w+\\s?)*$/ → 2x1 5x1 6x1 8x1 10x1 for 31
-ledger /(?:a|ab)(?:c|bcd)(?:d*)/ → 5x1 12x1 for 17
-ledger /(?<=(?:ab)*)c/ → 2x1 for 8
-ledger /a{2,5}b/ → 2x1 for 4
-ledger /(?:.*?,){3}x/ → 2x3 3x3 5x1 for 49
-ledger /((a*)*)*b/ → 1x2 5x4 8x4 9x4 11x2 13x1 for 104
+memo_analysis /abc/ → for 0
+memo_analysis /a*/ → 1x1 for 4
+memo_analysis /(?:ab)*c/ → 1x1 4x1 for 12
+memo_analysis /(?:a*)*b/ → 2x2 3x2 4x1 for 26
+memo_analysis /(?:a*){2,}b/ → 2x6 3x6 4x1 for 70
+memo_analysis /(?:ab){2,4}/ → 1x4 for 32
+memo_analysis /(?:ab|cd){0,100}/ → none
+memo_analysis /(a)\\1/ → none
+memo_analysis /(?=(a))b/ → none
+memo_analysis /(?!(a))b/ → for 0
+memo_analysis /(?:(?=a)b)*d/ → 4x1 6x1 for 14
+memo_analysis /(x+x+)+y/ → 1x1 4x1 6x1 7x1 9x1 for 28
+memo_analysis /^(\\w+\\s?)*$/ → 2x1 5x1 6x1 8x1 10x1 for 31
+memo_analysis /(?:a|ab)(?:c|bcd)(?:d*)/ → 5x1 12x1 for 17
+memo_analysis /(?<=(?:ab)*)c/ → 2x1 for 8
+memo_analysis /a{2,5}b/ → 2x1 for 4
+memo_analysis /(?:.*?,){3}x/ → 2x3 3x3 5x1 for 49
+memo_analysis /((a*)*)*b/ → 1x2 5x4 8x4 9x4 11x2 13x1 for 104
 codes /(?:ab)*c/ → one each
 codes /(?:a*){2,}b/ → 2: 0 1 2 3 4 5 4! 5 4! 5!; 3: 0 1 2 3 4 5 4! 5 4! 5!
 codes /(?:ab){2,4}/ → 1: 0 0 1 1 2 2 3 3 3! 3!

@@ -1,8 +1,10 @@
 //! Whether the contents of lookaheads match, by what stands next, in words.
 
 use regex_pattern_front::ir::Regex;
-use regress_plan::keys::KEYS;
-use regress_plan::verdicts::{Decided, Verdict, Verdicts};
+use regress_plan::lookahead_and_exit_tables::{
+    LookaheadAndExitTables, LookaheadOrExitTable, LookaheadOrExitVerdict,
+};
+use regress_plan::table_keys_of_units::KEYS;
 use regress_program::emit::{emit, emit_units};
 use std::alloc::{AllocError, Global};
 
@@ -31,7 +33,7 @@ pub(crate) fn write_unit_verdicts(
 }
 
 // Those on each lookahead behind its operation.
-fn write_each(text: &mut String, decided: &Decided) -> Result<(), AllocError> {
+fn write_each(text: &mut String, decided: &LookaheadAndExitTables) -> Result<(), AllocError> {
     for (head, number) in decided.heads.iter().enumerate() {
         if let Some(verdicts) = decided.verdicts.get(usize::from(*number)) {
             if !text.is_empty() {
@@ -49,7 +51,7 @@ fn write_each(text: &mut String, decided: &Decided) -> Result<(), AllocError> {
 }
 
 // The verdict behind the first key of each row of keys that have it, and behind the end if it is not that of the last key.
-fn write_rows(text: &mut String, verdicts: &Verdicts) -> Result<(), AllocError> {
+fn write_rows(text: &mut String, verdicts: &LookaheadOrExitTable) -> Result<(), AllocError> {
     let mut before = "";
     for (seen, verdict) in verdicts.by.iter().enumerate() {
         let word = word_of(*verdict);
@@ -65,10 +67,10 @@ fn write_rows(text: &mut String, verdicts: &Verdicts) -> Result<(), AllocError> 
     Ok(())
 }
 
-fn word_of(verdict: Verdict) -> &'static str {
+fn word_of(verdict: LookaheadOrExitVerdict) -> &'static str {
     match verdict {
-        Verdict::No => "no",
-        Verdict::Yes => "yes",
-        Verdict::Ask => "ask",
+        LookaheadOrExitVerdict::No => "no",
+        LookaheadOrExitVerdict::Yes => "yes",
+        LookaheadOrExitVerdict::Evaluate => "ask",
     }
 }

@@ -4,20 +4,20 @@ use Rattle.std.specs.Prelude.{option_map, option_and_then}
 use Rattle.std.specs.Option.{option_map_or}
 use Rattle.std.proofs.lemmas.Bool.{cases_lt}
 use mathlib.Core.Logic.{◌⊎◌, inl, inr}
-use Rattle.regex_meaning.specs.Lists.{contains}
+use Rattle.regex_meaning.specs.NumberListHelpers.{contains}
 use Rattle.regex_meaning.specs.Text.{Text, Direction, rightwards, leftwards, last_place}
-use Rattle.regex_meaning.specs.Offsets.{IsText, IsBoundary, offset, units, read, read_at, place_at}
+use Rattle.regex_meaning.specs.CodeUnitOffsets.{IsText, IsBoundary, offset, units, read, read_at, place_at}
 use Rattle.regex_meaning.specs.Outcomes.{is_some_and}
 use Rattle.regex_meaning.proofs.TextLemmas.{place-less}
-use Rattle.regress_input.specs.Reading.{past}
+use Rattle.regress_input.specs.ReadsFromOffset.{past}
 use Rattle.regress_input.proofs.Places.{place_of_boundary, left_then_right, right_then_left, before_ahead, before_boundary, past_ahead, past_boundary}
-use Rattle.regress_simulation.specs.Tables.{Table, HasUnits, allows, key_at}
-use Rattle.regress_plan.specs.declared.before.Before.{Before}
-use Rattle.regress_plan.specs.Before.{lets_begin, has_key}
-use Rattle.regress_plan.specs.Keys.{key, is_wide}
+use Rattle.regress_simulation.specs.FirstSetTables.{FirstSetTable, HasUnitsForTables, table_allows, unit_key_at}
+use Rattle.regress_plan.specs.declared.lookbehind_filter.LookbehindFilter.{LookbehindFilter}
+use Rattle.regress_plan.specs.LookbehindFilter.{allows_start, has_key}
+use Rattle.regress_plan.specs.TableKeysOfUnits.{key, has_16_bit_units}
 use Rattle.regress_plan.proofs.RowLemmas.{get-below}
-use Rattle.regress_scan.specs.Searching.{Searching}
-use Rattle.regress_scan.specs.Starts.{allows_at, AllowsNone, IsFirstWhere, IsPastFirst, NoneWhere, few_allowed}
+use Rattle.regress_scan.specs.SearchInputs.{SearchInput}
+use Rattle.regress_scan.specs.StartSearch.{allows_at, AllowsNone, IsFirstBoundaryWhere, IsPastFirstAllowedChar, NoneWhere, few_units_table}
 use Rattle.regress_scan.proofs.Allowing.{no-key}
 use Rattle.regress_scan.proofs.Starting.{none-between}
 
@@ -59,28 +59,28 @@ module _ (text : Text) (is : IsText text) where
           cc
 
 -- where one of a few units is allowed, a unit stands
-pub unit-inside : (w : Searching) → HasUnits w.encoding w.text → (keys : List ℕ) (len at : ℕ) → allows_at w (few_allowed keys len) at ≡ true → at < units w.text
+pub unit-inside : (w : SearchInput) → HasUnitsForTables w.encoding w.text → (keys : List ℕ) (len at : ℕ) → allows_at w (few_units_table keys len) at ≡ true → at < units w.text
 unit-inside w has keys len at allowed = elim (cases_lt at (units w.text)) [
   | inl inside ↦ inside
   | inr past_it ↦
-      let never : true ≡ false = sym allowed ∙ ap (allows (few_allowed keys len)) (no-key w.encoding w.text has at past_it) in
+      let never : true ≡ false = sym allowed ∙ ap (table_allows (few_units_table keys len)) (no-key w.encoding w.text has at past_it) in
       cc
 ]
 
 -- ---- From where on the character before is looked for
 
-module _ (w : Searching) (has : HasUnits w.encoding w.text) (before : Before) where
-  abbrev keys : Table
-  keys = few_allowed before.keys before.len
+module _ (w : SearchInput) (has : HasUnitsForTables w.encoding w.text) (before : LookbehindFilter) where
+  abbrev keys : FirstSetTable
+  keys = few_units_table before.keys before.len
 
   abbrev lets : (at : ℕ) → Bool
-  lets at = lets_begin w.encoding before w.text at
+  lets at = allows_start w.encoding before w.text at
 
   lets-behind : (at y : ℕ) → past w.text leftwards at ≡ Some y → lets at ≡ allows_at w keys y
   lets-behind at y led =
-      ap (λ o. option_map_or (has_key w.encoding before w.text) o before.edge) led ∙ same (key_at w.encoding (key (is_wide w.encoding)) w.text y)
+      ap (λ o. option_map_or (has_key w.encoding before w.text) o before.edge) led ∙ same (unit_key_at w.encoding (key (has_16_bit_units w.encoding)) w.text y)
     where
-      same : (o : Option ℕ) → is_some_and o (contains (take before.len before.keys)) ≡ allows keys o
+      same : (o : Option ℕ) → is_some_and o (contains (take before.len before.keys)) ≡ table_allows keys o
       same None = refl
       same (Some k) = refl
 
@@ -122,7 +122,7 @@ module _ (w : Searching) (has : HasUnits w.encoding w.text) (before : Before) wh
         ]
 
     -- past the first character that is allowed is the first place
-    pub first-behind : (next : Option ℕ) → IsPastFirst w keys start next → IsFirstWhere w lets from next
+    pub first-behind : (next : Option ℕ) → IsPastFirstAllowedChar w keys start next → IsFirstBoundaryWhere w lets from next
     first-behind None first = none-behind (units w.text + 1) (units w.text + 1) first (λ x y at less more. omega (arith, less, more))
     first-behind (Some to) (hit, first, led) = (
       past_boundary w.text has.is_text hit to led,

@@ -9,15 +9,15 @@ use Rattle.std.proofs.lemmas.List.{length-drop, length-take, get_or-drop, get_or
 use mathlib.Core.Logic.{◌⊎◌, inl, inr}
 use Rattle.memchr.specs.Find.{IsFirstByte, is_byte, OccursAt, FindsNeedle}
 use Rattle.memchr.proofs.lemmas.ShiftLemmas.{Window, Ends, IsState, IsState-next}
-use Rattle.regex_pattern_front.specs.Searching.{IsFirst}
+use Rattle.regex_pattern_front.specs.FirstPassingIndex.{IsFirstPassingIndex}
 use Rattle.regex_meaning.proofs.Booleans.{and-left, and-right}
-use Rattle.regress_simulation.specs.Prefixes.{Allowed, may_stand}
+use Rattle.regress_simulation.specs.RequiredPrefixes.{Allowed, unit_is_allowed}
 use Rattle.regress_simulation.proofs.Ends.{slice_get-behind}
-use Rattle.regress_plan.specs.declared.prefix.Prefix.{Prefix}
-use Rattle.regress_plan.specs.declared.prefix.Literal.{Literal}
-use Rattle.regress_plan.specs.declared.prefix.Rare.{Rare}
-use Rattle.regress_plan.specs.Prefixes.{allowed_of, fits, IsRare, IsLiteral}
-use Rattle.regress_plan.specs.Keys.{key}
+use Rattle.regress_plan.specs.declared.required_prefix.Prefix.{Prefix}
+use Rattle.regress_plan.specs.declared.required_prefix.Literal.{Literal}
+use Rattle.regress_plan.specs.declared.required_prefix.RequiredUnit.{RequiredUnit}
+use Rattle.regress_plan.specs.PrefixesAndPrefilters.{units_allowed_by_prefix, fits, IsRequiredUnit, IsRequiredLiteral}
+use Rattle.regress_plan.specs.TableKeysOfUnits.{key}
 
 and-last : (a b : Bool) → b ≡ false → (a && b) ≡ false
 and-last true b h = h
@@ -39,7 +39,7 @@ own-key (Some u) = refl
 module _ (allowed : Allowed) (us : List ℕ) (at : ℕ) where
   -- whether a unit may stand so many units on
   abbrev pub stands : ℕ → Bool
-  stands ahead = may_stand allowed ahead (slice_get us (at + ahead))
+  stands ahead = unit_is_allowed allowed ahead (slice_get us (at + ahead))
 
   -- one that may not
   pub fits-fails : (len ahead : ℕ) → ahead < len → stands ahead ≡ false → fits allowed us at len ≡ false
@@ -105,7 +105,7 @@ module _ (allowed : Allowed) (us : List ℕ) (at : ℕ) where
 
   -- at the end there is no unit
   pub fits-past : (len ahead : ℕ) → ahead < len → length us ≤ at + ahead → fits allowed us at len ≡ false
-  fits-past len ahead less past = fits-fails len ahead less (ap (may_stand allowed ahead) (slice_get_past us (at + ahead) past))
+  fits-past len ahead less past = fits-fails len ahead less (ap (unit_is_allowed allowed ahead) (slice_get_past us (at + ahead) past))
 
   -- they are within
   pub fits-within : (len : ℕ) → 0 < len → fits allowed us at len ≡ true → at + len ≤ length us
@@ -120,7 +120,7 @@ module _ (allowed : Allowed) (us : List ℕ) (at : ℕ) where
   -- ---- One unit after another
 
   unit-there : (ahead : ℕ) → at + ahead < length us → stands ahead ≡ allowed ahead (slice_index us (at + ahead))
-  unit-there ahead inside = ap (may_stand allowed ahead) (slice_get-get_or us (at + ahead) 0 inside)
+  unit-there ahead inside = ap (unit_is_allowed allowed ahead) (slice_get-get_or us (at + ahead) 0 inside)
 
   -- one more
   pub fits-next : (len : ℕ) → at + len < length us → fits allowed us at len ≡ true → allowed len (slice_index us (at + len)) ≡ true → fits allowed us at (len + 1) ≡ true
@@ -138,8 +138,8 @@ module _ (allowed : Allowed) (us : List ℕ) (at : ℕ) where
 pub fits-behind : (allowed : Allowed) (us : List ℕ) (from i len : ℕ) → fits allowed (drop from us) i len ≡ fits allowed us (from + i) len
 fits-behind allowed us from i zero = refl
 fits-behind allowed us from i (suc len) =
-    ap (λ b. b && may_stand allowed len (slice_get (drop from us) (i + len))) (fits-behind allowed us from i len)
-    ∙ ap (λ o. fits allowed us (from + i) len && may_stand allowed len o)
+    ap (λ b. b && unit_is_allowed allowed len (slice_get (drop from us) (i + len))) (fits-behind allowed us from i len)
+    ∙ ap (λ o. fits allowed us (from + i) len && unit_is_allowed allowed len o)
     (slice_get-behind from (i + len) us ∙ ap (slice_get us) (let z : from + (i + len) ≡ from + i + len = omega arith in z))
 
 -- ---- By bits
@@ -149,41 +149,41 @@ module _ (prefix : Prefix) (us : List ℕ) (at : ℕ) where
   abbrev pub Clear : (ahead unit : ℕ) → Type 0
   Clear ahead unit = bit_at (slice_index prefix.masks unit) ahead ≡ 0
 
-  pub fits-window : fits (allowed_of prefix) us at prefix.len ≡ true → Window (λ t b. Clear t b) (slice_index us) prefix.len at
+  pub fits-window : fits (units_allowed_by_prefix prefix) us at prefix.len ≡ true → Window (λ t b. Clear t b) (slice_index us) prefix.len at
   fits-window all t less = by (cases_lt (at + t) (length us))
     where
       by : (at + t < length us) ⊎ (length us ≤ at + t) → Clear t (slice_index us (at + t))
       by (inl inside) =
           eqb-true (bit_at (slice_index prefix.masks (slice_index us (at + t))) t) 0
-          (sym (ap (may_stand (allowed_of prefix) t) (slice_get-get_or us (at + t) 0 inside)) ∙ fits-each (allowed_of prefix) us at prefix.len t less all)
+          (sym (ap (unit_is_allowed (units_allowed_by_prefix prefix) t) (slice_get-get_or us (at + t) 0 inside)) ∙ fits-each (units_allowed_by_prefix prefix) us at prefix.len t less all)
       by (inr past) =
-          let never : true ≡ false = sym all ∙ fits-past (allowed_of prefix) us at prefix.len t less past in
+          let never : true ≡ false = sym all ∙ fits-past (units_allowed_by_prefix prefix) us at prefix.len t less past in
           cc
 
-  pub window-fits : at + prefix.len ≤ length us → Window (λ t b. Clear t b) (slice_index us) prefix.len at → fits (allowed_of prefix) us at prefix.len ≡ true
+  pub window-fits : at + prefix.len ≤ length us → Window (λ t b. Clear t b) (slice_index us) prefix.len at → fits (units_allowed_by_prefix prefix) us at prefix.len ≡ true
   window-fits inside window =
-      fits-all (allowed_of prefix) us at prefix.len (λ t less.
-      ap (may_stand (allowed_of prefix) t) (slice_get-get_or us (at + t) 0 (omega (arith, inside, less)))
+      fits-all (units_allowed_by_prefix prefix) us at prefix.len (λ t less.
+      ap (unit_is_allowed (units_allowed_by_prefix prefix) t) (slice_get-get_or us (at + t) 0 (omega (arith, inside, less)))
       ∙ eq-eqb (bit_at (slice_index prefix.masks (slice_index us (at + t))) t) 0 (window t less))
 
 -- ---- By the rare one
 
-module _ (prefix : Prefix) (rare : Rare) (is : IsRare prefix rare) (us : List ℕ) (bytes : (i : ℕ) → slice_index us i < 256) where
+module _ (prefix : Prefix) (rare : RequiredUnit) (is : IsRequiredUnit prefix rare) (us : List ℕ) (bytes : (i : ℕ) → slice_index us i < 256) where
   -- they do not fit where another byte stands at its place
-  pub rare-fails : (at : ℕ) → (at + rare.ahead < length us → slice_index us (at + rare.ahead) ≡ rare.unit → ⊥) → fits (allowed_of prefix) us at prefix.len ≡ false
+  pub rare-fails : (at : ℕ) → (at + rare.ahead < length us → slice_index us (at + rare.ahead) ≡ rare.unit → ⊥) → fits (units_allowed_by_prefix prefix) us at prefix.len ≡ false
   rare-fails at other = by (cases_lt (at + rare.ahead) (length us))
     where
-      by : (at + rare.ahead < length us) ⊎ (length us ≤ at + rare.ahead) → fits (allowed_of prefix) us at prefix.len ≡ false
+      by : (at + rare.ahead < length us) ⊎ (length us ≤ at + rare.ahead) → fits (units_allowed_by_prefix prefix) us at prefix.len ≡ false
       by (inl inside) =
-          fits-fails (allowed_of prefix) us at prefix.len rare.ahead is.inside
-          (ap (may_stand (allowed_of prefix) rare.ahead) (slice_get-get_or us (at + rare.ahead) 0 inside)
-          ∙ not-true (allowed_of prefix rare.ahead (slice_index us (at + rare.ahead)))
+          fits-fails (units_allowed_by_prefix prefix) us at prefix.len rare.ahead is.inside
+          (ap (unit_is_allowed (units_allowed_by_prefix prefix) rare.ahead) (slice_get-get_or us (at + rare.ahead) 0 inside)
+          ∙ not-true (units_allowed_by_prefix prefix rare.ahead (slice_index us (at + rare.ahead)))
           (λ may. other inside (is.only (slice_index us (at + rare.ahead)) (bytes (at + rare.ahead)) may)))
-      by (inr past) = fits-past (allowed_of prefix) us at prefix.len rare.ahead is.inside past
+      by (inr past) = fits-past (units_allowed_by_prefix prefix) us at prefix.len rare.ahead is.inside past
 
   -- too few are left for it
-  pub rare-past : (at : ℕ) → length us ≤ at + rare.ahead → ((k : ℕ) → k < at → fits (allowed_of prefix) us k prefix.len ≡ false)
-      → (k : ℕ) → fits (allowed_of prefix) us k prefix.len ≡ false
+  pub rare-past : (at : ℕ) → length us ≤ at + rare.ahead → ((k : ℕ) → k < at → fits (units_allowed_by_prefix prefix) us k prefix.len ≡ false)
+      → (k : ℕ) → fits (units_allowed_by_prefix prefix) us k prefix.len ≡ false
   rare-past at past before k = elim (cases_lt k at) [
     | inl early ↦ before k early
     | inr late ↦ rare-fails k (λ inside same. absurd (omega (arith, past, inside, late)))
@@ -191,8 +191,8 @@ module _ (prefix : Prefix) (rare : Rare) (is : IsRare prefix rare) (us : List �
 
 -- ---- By units in a row
 
-module _ (prefix : Prefix) (literal : Literal) (is : IsLiteral prefix literal) (us : List ℕ) (bytes : (i : ℕ) → slice_index us i < 256) (at : ℕ)
-    (fit : fits (allowed_of prefix) us at prefix.len ≡ true) where
+module _ (prefix : Prefix) (literal : Literal) (is : IsRequiredLiteral prefix literal) (us : List ℕ) (bytes : (i : ℕ) → slice_index us i < 256) (at : ℕ)
+    (fit : fits (units_allowed_by_prefix prefix) us at prefix.len ≡ true) where
   -- where all fit, each of these stands
   pub literal-reads : (i : ℕ) → i < literal.len → slice_index us (at + (literal.ahead + i)) ≡ slice_index literal.units i
   literal-reads i less = by (cases_lt (at + (literal.ahead + i)) (length us))
@@ -203,22 +203,22 @@ module _ (prefix : Prefix) (literal : Literal) (is : IsLiteral prefix literal) (
       by : (at + (literal.ahead + i) < length us) ⊎ (length us ≤ at + (literal.ahead + i)) → slice_index us (at + (literal.ahead + i)) ≡ slice_index literal.units i
       by (inl there) =
           (is.alone i less).only (slice_index us (at + (literal.ahead + i))) (bytes (at + (literal.ahead + i)))
-          (sym (ap (may_stand (allowed_of prefix) (literal.ahead + i)) (slice_get-get_or us (at + (literal.ahead + i)) 0 there))
-          ∙ fits-each (allowed_of prefix) us at prefix.len (literal.ahead + i) within fit)
+          (sym (ap (unit_is_allowed (units_allowed_by_prefix prefix) (literal.ahead + i)) (slice_get-get_or us (at + (literal.ahead + i)) 0 there))
+          ∙ fits-each (units_allowed_by_prefix prefix) us at prefix.len (literal.ahead + i) within fit)
       by (inr past) =
-          let never : true ≡ false = sym fit ∙ fits-past (allowed_of prefix) us at prefix.len (literal.ahead + i) within past in
+          let never : true ≡ false = sym fit ∙ fits-past (units_allowed_by_prefix prefix) us at prefix.len (literal.ahead + i) within past in
           cc
 
 -- where those in a row stand, those before it fit with them
-pub literal-fits : (prefix : Prefix) (literal : Literal) → IsLiteral prefix literal → (us : List ℕ) (at : ℕ) → length (take literal.len literal.units) ≡ literal.len
-    → OccursAt us (take literal.len literal.units) (at + literal.ahead) → fits (allowed_of prefix) us at literal.ahead ≡ true
-    → fits (allowed_of prefix) us at (literal.ahead + literal.len) ≡ true
+pub literal-fits : (prefix : Prefix) (literal : Literal) → IsRequiredLiteral prefix literal → (us : List ℕ) (at : ℕ) → length (take literal.len literal.units) ≡ literal.len
+    → OccursAt us (take literal.len literal.units) (at + literal.ahead) → fits (units_allowed_by_prefix prefix) us at literal.ahead ≡ true
+    → fits (units_allowed_by_prefix prefix) us at (literal.ahead + literal.len) ≡ true
 literal-fits prefix literal is us at full there before =
-    fits-row (allowed_of prefix) us at literal.ahead literal.len before (λ i less.
+    fits-row (units_allowed_by_prefix prefix) us at literal.ahead literal.len before (λ i less.
     let fewer : i < length (take literal.len literal.units) = omega (arith, less, full) in
     let same : at + (literal.ahead + i) ≡ at + literal.ahead + i = omega arith in
-    unit-there (allowed_of prefix) us at (literal.ahead + i) (let inside = there.fits in omega (arith, inside, fewer))
-    ∙ ap (allowed_of prefix (literal.ahead + i))
+    unit-there (units_allowed_by_prefix prefix) us at (literal.ahead + i) (let inside = there.fits in omega (arith, inside, fewer))
+    ∙ ap (units_allowed_by_prefix prefix (literal.ahead + i))
     (ap (slice_index us) same ∙ there.reads i fewer ∙ get_or-take literal.len literal.units i 0 less)
     ∙ (is.alone i less).stands)
 
@@ -226,7 +226,7 @@ literal-fits prefix literal is us at full there before =
 
 module _ (prefix : Prefix) (us : List ℕ) (at : ℕ) where
   abbrev Fits : ℕ → Bool
-  Fits k = fits (allowed_of prefix) us k prefix.len
+  Fits k = fits (units_allowed_by_prefix prefix) us k prefix.len
 
   -- one unit more, of which the state says whether all fit that end there
   pub none-more : 0 < prefix.len → ((k : ℕ) → k + prefix.len ≤ at → Fits k ≡ false)
@@ -241,7 +241,7 @@ module _ (prefix : Prefix) (us : List ℕ) (at : ℕ) where
   pub none-found : 0 < prefix.len → length us ≤ at → ((k : ℕ) → k + prefix.len ≤ at → Fits k ≡ false) → (k : ℕ) → k < length us → Fits k ≡ false
   none-found some end before k less =
       not-true (Fits k) (λ fit.
-      let inside = fits-within (allowed_of prefix) us k prefix.len some fit in
+      let inside = fits-within (units_allowed_by_prefix prefix) us k prefix.len some fit in
       let none = before k (omega (arith, inside, end)) in
       let never : true ≡ false = sym fit ∙ none in
       cc)
@@ -249,7 +249,7 @@ module _ (prefix : Prefix) (us : List ℕ) (at : ℕ) where
   -- they fit where the state says so
   pub window-found : 0 < prefix.len → (to : ℕ) → to + prefix.len ≡ at → at ≤ length us
       → Window (λ t b. bit_at (slice_index prefix.masks b) t ≡ 0) (slice_index us) prefix.len to → ((k : ℕ) → k + prefix.len ≤ at - 1 → Fits k ≡ false)
-      → IsFirst Fits (length us) to
+      → IsFirstPassingIndex Fits (length us) to
   window-found some to there inside window before = record {
     within = omega (arith, some, there, inside);
     passes = window-fits prefix us to (omega (arith, there, inside)) window;
@@ -284,11 +284,11 @@ tells-more prefix us at state key clear some old is test =
 pub needle-short : (literal : Literal) → length (take literal.len literal.units) ≤ literal.len
 needle-short literal = let n = length-take literal.len literal.units in omega (arith, n)
 
-module _ (prefix : Prefix) (literal : Literal) (is : IsLiteral prefix literal) (some : 0 < prefix.len) (us : List ℕ) (bytes : (i : ℕ) → slice_index us i < 256)
+module _ (prefix : Prefix) (literal : Literal) (is : IsRequiredLiteral prefix literal) (some : 0 < prefix.len) (us : List ℕ) (bytes : (i : ℕ) → slice_index us i < 256)
     (at : ℕ) (rest needle : List ℕ) (cut : rest ≡ drop (at + literal.ahead) us) (taken : needle ≡ take literal.len literal.units)
-    (short : length needle ≤ literal.len) (before : (k : ℕ) → k < at → fits (allowed_of prefix) us k prefix.len ≡ false) where
+    (short : length needle ≤ literal.len) (before : (k : ℕ) → k < at → fits (units_allowed_by_prefix prefix) us k prefix.len ≡ false) where
   abbrev FitAll : ℕ → Bool
-  FitAll k = fits (allowed_of prefix) us k prefix.len
+  FitAll k = fits (units_allowed_by_prefix prefix) us k prefix.len
 
   length-left : length rest ≡ length us - (at + literal.ahead)
   length-left = ap (λ (l : List ℕ). length l) cut ∙ length-drop (at + literal.ahead) us
@@ -297,7 +297,7 @@ module _ (prefix : Prefix) (literal : Literal) (is : IsLiteral prefix literal) (
   literal-occurs : (k : ℕ) → at ≤ k → FitAll k ≡ true → OccursAt rest needle (k - at)
   literal-occurs k le fit = record {
     fits =
-        let within = fits-within (allowed_of prefix) us k prefix.len some fit in
+        let within = fits-within (units_allowed_by_prefix prefix) us k prefix.len some fit in
         let inside = is.inside in
         omega (arith, le, within, inside, length-left, short);
     reads = λ j less.
@@ -321,7 +321,7 @@ module _ (prefix : Prefix) (literal : Literal) (is : IsLiteral prefix literal) (
   pub literal-past : length us ≤ at + literal.ahead → (k : ℕ) → FitAll k ≡ false
   literal-past past k = elim (cases_lt k at) [
     | inl early ↦ before k early
-    | inr late ↦ fits-past (allowed_of prefix) us k prefix.len (prefix.len - 1) (omega (arith, some)) (let inside = is.inside in let more = is.some in omega (arith, past, late, inside, more))
+    | inr late ↦ fits-past (units_allowed_by_prefix prefix) us k prefix.len (prefix.len - 1) (omega (arith, some)) (let inside = is.inside in let more = is.some in omega (arith, past, late, inside, more))
   ]
 
   -- they are found so many units further on
@@ -338,7 +338,7 @@ module _ (prefix : Prefix) (literal : Literal) (is : IsLiteral prefix literal) (
 
     -- and all fit there
     pub literal-within : FitAll (at + more) ≡ true → at + more < length us
-    literal-within fit = let within = fits-within (allowed_of prefix) us (at + more) prefix.len some fit in omega (arith, within, some)
+    literal-within fit = let within = fits-within (units_allowed_by_prefix prefix) us (at + more) prefix.len some fit in omega (arith, within, some)
 
     -- and not all fit there
     pub literal-behind : FitAll (at + more) ≡ false → (k : ℕ) → k < at + more + 1 → FitAll k ≡ false
@@ -347,10 +347,10 @@ module _ (prefix : Prefix) (literal : Literal) (is : IsLiteral prefix literal) (
       | inr here ↦ let same : at + more ≡ k = omega (arith, less, here) in ap FitAll (sym same) ∙ none
     ]
 
-module _ (prefix : Prefix) (rare : Rare) (is : IsRare prefix rare) (us : List ℕ) (bytes : (i : ℕ) → slice_index us i < 256) (at : ℕ) (rest : List ℕ)
+module _ (prefix : Prefix) (rare : RequiredUnit) (is : IsRequiredUnit prefix rare) (us : List ℕ) (bytes : (i : ℕ) → slice_index us i < 256) (at : ℕ) (rest : List ℕ)
     (cut : rest ≡ drop (at + rare.ahead) us) where
   abbrev FitsAt : ℕ → Bool
-  FitsAt k = fits (allowed_of prefix) us k prefix.len
+  FitsAt k = fits (units_allowed_by_prefix prefix) us k prefix.len
 
   length-rest : length rest ≡ length us - (at + rare.ahead)
   length-rest = ap (λ (l : List ℕ). length l) cut ∙ length-drop (at + rare.ahead) us

@@ -8,22 +8,22 @@ use Rattle.std.proofs.lemmas.List.Sums.{prefix_len-le-length}
 use mathlib.Core.Logic.{inl, inr}
 use Rattle.std.proofs.lemmas.List.{drop-drop, reverse-reverse}
 use lib.Pointwise.{pointwise}
-use Rattle.regex_meaning.specs.Lists.{numbers_from}
+use Rattle.regex_meaning.specs.NumberListHelpers.{numbers_from}
 use Rattle.regex_meaning.specs.Laws.{Each}
 use Rattle.regex_meaning.specs.Tree.{Quantifier, BracketContents, Lookaround, start_of_line, end_of_line, Node, empty, goal, char, char_set}
 use Rattle.regex_meaning.specs.Tree.{byte_set, byte_sequence, cat, end_of_cat, alt, bracket, string_set, match_any, match_any_except_line_terminator}
 use Rattle.regex_meaning.specs.Tree.{anchor, word_boundary, capture_group, back_ref, lookaround, loop, loop_1_char_body, Tree}
 use Rattle.regex_meaning.specs.Text.{Text, rightwards, last_place, expand_code_point}
-use Rattle.regex_meaning.specs.Outcomes.{Groups, Outcome, accepts, in_intervals, most_of, repetition, spelled, spells, outcomes}
-use Rattle.regex_meaning.specs.StartPredicate.{bytes_where}
-use Rattle.regex_meaning.specs.WellFormed.{is_one_character}
-use Rattle.regex_meaning.specs.Find.{match_at, first_of, no_groups}
-use Rattle.regex_meaning.specs.Ticks.{nearest_first}
-use Rattle.regex_meaning.specs.Layout.{Program, Insn, Mark, next, start, Has, HasAll, IsCode, IsStringCode, AreStringsCode, spelling_insn}
-use Rattle.regex_meaning.specs.Layout.{char_set_insn, lookaround_insn, is_ascii_set}
-use Rattle.regex_meaning.specs.Layout.{Loop1CharBody, Goal, JustFail, Char, ByteSet, ByteSeq, AsciiBracket, Bracket, MatchAny}
-use Rattle.regex_meaning.specs.Layout.{MatchAnyExceptLineTerminator, StartOfLine, EndOfLine, WordBoundary, WordBoundaryUnicodeICase, Alt, EnterLoop}
-use Rattle.regex_meaning.specs.Layout.{BeginCaptureGroup, BackRef, Lookahead, Lookbehind}
+use Rattle.regex_meaning.specs.Outcomes.{Groups, Outcome, accepts, in_intervals, max_iterations, repetition, spelled, is_case_variant, outcomes}
+use Rattle.regex_meaning.specs.StartPredicate.{bytes_that_pass}
+use Rattle.regex_meaning.specs.WellFormedTrees.{is_one_character}
+use Rattle.regex_meaning.specs.FirstAndAllMatches.{match_at, first_outcome, no_groups}
+use Rattle.regex_meaning.specs.OutcomesWithStepTicks.{nearest_first}
+use Rattle.regex_meaning.specs.CompilationRelation.{Program, Insn, Counters, counters_after_insn, counters_at_start, HasInsnAt, HasInsnsBetween, IsCode, IsStringCode, AreStringsCode, case_variants_insn}
+use Rattle.regex_meaning.specs.CompilationRelation.{char_set_insn, lookaround_insn, is_ascii_set}
+use Rattle.regex_meaning.specs.CompilationRelation.{Loop1CharBody, Goal, JustFail, Char, ByteSet, ByteSeq, AsciiBracket, Bracket, MatchAny}
+use Rattle.regex_meaning.specs.CompilationRelation.{MatchAnyExceptLineTerminator, StartOfLine, EndOfLine, WordBoundary, WordBoundaryUnicodeICase, Alt, EnterLoop}
+use Rattle.regex_meaning.specs.CompilationRelation.{BeginCaptureGroup, BackRef, Lookahead, Lookbehind}
 use Rattle.regex_meaning.proofs.Each.{Each-map, Each-reverse, Each-image, Each-flat_map}
 use Rattle.regress_machine.specs.Machine.{test_of}
 use Rattle.regress_machine.proofs.Beside.{length-nearest}
@@ -31,7 +31,7 @@ use Rattle.regress_machine.proofs.Run.{in_turns, numbers_between, outcome_at, ru
 use Rattle.regress_machine.proofs.OneCharacter.{body_is_one, each_nearest}
 use Rattle.regress_machine.proofs.OneTests.{reads_one}
 use Rattle.regress_machine.proofs.Ready.{Ready, root_ready}
-use Rattle.regress_machine.specs.Finds.{CanSearch}
+use Rattle.regress_machine.specs.SearchResults.{ProgramCanSearchText}
 
 -- ---- Lists
 
@@ -117,15 +117,15 @@ module _ (program : Program) (text : Text) (test : ℕ → Bool) where
   -- ---- The run itself
 
   module _ (q : Quantifier) (loopee : Node) (one : is_one_character loopee ≡ true) (same : Each (λ c. test c ≡ accepts loopee c) text.characters)
-      (wide : last_place text ≤ most_of q) where
+      (wide : last_place text ≤ max_iterations q) where
     abbrev counts_at : ℕ → List ℕ
-    counts_at p = numbers_from q.min (min (most_of q) (row p) + 1 - q.min)
+    counts_at p = numbers_from q.min (min (max_iterations q) (row p) + 1 - q.min)
 
     run-is : (p : ℕ) (g : Groups) → p ≤ last_place text → outcomes text (loop_1_char_body q loopee) rightwards p g ≡ run text rightwards p g (in_turns q.greedy (counts_at p))
     unfolding outcomes
     run-is p g inside =
         repeat_run text rightwards (accepts loopee) (repetition q (outcomes text loopee rightwards)) (body_is_one text rightwards loopee one) p g inside
-        ∙ ap (λ n. run text rightwards p g (in_turns q.greedy (numbers_from q.min (min (most_of q) n + 1 - q.min))))
+        ∙ ap (λ n. run text rightwards p g (in_turns q.greedy (numbers_from q.min (min (max_iterations q) n + 1 - q.min))))
         (sym (prefix-same test (accepts loopee) (nearest_first text rightwards p) (each_nearest (λ c. test c ≡ accepts loopee c) text rightwards p same)))
 
     run-among : Among (loop_1_char_body q loopee)
@@ -140,13 +140,13 @@ module _ (program : Program) (text : Text) (test : ℕ → Bool) where
         left : row p ≡ j + row (p + j)
         left = row-left p j le
 
-        there : (i : ℕ) → q.min ≤ i → i < q.min + (min (most_of q) (row p) + 1 - q.min) → P (outcome_at text rightwards p g i)
+        there : (i : ℕ) → q.min ≤ i → i < q.min + (min (max_iterations q) (row p) + 1 - q.min) → P (outcome_at text rightwards p g i)
         there i least most =
-            each-number (λ n. P (outcome_at text rightwards p g n)) q.min (min (most_of q) (row p) + 1 - q.min) i
+            each-number (λ n. P (outcome_at text rightwards p g n)) q.min (min (max_iterations q) (row p) + 1 - q.min) i
             (each-in_turns (λ n. P (outcome_at text rightwards p g n)) q.greedy (counts_at p)
             (each-mapped P (outcome_at text rightwards p g) (in_turns q.greedy (counts_at p)) (subst (Each P) (run-is p g inside) h))) least most
 
-        here : (i : ℕ) → (q.min ≤ i) × (i < q.min + (min (most_of q) (row (p + j)) + 1 - q.min)) → P (outcome_at text rightwards (p + j) g i)
+        here : (i : ℕ) → (q.min ≤ i) × (i < q.min + (min (max_iterations q) (row (p + j)) + 1 - q.min)) → P (outcome_at text rightwards (p + j) g i)
         here i between =
             subst (λ (e : ℕ). P (record { end = e; groups = g })) (let z : p + (j + i) ≡ p + j + i = omega arith in z)
             (there (j + i) (omega (arith, between.0)) (omega (arith, between.0, between.1, left, within, wide)))
@@ -155,8 +155,8 @@ module _ (program : Program) (text : Text) (test : ℕ → Bool) where
         all =
             Each-image (λ n. P (outcome_at text rightwards (p + j) g n)) P (outcome_at text rightwards (p + j) g) (λ n k. k) (in_turns q.greedy (counts_at (p + j)))
             (into-in_turns (λ n. P (outcome_at text rightwards (p + j) g n)) q.greedy (counts_at (p + j))
-            (Each-map (λ i. (q.min ≤ i) × (i < q.min + (min (most_of q) (row (p + j)) + 1 - q.min))) (λ n. P (outcome_at text rightwards (p + j) g n)) here
-            (counts_at (p + j)) (numbers_between q.min (min (most_of q) (row (p + j)) + 1 - q.min))))
+            (Each-map (λ i. (q.min ≤ i) × (i < q.min + (min (max_iterations q) (row (p + j)) + 1 - q.min))) (λ n. P (outcome_at text rightwards (p + j) g n)) here
+            (counts_at (p + j)) (numbers_between q.min (min (max_iterations q) (row (p + j)) + 1 - q.min))))
 
   -- ---- The node that begins with it
 
@@ -165,9 +165,9 @@ module _ (program : Program) (text : Text) (test : ℕ → Bool) where
   empty-stays icase p g =
       let none : slice_range text.characters p (p + 0) ≡ [] = let e : p + 0 - p ≡ 0 = omega arith in ap (λ n. take n (drop p text.characters)) e in
       let fits : nat_le 0 (last_place text - p) ≡ true = le-leb 0 (last_place text - p) (omega arith) in
-      append-nil (spelled text (spells text icase) [] rightwards p g)
-      ∙ ap (λ b. if b && pointwise (spells text icase) [] (slice_range text.characters p (p + 0)) then record { end = p + 0; groups = g } ∷ [] else []) fits
-      ∙ ap (λ (l : List ℕ). if pointwise (spells text icase) [] l then record { end = p + 0; groups = g } ∷ [] else []) none
+      append-nil (spelled text (is_case_variant text icase) [] rightwards p g)
+      ∙ ap (λ b. if b && pointwise (is_case_variant text icase) [] (slice_range text.characters p (p + 0)) then record { end = p + 0; groups = g } ∷ [] else []) fits
+      ∙ ap (λ (l : List ℕ). if pointwise (is_case_variant text icase) [] l then record { end = p + 0; groups = g } ∷ [] else []) none
       ∙ ap (λ (e : ℕ). record { end = e; groups = g } ∷ []) (let z : p + 0 ≡ p = omega arith in z)
 
   both-stay : (first rest : Node) → Stays first → Stays rest → Stays (cat first rest)
@@ -191,42 +191,42 @@ module _ (program : Program) (text : Text) (test : ℕ → Bool) where
       subst (Each P) (sym (through (p + j))) (a p j g P inside le (subst (Each P) (through p) h))
 
   module _ (least most : ℕ) (greedy : Bool) (wide : last_place text ≤ most) where
-    abbrev pub Begins : Mark → Type 0
-    Begins m = Has program m (Loop1CharBody least most greedy) × (test_of program (slice_get program.insns (next m).insn) ≡ Some test)
+    abbrev pub Begins : Counters → Type 0
+    Begins m = HasInsnAt program m (Loop1CharBody least most greedy) × (test_of program (slice_get program.insns (counters_after_insn m).insn) ≡ Some test)
 
     -- another instruction stands there
-    other : (m : Mark) (x : Insn) → is_run x ≡ false → Has program m x → Begins m → ⊥
+    other : (m : Counters) (x : Insn) → is_run x ≡ false → HasInsnAt program m x → Begins m → ⊥
     other m x none here b =
         let same : Some x ≡ Some (Loop1CharBody least most greedy) = sym here ∙ b.0 in
         let e : x ≡ Loop1CharBody least most greedy = cc in
         let no : false ≡ true = sym none ∙ ap is_run e in cc
 
-    pub data Leads (node : Node) (m n : Mark) : Type 1 where
+    pub data Leads (node : Node) (m n : Counters) : Type 1 where
       stays : m ≡ n → Stays node → Leads node m n
       leads : Among node → Leads node m n
 
-    string-leads : (icase : Bool) (s : List ℕ) (m n : Mark) → IsStringCode program icase false s m n → Begins m → Leads (string_set (s ∷ []) icase) m n
+    string-leads : (icase : Bool) (s : List ℕ) (m n : Counters) → IsStringCode program icase false s m n → Begins m → Leads (string_set (s ∷ []) icase) m n
     string-leads icase [] m n code b = stays code (empty-stays icase)
-    string-leads icase (c ∷ s) m n code b = absurd (other m (spelling_insn spellings) (by spellings) code.0 b)
+    string-leads icase (c ∷ s) m n code b = absurd (other m (case_variants_insn spellings) (by spellings) code.0 b)
       where
         spellings : List ℕ
         spellings = expand_code_point c icase program.flags.unicode
 
-        by : (l : List ℕ) → is_run (spelling_insn l) ≡ false
+        by : (l : List ℕ) → is_run (case_variants_insn l) ≡ false
         by [] = refl
         by (c ∷ []) = refl
         by (c ∷ d ∷ more) = refl
 
-    strings-lead : (icase : Bool) (strings : List (List ℕ)) (m n : Mark) → AreStringsCode program icase false strings m n → Begins m → Leads (string_set strings icase) m n
+    strings-lead : (icase : Bool) (strings : List (List ℕ)) (m n : Counters) → AreStringsCode program icase false strings m n → Begins m → Leads (string_set strings icase) m n
     strings-lead icase [] m n code b = absurd (other m JustFail refl code.0 b)
     strings-lead icase (s ∷ []) m n code b = string-leads icase s m n code b
     strings-lead icase (s ∷ t ∷ more) m n code b = absurd (other m (Alt (code.0.insn + 1)) refl code.1 b)
 
-    bracket-not : (contents : BracketContents) (m n : Mark) (ascii : Bool)
-        → MatchBool ascii (HasAll program (AsciiBracket (bytes_where (in_intervals contents.intervals)) ∷ []) m n)
-        (HasAll program (Bracket m.bracket ∷ []) (record m { bracket = m.bracket + 1 }) n × (slice_get program.brackets m.bracket ≡ Some contents))
+    bracket-not : (contents : BracketContents) (m n : Counters) (ascii : Bool)
+        → MatchBool ascii (HasInsnsBetween program (AsciiBracket (bytes_that_pass (in_intervals contents.intervals)) ∷ []) m n)
+        (HasInsnsBetween program (Bracket m.bracket ∷ []) (record m { bracket = m.bracket + 1 }) n × (slice_get program.brackets m.bracket ≡ Some contents))
         → Begins m → ⊥
-    bracket-not contents m n true code b = other m (AsciiBracket (bytes_where (in_intervals contents.intervals))) refl code.0 b
+    bracket-not contents m n true code b = other m (AsciiBracket (bytes_that_pass (in_intervals contents.intervals))) refl code.0 b
     bracket-not contents m n false code b = other m (Bracket m.bracket) refl code.0.0 b
 
     look-not : (l : Lookaround) (continuation : ℕ) → is_run (lookaround_insn l continuation) ≡ false
@@ -237,7 +237,7 @@ module _ (program : Program) (text : Text) (test : ℕ → Bool) where
         by false = refl
 
     -- where a node's code begins with the run, either the node has none and stays, or it leads with the run
-    node-leads : (node : Node) → Ready text program.groups node → (m n : Mark) → IsCode program false node m n → Begins m → Leads node m n
+    node-leads : (node : Node) → Ready text program.groups node → (m n : Counters) → IsCode program false node m n → Begins m → Leads node m n
     unfolding IsCode outcomes
     node-leads empty r m n code b = stays code (λ p g. refl)
     node-leads goal r m n code b = absurd (other m Goal refl code.0 b)
@@ -273,42 +273,42 @@ module _ (program : Program) (text : Text) (test : ℕ → Bool) where
     node-leads (back_ref group icase) r m n code b = absurd (other m (BackRef (group - 1) icase) refl code.0 b)
     node-leads (lookaround l contents) r m n code b = absurd (other m (lookaround_insn l n.insn) (look-not l n.insn) code.1 b)
     node-leads (loop q first end loopee) r m n code b =
-        absurd (other m (EnterLoop (record { loop_id = m.loop; min_iters = q.min; max_iters = most_of q; greedy = q.greedy; exit = n.insn })) refl code.2.0 b)
+        absurd (other m (EnterLoop (record { loop_id = m.loop; min_iters = q.min; max_iters = max_iterations q; greedy = q.greedy; exit = n.insn })) refl code.2.0 b)
     node-leads (loop_1_char_body q loopee) r m n code b =
-        let reads = reads_one program text false loopee r.0 r.1 r.2 r.3 (next m) n code.1 in
-        let runs : Some (Loop1CharBody q.min (most_of q) q.greedy) ≡ Some (Loop1CharBody least most greedy) = sym code.0 ∙ b.0 in
+        let reads = reads_one program text false loopee r.0 r.1 r.2 r.3 (counters_after_insn m) n code.1 in
+        let runs : Some (Loop1CharBody q.min (max_iterations q) q.greedy) ≡ Some (Loop1CharBody least most greedy) = sym code.0 ∙ b.0 in
         let tests : Some reads.test ≡ Some test = sym reads.test_is ∙ b.1 in
-        let bound : most_of q ≡ most = cc in
+        let bound : max_iterations q ≡ most = cc in
         let same : reads.test ≡ test = cc in
         leads (run-among q loopee r.0 (subst (λ (t : ℕ → Bool). Each (λ c. t c ≡ accepts loopee c) text.characters) same reads.same) (omega (arith, wide, bound)))
 
 -- ---- Each match
 
-no-outcome : (p : ℕ) (os : List Outcome) → first_of p os ≡ None → Each (λ o. ⊥) os
+no-outcome : (p : ℕ) (os : List Outcome) → first_outcome p os ≡ None → Each (λ o. ⊥) os
 no-outcome p [] e = tt
 no-outcome p (o ∷ os) e = cc
 
-none-first : (p : ℕ) (os : List Outcome) → Each (λ o. ⊥) os → first_of p os ≡ None
+none-first : (p : ℕ) (os : List Outcome) → Each (λ o. ⊥) os → first_outcome p os ≡ None
 none-first p [] h = refl
 none-first p (o ∷ os) h = absurd h.0
 
 -- Where the code begins with a run that has as many characters as there are, and no match begins at a place, none begins at
 -- the places of the run from there on.
-pub none-along : (program : Program) (tree : Tree) (text : Text) → CanSearch program tree text → (test : ℕ → Bool) (least most : ℕ) (greedy : Bool) → last_place text ≤ most
+pub none-along : (program : Program) (tree : Tree) (text : Text) → ProgramCanSearchText program tree text → (test : ℕ → Bool) (least most : ℕ) (greedy : Bool) → last_place text ≤ most
     → slice_get program.insns 0 ≡ Some (Loop1CharBody least most greedy) → test_of program (slice_get program.insns 1) ≡ Some test
     → (p j : ℕ) → p ≤ last_place text → j ≤ prefix_len test (nearest_first text rightwards p) → match_at tree.root text p ≡ None → match_at tree.root text (p + j) ≡ None
 none-along program tree text can test least most greedy wide here tests p j inside le none =
-    by (node-leads program text test least most greedy wide tree.root ready start last can.code.code (here, tests))
+    by (node-leads program text test least most greedy wide tree.root ready counters_at_start last can.code.code (here, tests))
   where
     ready : Ready text program.groups tree.root
     ready = subst (λ n. Ready text n tree.root) (sym can.code.groups) (root_ready text tree.root can.well_formed can.bytes)
 
-    last : Mark
+    last : Counters
     last = record { insn = length program.insns; loop = program.loops; bracket = length program.brackets }
 
-    by : Leads program text test least most greedy wide tree.root start last → match_at tree.root text (p + j) ≡ None
+    by : Leads program text test least most greedy wide tree.root counters_at_start last → match_at tree.root text (p + j) ≡ None
     by (stays same through) =
-        let found : first_of p (record { end = p; groups = no_groups tree.root } ∷ []) ≡ None = sym (ap (first_of p) (through p (no_groups tree.root))) ∙ none in
+        let found : first_outcome p (record { end = p; groups = no_groups tree.root } ∷ []) ≡ None = sym (ap (first_outcome p) (through p (no_groups tree.root))) ∙ none in
         absurd (no-outcome p (record { end = p; groups = no_groups tree.root } ∷ []) found).0
     by (leads among) =
         none-first (p + j) (outcomes text tree.root rightwards (p + j) (no_groups tree.root))

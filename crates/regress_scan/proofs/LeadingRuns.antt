@@ -5,70 +5,70 @@ use Rattle.std.specs.Prelude.{IsSome, IsTrue, is_some, option_and_then}
 use Rattle.std.specs.List.{prefix_len}
 use Rattle.std.proofs.lemmas.Option.{slice_get_within}
 use Rattle.regex_meaning.specs.Text.{Text, rightwards, last_place}
-use Rattle.regex_meaning.specs.Offsets.{IsBoundary, offset, place_at, units}
-use Rattle.regex_meaning.specs.Find.{match_at}
-use Rattle.regex_meaning.specs.Layout.{Insn, Loop1CharBody}
-use Rattle.regex_meaning.specs.Ticks.{nearest_first}
+use Rattle.regex_meaning.specs.CodeUnitOffsets.{IsBoundary, offset, place_at, units}
+use Rattle.regex_meaning.specs.FirstAndAllMatches.{match_at}
+use Rattle.regex_meaning.specs.CompilationRelation.{Insn, Loop1CharBody}
+use Rattle.regex_meaning.specs.OutcomesWithStepTicks.{nearest_first}
 use Rattle.regex_meaning.proofs.TextLemmas.{IsBoundary-place, offset-place_at, place-le, place-less}
-use Rattle.regress_input.specs.Reading.{place}
-use Rattle.regress_machine.specs.Finds.{CanSearch, initial, turns_at}
+use Rattle.regress_input.specs.ReadsFromOffset.{place}
+use Rattle.regress_machine.specs.SearchResults.{ProgramCanSearchText, state_before_first_insn, turns_at}
 use Rattle.regress_machine.specs.Machine.{State, stuck, with_some, scan, test_of, act, act_on}
-use Rattle.regress_machine.specs.Turns.{is_literal}
+use Rattle.regress_machine.specs.InsnEffects.{is_byte_literal_insn}
 use Rattle.regress_machine.proofs.Search.{never_stuck}
 use Rattle.regress_machine.proofs.Whole.{searches-find}
-use Rattle.regress_simulation.specs.Tables.{HasUnits}
-use Rattle.regress_program.specs.Texts.{IsInBytes}
-use Rattle.regress_plan.specs.Insns.{insn_of}
-use Rattle.regress_plan.specs.Keys.{is_wide}
-use Rattle.regress_plan.specs.Plans.{IsPlanOf, IsClass, run_of, Runs}
-use Rattle.regress_plan.specs.declared.class.Class.{Class}
-use Rattle.regress_plan.specs.declared.ops.Bounds.{Bounds}
+use Rattle.regress_simulation.specs.FirstSetTables.{HasUnitsForTables}
+use Rattle.regress_program.specs.SearchableTexts.{IsByteText}
+use Rattle.regress_plan.specs.InsnsAsSpecInsns.{spec_insn_of}
+use Rattle.regress_plan.specs.TableKeysOfUnits.{has_16_bit_units}
+use Rattle.regress_plan.specs.Plans.{IsPlanOf, IsClass, char_loop_of, IsCharLoopOf}
+use Rattle.regress_plan.specs.declared.char_class_tables.Class.{Class}
+use Rattle.regress_plan.specs.declared.ops.CharLoopBounds.{CharLoopBounds}
 use Rattle.regress_plan.specs.declared.ops.Op.{Op}
-use Rattle.regress_plan.specs.declared.ops.Run.{Run}
+use Rattle.regress_plan.specs.declared.ops.CharLoop.{CharLoop}
 use Rattle.regress_plan.proofs.RowLemmas.{runs-of}
-use Rattle.regress_scan.specs.LeftOut.{AreVainFrom}
-use Rattle.regress_scan.specs.Reached.{IsReadable, IsTestOf, HasAdvancedTo, in_a_row}
-use Rattle.regress_scan.specs.Searching.{Searching, program_of, insn_at}
+use Rattle.regress_scan.specs.DeadThreads.{NoMatchBetween}
+use Rattle.regress_scan.specs.CharLoopExits.{ClassFitsText, IsClassTest, HasAdvancedTo, in_a_row}
+use Rattle.regress_scan.specs.SearchInputs.{SearchInput, program_of, insn_at}
 use Rattle.regress_scan.proofs.LeadingLoops.{none-along}
 use Rattle.regress_scan.proofs.Reach.{some-of}
 use Rattle.regress_scan.proofs.Scanning.{advanced-boundary}
 use Rattle.regress_scan.proofs.StopSets.{places-few}
 
-module _ (w : Searching) (has : HasUnits w.encoding w.text) (plan : IsPlanOf (is_wide w.encoding) (program_of w) w.plan) (r : Run)
-    (there : option_and_then run_of (slice_get w.plan.ops.items 0) ≡ Some r) where
+module _ (w : SearchInput) (has : HasUnitsForTables w.encoding w.text) (plan : IsPlanOf (has_16_bit_units w.encoding) (program_of w) w.plan) (r : CharLoop)
+    (there : option_and_then char_loop_of (slice_get w.plan.ops.items 0) ≡ Some r) where
   -- the run, and what it is over
   pub record Leads : Type 0 where
     pub greedy : Bool
-    pub bounds : Bounds
+    pub bounds : CharLoopBounds
     pub are_there : slice_get w.plan.bounds.items r.bounds ≡ Some bounds
     pub run : insn_at w 0 ≡ Some (Loop1CharBody bounds.min bounds.max greedy)
     pub class : Class
     pub is_there : slice_get w.plan.classes.items r.class ≡ Some class
-    pub body : insn_at w 1 ≡ Some (insn_of class.insn)
-    pub tests : IsSome (test_of (program_of w) (Some (insn_of class.insn)))
+    pub body : insn_at w 1 ≡ Some (spec_insn_of class.insn)
+    pub tests : IsSome (test_of (program_of w) (Some (spec_insn_of class.insn)))
 
-  runs : (insn : Insn) → insn_at w 0 ≡ Some insn → (greedy : Bool) × Runs (program_of w) w.plan greedy r 0 insn
+  runs : (insn : Insn) → insn_at w 0 ≡ Some insn → (greedy : Bool) × IsCharLoopOf (program_of w) w.plan greedy r 0 insn
   runs insn here = by (slice_get w.plan.ops.items 0) refl there
     where
-      by : (o : Option Op) → slice_get w.plan.ops.items 0 ≡ o → option_and_then run_of o ≡ Some r → (greedy : Bool) × Runs (program_of w) w.plan greedy r 0 insn
+      by : (o : Option Op) → slice_get w.plan.ops.items 0 ≡ o → option_and_then char_loop_of o ≡ Some r → (greedy : Bool) × IsCharLoopOf (program_of w) w.plan greedy r 0 insn
       by None at is = cc
       by (Some op) at is = runs-of (program_of w) w.plan op r 0 insn is (plan.each 0 op insn at here)
 
-  leads : CanSearch (program_of w) w.tree w.text → (from : ℕ) → IsBoundary w.text from → Leads
+  leads : ProgramCanSearchText (program_of w) w.tree w.text → (from : ℕ) → IsBoundary w.text from → Leads
   leads can from on = by-first (insn_at w 0) refl
     where
       p : (p : ℕ) × (place_at w.text from ≡ Some p) × (offset w.text p ≡ from) × (p ≤ last_place w.text)
       p = IsBoundary-place w.text from has.is_text on
 
       s : State
-      s = initial (program_of w) (offset w.text p.0)
+      s = state_before_first_insn (program_of w) (offset w.text p.0)
 
       never : act (program_of w) w.text rightwards s ≡ stuck → ⊥
       never is =
           let first = searches-find (program_of w) w.tree w.text can p.0 p.3 in
           never_stuck (program_of w) w.text (turns_at w.tree w.text p.0) rightwards s [] first.found is first.searches
 
-      by-test : (insn : Insn) (greedy : Bool) (of : Runs (program_of w) w.plan greedy r 0 insn) → insn_at w 0 ≡ Some insn → (o : Option Insn) → insn_at w 1 ≡ o
+      by-test : (insn : Insn) (greedy : Bool) (of : IsCharLoopOf (program_of w) w.plan greedy r 0 insn) → insn_at w 0 ≡ Some insn → (o : Option Insn) → insn_at w 1 ≡ o
           → (t : Option (ℕ → Bool)) → test_of (program_of w) o ≡ t → Leads
       by-test insn greedy of here o body None none =
           absurd (never (ap (λ i. act_on (program_of w) w.text rightwards i s) (here ∙ ap Some of.insn_is)
@@ -93,7 +93,7 @@ module _ (w : Searching) (has : HasUnits w.encoding w.text) (plan : IsPlanOf (is
       by-first (Some insn) here = let of = runs insn here in by-test insn of.0 of.1 here (insn_at w 1) refl (test_of (program_of w) (insn_at w 1)) refl
 
   -- where a search can be made, from a boundary on
-  module _ (can : CanSearch (program_of w) w.tree w.text) (from : ℕ) (on : IsBoundary w.text from) where
+  module _ (can : ProgramCanSearchText (program_of w) w.tree w.text) (from : ℕ) (on : IsBoundary w.text from) where
     l : Leads
     l = leads can from on
 
@@ -107,25 +107,25 @@ module _ (w : Searching) (has : HasUnits w.encoding w.text) (plan : IsPlanOf (is
       same-class : l.class ≡ class
       same-class = let e : Some l.class ≡ Some class = sym l.is_there ∙ class_is in cc
 
-      tests-one : IsSome (test_of (program_of w) (Some (insn_of class.insn)))
-      tests-one = subst (λ (k : Class). IsSome (test_of (program_of w) (Some (insn_of k.insn)))) same-class l.tests
+      tests-one : IsSome (test_of (program_of w) (Some (spec_insn_of class.insn)))
+      tests-one = subst (λ (k : Class). IsSome (test_of (program_of w) (Some (spec_insn_of k.insn)))) same-class l.tests
 
-      body-is : insn_at w 1 ≡ Some (insn_of class.insn)
-      body-is = l.body ∙ ap (λ (k : Class). Some (insn_of k.insn)) same-class
+      body-is : insn_at w 1 ≡ Some (spec_insn_of class.insn)
+      body-is = l.body ∙ ap (λ (k : Class). Some (spec_insn_of k.insn)) same-class
 
-      pub leads-readable : {are_bytes : Bool} → IsClass (is_wide w.encoding) (program_of w) class
-          → ((ip : ℕ) (insn : Insn) → insn_at w ip ≡ Some insn → IsTrue (is_literal insn) → IsInBytes w.text are_bytes) → IsReadable w class
+      pub leads-readable : {are_bytes : Bool} → IsClass (has_16_bit_units w.encoding) (program_of w) class
+          → ((ip : ℕ) (insn : Insn) → insn_at w ip ≡ Some insn → IsTrue (is_byte_literal_insn insn) → IsByteText w.text are_bytes) → ClassFitsText w class
       leads-readable is_class literals = record {
         is_class = is_class;
         tests = tests-one;
-        bytes = λ literal. (literals 1 (insn_of class.insn) body-is literal).reads;
+        bytes = λ literal. (literals 1 (spec_insn_of class.insn) body-is literal).reads;
       }
 
       -- It was gone over from a boundary to its end.
-      module _ (bounds : Bounds) (bounds_are : slice_get w.plan.bounds.items r.bounds ≡ Some bounds) (wide : units w.text ≤ bounds.max)
+      module _ (bounds : CharLoopBounds) (bounds_are : slice_get w.plan.bounds.items r.bounds ≡ Some bounds) (wide : units w.text ≤ bounds.max)
           (far : ℕ) (advanced : HasAdvancedTo w true class from (units w.text) far) where
-        tested : (test : ℕ → Bool) × IsTestOf w class test
-        tested = some-of (test_of (program_of w) (Some (insn_of class.insn))) tests-one
+        tested : (test : ℕ → Bool) × IsClassTest w class test
+        tested = some-of (test_of (program_of w) (Some (spec_insn_of class.insn))) tests-one
 
         abbrev count : ℕ
         count = in_a_row w.text tested.0 rightwards (units w.text) (place w.text from)
@@ -135,7 +135,7 @@ module _ (w : Searching) (has : HasUnits w.encoding w.text) (plan : IsPlanOf (is
             advanced-boundary w.text has.is_text tested.0 rightwards (units w.text) (place w.text from) count far (advanced tested.0 tested.1)
 
         -- so no match begins within it, if none begins where it does
-        pub leads-vain : AreVainFrom w from far
+        pub leads-vain : NoMatchBetween w from far
         leads-vain none at here le less q q_is =
             subst (λ q. match_at w.tree.root w.text q ≡ None) (let z : p.0 + (q - p.0) ≡ q = omega (arith, after) in z)
             (none-along (program_of w) w.tree w.text can tested.0 l.bounds.min l.bounds.max l.greedy (omega (arith, all, wide, same_max)) l.run
@@ -154,7 +154,7 @@ module _ (w : Searching) (has : HasUnits w.encoding w.text) (plan : IsPlanOf (is
             same_row = ap (λ i. prefix_len tested.0 (nearest_first w.text rightwards i)) first_is
 
             same_max : l.bounds.max ≡ bounds.max
-            same_max = let e : Some l.bounds ≡ Some bounds = sym l.are_there ∙ bounds_are in let f : l.bounds ≡ bounds = cc in ap (λ (b : Bounds). b.max) f
+            same_max = let e : Some l.bounds ≡ Some bounds = sym l.are_there ∙ bounds_are in let f : l.bounds ≡ bounds = cc in ap (λ (b : CharLoopBounds). b.max) f
 
             all : last_place w.text ≤ units w.text
             all = places-few w.text has.is_text (last_place w.text) (le_refl (last_place w.text))

@@ -7,19 +7,19 @@ use Rattle.std.proofs.lemmas.Option.{slice_get-map}
 use Rattle.std.proofs.lemmas.List.{length-append}
 use mathlib.Core.Logic.{◌⊎◌, inl, inr}
 use Rattle.regex_meaning.specs.Text.{Text}
-use Rattle.regex_meaning.specs.Offsets.{IsBoundary}
-use Rattle.regex_meaning.specs.Units.{Encoding, utf8, utf16, ucs2, spelled_in, units_in, pair_of}
+use Rattle.regex_meaning.specs.CodeUnitOffsets.{IsBoundary}
+use Rattle.regex_meaning.specs.CodeUnits.{Encoding, utf8, utf16, ucs2, spelled_in, units_in, surrogate_pair}
 use Rattle.regex_meaning.proofs.Options.{some-same}
 use Rattle.regex_meaning.proofs.TextLemmas.{offset-IsBoundary}
 use Rattle.regress_input.proofs.Boundaries.{boundary-byte, offset-units}
 use Rattle.regress_input.proofs.Lists.{get-front, get-behind}
-use Rattle.regress_simulation.specs.Tables.{HasUnits}
-use Rattle.regress_simulation.specs.Prefixes.{may_stand}
-use Rattle.regress_plan.specs.declared.prefix.Prefix.{Prefix}
-use Rattle.regress_plan.specs.Prefixes.{allowed_of, IsInAsciiAt, IsInAscii}
-use Rattle.regress_plan.specs.Keys.{key, is_wide}
-use Rattle.regress_scan.specs.Searching.{Searching}
-use Rattle.regress_scan.specs.Starts.{keys_in, fits_in}
+use Rattle.regress_simulation.specs.FirstSetTables.{HasUnitsForTables}
+use Rattle.regress_simulation.specs.RequiredPrefixes.{unit_is_allowed}
+use Rattle.regress_plan.specs.declared.required_prefix.Prefix.{Prefix}
+use Rattle.regress_plan.specs.PrefixesAndPrefilters.{units_allowed_by_prefix, AllowsOnlyAsciiAt, AllowsOnlyAsciiFirst}
+use Rattle.regress_plan.specs.TableKeysOfUnits.{key, has_16_bit_units}
+use Rattle.regress_scan.specs.SearchInputs.{SearchInput}
+use Rattle.regress_scan.specs.StartSearch.{keys_in, prefix_fits_at}
 use Rattle.regress_scan.proofs.FirstUnits.{fits-each}
 use Rattle.regress_scan.proofs.NextUnits.{unit-fits}
 
@@ -51,23 +51,23 @@ module _ (e : Encoding) (later : (c i u : ℕ) → slice_get (spelled_in e c) (s
           let both = length-append (spelled_in e c) (spell (take rest.0 cs)) in
           (suc rest.0, omega (arith, inside), omega (arith, both, same, back))
 
-  located-boundary : (text : Text) → HasUnits e text → (at u : ℕ) → slice_get (units_in e text) at ≡ Some u → u < 128 → IsBoundary text at
+  located-boundary : (text : Text) → HasUnitsForTables e text → (at u : ℕ) → slice_get (units_in e text) at ≡ Some u → u < 128 → IsBoundary text at
   located-boundary text has at u there low =
       let p = located text.characters at u there low in
       subst (IsBoundary text) (offset-units e text has.spelled p.0 p.1 ∙ p.2) (offset-IsBoundary text p.0 has.is_text p.1)
 
-pub low-boundary : (e : Encoding) (text : Text) → HasUnits e text → (at u : ℕ) → slice_get (units_in e text) at ≡ Some u → u < 128 → IsBoundary text at
+pub low-boundary : (e : Encoding) (text : Text) → HasUnitsForTables e text → (at u : ℕ) → slice_get (units_in e text) at ≡ Some u → u < 128 → IsBoundary text at
 low-boundary utf8 text has at u there low = boundary-byte text has.spelled at u there ∙ ap (λ (b : Bool). not (b && nat_le u 0xBF)) (lt-leb 0x80 u low)
 low-boundary utf16 text has at u there low = located-boundary utf16 later text has at u there low
   where
     later : (c i u : ℕ) → slice_get (spelled_in utf16 c) (suc i) ≡ Some u → u < 128 → ⊥
     later c i u there low = by (nat_lt c 0x1_0000) there
       where
-        by : (b : Bool) → slice_get (if b then c ∷ [] else pair_of c) (suc i) ≡ Some u → ⊥
+        by : (b : Bool) → slice_get (if b then c ∷ [] else surrogate_pair c) (suc i) ≡ Some u → ⊥
         by true at = cc
         by false at = second i at
           where
-            second : (i : ℕ) → slice_get (pair_of c) (suc i) ≡ Some u → ⊥
+            second : (i : ℕ) → slice_get (surrogate_pair c) (suc i) ≡ Some u → ⊥
             second zero at = let e : 0xDC00 + (c - 0x1_0000) % 0x400 ≡ u = some-same _ u at in omega (arith, e, low)
             second (suc i) at = cc
 low-boundary ucs2 text has at u there low = located-boundary ucs2 (λ c i u there low. cc there) text has at u there low
@@ -91,25 +91,25 @@ key-own true u low = elim (cases_lt u 128) [
       absurd (omega (arith, low, high))
 ]
 
-module _ (w : Searching) (has : HasUnits w.encoding w.text) (prefix : Prefix) (at : ℕ) (fit : fits_in w prefix at ≡ true) where
+module _ (w : SearchInput) (has : HasUnitsForTables w.encoding w.text) (prefix : Prefix) (at : ℕ) (fit : prefix_fits_at w prefix at ≡ true) where
   -- where the first units may stand, and only those below 128 so many units on, there is one
-  pub fit-unit : (ahead : ℕ) → ahead < prefix.len → IsInAsciiAt prefix ahead
-      → (u : ℕ) × (slice_get (units_in w.encoding w.text) (at + ahead) ≡ Some u) × (u < 128) × (allowed_of prefix ahead u ≡ true)
+  pub fit-unit : (ahead : ℕ) → ahead < prefix.len → AllowsOnlyAsciiAt prefix ahead
+      → (u : ℕ) × (slice_get (units_in w.encoding w.text) (at + ahead) ≡ Some u) × (u < 128) × (units_allowed_by_prefix prefix ahead u ≡ true)
   fit-unit ahead less ascii =
       by (slice_get (units_in w.encoding w.text) (at + ahead)) refl
-      (sym (ap (may_stand (allowed_of prefix) ahead) (slice_get-map (key (is_wide w.encoding)) (units_in w.encoding w.text) (at + ahead)))
-      ∙ fits-each (allowed_of prefix) (keys_in w) at prefix.len ahead less fit)
+      (sym (ap (unit_is_allowed (units_allowed_by_prefix prefix) ahead) (slice_get-map (key (has_16_bit_units w.encoding)) (units_in w.encoding w.text) (at + ahead)))
+      ∙ fits-each (units_allowed_by_prefix prefix) (keys_in w) at prefix.len ahead less fit)
     where
-      by : (o : Option ℕ) → slice_get (units_in w.encoding w.text) (at + ahead) ≡ o → may_stand (allowed_of prefix) ahead (option_map (key (is_wide w.encoding)) o) ≡ true
-          → (u : ℕ) × (slice_get (units_in w.encoding w.text) (at + ahead) ≡ Some u) × (u < 128) × (allowed_of prefix ahead u ≡ true)
+      by : (o : Option ℕ) → slice_get (units_in w.encoding w.text) (at + ahead) ≡ o → unit_is_allowed (units_allowed_by_prefix prefix) ahead (option_map (key (has_16_bit_units w.encoding)) o) ≡ true
+          → (u : ℕ) × (slice_get (units_in w.encoding w.text) (at + ahead) ≡ Some u) × (u < 128) × (units_allowed_by_prefix prefix ahead u ≡ true)
       by None there may = cc
       by (Some u) there may =
-          let low = ascii (key (is_wide w.encoding) u) (key-small (is_wide w.encoding) u (unit-fits w.encoding w.text has (at + ahead) u there)) may in
-          let own = key-own (is_wide w.encoding) u low in
-          (u, there, subst (λ k. k < 128) (sym own) low, ap (allowed_of prefix ahead) own ∙ may)
+          let low = ascii (key (has_16_bit_units w.encoding) u) (key-small (has_16_bit_units w.encoding) u (unit-fits w.encoding w.text has (at + ahead) u there)) may in
+          let own = key-own (has_16_bit_units w.encoding) u low in
+          (u, there, subst (λ k. k < 128) (sym own) low, ap (units_allowed_by_prefix prefix ahead) own ∙ may)
 
   -- and it is a boundary
-  pub fit-boundary : 0 < prefix.len → IsInAscii prefix → IsBoundary w.text at
+  pub fit-boundary : 0 < prefix.len → AllowsOnlyAsciiFirst prefix → IsBoundary w.text at
   fit-boundary some ascii =
       let one = fit-unit 0 some ascii in
       low-boundary w.encoding w.text has at one.0 (ap (slice_get (units_in w.encoding w.text)) (let z : at ≡ at + 0 = omega arith in z) ∙ one.1) one.2

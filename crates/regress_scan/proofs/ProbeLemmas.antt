@@ -5,52 +5,52 @@ use Rattle.std.proofs.lemmas.Bool.{cases_lt}
 use Rattle.std.proofs.lemmas.Option.{slice_get-map, slice_get_within, slice_get-get_or, get_or_from_slice_get}
 use Rattle.std.proofs.lemmas.List.{length-map, length-take, get_or-take}
 use mathlib.Core.Logic.{inl, inr}
-use Rattle.regex_meaning.specs.Offsets.{units}
-use Rattle.regex_meaning.specs.Units.{units_in}
+use Rattle.regex_meaning.specs.CodeUnitOffsets.{units}
+use Rattle.regex_meaning.specs.CodeUnits.{units_in}
 use Rattle.regex_meaning.proofs.Options.{some-same}
 use Rattle.regress_input.proofs.Boundaries.{units-length}
-use Rattle.regress_simulation.specs.Tables.{HasUnits, key_at}
-use Rattle.regress_simulation.specs.Prefixes.{may_stand}
-use Rattle.regress_plan.specs.declared.prefix.Prefix.{Prefix}
-use Rattle.regress_plan.specs.declared.prefilters.Probe.{Probe}
-use Rattle.regress_plan.specs.Prefixes.{allowed_of, fits, passes, IsProbe, IsInAscii}
-use Rattle.regress_plan.specs.Keys.{key, is_wide}
-use Rattle.regress_scan.specs.Searching.{Searching}
-use Rattle.regress_scan.specs.Starts.{keys_in, fits_in, IsFirstWhere}
-use Rattle.regress_scan.specs.Probing.{NoneFits, IsFirstFit}
+use Rattle.regress_simulation.specs.FirstSetTables.{HasUnitsForTables, unit_key_at}
+use Rattle.regress_simulation.specs.RequiredPrefixes.{unit_is_allowed}
+use Rattle.regress_plan.specs.declared.required_prefix.Prefix.{Prefix}
+use Rattle.regress_plan.specs.declared.prefilters.UnitBitsProbe.{UnitBitsProbe}
+use Rattle.regress_plan.specs.PrefixesAndPrefilters.{units_allowed_by_prefix, fits, unit_passes_probe, IsUnitBitsProbe, AllowsOnlyAsciiFirst}
+use Rattle.regress_plan.specs.TableKeysOfUnits.{key, has_16_bit_units}
+use Rattle.regress_scan.specs.SearchInputs.{SearchInput}
+use Rattle.regress_scan.specs.StartSearch.{keys_in, prefix_fits_at, IsFirstBoundaryWhere}
+use Rattle.regress_scan.specs.BitProbes.{NoPrefixFitsBetween, IsFirstPrefixFit}
 use Rattle.regress_scan.proofs.FirstUnits.{fits-fails, fits-past, fits-more}
 use Rattle.regress_scan.proofs.LowUnits.{fit-unit, fit-boundary}
 
 -- ---- Keys
 
-module _ (w : Searching) where
-  pub key-got : (at k : ℕ) → key_at w.encoding (key (is_wide w.encoding)) w.text at ≡ Some k → slice_get (keys_in w) at ≡ Some k
-  key-got at k there = slice_get-map (key (is_wide w.encoding)) (units_in w.encoding w.text) at ∙ there
+module _ (w : SearchInput) where
+  pub key-got : (at k : ℕ) → unit_key_at w.encoding (key (has_16_bit_units w.encoding)) w.text at ≡ Some k → slice_get (keys_in w) at ≡ Some k
+  key-got at k there = slice_get-map (key (has_16_bit_units w.encoding)) (units_in w.encoding w.text) at ∙ there
 
   -- one unit more, which may stand there
-  pub fits-goes : (prefix : Prefix) (at ahead k : ℕ) (may : Bool) → key_at w.encoding (key (is_wide w.encoding)) w.text (at + ahead) ≡ Some k
-      → may ≡ allowed_of prefix ahead k → may ≡ true → fits (allowed_of prefix) (keys_in w) at ahead ≡ true → fits (allowed_of prefix) (keys_in w) at (ahead + 1) ≡ true
+  pub fits-goes : (prefix : Prefix) (at ahead k : ℕ) (may : Bool) → unit_key_at w.encoding (key (has_16_bit_units w.encoding)) w.text (at + ahead) ≡ Some k
+      → may ≡ units_allowed_by_prefix prefix ahead k → may ≡ true → fits (units_allowed_by_prefix prefix) (keys_in w) at ahead ≡ true → fits (units_allowed_by_prefix prefix) (keys_in w) at (ahead + 1) ≡ true
   fits-goes prefix at ahead k may there asked holds all =
-      ap (fits (allowed_of prefix) (keys_in w) at) (let z : ahead + 1 ≡ suc ahead = omega arith in z)
-      ∙ fits-more (allowed_of prefix) (keys_in w) at ahead all (ap (may_stand (allowed_of prefix) ahead) (key-got (at + ahead) k there) ∙ sym asked ∙ holds)
+      ap (fits (units_allowed_by_prefix prefix) (keys_in w) at) (let z : ahead + 1 ≡ suc ahead = omega arith in z)
+      ∙ fits-more (units_allowed_by_prefix prefix) (keys_in w) at ahead all (ap (unit_is_allowed (units_allowed_by_prefix prefix) ahead) (key-got (at + ahead) k there) ∙ sym asked ∙ holds)
 
   -- one that may not
-  pub fits-stops : (prefix : Prefix) (at ahead k : ℕ) (may : Bool) → ahead < prefix.len → key_at w.encoding (key (is_wide w.encoding)) w.text (at + ahead) ≡ Some k
-      → may ≡ allowed_of prefix ahead k → may ≡ false → fits_in w prefix at ≡ false
+  pub fits-stops : (prefix : Prefix) (at ahead k : ℕ) (may : Bool) → ahead < prefix.len → unit_key_at w.encoding (key (has_16_bit_units w.encoding)) w.text (at + ahead) ≡ Some k
+      → may ≡ units_allowed_by_prefix prefix ahead k → may ≡ false → prefix_fits_at w prefix at ≡ false
   fits-stops prefix at ahead k may less there asked fails =
-      fits-fails (allowed_of prefix) (keys_in w) at prefix.len ahead less
-      (ap (may_stand (allowed_of prefix) ahead) (key-got (at + ahead) k there) ∙ sym asked ∙ fails)
+      fits-fails (units_allowed_by_prefix prefix) (keys_in w) at prefix.len ahead less
+      (ap (unit_is_allowed (units_allowed_by_prefix prefix) ahead) (key-got (at + ahead) k there) ∙ sym asked ∙ fails)
 
 -- ---- Bits
 
 -- where the first units may stand a probe passes
-pub probe-passes : (w : Searching) → HasUnits w.encoding w.text → (prefix : Prefix) (at : ℕ) → fits_in w prefix at ≡ true → (probe : Probe) → IsProbe prefix probe
-    → (u : ℕ) → slice_get (units_in w.encoding w.text) (at + probe.ahead) ≡ Some u → passes probe u ≡ true
+pub probe-passes : (w : SearchInput) → HasUnitsForTables w.encoding w.text → (prefix : Prefix) (at : ℕ) → prefix_fits_at w prefix at ≡ true → (probe : UnitBitsProbe) → IsUnitBitsProbe prefix probe
+    → (u : ℕ) → slice_get (units_in w.encoding w.text) (at + probe.ahead) ≡ Some u → unit_passes_probe probe u ≡ true
 probe-passes w has prefix at fit probe is u there =
     let one = fit-unit w has prefix at fit probe.ahead is.inside is.low in
     let small = one.2 in
     let same : one.0 ≡ u = some-same one.0 u (sym one.1 ∙ there) in
-    ap (passes probe) (sym same) ∙ is.only one.0 (omega (arith, small)) one.3
+    ap (unit_passes_probe probe) (sym same) ∙ is.only one.0 (omega (arith, small)) one.3
 
 -- of the first so many of them each is one of them
 pub taken-got : {A : Type 0} (n : ℕ) (xs : List A) (i : ℕ) (x : A) → slice_get (take n xs) i ≡ Some x → slice_get xs i ≡ Some x
@@ -62,44 +62,44 @@ taken-got n xs i x got =
 
 -- ---- Places in a row
 
-module _ (w : Searching) (prefix : Prefix) where
-  pub none-here : (at : ℕ) → NoneFits w prefix at at
+module _ (w : SearchInput) (prefix : Prefix) where
+  pub none-here : (at : ℕ) → NoPrefixFitsBetween w prefix at at
   none-here at x le less = absurd (omega (arith, le, less))
 
-  pub none-one : (from to : ℕ) → NoneFits w prefix from to → fits_in w prefix to ≡ false → NoneFits w prefix from (to + 1)
+  pub none-one : (from to : ℕ) → NoPrefixFitsBetween w prefix from to → prefix_fits_at w prefix to ≡ false → NoPrefixFitsBetween w prefix from (to + 1)
   none-one from to none not x le less = elim (cases_lt x to) [
     | inl before ↦ none x le before
-    | inr after ↦ subst (λ x. fits_in w prefix x ≡ false) (let z : to ≡ x = omega (arith, after, less) in z) not
+    | inr after ↦ subst (λ x. prefix_fits_at w prefix x ≡ false) (let z : to ≡ x = omega (arith, after, less) in z) not
   ]
 
-  pub none-then : (from mid to : ℕ) → NoneFits w prefix from mid → NoneFits w prefix mid to → NoneFits w prefix from to
+  pub none-then : (from mid to : ℕ) → NoPrefixFitsBetween w prefix from mid → NoPrefixFitsBetween w prefix mid to → NoPrefixFitsBetween w prefix from to
   none-then from mid to first second x le less = elim (cases_lt x mid) [
     | inl before ↦ first x le before
     | inr after ↦ second x after less
   ]
 
   -- the first one behind places at which they do not fit
-  pub first-behind : (from mid to : ℕ) (found : Option ℕ) → from ≤ mid → NoneFits w prefix from mid → IsFirstFit w prefix mid to found → IsFirstFit w prefix from to found
+  pub first-behind : (from mid to : ℕ) (found : Option ℕ) → from ≤ mid → NoPrefixFitsBetween w prefix from mid → IsFirstPrefixFit w prefix mid to found → IsFirstPrefixFit w prefix from to found
   first-behind from mid to None le none first = none-then from mid to none first
   first-behind from mid to (Some at) le none first =
       let more = first.0 in (omega (arith, le, more), first.1, first.2, none-then from mid at none first.3)
 
-  pub first-wider : (from mid to at : ℕ) → mid ≤ to → IsFirstFit w prefix from mid (Some at) → IsFirstFit w prefix from to (Some at)
+  pub first-wider : (from mid to at : ℕ) → mid ≤ to → IsFirstPrefixFit w prefix from mid (Some at) → IsFirstPrefixFit w prefix from to (Some at)
   first-wider from mid to at le first = let less = first.1 in (first.0, omega (arith, le, less), first.2, first.3)
 
   -- it is a place to try
-  pub found-where : HasUnits w.encoding w.text → 0 < prefix.len → IsInAscii prefix → (from to at : ℕ) → IsFirstFit w prefix from to (Some at)
-      → IsFirstWhere w (fits_in w prefix) from (Some at)
+  pub found-where : HasUnitsForTables w.encoding w.text → 0 < prefix.len → AllowsOnlyAsciiFirst prefix → (from to at : ℕ) → IsFirstPrefixFit w prefix from to (Some at)
+      → IsFirstBoundaryWhere w (prefix_fits_at w prefix) from (Some at)
   found-where has some ascii from to at first =
       (fit-boundary w has prefix at first.2 some ascii, first.0, first.2, λ x on le less. first.3 x le less)
 
   -- behind these places there is no room
-  pub first-where : HasUnits w.encoding w.text → 0 < prefix.len → IsInAscii prefix → (from to : ℕ) (found : Option ℕ) → units w.text + 1 ≤ to + prefix.len
-      → IsFirstFit w prefix from to found → IsFirstWhere w (fits_in w prefix) from found
+  pub first-where : HasUnitsForTables w.encoding w.text → 0 < prefix.len → AllowsOnlyAsciiFirst prefix → (from to : ℕ) (found : Option ℕ) → units w.text + 1 ≤ to + prefix.len
+      → IsFirstPrefixFit w prefix from to found → IsFirstBoundaryWhere w (prefix_fits_at w prefix) from found
   first-where has some ascii from to None all first = λ at on le less. elim (cases_lt at to) [
     | inl before ↦ first at le before
     | inr after ↦
-        let count : length (keys_in w) ≡ units w.text = length-map (units_in w.encoding w.text) (key (is_wide w.encoding)) ∙ sym (units-length w.encoding w.text has.spelled) in
-        fits-past (allowed_of prefix) (keys_in w) at prefix.len (prefix.len - 1) (omega (arith, some)) (omega (arith, after, all, some, count))
+        let count : length (keys_in w) ≡ units w.text = length-map (units_in w.encoding w.text) (key (has_16_bit_units w.encoding)) ∙ sym (units-length w.encoding w.text has.spelled) in
+        fits-past (units_allowed_by_prefix prefix) (keys_in w) at prefix.len (prefix.len - 1) (omega (arith, some)) (omega (arith, after, all, some, count))
   ]
   first-where has some ascii from to (Some at) all first = found-where has some ascii from to at first

@@ -7,29 +7,29 @@ use Rattle.std.proofs.lemmas.Option.{slice_get-get_or}
 use Rattle.std.proofs.lemmas.List.{get_or-drop, length-drop, map-id}
 use Rattle.std.proofs.Math.Bool.{and-false}
 use mathlib.Core.Logic.{inl, inr}
-use Rattle.regex_meaning.specs.Lists.{contains}
+use Rattle.regex_meaning.specs.NumberListHelpers.{contains}
 use Rattle.regex_meaning.specs.Text.{Text, rightwards}
-use Rattle.regex_meaning.specs.Offsets.{IsText, IsBoundary, units, read}
-use Rattle.regex_meaning.specs.Units.{Encoding, utf8, utf16, ucs2, units_in, IsSpelledIn}
+use Rattle.regex_meaning.specs.CodeUnitOffsets.{IsText, IsBoundary, units, read}
+use Rattle.regex_meaning.specs.CodeUnits.{Encoding, utf8, utf16, ucs2, units_in, IsSpelledIn}
 use Rattle.regex_meaning.proofs.Booleans.{and-left}
 use Rattle.regex_meaning.proofs.TextLemmas.{place-less}
-use Rattle.regex_pattern_front.specs.Searching.{FindsFirst, holds_at}
+use Rattle.regex_pattern_front.specs.FirstPassingIndex.{FindsFirstPassingIndex, member_byte_at_index}
 use Rattle.memchr.specs.Find.{IsFirstByte, is_byte3}
-use Rattle.regress_input.specs.Reading.{past, bytes_of, bytes_if, is_of_bytes, IsFoundFrom}
-use Rattle.regress_input.specs.Utf8.{continues}
+use Rattle.regress_input.specs.ReadsFromOffset.{past, bytes_of, bytes_if, has_byte_units, IsFoundFrom}
+use Rattle.regress_input.specs.Utf8.{is_continuation_byte}
 use Rattle.regress_input.proofs.Boundaries.{boundary-byte, units-length}
 use Rattle.regress_input.proofs.Places.{end_boundary, past_ahead, past_boundary, boundary_inside, place_of_boundary, step_right}
 use Rattle.regress_input.proofs.UnitsIn.{utf8-units}
-use Rattle.regress_simulation.specs.Tables.{Table, HasUnits, allows, key_at}
-use Rattle.regress_plan.specs.Keys.{key, is_wide, is_lead}
-use Rattle.regress_scan.specs.Searching.{Searching}
+use Rattle.regress_simulation.specs.FirstSetTables.{FirstSetTable, HasUnitsForTables, table_allows, unit_key_at}
+use Rattle.regress_plan.specs.TableKeysOfUnits.{key, has_16_bit_units, is_utf8_lead_byte}
+use Rattle.regress_scan.specs.SearchInputs.{SearchInput}
 use Rattle.regress_scan.proofs.Allowing.{no-key}
 use Rattle.regress_scan.proofs.NextUnits.{unit-fits}
 use Rattle.regress_scan.proofs.FirstUnits.{own-key, fits-past, fits-behind}
-use Rattle.regress_plan.specs.declared.prefix.Prefix.{Prefix}
-use Rattle.regress_plan.specs.Prefixes.{allowed_of, fits, IsInAscii}
+use Rattle.regress_plan.specs.declared.required_prefix.Prefix.{Prefix}
+use Rattle.regress_plan.specs.PrefixesAndPrefilters.{units_allowed_by_prefix, fits, AllowsOnlyAsciiFirst}
 use Rattle.regress_scan.proofs.LowUnits.{fit-boundary}
-use Rattle.regress_scan.specs.Starts.{allows_at, AllowsNone, IsFirstAllowed, IsFirstWhere, AllowsLeads, IsPast, IsFoundIn, few_allowed, fits_in}
+use Rattle.regress_scan.specs.StartSearch.{allows_at, AllowsNone, IsFirstAllowedBoundaryOrEnd, IsFirstBoundaryWhere, AllowsOnlyLeadBytes, SkipsNoBoundary, IsFoundInBytes, few_units_table, prefix_fits_at}
 
 -- ---- Past a unit
 
@@ -48,7 +48,7 @@ none-between text is at to led x on more less = by (read text rightwards at) ref
         let before = place-less text q.0 (suc step.place) is q.1.within upto.within (omega (arith, upto.offset_is, q.1.offset_is, less, same)) in
         omega (arith, after, before)
 
-pub past-character : (text : Text) → IsText text → (are_bytes : Bool) (at to : ℕ) → past text rightwards at ≡ Some to → IsPast text are_bytes at to
+pub past-character : (text : Text) → IsText text → (are_bytes : Bool) (at to : ℕ) → past text rightwards at ≡ Some to → SkipsNoBoundary text are_bytes at to
 past-character text is are_bytes at to led = record {
   ahead = past_ahead text is at to led;
   inside = boundary_inside text is to (past_boundary text is at to led);
@@ -56,7 +56,7 @@ past-character text is are_bytes at to led = record {
   boundary = λ h. past_boundary text is at to led;
 }
 
-pub past-byte : (text : Text) (are_bytes : Bool) → are_bytes ≡ true → (at : ℕ) → at < units text → IsPast text are_bytes at (at + 1)
+pub past-byte : (text : Text) (are_bytes : Bool) → are_bytes ≡ true → (at : ℕ) → at < units text → SkipsNoBoundary text are_bytes at (at + 1)
 past-byte text are_bytes is at less = record {
   ahead = omega arith;
   inside = omega (arith, less);
@@ -70,7 +70,7 @@ or-after : (a b : Bool) → a ≡ false → (a || b) ≡ true → b ≡ true
 or-after true b e h = cc
 or-after false b e h = h
 
-lead-begins : (k : ℕ) → is_lead k ≡ true → continues k ≡ false
+lead-begins : (k : ℕ) → is_utf8_lead_byte k ≡ true → is_continuation_byte k ≡ false
 lead-begins k is = elim (cases_lt k 0x80) [
   | inl low ↦ ap (λ (b : Bool). b && nat_le k 0xBF) (lt-leb 0x80 k low)
   | inr high ↦
@@ -78,8 +78,8 @@ lead-begins k is = elim (cases_lt k 0x80) [
       ap (λ (b : Bool). nat_le 0x80 k && b) (lt-leb k 0xBF (omega (arith, more))) ∙ and-false (nat_le 0x80 k)
 ]
 
-boundary-lead : (e : Encoding) (text : Text) → HasUnits e text → (table : Table) → AllowsLeads (is_wide e) table → (at k : ℕ)
-    → key_at e (key (is_wide e)) text at ≡ Some k → k < 256 → table.keys k ≡ true → (is_of_bytes e ≡ false → IsBoundary text at) → IsBoundary text at
+boundary-lead : (e : Encoding) (text : Text) → HasUnitsForTables e text → (table : FirstSetTable) → AllowsOnlyLeadBytes (has_16_bit_units e) table → (at k : ℕ)
+    → unit_key_at e (key (has_16_bit_units e)) text at ≡ Some k → k < 256 → table.keys k ≡ true → (has_byte_units e ≡ false → IsBoundary text at) → IsBoundary text at
 boundary-lead utf8 text has table leads at k there small allowed wide =
     boundary-byte text has.spelled at k (sym (own-key (slice_get (units_in utf8 text) at)) ∙ there) ∙ ap not (lead-begins k (leads refl k small allowed))
 boundary-lead utf16 text has table leads at k there small allowed wide = wide refl
@@ -87,12 +87,12 @@ boundary-lead ucs2 text has table leads at k there small allowed wide = wide ref
 
 -- ---- Unit by unit
 
-module _ (w : Searching) (table : Table) (from : ℕ) where
+module _ (w : SearchInput) (table : FirstSetTable) (from : ℕ) where
   -- up to this offset the table allows nothing; where units are no bytes that is a boundary
   pub record Scans (at : ℕ) : Type 0 where
     pub passed : from ≤ at
     pub inside : at ≤ units w.text
-    pub boundary : is_of_bytes w.encoding ≡ false → IsBoundary w.text at
+    pub boundary : has_byte_units w.encoding ≡ false → IsBoundary w.text at
     pub none : AllowsNone w table from at
 
   pub scan-begins : IsText w.text → IsBoundary w.text from → Scans from
@@ -103,11 +103,11 @@ module _ (w : Searching) (table : Table) (from : ℕ) where
     none = λ x on le less. absurd (omega (arith, le, less));
   }
 
-  excludes : (at k : ℕ) → key_at w.encoding (key (is_wide w.encoding)) w.text at ≡ Some k → table.keys k ≡ false → allows_at w table at ≡ false
-  excludes at k there none = ap (allows table) there ∙ none
+  excludes : (at k : ℕ) → unit_key_at w.encoding (key (has_16_bit_units w.encoding)) w.text at ≡ Some k → table.keys k ≡ false → allows_at w table at ≡ false
+  excludes at k there none = ap (table_allows table) there ∙ none
 
-  pub scan-goes : (at to k : ℕ) → Scans at → IsPast w.text (is_of_bytes w.encoding) at to
-      → key_at w.encoding (key (is_wide w.encoding)) w.text at ≡ Some k → table.keys k ≡ false → Scans to
+  pub scan-goes : (at to k : ℕ) → Scans at → SkipsNoBoundary w.text (has_byte_units w.encoding) at to
+      → unit_key_at w.encoding (key (has_16_bit_units w.encoding)) w.text at ≡ Some k → table.keys k ≡ false → Scans to
   scan-goes at to k s p there excluded = record {
     passed = let a = s.passed in let b = p.ahead in omega (arith, a, b);
     inside = p.inside;
@@ -121,31 +121,31 @@ module _ (w : Searching) (table : Table) (from : ℕ) where
     ];
   }
 
-  module _ (has : HasUnits w.encoding w.text) where
-    pub scan-finds : (at k : ℕ) (is : Bool) → AllowsLeads (is_wide w.encoding) table → Scans at → key_at w.encoding (key (is_wide w.encoding)) w.text at ≡ Some k
-        → k < 256 → is ≡ table.keys k → is ≡ true → IsFirstAllowed w table from (Some at)
+  module _ (has : HasUnitsForTables w.encoding w.text) where
+    pub scan-finds : (at k : ℕ) (is : Bool) → AllowsOnlyLeadBytes (has_16_bit_units w.encoding) table → Scans at → unit_key_at w.encoding (key (has_16_bit_units w.encoding)) w.text at ≡ Some k
+        → k < 256 → is ≡ table.keys k → is ≡ true → IsFirstAllowedBoundaryOrEnd w table from (Some at)
     scan-finds at k is leads s there small asked holds = (
       boundary-lead w.encoding w.text has table leads at k there small (sym asked ∙ holds) s.boundary,
       s.passed,
-      ap (allows table) there ∙ sym asked ∙ holds,
+      ap (table_allows table) there ∙ sym asked ∙ holds,
       s.none,
     )
 
     at-end : (at : ℕ) → Scans at → units w.text ≤ at → at ≡ units w.text
     at-end at s end = let most = s.inside in omega (arith, most, end)
 
-    pub scan-ends : (at : ℕ) (is : Bool) → Scans at → units w.text ≤ at → is ≡ table.end → is ≡ true → IsFirstAllowed w table from (Some at)
+    pub scan-ends : (at : ℕ) (is : Bool) → Scans at → units w.text ≤ at → is ≡ table.end → is ≡ true → IsFirstAllowedBoundaryOrEnd w table from (Some at)
     scan-ends at is s end asked holds = (
       end_boundary w.text has.is_text at (at-end at s end),
       s.passed,
-      ap (allows table) (no-key w.encoding w.text has at end) ∙ sym asked ∙ holds,
+      ap (table_allows table) (no-key w.encoding w.text has at end) ∙ sym asked ∙ holds,
       s.none,
     )
 
-    pub scan-fails : (at : ℕ) (is : Bool) → Scans at → units w.text ≤ at → is ≡ table.end → is ≡ false → IsFirstAllowed w table from None
+    pub scan-fails : (at : ℕ) (is : Bool) → Scans at → units w.text ≤ at → is ≡ table.end → is ≡ false → IsFirstAllowedBoundaryOrEnd w table from None
     scan-fails at is s end asked fails = λ x on le less. elim (cases_lt x at) [
       | inl before ↦ s.none x on le before
-      | inr after ↦ ap (allows table) (no-key w.encoding w.text has x (omega (arith, after, end))) ∙ sym asked ∙ fails
+      | inr after ↦ ap (table_allows table) (no-key w.encoding w.text has x (omega (arith, after, end))) ∙ sym asked ∙ fails
     ]
 
 -- ---- A few units
@@ -156,7 +156,7 @@ not-true false h = refl
 
 -- three bytes that are looked for
 pub found-three : (us bytes : List ℕ) (found : Option ℕ) → length us ≡ 3 → IsFirstByte (is_byte3 (get_or us 0 0) (get_or us 1 0) (get_or us 2 0)) bytes found
-    → FindsFirst (holds_at us bytes) (length bytes) found
+    → FindsFirstPassingIndex (member_byte_at_index us bytes) (length bytes) found
 found-three us bytes found sized f = by found f
   where
     or-last : (a b c : Bool) → (a || (b || (c || false))) ≡ (a || b || c)
@@ -172,7 +172,7 @@ found-three us bytes found sized f = by found f
     same (a ∷ b ∷ c ∷ []) e x = or-last (nat_eq x a) (nat_eq x b) (nat_eq x c)
     same (a ∷ b ∷ c ∷ d ∷ us) e x = absurd (omega (arith, e))
 
-    by : (found : Option ℕ) → IsFirstByte (is_byte3 (get_or us 0 0) (get_or us 1 0) (get_or us 2 0)) bytes found → FindsFirst (holds_at us bytes) (length bytes) found
+    by : (found : Option ℕ) → IsFirstByte (is_byte3 (get_or us 0 0) (get_or us 1 0) (get_or us 2 0)) bytes found → FindsFirstPassingIndex (member_byte_at_index us bytes) (length bytes) found
     by None none = λ k less. same us sized (slice_index bytes k) ∙ not-true (is_byte3 (get_or us 0 0) (get_or us 1 0) (get_or us 2 0) (slice_index bytes k)) (none k (omega arith) less)
     by (Some i) first = record {
       within = first.0.high;
@@ -192,32 +192,32 @@ few-pass p (x ∷ us) (suc len) u each h = by (nat_eq u x) refl (λ rest. few-pa
     by true e rest h = ap p (eqb-true u x e) ∙ each 0 (omega arith)
     by false e rest h = rest h
 
-pub few-leads : (us : List ℕ) (len : ℕ) (wide : Bool) → ((k : ℕ) → k < len → is_lead (get_or us k 0) ≡ true) → AllowsLeads wide (few_allowed us len)
-few-leads us len wide each single_unit k small allowed = few-pass is_lead us len k each allowed
+pub few-leads : (us : List ℕ) (len : ℕ) (wide : Bool) → ((k : ℕ) → k < len → is_utf8_lead_byte (get_or us k 0) ≡ true) → AllowsOnlyLeadBytes wide (few_units_table us len)
+few-leads us len wide each single_unit k small allowed = few-pass is_utf8_lead_byte us len k each allowed
 
 -- units below 128 are bytes that begin characters
-low-lead : (k : ℕ) → k < 128 → is_lead k ≡ true
+low-lead : (k : ℕ) → k < 128 → is_utf8_lead_byte k ≡ true
 low-lead k low = ap (λ (b : Bool). b || (nat_le 0xC2 k && nat_le k 0xF4)) (lt-ltb k 0x80 low)
 
-pub low-leads : (us : List ℕ) (len : ℕ) (wide : Bool) → ((k : ℕ) → k < len → get_or us k 0 < 128) → AllowsLeads wide (few_allowed us len)
+pub low-leads : (us : List ℕ) (len : ℕ) (wide : Bool) → ((k : ℕ) → k < len → get_or us k 0 < 128) → AllowsOnlyLeadBytes wide (few_units_table us len)
 low-leads us len wide low = few-leads us len wide (λ k less. low-lead (get_or us k 0) (low k less))
 
-byte-key : (e : Encoding) (text : Text) → is_of_bytes e ≡ true → (at : ℕ) → key_at e (key (is_wide e)) text at ≡ slice_get (bytes_of text) at
+byte-key : (e : Encoding) (text : Text) → has_byte_units e ≡ true → (at : ℕ) → unit_key_at e (key (has_16_bit_units e)) text at ≡ slice_get (bytes_of text) at
 byte-key utf8 text bytes at = own-key (slice_get (units_in utf8 text) at) ∙ ap (λ (us : List ℕ). slice_get us at) (utf8-units text.characters)
 byte-key utf16 text bytes at = cc
 byte-key ucs2 text bytes at = cc
 
-byte-small : (e : Encoding) (text : Text) → HasUnits e text → is_of_bytes e ≡ true → (at k : ℕ) → key_at e (key (is_wide e)) text at ≡ Some k → k < 256
+byte-small : (e : Encoding) (text : Text) → HasUnitsForTables e text → has_byte_units e ≡ true → (at k : ℕ) → unit_key_at e (key (has_16_bit_units e)) text at ≡ Some k → k < 256
 byte-small utf8 text has bytes at k there = unit-fits utf8 text has at k (sym (own-key (slice_get (units_in utf8 text) at)) ∙ there)
 byte-small utf16 text has bytes at k there = cc
 byte-small ucs2 text has bytes at k there = cc
 
-byte-count : (e : Encoding) (text : Text) → is_of_bytes e ≡ true → IsSpelledIn e text → units text ≡ length (bytes_of text)
+byte-count : (e : Encoding) (text : Text) → has_byte_units e ≡ true → IsSpelledIn e text → units text ≡ length (bytes_of text)
 byte-count utf8 text bytes spelled = units-length utf8 text spelled ∙ ap length (utf8-units text.characters)
 byte-count utf16 text bytes spelled = cc
 byte-count ucs2 text bytes spelled = cc
 
-pub single_unit-bytes : (e : Encoding) → is_wide e ≡ false → is_of_bytes e ≡ true
+pub single_unit-bytes : (e : Encoding) → has_16_bit_units e ≡ false → has_byte_units e ≡ true
 single_unit-bytes utf8 single_unit = refl
 single_unit-bytes utf16 single_unit = cc
 single_unit-bytes ucs2 single_unit = cc
@@ -228,8 +228,8 @@ bytes-there true text all e = refl
 bytes-there false text all e = cc
 
 -- what was found from a position on
-pub found-in : {are_bytes : Bool} {text : Text} {pos : ℕ} {found : Option ℕ} (w : Searching) (stands_at : List ℕ → ℕ → Bool) (from : ℕ) (there : Option ℕ)
-    → are_bytes ≡ is_of_bytes w.encoding → text ≡ w.text → pos ≡ from → found ≡ there → IsFoundFrom are_bytes stands_at (bytes_of text) pos found → IsFoundIn w stands_at from there
+pub found-in : {are_bytes : Bool} {text : Text} {pos : ℕ} {found : Option ℕ} (w : SearchInput) (stands_at : List ℕ → ℕ → Bool) (from : ℕ) (there : Option ℕ)
+    → are_bytes ≡ has_byte_units w.encoding → text ≡ w.text → pos ≡ from → found ≡ there → IsFoundFrom are_bytes stands_at (bytes_of text) pos found → IsFoundInBytes w stands_at from there
 found-in {are_bytes = are_bytes} {text = text} {pos = pos} w stands_at from there bytes is at same found =
     subst (λ b. IsFoundFrom b stands_at (bytes_of w.text) from there) bytes
     (subst (λ t. IsFoundFrom are_bytes stands_at (bytes_of t) from there) is
@@ -237,16 +237,16 @@ found-in {are_bytes = are_bytes} {text = text} {pos = pos} w stands_at from ther
     (subst (λ o. IsFoundFrom are_bytes stands_at (bytes_of text) pos o) same found)))
 
 -- the first of a few units, found in bytes
-pub few-found : (w : Searching) → HasUnits w.encoding w.text → (us : List ℕ) (len from : ℕ) → is_of_bytes w.encoding ≡ true → AllowsLeads (is_wide w.encoding) (few_allowed us len)
-    → from ≤ units w.text → (found : Option ℕ) → IsFoundFrom true (λ bytes. holds_at (take len us) bytes) (bytes_of w.text) from found
-    → IsFirstAllowed w (few_allowed us len) from found
+pub few-found : (w : SearchInput) → HasUnitsForTables w.encoding w.text → (us : List ℕ) (len from : ℕ) → has_byte_units w.encoding ≡ true → AllowsOnlyLeadBytes (has_16_bit_units w.encoding) (few_units_table us len)
+    → from ≤ units w.text → (found : Option ℕ) → IsFoundFrom true (λ bytes. member_byte_at_index (take len us) bytes) (bytes_of w.text) from found
+    → IsFirstAllowedBoundaryOrEnd w (few_units_table us len) from found
 few-found w has us len from bytes leads inside found f = by f.0 f.1 found f.2
   where
     all : List ℕ
     all = bytes_of w.text
 
-    table : Table
-    table = few_allowed us len
+    table : FirstSetTable
+    table = few_units_table us len
 
     length-rest : length (drop from all) ≡ length all - from
     length-rest = length-drop from all
@@ -255,25 +255,25 @@ few-found w has us len from bytes leads inside found f = by f.0 f.1 found f.2
     count = byte-count w.encoding w.text bytes has.spelled
 
     test : ℕ → Bool
-    test i = holds_at (take len us) (drop from all) i
+    test i = member_byte_at_index (take len us) (drop from all) i
 
     -- what the test says of an offset
     tested : (i : ℕ) → test i ≡ contains (take len us) (get_or all (from + i) 0)
     tested i = ap (contains (take len us)) (get_or-drop from all i 0)
 
     allowed : (at : ℕ) → at < length all → allows_at w table at ≡ contains (take len us) (get_or all at 0)
-    allowed at less = ap (allows table) (byte-key w.encoding w.text bytes at ∙ slice_get-get_or all at 0 less)
+    allowed at less = ap (table_allows table) (byte-key w.encoding w.text bytes at ∙ slice_get-get_or all at 0 less)
 
     excluded : (at : ℕ) → from ≤ at → at < length all → test (at - from) ≡ false → allows_at w table at ≡ false
     excluded at le less none =
         let back : at ≡ from + (at - from) = omega (arith, le) in
         allowed at less ∙ ap (λ at. contains (take len us) (get_or all at 0)) back ∙ sym (tested (at - from)) ∙ none
 
-    by : (index : Option ℕ) → FindsFirst test (length (drop from all)) index → (found : Option ℕ) → found ≡ option_map (λ i. from + i) index
-        → IsFirstAllowed w table from found
+    by : (index : Option ℕ) → FindsFirstPassingIndex test (length (drop from all)) index → (found : Option ℕ) → found ≡ option_map (λ i. from + i) index
+        → IsFirstAllowedBoundaryOrEnd w table from found
     by None none None e = λ x on le less. elim (cases_lt x (units w.text)) [
       | inl before ↦ excluded x le (omega (arith, before, count)) (none (x - from) (omega (arith, le, before, count, length-rest)))
-      | inr after ↦ ap (allows table) (no-key w.encoding w.text has x after)
+      | inr after ↦ ap (table_allows table) (no-key w.encoding w.text has x after)
     ]
     by None none (Some to) e = cc
     by (Some i) first None e = cc
@@ -294,43 +294,43 @@ few-found w has us len from bytes leads inside found f = by f.0 f.1 found f.2
 -- ---- The first units of a match
 
 -- the first place at which they fit, found in bytes
-pub fitting-found : (w : Searching) → HasUnits w.encoding w.text → (prefix : Prefix) → is_wide w.encoding ≡ false → 0 < prefix.len → IsInAscii prefix → (from : ℕ)
-    → (found : Option ℕ) → IsFoundIn w (λ bytes index. fits (allowed_of prefix) bytes index prefix.len) from found
-    → IsFirstWhere w (fits_in w prefix) from found
+pub fitting-found : (w : SearchInput) → HasUnitsForTables w.encoding w.text → (prefix : Prefix) → has_16_bit_units w.encoding ≡ false → 0 < prefix.len → AllowsOnlyAsciiFirst prefix → (from : ℕ)
+    → (found : Option ℕ) → IsFoundInBytes w (λ bytes index. fits (units_allowed_by_prefix prefix) bytes index prefix.len) from found
+    → IsFirstBoundaryWhere w (prefix_fits_at w prefix) from found
 fitting-found w has prefix single_unit some ascii from found f = by in_bytes.0 in_bytes.1 found in_bytes.2
   where
-    in_bytes : IsFoundFrom true (λ bytes index. fits (allowed_of prefix) bytes index prefix.len) (bytes_of w.text) from found
+    in_bytes : IsFoundFrom true (λ bytes index. fits (units_allowed_by_prefix prefix) bytes index prefix.len) (bytes_of w.text) from found
     in_bytes =
-        subst (λ b. IsFoundFrom b (λ bytes index. fits (allowed_of prefix) bytes index prefix.len) (bytes_of w.text) from found)
+        subst (λ b. IsFoundFrom b (λ bytes index. fits (units_allowed_by_prefix prefix) bytes index prefix.len) (bytes_of w.text) from found)
         (single_unit-bytes w.encoding single_unit) f
 
     all : List ℕ
     all = bytes_of w.text
 
     test : (at : ℕ) → Bool
-    test at = fits (allowed_of prefix) all at prefix.len
+    test at = fits (units_allowed_by_prefix prefix) all at prefix.len
 
-    same-units : (e : Encoding) → is_wide e ≡ false → map (key (is_wide e)) (units_in e w.text) ≡ all
+    same-units : (e : Encoding) → has_16_bit_units e ≡ false → map (key (has_16_bit_units e)) (units_in e w.text) ≡ all
     same-units utf8 n = map-id (units_in utf8 w.text) ∙ utf8-units w.text.characters
     same-units utf16 n = cc
     same-units ucs2 n = cc
 
-    same : (at : ℕ) → fits_in w prefix at ≡ test at
-    same at = ap (λ (us : List ℕ). fits (allowed_of prefix) us at prefix.len) (same-units w.encoding single_unit)
+    same : (at : ℕ) → prefix_fits_at w prefix at ≡ test at
+    same at = ap (λ (us : List ℕ). fits (units_allowed_by_prefix prefix) us at prefix.len) (same-units w.encoding single_unit)
 
     length-rest : length (drop from all) ≡ length all - from
     length-rest = length-drop from all
 
-    excluded : (at : ℕ) → from ≤ at → fits (allowed_of prefix) (drop from all) (at - from) prefix.len ≡ false → fits_in w prefix at ≡ false
+    excluded : (at : ℕ) → from ≤ at → fits (units_allowed_by_prefix prefix) (drop from all) (at - from) prefix.len ≡ false → prefix_fits_at w prefix at ≡ false
     excluded at le none =
         let back : at ≡ from + (at - from) = omega (arith, le) in
-        same at ∙ ap test back ∙ sym (fits-behind (allowed_of prefix) all from (at - from) prefix.len) ∙ none
+        same at ∙ ap test back ∙ sym (fits-behind (units_allowed_by_prefix prefix) all from (at - from) prefix.len) ∙ none
 
-    past : (at : ℕ) → length all ≤ at → fits_in w prefix at ≡ false
-    past at end = same at ∙ fits-past (allowed_of prefix) all at prefix.len 0 some (omega (arith, end))
+    past : (at : ℕ) → length all ≤ at → prefix_fits_at w prefix at ≡ false
+    past at end = same at ∙ fits-past (units_allowed_by_prefix prefix) all at prefix.len 0 some (omega (arith, end))
 
-    by : (index : Option ℕ) → FindsFirst (λ i. fits (allowed_of prefix) (drop from all) i prefix.len) (length (drop from all)) index → (found : Option ℕ)
-        → found ≡ option_map (λ i. from + i) index → IsFirstWhere w (fits_in w prefix) from found
+    by : (index : Option ℕ) → FindsFirstPassingIndex (λ i. fits (units_allowed_by_prefix prefix) (drop from all) i prefix.len) (length (drop from all)) index → (found : Option ℕ)
+        → found ≡ option_map (λ i. from + i) index → IsFirstBoundaryWhere w (prefix_fits_at w prefix) from found
     by None none None e = λ x on le less. elim (cases_lt x (length all)) [
       | inl before ↦ excluded x le (none (x - from) (omega (arith, le, before, length-rest)))
       | inr after ↦ past x after
@@ -340,7 +340,7 @@ fitting-found w has prefix single_unit some ascii from found f = by in_bytes.0 i
     by (Some i) first (Some to) e =
         let there : to ≡ from + i = cc in
         let within = first.within in
-        let fit : test to ≡ true = ap test there ∙ sym (fits-behind (allowed_of prefix) all from i prefix.len) ∙ first.passes in (
+        let fit : test to ≡ true = ap test there ∙ sym (fits-behind (units_allowed_by_prefix prefix) all from i prefix.len) ∙ first.passes in (
           fit-boundary w has prefix to (same to ∙ fit) some ascii,
           omega (arith, there),
           same to ∙ fit,

@@ -1,20 +1,21 @@
-//! Reading a text: where an instruction leads, and by a plan characters of a class, runs of them, and where a search tries.
+//! Reading of a text: tests of instructions, and by a plan, scans of classes, char loops and the
+//! search for candidate starts.
 #![tactic(auto)]
 
-pub mod characters;
-mod few;
-mod fitting;
-pub mod further;
-pub mod idle;
-pub mod kept;
-pub mod leading;
-pub mod looks_ahead;
-pub mod planned;
-mod probing;
-pub mod reading;
-pub mod reads;
-pub mod rounds;
-pub mod rows;
-pub mod scans;
-pub mod sides;
-pub mod starts;
+pub mod assertions;
+mod bit_probes;
+pub mod class_scan;
+pub mod empty_body_loops;
+mod few_units_finder;
+pub mod follow_set_checks;
+pub mod insn_matchers;
+pub mod lazy_char_loops;
+pub mod leading_char_loop;
+pub mod literal_finder;
+pub mod next_char_and_unit_tables;
+pub mod offset_ranges;
+mod prefix_search;
+pub mod read_ops;
+pub mod search_context;
+pub mod start_search;
+pub mod units_without_loop_exit;

@@ -5,14 +5,14 @@ use Rattle.std.proofs.Common.{slice_set, length}
 use Rattle.std.specs.Prelude.{◌&&◌, if◌then◌else◌, nat_lt}
 use Rattle.std.specs.List.{prefix_len}
 use Rattle.regex_meaning.specs.Text.{Text, Direction}
-use Rattle.regex_meaning.specs.Offsets.{place_at}
-use Rattle.regex_meaning.specs.Ticks.{nearest_first}
-use Rattle.regex_meaning.specs.Layout.{Program, LoopFields, JustFail, Jump, Alt, EnterLoop, LoopAgain, ResetCaptureGroup, Loop1CharBody}
-use Rattle.regex_meaning.specs.Layout.{BeginCaptureGroup, EndCaptureGroup}
-use Rattle.regress_machine.specs.Machine.{LoopData, State, Thread, running, waiting, goes, scans, at_ip, next_ip, go_if, with_some, only_if, in_turn}
-use Rattle.regress_machine.specs.Machine.{loop_turn, again_with, again_at, test_of, scan, act_on, act, span, go}
-use Rattle.regress_simulation.specs.Simulates.{Simulates, FindsNothing}
-use Rattle.regress_simulation.specs.Runs.{most_first, fewest_first}
+use Rattle.regex_meaning.specs.CodeUnitOffsets.{place_at}
+use Rattle.regex_meaning.specs.OutcomesWithStepTicks.{nearest_first}
+use Rattle.regex_meaning.specs.CompilationRelation.{Program, LoopFields, JustFail, Jump, Alt, EnterLoop, LoopAgain, ResetCaptureGroup, Loop1CharBody}
+use Rattle.regex_meaning.specs.CompilationRelation.{BeginCaptureGroup, EndCaptureGroup}
+use Rattle.regress_machine.specs.Machine.{LoopData, State, Thread, running, waiting, goes, scans, at_ip, next_ip, go_if, with_some, only_if, first_runs_others_wait}
+use Rattle.regress_machine.specs.Machine.{iteration_started, iteration_ended, loop_repeated, test_of, scan, act_on, act, range_between_offsets, go}
+use Rattle.regress_simulation.specs.ThreadSimulation.{Simulates, FindsNothing}
+use Rattle.regress_simulation.specs.CharLoopExitStates.{most_first, fewest_first}
 use Rattle.regress_simulation.proofs.Rows.{both-ways, first-way, second-way, no-way, only-way, only-way-excluded, dead-end}
 use Rattle.regress_simulation.proofs.Loops.{only-simulates, some-simulates, again, leave, head-greedy, head-lazy, head-again, head-leave, head-dead}
 use Rattle.regress_simulation.proofs.Runs.{run-turn}
@@ -35,7 +35,7 @@ module _ (program : Program) (text : Text) (d : Direction) (s : State) where
   -- ---- Alternatives
 
   module _ (secondary : ℕ) (here : slice_get program.insns s.ip ≡ Some (Alt secondary)) where
-    alt-turn : act program text d s ≡ goes (in_turn (next_ip s ∷ at_ip secondary s ∷ []))
+    alt-turn : act program text d s ≡ goes (first_runs_others_wait (next_ip s ∷ at_ip secondary s ∷ []))
     alt-turn = ap (λ i. act_on program text d i s) here
 
     pub alt-both : (exact : Bool) → Simulates program text exact d 1 (running (next_ip s) ∷ waiting (at_ip secondary s) ∷ []) (running s ∷ [])
@@ -68,18 +68,18 @@ module _ (program : Program) (text : Text) (d : Direction) (s : State) where
       (λ inside is. only-way program text d s u is exact)
 
   pub arm-close : (exact : Bool) (id start : ℕ) → slice_get program.insns s.ip ≡ Some (EndCaptureGroup id) → slice_get s.starts id ≡ Some start
-      → Simulates program text exact d 1 (running (record s { ip = s.ip + 1; groups = slice_set s.groups id (Some (span d start s.pos)) }) ∷ []) (running s ∷ [])
+      → Simulates program text exact d 1 (running (record s { ip = s.ip + 1; groups = slice_set s.groups id (Some (range_between_offsets d start s.pos)) }) ∷ []) (running s ∷ [])
   arm-close exact id start here known =
-      let u = record s { ip = s.ip + 1; groups = slice_set s.groups id (Some (span d start s.pos)) } in
+      let u = record s { ip = s.ip + 1; groups = slice_set s.groups id (Some (range_between_offsets d start s.pos)) } in
       only-simulates program text d exact 1 (running u ∷ []) s (nat_lt id (length s.groups)) (go u)
       (ap (λ i. act_on program text d i s) here
-      ∙ ap (λ o. only_if (nat_lt id (length s.groups)) (with_some o (λ start. go (record s { ip = s.ip + 1; groups = slice_set s.groups id (Some (span d start s.pos)) })))) known)
+      ∙ ap (λ o. only_if (nat_lt id (length s.groups)) (with_some o (λ start. go (record s { ip = s.ip + 1; groups = slice_set s.groups id (Some (range_between_offsets d start s.pos)) })))) known)
       (λ inside is. only-way program text d s u is exact)
 
   -- ---- The head of a loop
 
   -- where it begins iteration k
-  module _ (f : LoopFields) (begin k : ℕ) (is : act program text d s ≡ loop_turn f begin k s) where
+  module _ (f : LoopFields) (begin k : ℕ) (is : act program text d s ≡ iteration_started f begin k s) where
     abbrev on : State
     on = again f begin k s
 
@@ -113,8 +113,8 @@ module _ (program : Program) (text : Text) (d : Direction) (s : State) where
           with-slot exact 1 (running out ∷ waiting on ∷ []) (λ inside. both-ways program text d s out on (is ∙ head-lazy f begin k s inside more enough lazy) exact)
 
       -- by either preference
-      by-preference : (us : List Thread) → (act program text d s ≡ goes (in_turn (on ∷ out ∷ [])) → Simulates program text false d 1 us (running s ∷ []))
-          → (act program text d s ≡ goes (in_turn (out ∷ on ∷ [])) → Simulates program text false d 1 us (running s ∷ [])) → Simulates program text false d 1 us (running s ∷ [])
+      by-preference : (us : List Thread) → (act program text d s ≡ goes (first_runs_others_wait (on ∷ out ∷ [])) → Simulates program text false d 1 us (running s ∷ []))
+          → (act program text d s ≡ goes (first_runs_others_wait (out ∷ on ∷ [])) → Simulates program text false d 1 us (running s ∷ [])) → Simulates program text false d 1 us (running s ∷ [])
       by-preference us first second = with-slot false 1 us (λ inside. by inside f.greedy refl)
         where
           by : f.loop_id < length s.loops → (b : Bool) → f.greedy ≡ b → Simulates program text false d 1 us (running s ∷ [])
@@ -134,8 +134,8 @@ module _ (program : Program) (text : Text) (d : Direction) (s : State) where
   pub arm-again : (exact : Bool) (n : ℕ) (us : List Thread) (begin : ℕ) (f : LoopFields) → slice_get program.insns s.ip ≡ Some (LoopAgain begin) → slice_get program.insns begin ≡ Some (EnterLoop f)
       → ((e : LoopData) → slice_get s.loops f.loop_id ≡ Some e → e.iters < f.max_iters → Simulates program text exact d n us (running s ∷ [])) → Simulates program text exact d n us (running s ∷ [])
   arm-again exact n us begin f here there h =
-      some-simulates program text d exact n us s (slice_get s.loops f.loop_id) (λ e. again_with f begin e s)
-      (ap (λ i. act_on program text d i s) here ∙ ap (λ i. again_at i begin s) there)
+      some-simulates program text d exact n us s (slice_get s.loops f.loop_id) (λ e. iteration_ended f begin e s)
+      (ap (λ i. act_on program text d i s) here ∙ ap (λ i. loop_repeated i begin s) there)
       (λ e known is. only-simulates program text d exact n us s (nat_lt e.iters f.max_iters) _ is (λ before there. h e known (ltb-true e.iters f.max_iters before)))
 
   -- ---- A loop over one character
@@ -157,11 +157,11 @@ module _ (program : Program) (text : Text) (d : Direction) (s : State) where
     tries = min most_iters (prefix_len test (nearest_first text d place) + 1)
 
     pub greedy-turn : slice_get program.insns s.ip ≡ Some (Loop1CharBody least most_iters true)
-        → act program text d s ≡ scans tries (in_turn (most_first text d place s least total))
+        → act program text d s ≡ scans tries (first_runs_others_wait (most_first text d place s least total))
     greedy-turn here =
-        run-turn program text d place s least most_iters true test here one at ∙ ap (λ n. scans tries (in_turn (most_first text d place s least n))) (sym all)
+        run-turn program text d place s least most_iters true test here one at ∙ ap (λ n. scans tries (first_runs_others_wait (most_first text d place s least n))) (sym all)
 
     pub lazy-turn : slice_get program.insns s.ip ≡ Some (Loop1CharBody least most_iters false)
-        → act program text d s ≡ scans tries (in_turn (fewest_first text d place s least total))
+        → act program text d s ≡ scans tries (first_runs_others_wait (fewest_first text d place s least total))
     lazy-turn here =
-        run-turn program text d place s least most_iters false test here one at ∙ ap (λ n. scans tries (in_turn (fewest_first text d place s least n))) (sym all)
+        run-turn program text d place s least most_iters false test here one at ∙ ap (λ n. scans tries (first_runs_others_wait (fewest_first text d place s least n))) (sym all)

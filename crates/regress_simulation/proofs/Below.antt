@@ -3,12 +3,12 @@ use Rattle.std.proofs.Common.{◌≡◌, ◌<◌, ℕ, suc, ◌+◌, map, List, 
 use Rattle.std.proofs.Common.{length, slice_set}
 use Rattle.std.specs.Prelude.{if◌then◌else◌, nat_lt, nat_le}
 use Rattle.regex_meaning.specs.Text.{Text, Direction}
-use Rattle.regex_meaning.specs.Layout.{Program, LoopFields}
+use Rattle.regex_meaning.specs.CompilationRelation.{Program, LoopFields}
 use Rattle.regex_meaning.proofs.Each.{Each, Each-append, Each-when}
-use Rattle.regress_machine.specs.Machine.{State, Thread, running, waiting, Next, goes, scans, ends, asks, stuck, Found, nothing, at_ip, with_some}
-use Rattle.regress_machine.specs.Machine.{only_if, go, go_if, in_turn, preferring, loop_turn, act, resumed, search}
+use Rattle.regress_machine.specs.Machine.{State, Thread, running, waiting, Next, goes, scans, ends, asks, stuck, Found, result_without_threads, at_ip, with_some}
+use Rattle.regress_machine.specs.Machine.{only_if, go, go_if, first_runs_others_wait, preferring, iteration_started, act, after_lookaround, search}
 use Rattle.regress_machine.proofs.Search.{Later, never_stuck, waits-later, goes-later, scans-later, asked-inner}
-use Rattle.regress_simulation.specs.Simulates.{Within, FindsNothing}
+use Rattle.regress_simulation.specs.ThreadSimulation.{Within, FindsNothing}
 
 -- The threads may be dropped where what they begin takes less than so many steps.
 pub record NothingBelow (program : Program) (text : Text) (bound : ℕ) (d : Direction) (spent : ℕ) (ts : List Thread) : Type 0 where
@@ -29,7 +29,7 @@ module _ (program : Program) (text : Text) (n : ℕ) (d : Direction) where
   NothingNext (goes ss) = DropAll ss
   NothingNext (scans tries ss) = DropAll ss
   NothingNext (ends s) = ⊥
-  NothingNext (asks inner negate u w) = (k : ℕ) (g : Found) → search program text k inner (running u ∷ []) ≡ Some g → g.steps < n → DropAll (resumed negate w g.end)
+  NothingNext (asks inner negate u w) = (k : ℕ) (g : Found) → search program text k inner (running u ∷ []) ≡ Some g → g.steps < n → DropAll (after_lookaround negate w g.end)
   NothingNext stuck = Unit {0}
 
   -- so many steps before
@@ -49,7 +49,7 @@ module _ (program : Program) (text : Text) (n : ℕ) (d : Direction) where
     within = λ turns vs f few q.
         let a = asked-inner program text turns d inner negate s u w vs f e q in
         let steps = a.rest.steps in
-        drops-later turns (1 + a.found.steps) (resumed negate w a.found.end) vs f (h turns a.found a.searches (omega (arith, steps, few))) (omega arith) few a.rest;
+        drops-later turns (1 + a.found.steps) (after_lookaround negate w a.found.end) vs f (h turns a.found a.searches (omega (arith, steps, few))) (omega arith) few a.rest;
   }
   turn-nothing s stuck e h = record { within = λ turns vs f few q. absurd (never_stuck program text turns d s vs f e q) }
 
@@ -85,7 +85,7 @@ module _ (program : Program) (text : Text) (n : ℕ) (d : Direction) where
   nothing-ends turns t f a e few = by turns refl (a.within turns [] f few e)
     where
       by : (m : ℕ) → turns ≡ m → Within program text false turns d 1 [] f → None ≡ f.end
-      by m q w = let s : Some nothing ≡ Some w.found = w.searches in let is : nothing ≡ w.found = cc in ap (λ (f : Found). f.end) is ∙ w.end
+      by m q w = let s : Some result_without_threads ≡ Some w.found = w.searches in let is : result_without_threads ≡ w.found = cc in ap (λ (f : Found). f.end) is ∙ w.end
 
   pub nothing-goes : NothingNext (goes [])
   nothing-goes = nothing-here
@@ -112,7 +112,7 @@ module _ (program : Program) (text : Text) (n : ℕ) (d : Direction) where
   nothing-waiting [] h = nothing-here
   nothing-waiting (s ∷ ss) h = nothing-more (waiting s) (map waiting ss) (nothing-waits s h.0) (nothing-waiting ss h.1)
 
-  pub nothing-in_turn : (ss : List State) → EachNothing ss → DropAll (in_turn ss)
+  pub nothing-in_turn : (ss : List State) → EachNothing ss → DropAll (first_runs_others_wait ss)
   nothing-in_turn [] h = nothing-here
   nothing-in_turn (s ∷ ss) h = nothing-more (running s) (map waiting ss) h.0 (nothing-waiting ss h.1)
 
@@ -122,13 +122,13 @@ module _ (program : Program) (text : Text) (n : ℕ) (d : Direction) where
 
   pub nothing-loop : (f : LoopFields) (begin k : ℕ) (s : State)
       → (nat_lt k f.max_iters ≡ true → Drops (running (record s { ip = begin + 1; loops = slice_set s.loops f.loop_id (record { iters = k; entry = s.pos }) })))
-      → (nat_le f.min_iters k ≡ true → Drops (running (at_ip f.exit s))) → NothingNext (loop_turn f begin k s)
+      → (nat_le f.min_iters k ≡ true → Drops (running (at_ip f.exit s))) → NothingNext (iteration_started f begin k s)
   nothing-loop f begin k s again leave =
       let more = record s { ip = begin + 1; loops = slice_set s.loops f.loop_id (record { iters = k; entry = s.pos }) } in
       let out = at_ip f.exit s in
       let mores = if nat_lt k f.max_iters then more ∷ [] else [] in
       let outs = if nat_le f.min_iters k then out ∷ [] else [] in
-      nothing-only (nat_lt f.loop_id (length s.loops)) (goes (in_turn (preferring f.greedy mores outs)))
+      nothing-only (nat_lt f.loop_id (length s.loops)) (goes (first_runs_others_wait (preferring f.greedy mores outs)))
       (nothing-in_turn (preferring f.greedy mores outs)
       (nothing-preferring f.greedy mores outs
       (Each-when (λ s. Drops (running s)) (nat_lt k f.max_iters) more again)

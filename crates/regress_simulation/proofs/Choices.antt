@@ -3,11 +3,11 @@ use Rattle.std.proofs.Common.{◌≡◌, ℕ, zero, suc, ◌+◌, List, [], ◌�
 use Rattle.std.proofs.Common.{slice_get}
 use mathlib.Core.Logic.{inl, inr}
 use Rattle.regex_meaning.specs.Text.{Text, Direction}
-use Rattle.regex_meaning.specs.Layout.{Program, Alt}
-use Rattle.regress_machine.specs.Machine.{State, Thread, running, waiting, goes, in_turn, Found, with_steps, after, act, act_on, search}
+use Rattle.regex_meaning.specs.CompilationRelation.{Program, Alt}
+use Rattle.regress_machine.specs.Machine.{State, Thread, running, waiting, goes, first_runs_others_wait, Found, with_steps, search_after_effect, act, act_on, search}
 use Rattle.regress_machine.proofs.Search.{search_more}
-use Rattle.regress_simulation.specs.Choices.{IsBefore, AreArms}
-use Rattle.regress_simulation.specs.Simulates.{Within, Simulates, FindsNothing}
+use Rattle.regress_simulation.specs.LiveAlternationArms.{IsArmKeptIfLive, AreArms}
+use Rattle.regress_simulation.specs.ThreadSimulation.{Within, Simulates, FindsNothing}
 use Rattle.regress_simulation.proofs.Simulates.{simulates-same, simulates-then, simulates-fewer, simulates-goes, simulates-waits, simulates-behind}
 use Rattle.regress_simulation.proofs.Simulates.{drops-prefix, nothing-waits}
 
@@ -39,7 +39,7 @@ module _ (program : Program) (text : Text) (d : Direction) where
       by (suc zero) vs f e = cc
       by (suc (suc n)) vs f e =
           found n vs f (search program text n d (running t ∷ (us ++ vs))) refl
-          (sym (ap (λ x. with_steps 1 (after (λ d us. search program text n d us) d x vs)) is) ∙ e)
+          (sym (ap (λ x. with_steps 1 (search_after_effect (λ d us. search program text n d us) d x vs)) is) ∙ e)
 
   module _ (s : State) (may : ℕ → Bool) (vain : (ip : ℕ) → may ip ≡ false → FindsNothing program text d (running (record s { ip = ip }))) where
     abbrev at : ℕ → State
@@ -49,7 +49,7 @@ module _ (program : Program) (text : Text) (d : Direction) where
     wait arms = map waiting (map at arms)
 
     abbrev run : List ℕ → List Thread
-    run arms = in_turn (map at arms)
+    run arms = first_runs_others_wait (map at arms)
 
     branches : (ip other : ℕ) → slice_get program.insns ip ≡ Some (Alt other) → act program text d (at ip) ≡ goes (running (at (ip + 1)) ∷ waiting (at other) ∷ [])
     branches ip other is = ap (λ o. act_on program text d o (at ip)) is
@@ -79,7 +79,7 @@ module _ (program : Program) (text : Text) (d : Direction) where
         ]
 
     -- a step is spent on one alternative
-    arm-run : (ip other : ℕ) (others arms : List ℕ) → slice_get program.insns ip ≡ Some (Alt other) → IsBefore may (ip + 1) others arms
+    arm-run : (ip other : ℕ) (others arms : List ℕ) → slice_get program.insns ip ≡ Some (Alt other) → IsArmKeptIfLive may (ip + 1) others arms
         → Standing 0 (wait others) (waiting (at other) ∷ []) → Standing 0 (run others) (running (at other) ∷ []) → Standing 1 (run arms) (running (at ip) ∷ [])
     arm-run ip other others arms alt before behind on =
         let goes_on = simulates-goes program text false d (at ip) (running (at (ip + 1)) ∷ waiting (at other) ∷ []) (branches ip other alt) in

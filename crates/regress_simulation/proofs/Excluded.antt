@@ -4,21 +4,21 @@ use Rattle.std.proofs.Common.{ap, ◌∙◌, sym, subst, arith, slice_get, slice
 use Rattle.std.specs.Prelude.{if◌then◌else◌, nat_lt, ◌==◌, encode_utf8_all}
 use Rattle.std.specs.List.{prefix_len}
 use Rattle.std.proofs.lemmas.Bool.{ltb-false, leb-true, eq-eqb}
-use Rattle.regex_meaning.specs.Lists.{numbers_from}
+use Rattle.regex_meaning.specs.NumberListHelpers.{numbers_from}
 use Rattle.regex_meaning.specs.Text.{Text, rightwards, next_character, moved}
-use Rattle.regex_meaning.specs.Offsets.{IsText, offset, place_at}
+use Rattle.regex_meaning.specs.CodeUnitOffsets.{IsText, offset, place_at}
 use Rattle.regex_meaning.specs.Outcomes.{is_some_and}
-use Rattle.regex_meaning.specs.Ticks.{nearest_first}
-use Rattle.regex_meaning.specs.Layout.{Program, Insn, Goal, JustFail, Char, CharSet, ByteSet, ByteSeq, AsciiBracket, Bracket, MatchAny}
-use Rattle.regex_meaning.specs.Layout.{MatchAnyExceptLineTerminator, Alt, Jump, EnterLoop, LoopAgain, ResetCaptureGroup, Loop1CharBody}
-use Rattle.regex_meaning.specs.Layout.{BeginCaptureGroup, EndCaptureGroup, BackRef, Lookahead, Lookbehind}
+use Rattle.regex_meaning.specs.OutcomesWithStepTicks.{nearest_first}
+use Rattle.regex_meaning.specs.CompilationRelation.{Program, Insn, Goal, JustFail, Char, CharSet, ByteSet, ByteSeq, AsciiBracket, Bracket, MatchAny}
+use Rattle.regex_meaning.specs.CompilationRelation.{MatchAnyExceptLineTerminator, Alt, Jump, EnterLoop, LoopAgain, ResetCaptureGroup, Loop1CharBody}
+use Rattle.regex_meaning.specs.CompilationRelation.{BeginCaptureGroup, EndCaptureGroup, BackRef, Lookahead, Lookbehind}
 use Rattle.regex_meaning.proofs.TextLemmas.{offset-place_at}
-use Rattle.regress_machine.specs.Machine.{LoopData, State, running, waiting, Next, goes, asks, at_ip, next_ip, with_some, go, go_if, loop_turn}
-use Rattle.regress_machine.specs.Machine.{again_with, again_at, test_of, has_bytes, on_to, read_one, read_bytes, stay_if, run_states, scan, act_on}
-use Rattle.regress_machine.specs.Machine.{act, resumed, span}
+use Rattle.regress_machine.specs.Machine.{LoopData, State, running, waiting, Next, goes, asks, at_ip, next_ip, with_some, go, go_if, iteration_started}
+use Rattle.regress_machine.specs.Machine.{iteration_ended, loop_repeated, test_of, has_bytes, on_to, read_one, read_bytes, stay_if, run_states, scan, act_on}
+use Rattle.regress_machine.specs.Machine.{act, after_lookaround, range_between_offsets}
 use Rattle.regress_machine.proofs.Beside.{Beside, nothing_left, one_more, beside, moved-zero}
-use Rattle.regress_simulation.specs.Simulates.{FindsNothing}
-use Rattle.regress_simulation.specs.Excluded.{holds_there, accepted_there, may_repeat, may_at, IsClosed}
+use Rattle.regress_simulation.specs.ThreadSimulation.{FindsNothing}
+use Rattle.regress_simulation.specs.FailingInsnsAtOffset.{holds_there, accepted_there, may_repeat, may_at, IsClosed}
 use Rattle.regress_simulation.proofs.Below.{NothingBelow, Drops, DropAll, NothingNext, EachNothing, turn-nothing, nothing-here, nothing-more}
 use Rattle.regress_simulation.proofs.Below.{nothing-one, nothing-waits, nothing-ends, nothing-goes, nothing-only, nothing-some, nothing-go}
 use Rattle.regress_simulation.proofs.Below.{nothing-in_turn, nothing-loop, nothing-below-none, finds-nothing}
@@ -82,12 +82,12 @@ module _ (program : Program) (text : Text) (is : IsText text) (may : ℕ → Boo
     nothing-bytes bytes bar =
         subst (λ b. NoNext (go_if b (record s { ip = s.ip + 1; pos = s.pos + length bytes }))) (sym bar) (nothing-goes program text n rightwards)
 
-    nothing-again : (i : Option Insn) (begin : ℕ) → may_repeat program text s.pos may i begin ≡ false → NoNext (again_at i begin s)
+    nothing-again : (i : Option Insn) (begin : ℕ) → may_repeat program text s.pos may i begin ≡ false → NoNext (loop_repeated i begin s)
     nothing-again (Some (EnterLoop f)) begin bar =
-        nothing-some program text n rightwards (slice_get s.loops f.loop_id) (λ d. again_with f begin d s)
+        nothing-some program text n rightwards (slice_get s.loops f.loop_id) (λ d. iteration_ended f begin d s)
         (λ d e. nothing-only program text n rightwards (nat_lt d.iters f.max_iters) _ (by d (d.entry == s.pos && nat_lt f.min_iters (d.iters + 1))))
       where
-        by : (d : LoopData) (b : Bool) → NoNext (if b then goes [] else loop_turn f begin (d.iters + 1) s)
+        by : (d : LoopData) (b : Bool) → NoNext (if b then goes [] else iteration_started f begin (d.iters + 1) s)
         by d true = nothing-goes program text n rightwards
         by d false =
             let more = record s { ip = begin + 1; loops = slice_set s.loops f.loop_id (record { iters = d.iters + 1; entry = s.pos }) } in
@@ -98,16 +98,16 @@ module _ (program : Program) (text : Text) (is : IsText text) (may : ℕ → Boo
 
     -- ---- Lookarounds
 
-    nothing-resumed : (negate : Bool) (w : State) (e : Option State) → w.pos ≡ s.pos → may w.ip ≡ false → DropAll program text n rightwards (resumed negate w e)
+    nothing-resumed : (negate : Bool) (w : State) (e : Option State) → w.pos ≡ s.pos → may w.ip ≡ false → DropAll program text n rightwards (after_lookaround negate w e)
     nothing-resumed false w None same bar = nothing-here program text n rightwards
     nothing-resumed false w (Some inner) same bar = nothing-one program text n rightwards _ (known (record inner { ip = w.ip; pos = w.pos }) same bar)
     nothing-resumed true w None same bar = nothing-one program text n rightwards _ (known w same bar)
     nothing-resumed true w (Some inner) same bar = nothing-here program text n rightwards
 
-    nothing-failed : (negate : Bool) (w : State) (e : Option State) → negate ≡ false → None ≡ e → DropAll program text n rightwards (resumed negate w e)
+    nothing-failed : (negate : Bool) (w : State) (e : Option State) → negate ≡ false → None ≡ e → DropAll program text n rightwards (after_lookaround negate w e)
     nothing-failed negate w e bar none =
-        subst (λ e. DropAll program text n rightwards (resumed negate w e)) none
-        (subst (λ b. DropAll program text n rightwards (resumed b w None)) (sym bar) (nothing-here program text n rightwards))
+        subst (λ e. DropAll program text n rightwards (after_lookaround negate w e)) none
+        (subst (λ b. DropAll program text n rightwards (after_lookaround b w None)) (sym bar) (nothing-here program text n rightwards))
 
     nothing-ahead : (negate : Bool) (continuation : ℕ) → (may continuation && (negate || may (s.ip + 1))) ≡ false
         → NoNext (asks rightwards negate (next_ip s) (at_ip continuation s))
@@ -226,9 +226,9 @@ module _ (program : Program) (text : Text) (is : IsText text) (may : ℕ → Boo
     nothing-insn (Some (EndCaptureGroup id)) bar =
         nothing-only program text n rightwards (nat_lt id (length s.groups)) _
         (nothing-some program text n rightwards (slice_get s.starts id)
-        (λ start. go (record s { ip = s.ip + 1; groups = slice_set s.groups id (Some (span rightwards start s.pos)) }))
+        (λ start. go (record s { ip = s.ip + 1; groups = slice_set s.groups id (Some (range_between_offsets rightwards start s.pos)) }))
         (λ start e.
-        let u = record s { ip = s.ip + 1; groups = slice_set s.groups id (Some (span rightwards start s.pos)) } in
+        let u = record s { ip = s.ip + 1; groups = slice_set s.groups id (Some (range_between_offsets rightwards start s.pos)) } in
         nothing-go program text n rightwards u (known u refl bar)))
     nothing-insn (Some (BackRef group icase)) bar = cc
     nothing-insn (Some (Lookahead negate start_group end_group continuation)) bar = nothing-ahead negate continuation bar

@@ -7,13 +7,13 @@ use Rattle.std.proofs.lemmas.List.{length-set}
 use Rattle.std.proofs.lemmas.Option.{slice_get_within}
 use mathlib.Core.Logic.{inl, inr}
 use Rattle.regex_meaning.specs.Text.{Text, Direction}
-use Rattle.regex_meaning.specs.Layout.{Program, LoopFields, Insn, Jump, Alt, EnterLoop, LoopAgain, ResetCaptureGroup, BeginCaptureGroup}
-use Rattle.regex_meaning.specs.Layout.{EndCaptureGroup}
+use Rattle.regex_meaning.specs.CompilationRelation.{Program, LoopFields, Insn, Jump, Alt, EnterLoop, LoopAgain, ResetCaptureGroup, BeginCaptureGroup}
+use Rattle.regex_meaning.specs.CompilationRelation.{EndCaptureGroup}
 use Rattle.regex_meaning.proofs.Booleans.{and-left, and-right}
-use Rattle.regress_machine.specs.Machine.{LoopData, State, Thread, running, waiting, at_ip, with_some, only_if, go, span, loop_turn, act_on, act}
+use Rattle.regress_machine.specs.Machine.{LoopData, State, Thread, running, waiting, at_ip, with_some, only_if, go, range_between_offsets, iteration_started, act_on, act}
 use Rattle.regress_machine.proofs.Frames.{slice_get-set_same, slice_get-set_other}
-use Rattle.regress_simulation.specs.Idle.{LeadsOn, ReadsNothing, LastIterationWillDo}
-use Rattle.regress_simulation.specs.Simulates.{Simulates}
+use Rattle.regress_simulation.specs.LoopsReadingNothing.{ReadsNothingAndLeadsOnward, ReadsNothingUntil, LastIterationSuffices}
+use Rattle.regress_simulation.specs.ThreadSimulation.{Simulates}
 use Rattle.regress_simulation.proofs.Simulates.{simulates-same, simulates-then, simulates-fewer, simulates-goes, simulates-waits, simulates-both}
 use Rattle.regress_simulation.proofs.Simulates.{simulates-twice}
 use Rattle.regress_simulation.proofs.Loops.{again, again-counts, only-simulates, some-simulates}
@@ -49,7 +49,7 @@ Range = Option (ℕ × ℕ)
 
 module _ (d : Direction) (at : ℕ) where
   abbrev group_by : Effect → Option Range → Option ℕ → Option Range
-  group_by e g start = each-effect (λ e. Option Range) g (Some None) (option_map (λ n. Some (span d n at)) start) (Some None) (Some (Some (span d at at))) e
+  group_by e g start = each-effect (λ e. Option Range) g (Some None) (option_map (λ n. Some (range_between_offsets d n at)) start) (Some None) (Some (Some (range_between_offsets d at at))) e
 
   abbrev start_by : Effect → Option ℕ → Option ℕ
   start_by e start = each-effect (λ e. Option ℕ) start start start (Some at) (Some at) e
@@ -60,10 +60,10 @@ module _ (d : Direction) (at : ℕ) where
   start-reset : (e : Effect) (start : Option ℕ) → start_by e start ≡ start_by (then_reset e) start
   start-reset e start = each-effect (λ e. start_by e start ≡ start_by (then_reset e) start) refl refl refl refl refl e
 
-  group-close : (e : Effect) (g : Option Range) (start : Option ℕ) (n : ℕ) → Some n ≡ start_by e start → Some (Some (span d n at)) ≡ group_by (then_close e) g start
+  group-close : (e : Effect) (g : Option Range) (start : Option ℕ) (n : ℕ) → Some n ≡ start_by e start → Some (Some (range_between_offsets d n at)) ≡ group_by (then_close e) g start
   group-close e g start n is =
-      let closed : (o : Option ℕ) → Some n ≡ o → Some (Some (span d n at)) ≡ option_map (λ n. Some (span d n at)) o = λ o same. ap (option_map (λ n. Some (span d n at))) same in
-      each-effect (λ e. Some n ≡ start_by e start → Some (Some (span d n at)) ≡ group_by (then_close e) g start) (closed start) (closed start) (closed start) (closed (Some at)) (closed (Some at)) e is
+      let closed : (o : Option ℕ) → Some n ≡ o → Some (Some (range_between_offsets d n at)) ≡ option_map (λ n. Some (range_between_offsets d n at)) o = λ o same. ap (option_map (λ n. Some (range_between_offsets d n at))) same in
+      each-effect (λ e. Some n ≡ start_by e start → Some (Some (range_between_offsets d n at)) ≡ group_by (then_close e) g start) (closed start) (closed start) (closed start) (closed (Some at)) (closed (Some at)) e is
 
   start-close : (e : Effect) (start : Option ℕ) → start_by e start ≡ start_by (then_close e) start
   start-close e start = each-effect (λ e. start_by e start ≡ start_by (then_close e) start) refl refl refl refl refl e
@@ -153,16 +153,16 @@ module _ (d : Direction) (at : ℕ) (x y : State) (e : ℕ → Effect) (came : C
       by i false other = slice_get-set_other y.starts id i y.pos (λ q. eqb-false id i other (sym q)) ∙ came.starts i
 
   came-close : (id ip n : ℕ) → id < length y.groups → slice_get y.starts id ≡ Some n
-      → Came d at x (at_one id then_close e) (record y { ip = ip; groups = slice_set y.groups id (Some (span d n y.pos)) })
+      → Came d at x (at_one id then_close e) (record y { ip = ip; groups = slice_set y.groups id (Some (range_between_offsets d n y.pos)) })
   came-close id ip n inside began = record {
-    groups = subst (λ p. (i : ℕ) → slice_get (slice_set y.groups id (Some (span d n p))) i ≡ group_by d at (at_one id then_close e i) (slice_get x.groups i) (slice_get x.starts i))
+    groups = subst (λ p. (i : ℕ) → slice_get (slice_set y.groups id (Some (range_between_offsets d n p))) i ≡ group_by d at (at_one id then_close e i) (slice_get x.groups i) (slice_get x.starts i))
         (sym came.pos)
-        (group-set id then_close (Some (span d n at)) inside
+        (group-set id then_close (Some (range_between_offsets d n at)) inside
         (group-close d at (e id) (slice_get x.groups id) (slice_get x.starts id) n (sym began ∙ came.starts id)));
     starts = λ i. came.starts i ∙ by i (id == i);
     pos = came.pos;
     loops = came.loops;
-    groups_length = length-set y.groups id (Some (span d n y.pos)) ∙ came.groups_length;
+    groups_length = length-set y.groups id (Some (range_between_offsets d n y.pos)) ∙ came.groups_length;
     starts_length = came.starts_length;
   }
     where
@@ -216,7 +216,7 @@ module _ (program : Program) (text : Text) (d : Direction) where
   begun_at id y = record y { ip = y.ip + 1; groups = slice_set y.groups id None; starts = slice_set y.starts id y.pos }
 
   abbrev closed_at : (id n : ℕ) → State → State
-  closed_at id n y = record y { ip = y.ip + 1; groups = slice_set y.groups id (Some (span d n y.pos)) }
+  closed_at id n y = record y { ip = y.ip + 1; groups = slice_set y.groups id (Some (range_between_offsets d n y.pos)) }
 
   module _ (stop at : ℕ) where
     abbrev Onto : List Thread → State → Type 0
@@ -353,9 +353,9 @@ module _ (program : Program) (text : Text) (d : Direction) (begin stop : ℕ) (f
       let e_is : e ≡ record { iters = k; entry = s.pos } =
       set-known s.loops f.loop_id (record { iters = k; entry = s.pos }) e (sym (ap (λ ls. slice_get ls f.loop_id) loops) ∙ known) in
       let iters : e.iters ≡ k = ap (λ (e : LoopData). e.iters) e_is in
-      let turn : act program text d z ≡ loop_turn f begin (k + 1) z =
+      let turn : act program text d z ≡ iteration_started f begin (k + 1) z =
       again-counts program text d z f begin e (ap (slice_get program.insns) here ∙ goes_back) enters known before (λ same. omega (arith, iters, few, least))
-      ∙ ap (λ n. loop_turn f begin (n + 1) z) iters in
+      ∙ ap (λ n. iteration_started f begin (n + 1) z) iters in
       simulates-fewer program text d 0 (1 + 0) us (running z ∷ []) (omega arith)
       (simulates-then program text false d 1 0 (running z ∷ []) (running (again f begin (k + 1) z) ∷ []) us
       (loop-again program text d z f begin (k + 1) turn false (omega (arith, few, least, fits)) (omega (arith, few, least))) on))
@@ -419,8 +419,8 @@ module _ (program : Program) (text : Text) (d : Direction) (begin stop : ℕ) (f
 module _ (program : Program) (from stop : ℕ) (inside : stop < length program.insns) where
   -- by the ways from what is nearer to the end
   module _ (Way : ℕ → Type 0) (there : Way stop) (forks : Bool)
-      (on : (ip : ℕ) → (insn : Insn) → slice_get program.insns ip ≡ Some insn → LeadsOn forks stop ip insn → ((to : ℕ) → ip < to → to ≤ stop → Way to) → ip < stop → Way ip)
-      (reads : ReadsNothing forks program from stop) where
+      (on : (ip : ℕ) → (insn : Insn) → slice_get program.insns ip ≡ Some insn → ReadsNothingAndLeadsOnward forks stop ip insn → ((to : ℕ) → ip < to → to ≤ stop → Way to) → ip < stop → Way ip)
+      (reads : ReadsNothingUntil forks program from stop) where
     way-from : (n ip : ℕ) → from ≤ ip → ip ≤ stop → stop ≤ ip + n → Way ip
     way-from zero ip after before near = let same : stop ≡ ip = omega (arith, before, near) in subst Way same there
     way-from (suc n) ip after before near =
@@ -430,26 +430,26 @@ module _ (program : Program) (from stop : ℕ) (inside : stop < length program.i
         by rest (inl less) = let insn = get-within program.insns ip (omega (arith, less, inside)) in on ip insn.0 insn.1 (reads ip after less insn.0 insn.1) rest less
         by rest (inr le) = let same : stop ≡ ip = omega (arith, before, le) in subst Way same there
 
-  path-on : (ip : ℕ) → (insn : Insn) → slice_get program.insns ip ≡ Some insn → LeadsOn false stop ip insn → ((to : ℕ) → ip < to → to ≤ stop → Path program stop to) → ip < stop
+  path-on : (ip : ℕ) → (insn : Insn) → slice_get program.insns ip ≡ Some insn → ReadsNothingAndLeadsOnward false stop ip insn → ((to : ℕ) → ip < to → to ≤ stop → Path program stop to) → ip < stop
       → Path program stop ip
   path-on ip insn there (inl to) rest less = jumps ip to.0 (there ∙ ap Some to.1) (rest to.0 to.2 to.3)
   path-on ip insn there (inr (id, inl is)) rest less = resets ip id (there ∙ ap Some is) (rest (ip + 1) (omega arith) (omega (arith, less)))
   path-on ip insn there (inr (id, inr (inl is))) rest less = opens ip id (there ∙ ap Some is) (rest (ip + 1) (omega arith) (omega (arith, less)))
   path-on ip insn there (inr (id, inr (inr is))) rest less = closes ip id (there ∙ ap Some is) (rest (ip + 1) (omega arith) (omega (arith, less)))
 
-  ways-on : (ip : ℕ) → (insn : Insn) → slice_get program.insns ip ≡ Some insn → LeadsOn true stop ip insn → ((to : ℕ) → ip < to → to ≤ stop → Ways program stop to) → ip < stop
+  ways-on : (ip : ℕ) → (insn : Insn) → slice_get program.insns ip ≡ Some insn → ReadsNothingAndLeadsOnward true stop ip insn → ((to : ℕ) → ip < to → to ≤ stop → Ways program stop to) → ip < stop
       → Ways program stop ip
   ways-on ip insn there (inl to) rest less = leads ip to.0 (there ∙ ap Some to.1) (rest to.0 to.2 to.3)
   ways-on ip insn there (inr other) rest less =
       forks ip other.0 (there ∙ ap Some other.1) (rest (ip + 1) (omega arith) (omega (arith, less))) (rest other.0 other.2 other.3)
 
-pub last-iteration-will-do : LastIterationWillDo
+pub last-iteration-will-do : LastIterationSuffices
 last-iteration-will-do program text d begin f idle fits k few s = by idle.forks idle.reads_nothing
   where
     inside : idle.stop < length program.insns
     inside = slice_get_within program.insns idle.stop (LoopAgain begin) idle.goes_back
 
-    by : (forks : Bool) → ReadsNothing forks program (begin + 1) idle.stop
+    by : (forks : Bool) → ReadsNothingUntil forks program (begin + 1) idle.stop
         → Simulates program text false d 0 (running (again f begin (f.min_iters - 1) s) ∷ []) (running (again f begin k s) ∷ [])
     by false reads =
         let behind = idle.behind in

@@ -6,20 +6,20 @@ use Rattle.std.specs.List.{prefix_len}
 use Rattle.std.proofs.lemmas.Bool.{eq-eqb, eqb-true, cases_lt}
 use mathlib.Core.Logic.{◌⊎◌, inl, inr}
 use Rattle.regex_meaning.specs.Text.{Text, rightwards, next_character, moved}
-use Rattle.regex_meaning.specs.Offsets.{offset, place_at}
+use Rattle.regex_meaning.specs.CodeUnitOffsets.{offset, place_at}
 use Rattle.regex_meaning.specs.Outcomes.{is_some_and}
-use Rattle.regex_meaning.specs.Ticks.{nearest_first}
-use Rattle.regex_meaning.specs.Units.{Encoding, spelled_in}
-use Rattle.regex_meaning.specs.Layout.{Program, Insn, Loop1CharBody}
+use Rattle.regex_meaning.specs.OutcomesWithStepTicks.{nearest_first}
+use Rattle.regex_meaning.specs.CodeUnits.{Encoding, spelled_in}
+use Rattle.regex_meaning.specs.CompilationRelation.{Program, Insn, Loop1CharBody}
 use Rattle.regex_meaning.proofs.Each.{Each-map}
 use Rattle.regex_meaning.proofs.TextLemmas.{offset-place_at, place_at-offset}
 use Rattle.regress_machine.specs.Machine.{State, running, Next, with_some, go_if, scan, act, act_on, test_of, on_to, read_one, run_states}
-use Rattle.regress_machine.specs.Finds.{initial}
-use Rattle.regress_simulation.specs.Simulates.{FindsNothing}
-use Rattle.regress_simulation.specs.Excluded.{may_at}
-use Rattle.regress_simulation.specs.Tables.{is_character, HasUnits, first_key, key_at}
-use Rattle.regress_simulation.specs.Runs.{behind, NothingBehind}
-use Rattle.regress_simulation.specs.Prefixes.{Allowed, may_stand, IsPrefix, PrefixesExclude}
+use Rattle.regress_machine.specs.SearchResults.{state_before_first_insn}
+use Rattle.regress_simulation.specs.ThreadSimulation.{FindsNothing}
+use Rattle.regress_simulation.specs.FailingInsnsAtOffset.{may_at}
+use Rattle.regress_simulation.specs.FirstSetTables.{is_character, HasUnitsForTables, first_unit_key, unit_key_at}
+use Rattle.regress_simulation.specs.CharLoopExitStates.{behind, NothingAfterChars}
+use Rattle.regress_simulation.specs.RequiredPrefixes.{Allowed, unit_is_allowed, IsPrefix, RequiredPrefixesExclude}
 use Rattle.regress_simulation.proofs.Below.{NothingBelow, NothingNext, EachNothing, turn-nothing, nothing-go, nothing-goes, nothing-in_turn}
 use Rattle.regress_simulation.proofs.Below.{nothing-below-none, finds-nothing}
 use Rattle.regress_simulation.proofs.Excluded.{insn-nothing}
@@ -59,14 +59,14 @@ module _ (e : Encoding) (key : ℕ → ℕ) (program : Program) where
   pub prefix-less : (ip len most : ℕ) (a b : Allowed) → Prefix ip most a → len ≤ most → ((ahead k : ℕ) → ahead < len → a ahead k ≡ true → b ahead k ≡ true) → Prefix ip len b
   prefix-less ip len most a b prefix le within = record {
     excludes = λ text units s is ahead less bar.
-        prefix.excludes text units s is ahead (omega (arith, less, le)) (by ahead less (key_at e key text (s.pos + ahead)) bar);
+        prefix.excludes text units s is ahead (omega (arith, less, le)) (by ahead less (unit_key_at e key text (s.pos + ahead)) bar);
   }
     where
       not-so : (x y : Bool) → (x ≡ true → y ≡ true) → y ≡ false → x ≡ false
       not-so true y f h = let t : y ≡ true = f refl in cc
       not-so false y f h = refl
 
-      by : (ahead : ℕ) → ahead < len → (o : Option ℕ) → may_stand b ahead o ≡ false → may_stand a ahead o ≡ false
+      by : (ahead : ℕ) → ahead < len → (o : Option ℕ) → unit_is_allowed b ahead o ≡ false → unit_is_allowed a ahead o ≡ false
       by ahead less None bar = refl
       by ahead less (Some k) bar = not-so (a ahead k) (b ahead k) (within ahead k less) bar
 
@@ -80,13 +80,13 @@ module _ (e : Encoding) (key : ℕ → ℕ) (program : Program) where
         finds-nothing program text rightwards (running s) (by text units s is ahead less bar);
   }
     where
-      by : (text : Text) → HasUnits e text → (s : State) → s.ip ≡ ip → (ahead : ℕ) → ahead < len → may_stand allowed ahead (key_at e key text (s.pos + ahead)) ≡ false
+      by : (text : Text) → HasUnitsForTables e text → (s : State) → s.ip ≡ ip → (ahead : ℕ) → ahead < len → unit_is_allowed allowed ahead (unit_key_at e key text (s.pos + ahead)) ≡ false
           → (n : ℕ) → NothingBelow program text n rightwards 1 (running s ∷ [])
       by text units s is ahead less bar zero = nothing-below-none program text rightwards s
       by text units s is ahead less bar (suc n) =
           insn-nothing program text units.is_text may n s
           (λ u there never. nothing-below program text n u
-          ((prefixes u.ip never).excludes text units u refl ahead less (ap (λ at. may_stand allowed ahead (key_at e key text (at + ahead))) there ∙ bar)))
+          ((prefixes u.ip never).excludes text units u refl ahead less (ap (λ at. unit_is_allowed allowed ahead (unit_key_at e key text (at + ahead))) there ∙ bar)))
           (let P : ℕ → Type 0 = λ i. may_at program text s.pos may (slice_get program.insns i) i ≡ false in subst P (sym is) (none text s.pos))
 
   -- one that leads on to this one at its offset, or nowhere
@@ -126,10 +126,10 @@ module _ (e : Encoding) (key : ℕ → ℕ) (program : Program) where
 
 -- a test accepts characters of one unit alone, and this allows the keys of these at the first so many units
 pub record AreUnits (e : Encoding) (key : ℕ → ℕ) (test : ℕ → Bool) (count : ℕ) (allowed : Allowed) : Type 0 where
-  pub keys : (c : ℕ) → is_character e c ≡ true → test c ≡ true → (ahead : ℕ) → ahead < count → may_stand allowed ahead (first_key e key c) ≡ true
+  pub keys : (c : ℕ) → is_character e c ≡ true → test c ≡ true → (ahead : ℕ) → ahead < count → unit_is_allowed allowed ahead (first_unit_key e key c) ≡ true
   pub single : (c : ℕ) → is_character e c ≡ true → test c ≡ true → length (spelled_in e c) ≡ 1
 
-module _ (e : Encoding) (key : ℕ → ℕ) (text : Text) (units : HasUnits e text) (test : ℕ → Bool) (count : ℕ) (allowed : Allowed) (are : AreUnits e key test count allowed)
+module _ (e : Encoding) (key : ℕ → ℕ) (text : Text) (units : HasUnitsForTables e text) (test : ℕ → Bool) (count : ℕ) (allowed : Allowed) (are : AreUnits e key test count allowed)
     (p c : ℕ) (there : slice_get text.characters p ≡ Some c) (accepted : test c ≡ true) where
   character : is_character e c ≡ true
   character = passes-one (is_character e) text.characters p c units.characters there
@@ -139,8 +139,8 @@ module _ (e : Encoding) (key : ℕ → ℕ) (text : Text) (units : HasUnits e te
   next-unit = one-unit-on e text units.spelled p c there (are.single c character accepted)
 
   -- what stands there is allowed
-  allowed-there : (at : ℕ) → place_at text at ≡ Some p → (ahead : ℕ) → ahead < count → may_stand allowed ahead (key_at e key text at) ≡ true
-  allowed-there at here ahead less = ap (may_stand allowed ahead) (seen-next e key text units at p here (Some c) there) ∙ are.keys c character accepted ahead less
+  allowed-there : (at : ℕ) → place_at text at ≡ Some p → (ahead : ℕ) → ahead < count → unit_is_allowed allowed ahead (unit_key_at e key text at) ≡ true
+  allowed-there at here ahead less = ap (unit_is_allowed allowed ahead) (seen-next e key text units at p here (Some c) there) ∙ are.keys c character accepted ahead less
 
 true-false : {A : Type 0} (b : Bool) → b ≡ true → b ≡ false → A
 true-false true h k = cc
@@ -157,8 +157,8 @@ module _ (e : Encoding) (key : ℕ → ℕ) (program : Program) where
   module _ (ip len : ℕ) (insn : Insn) (before after : Allowed) (there : slice_get program.insns ip ≡ Some insn) (reads : Reads insn)
       (are : (test : ℕ → Bool) → test_of program (Some insn) ≡ Some test → AreUnits e key test 1 before)
       (on : (ahead k : ℕ) → before (ahead + 1) k ≡ after ahead k) (prefix : IsPrefix e key program (ip + 1) len after) where
-    nothing-read : (text : Text) → HasUnits e text → (s : State) → s.ip ≡ ip → (ahead : ℕ) → ahead < 1 + len
-        → may_stand before ahead (key_at e key text (s.pos + ahead)) ≡ false → (test : ℕ → Bool) → test_of program (Some insn) ≡ Some test
+    nothing-read : (text : Text) → HasUnitsForTables e text → (s : State) → s.ip ≡ ip → (ahead : ℕ) → ahead < 1 + len
+        → unit_is_allowed before ahead (unit_key_at e key text (s.pos + ahead)) ≡ false → (test : ℕ → Bool) → test_of program (Some insn) ≡ Some test
         → (n : ℕ) → NothingNext program text n rightwards (read_one text test rightwards s)
     nothing-read text units s is ahead less bar test e_test n = by (place_at text s.pos) refl
       where
@@ -173,23 +173,23 @@ module _ (e : Encoding) (key : ℕ → ℕ) (program : Program) where
             moved_on = next-unit e key text units test 1 before units_of p c next accepted ∙ ap (λ n. n + 1) (offset-place_at text s.pos p units.is_text here).0
 
             same_key : (before_key after_key : Allowed) (ahead : ℕ) → ((k : ℕ) → before_key (ahead + 1) k ≡ after_key ahead k) → (o : Option ℕ)
-                → may_stand before_key (ahead + 1) o ≡ may_stand after_key ahead o
+                → unit_is_allowed before_key (ahead + 1) o ≡ unit_is_allowed after_key ahead o
             same_key x y ahead f None = refl
             same_key x y ahead f (Some k) = f k
 
-            at : (ahead : ℕ) → ahead < 1 + len → may_stand before ahead (key_at e key text (s.pos + ahead)) ≡ false
+            at : (ahead : ℕ) → ahead < 1 + len → unit_is_allowed before ahead (unit_key_at e key text (s.pos + ahead)) ≡ false
                 → NothingBelow program text n rightwards 1 (running (on_to text (moved text rightwards 1 p) s) ∷ [])
             at zero less bar =
-                true-false (may_stand before 0 (key_at e key text s.pos))
+                true-false (unit_is_allowed before 0 (unit_key_at e key text s.pos))
                 (allowed-there e key text units test 1 before units_of p c next accepted s.pos here 0 (omega arith))
-                (ap (λ at. may_stand before 0 (key_at e key text at)) (let z : s.pos ≡ s.pos + 0 = omega arith in z) ∙ bar)
+                (ap (λ at. unit_is_allowed before 0 (unit_key_at e key text at)) (let z : s.pos ≡ s.pos + 0 = omega arith in z) ∙ bar)
             at (suc ahead) less bar =
                 nothing-below program text n (on_to text (moved text rightwards 1 p) s)
                 (prefix.excludes text units (on_to text (moved text rightwards 1 p) s) (ap (λ i. i + 1) is) ahead (omega (arith, less))
-                (ap (λ at. may_stand after ahead (key_at e key text (at + ahead))) moved_on
-                ∙ sym (same_key before after ahead (on ahead) (key_at e key text (s.pos + 1 + ahead)))
-                ∙ ap (λ j. may_stand before j (key_at e key text (s.pos + 1 + ahead))) (let z : ahead + 1 ≡ suc ahead = omega arith in z)
-                ∙ ap (λ at. may_stand before (suc ahead) (key_at e key text at)) (let z : s.pos + 1 + ahead ≡ s.pos + suc ahead = omega arith in z) ∙ bar))
+                (ap (λ at. unit_is_allowed after ahead (unit_key_at e key text (at + ahead))) moved_on
+                ∙ sym (same_key before after ahead (on ahead) (unit_key_at e key text (s.pos + 1 + ahead)))
+                ∙ ap (λ j. unit_is_allowed before j (unit_key_at e key text (s.pos + 1 + ahead))) (let z : ahead + 1 ≡ suc ahead = omega arith in z)
+                ∙ ap (λ at. unit_is_allowed before (suc ahead) (unit_key_at e key text at)) (let z : s.pos + 1 + ahead ≡ s.pos + suc ahead = omega arith in z) ∙ bar))
 
         by : (o : Option ℕ) → place_at text s.pos ≡ o
             → NothingNext program text n rightwards (with_some o (λ p. go_if (is_some_and (next_character text rightwards p) test) (on_to text (moved text rightwards 1 p) s)))
@@ -215,8 +215,8 @@ module _ (e : Encoding) (key : ℕ → ℕ) (program : Program) where
           (by text units s is ahead less bar n (test_of program (Some insn)) refl));
     }
       where
-        by : (text : Text) → HasUnits e text → (s : State) → s.ip ≡ ip → (ahead : ℕ) → ahead < 1 + len
-            → may_stand before ahead (key_at e key text (s.pos + ahead)) ≡ false → (n : ℕ)
+        by : (text : Text) → HasUnitsForTables e text → (s : State) → s.ip ≡ ip → (ahead : ℕ) → ahead < 1 + len
+            → unit_is_allowed before ahead (unit_key_at e key text (s.pos + ahead)) ≡ false → (n : ℕ)
             → (o : Option (ℕ → Bool)) → test_of program (Some insn) ≡ o → NothingNext program text n rightwards (with_some o (λ test. read_one text test rightwards s))
         by text units s is ahead less bar n None t = tt
         by text units s is ahead less bar n (Some test) t = nothing-read text units s is ahead less bar test t n
@@ -226,8 +226,8 @@ module _ (e : Encoding) (key : ℕ → ℕ) (program : Program) where
   module _ (ip len least most : ℕ) (greedy : Bool) (before after : Allowed) (there : slice_get program.insns ip ≡ Some (Loop1CharBody least most greedy))
       (are : (test : ℕ → Bool) → test_of program (slice_get program.insns (ip + 1)) ≡ Some test → AreUnits e key test least before)
       (on : (ahead k : ℕ) → before (least + ahead) k ≡ after ahead k) (exactly : (least ≡ most) ⊎ (len ≡ 0)) (prefix : IsPrefix e key program (ip + 2) len after) where
-    module _ (text : Text) (units : HasUnits e text) (s : State) (is : s.ip ≡ ip) (ahead : ℕ) (less : ahead < least + len)
-        (bar : may_stand before ahead (key_at e key text (s.pos + ahead)) ≡ false) (test : ℕ → Bool) (units_of : AreUnits e key test least before)
+    module _ (text : Text) (units : HasUnitsForTables e text) (s : State) (is : s.ip ≡ ip) (ahead : ℕ) (less : ahead < least + len)
+        (bar : unit_is_allowed before ahead (unit_key_at e key text (s.pos + ahead)) ≡ false) (test : ℕ → Bool) (units_of : AreUnits e key test least before)
         (p : ℕ) (here : place_at text s.pos ≡ Some p) where
       abbrev accepted : ℕ
       accepted = prefix_len test (nearest_first text rightwards p)
@@ -252,27 +252,27 @@ module _ (e : Encoding) (key : ℕ → ℕ) (program : Program) where
             let one = one-there ahead more in
             let inside = inside-of text.characters (p + ahead) one.0 one.1 in
             let at = place_at-offset text (p + ahead) units.is_text (omega (arith, inside)) in
-            true-false (may_stand before ahead (key_at e key text (s.pos + ahead)))
-            (ap (λ at. may_stand before ahead (key_at e key text at)) (sym (single-run ahead (omega (arith, more))))
+            true-false (unit_is_allowed before ahead (unit_key_at e key text (s.pos + ahead)))
+            (ap (λ at. unit_is_allowed before ahead (unit_key_at e key text at)) (sym (single-run ahead (omega (arith, more))))
             ∙ allowed-there e key text units test least before units_of (p + ahead) one.0 one.1 one.2 (offset text (p + ahead)) at ahead early) bar
         | inr none ↦ none
       ]
 
-      same-stand : (i : ℕ) (o : Option ℕ) → may_stand before (least + i) o ≡ may_stand after i o
+      same-stand : (i : ℕ) (o : Option ℕ) → unit_is_allowed before (least + i) o ≡ unit_is_allowed after i o
       same-stand i None = refl
       same-stand i (Some k) = on i k
 
-      run-behind : NothingBehind program text rightwards p s least (min most accepted + 1 - least)
+      run-behind : NothingAfterChars program text rightwards p s least (min most accepted + 1 - least)
       run-behind n le more = elim (cases_lt ahead least) [
         | inl early ↦ let none = few early in absurd (omega (arith, le, more, none, early))
         | inr late ↦
             let exact : n ≡ least = by exactly late in
             let where_to : offset text (p + n) ≡ s.pos + n = single-run n (omega (arith, le, more)) in
             prefix.excludes text units (behind text rightwards p s n) (ap (λ i. i + 2) is) (ahead - least) (omega (arith, less, late))
-            (ap (λ at. may_stand after (ahead - least) (key_at e key text (at + (ahead - least)))) where_to
-            ∙ sym (same-stand (ahead - least) (key_at e key text (s.pos + n + (ahead - least))))
-            ∙ ap (λ j. may_stand before j (key_at e key text (s.pos + n + (ahead - least)))) (let z : least + (ahead - least) ≡ ahead = omega (arith, late) in z)
-            ∙ ap (λ at. may_stand before ahead (key_at e key text at)) (let z : s.pos + n + (ahead - least) ≡ s.pos + ahead = omega (arith, late, exact) in z) ∙ bar)
+            (ap (λ at. unit_is_allowed after (ahead - least) (unit_key_at e key text (at + (ahead - least)))) where_to
+            ∙ sym (same-stand (ahead - least) (unit_key_at e key text (s.pos + n + (ahead - least))))
+            ∙ ap (λ j. unit_is_allowed before j (unit_key_at e key text (s.pos + n + (ahead - least)))) (let z : least + (ahead - least) ≡ ahead = omega (arith, late) in z)
+            ∙ ap (λ at. unit_is_allowed before ahead (unit_key_at e key text at)) (let z : s.pos + n + (ahead - least) ≡ s.pos + ahead = omega (arith, late, exact) in z) ∙ bar)
       ]
         where
           by : (least ≡ most) ⊎ (len ≡ 0) → least ≤ ahead → n ≡ least
@@ -300,8 +300,8 @@ module _ (e : Encoding) (key : ℕ → ℕ) (program : Program) where
           (by text units s is ahead less bar n (test_of program (slice_get program.insns (s.ip + 1))) (ap (λ i. test_of program (slice_get program.insns (i + 1))) (sym is))));
     }
       where
-        by : (text : Text) → HasUnits e text → (s : State) → s.ip ≡ ip → (ahead : ℕ) → ahead < least + len
-            → may_stand before ahead (key_at e key text (s.pos + ahead)) ≡ false → (n : ℕ)
+        by : (text : Text) → HasUnitsForTables e text → (s : State) → s.ip ≡ ip → (ahead : ℕ) → ahead < least + len
+            → unit_is_allowed before ahead (unit_key_at e key text (s.pos + ahead)) ≡ false → (n : ℕ)
             → (o : Option (ℕ → Bool)) → test_of program (slice_get program.insns (ip + 1)) ≡ o
             → NothingNext program text n rightwards (with_some o (λ test. with_some (place_at text s.pos) (λ p. scan text least most greedy test rightwards p s)))
         by text units s is ahead less bar n None t = tt
@@ -315,6 +315,6 @@ module _ (e : Encoding) (key : ℕ → ℕ) (program : Program) where
 
 -- ---- Where a match begins
 
-pub prefixes-exclude : PrefixesExclude
+pub prefixes-exclude : RequiredPrefixesExclude
 prefixes-exclude e key program tree text len allowed can units prefix place inside ahead less bar =
-    nothing-no-match program tree text can place inside (prefix.excludes text units (initial program (offset text place)) refl ahead less bar)
+    nothing-no-match program tree text can place inside (prefix.excludes text units (state_before_first_insn program (offset text place)) refl ahead less bar)

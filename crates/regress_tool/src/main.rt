@@ -7,7 +7,7 @@ use std::env;
 use std::io::{ErrorKind, Write};
 use std::process::ExitCode;
 
-// The arguments behind the program's name; where one is not UTF-8, a word that says so.
+// Returns the arguments after the program's name. If one of them is not UTF-8, a `None` says so.
 fn gather(rt: &HostRuntime, alloc: Global) -> Result<Vec<Option<String>>, AllocError> {
     let mut words = Vec::new(alloc);
     match env::args(rt) {

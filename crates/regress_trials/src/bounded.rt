@@ -1,9 +1,9 @@
 //! Searches in as much work as their bound says.
 
-use crate::fault::Fault;
+use crate::fault::ParseFault;
 use crate::lists::{are_same, are_same_places};
 use regress_match::{BoundedRegex, Match, Regex, WorkError};
-use regress_pikevm::exec::{WorkMatches, Worker};
+use regress_pikevm::exec::{BoundedProducer, WorkMatches};
 use std::alloc::{AllocError, Global};
 
 /// So much work for each unit of a text, and one.
@@ -45,7 +45,10 @@ impl Worked {
 }
 
 // All that is to come. No call gives back work that was done.
-fn all<P: Worker + Drop>(alloc: Global, mut matches: WorkMatches<P>) -> Result<Worked, Fault> {
+fn all<P: BoundedProducer + Drop>(
+    alloc: Global,
+    mut matches: WorkMatches<P>,
+) -> Result<Worked, ParseFault> {
     let mut list = Vec::new(alloc);
     let mut is_out = false;
     let mut left = matches.work_left();
@@ -54,12 +57,12 @@ fn all<P: Worker + Drop>(alloc: Global, mut matches: WorkMatches<P>) -> Result<W
         let before = left;
         left = matches.work_left();
         if before < left {
-            return Err(Fault::Bounded);
+            return Err(ParseFault::Bounded);
         }
         match item {
             Some(Ok(found)) => list.push(found).map_err(AllocError::from)?,
             Some(Err(WorkError::WorkLimit)) => is_out = true,
-            Some(Err(WorkError::Memory)) => return Err(Fault::Refused),
+            Some(Err(WorkError::Memory)) => return Err(ParseFault::Refused),
             None => break,
         }
     }
@@ -72,7 +75,7 @@ fn all_in_bytes(
     bounded: &BoundedRegex<'_>,
     text: &str,
     work: u64,
-) -> Result<Worked, Fault> {
+) -> Result<Worked, ParseFault> {
     all(alloc, bounded.find_from(text, 0, work)?)
 }
 
@@ -82,7 +85,7 @@ fn is_taken(
     bounded: &BoundedRegex<'_>,
     known: Known<'_>,
     work: u64,
-) -> Result<bool, Fault> {
+) -> Result<bool, ParseFault> {
     let whole = all_in_bytes(alloc, bounded, known.text, work)?;
     if !whole.has_all(known.list) || whole.left != 0 {
         return Ok(false);
@@ -94,7 +97,11 @@ fn is_taken(
 }
 
 // Whether all matches in bytes are found, in as much work as is counted.
-fn is_found(alloc: Global, bounded: &BoundedRegex<'_>, known: Known<'_>) -> Result<bool, Fault> {
+fn is_found(
+    alloc: Global,
+    bounded: &BoundedRegex<'_>,
+    known: Known<'_>,
+) -> Result<bool, ParseFault> {
     let text = known.text;
     let work = enough(bounded, text.len());
     let found = all_in_bytes(alloc, bounded, text, work)?;
@@ -114,7 +121,7 @@ fn is_found_in_utf16(
     alloc: Global,
     bounded: &BoundedRegex<'_>,
     known: Known<'_>,
-) -> Result<bool, Fault> {
+) -> Result<bool, ParseFault> {
     let units: Vec<u16> = known.text.encode_utf16().collect(alloc)?;
     let work = enough(bounded, units.len());
     let found = all(alloc, bounded.find_from_utf16(&units, 0, work)?)?;
@@ -127,7 +134,7 @@ fn is_same_in_ucs2(
     re: &Regex,
     bounded: &BoundedRegex<'_>,
     text: &str,
-) -> Result<bool, Fault> {
+) -> Result<bool, ParseFault> {
     let units: Vec<u16> = text.encode_utf16().collect(alloc)?;
     let work = enough(bounded, units.len());
     let list = crate::lists::all(alloc, re.find_from_ucs2(&units, 0)?)?;
@@ -141,7 +148,7 @@ pub fn is_bounded(
     re: &Regex,
     text: &str,
     list: &[Match],
-) -> Result<Option<bool>, Fault> {
+) -> Result<Option<bool>, ParseFault> {
     let Some(bounded) = re.bounded()? else {
         return Ok(None);
     };

@@ -3,7 +3,7 @@
 ghost use Rattle.std.specs.Prelude.{IsAscii};
 
 use crate::bounded::is_bounded;
-use crate::fault::Fault;
+use crate::fault::ParseFault;
 use crate::limits::{is_limited, program_of};
 use crate::lists::{all, are_same, are_same_places, is_start};
 use regress_input::indexing::Utf8Input;
@@ -22,12 +22,12 @@ pub struct Case<'a> {
 }
 
 // All matches.
-fn found(alloc: Global, re: &Regex, text: &str) -> Result<Vec<Match>, Fault> {
+fn found(alloc: Global, re: &Regex, text: &str) -> Result<Vec<Match>, ParseFault> {
     Ok(all(alloc, re.find_iter(text)?)?)
 }
 
 // The tree as it was parsed has the same matches.
-fn is_same_unoptimized(alloc: Global, case: Case<'_>, list: &[Match]) -> Result<bool, Fault> {
+fn is_same_unoptimized(alloc: Global, case: Case<'_>, list: &[Match]) -> Result<bool, ParseFault> {
     let flags = Flags {
         no_opt: true,
         ..Flags::from(case.flags)
@@ -37,7 +37,7 @@ fn is_same_unoptimized(alloc: Global, case: Case<'_>, list: &[Match]) -> Result<
 }
 
 // The copying executor finds the same.
-fn is_copied(alloc: Global, re: &Regex, text: &str, list: &[Match]) -> Result<bool, Fault> {
+fn is_copied(alloc: Global, re: &Regex, text: &str, list: &[Match]) -> Result<bool, ParseFault> {
     let others = find::<PikeVMExecutor<Utf8Input>>(re, text, 0)?;
     Ok(are_same(list, &all(alloc, others)?))
 }
@@ -49,25 +49,35 @@ fn found_remembering(
     text: &str,
 ) -> Result<Vec<Match>, SearchError> {
     let mut executor = DefaultExecutor::new(re, text)?;
-    executor.remember();
+    executor.always_memoize();
     all(alloc, Matches::new(executor, 0))
 }
 
 // It finds the same.
-fn is_remembered(alloc: Global, case: Case<'_>, list: &[Match]) -> Result<bool, Fault> {
+fn is_remembered(alloc: Global, case: Case<'_>, list: &[Match]) -> Result<bool, ParseFault> {
     let program = program_of(alloc, case.pattern, Flags::from(case.flags))?;
     Ok(are_same(list, &found_remembering(alloc, &program, case.text)?))
 }
 
 // Over ASCII the same is found.
-fn is_same_in_ascii(alloc: Global, re: &Regex, text: &str, list: &[Match]) -> Result<bool, Fault>
+fn is_same_in_ascii(
+    alloc: Global,
+    re: &Regex,
+    text: &str,
+    list: &[Match],
+) -> Result<bool, ParseFault>
     requires { IsAscii text.now }
 {
     Ok(are_same(list, &all(alloc, re.find_iter_ascii(text)?)?))
 }
 
 // So it is by the copying executor.
-fn is_copied_in_ascii(alloc: Global, re: &Regex, text: &str, list: &[Match]) -> Result<bool, Fault>
+fn is_copied_in_ascii(
+    alloc: Global,
+    re: &Regex,
+    text: &str,
+    list: &[Match],
+) -> Result<bool, ParseFault>
     requires { IsAscii text.now }
 {
     let others = find_ascii::<PikeVMExecutor<Utf8Input>>(re, text, 0)?;
@@ -75,7 +85,12 @@ fn is_copied_in_ascii(alloc: Global, re: &Regex, text: &str, list: &[Match]) -> 
 }
 
 // In UTF-16 the same places are found.
-fn is_same_in_utf16(alloc: Global, re: &Regex, text: &str, list: &[Match]) -> Result<bool, Fault> {
+fn is_same_in_utf16(
+    alloc: Global,
+    re: &Regex,
+    text: &str,
+    list: &[Match],
+) -> Result<bool, ParseFault> {
     let units: Vec<u16> = text.encode_utf16().collect(alloc)?;
     let others = all(alloc, re.find_from_utf16(&units, 0)?)?;
     Ok(are_same_places(text, list, &others))
@@ -88,7 +103,7 @@ fn is_rest(
     text: &str,
     end: usize,
     rest: &[Match],
-) -> Result<bool, Fault> {
+) -> Result<bool, ParseFault> {
     if !is_start(text, end) {
         return Ok(false);
     }
@@ -96,7 +111,7 @@ fn is_rest(
 }
 
 // So it is from the end of each match that is not empty.
-fn is_resumed(alloc: Global, re: &Regex, text: &str, list: &[Match]) -> Result<bool, Fault> {
+fn is_resumed(alloc: Global, re: &Regex, text: &str, list: &[Match]) -> Result<bool, ParseFault> {
     let mut same = true;
     for (id, found) in list.iter().enumerate() {
         if found.start() < found.end() {
@@ -108,40 +123,43 @@ fn is_resumed(alloc: Global, re: &Regex, text: &str, list: &[Match]) -> Result<b
 }
 
 // In place of each match, and of the first, the match gives the text back.
-fn is_given_back(re: &Regex, text: &str) -> Result<bool, Fault> {
+fn is_given_back(re: &Regex, text: &str) -> Result<bool, ParseFault> {
     let each = re.replace_all(text, "$0")?.as_str() == text;
     Ok(each && re.replace(text, "$0")?.as_str() == text)
 }
 
 // That something holds, or what does not.
-fn want(holds: bool, fault: Fault) -> Result<(), Fault> {
+fn want(holds: bool, fault: ParseFault) -> Result<(), ParseFault> {
     if holds { Ok(()) } else { Err(fault) }
 }
 
 // That all holds of the matches of a pattern; and whether a bound of its work is known.
-fn check(alloc: Global, re: &Regex, case: Case<'_>, list: &[Match]) -> Result<bool, Fault> {
+fn check(alloc: Global, re: &Regex, case: Case<'_>, list: &[Match]) -> Result<bool, ParseFault> {
     let text = case.text;
-    want(is_same_unoptimized(alloc, case, list)?, Fault::Unoptimized)?;
-    want(is_copied(alloc, re, text, list)?, Fault::Copied)?;
-    want(is_remembered(alloc, case, list)?, Fault::Remembered)?;
+    want(
+        is_same_unoptimized(alloc, case, list)?,
+        ParseFault::Unoptimized,
+    )?;
+    want(is_copied(alloc, re, text, list)?, ParseFault::Copied)?;
+    want(is_remembered(alloc, case, list)?, ParseFault::Remembered)?;
     if text.is_ascii() {
-        want(is_same_in_ascii(alloc, re, text, list)?, Fault::Ascii)?;
+        want(is_same_in_ascii(alloc, re, text, list)?, ParseFault::Ascii)?;
         want(
             is_copied_in_ascii(alloc, re, text, list)?,
-            Fault::CopiedAscii,
+            ParseFault::CopiedAscii,
         )?;
     }
-    want(is_same_in_utf16(alloc, re, text, list)?, Fault::Utf16)?;
-    want(is_resumed(alloc, re, text, list)?, Fault::Resumed)?;
-    want(is_limited(alloc, re, case, list)?, Fault::Limited)?;
-    want(is_given_back(re, text)?, Fault::GivenBack)?;
+    want(is_same_in_utf16(alloc, re, text, list)?, ParseFault::Utf16)?;
+    want(is_resumed(alloc, re, text, list)?, ParseFault::Resumed)?;
+    want(is_limited(alloc, re, case, list)?, ParseFault::Limited)?;
+    want(is_given_back(re, text)?, ParseFault::GivenBack)?;
     let bounded = is_bounded(alloc, re, text, list)?;
-    want(bounded != Some(false), Fault::Bounded)?;
+    want(bounded != Some(false), ParseFault::Bounded)?;
     Ok(bounded.is_some())
 }
 
 /// How many matches a case has, and whether a bound of its work is known; or what does not hold of them.
-pub fn try_case(alloc: Global, case: Case<'_>) -> Result<(usize, bool), Fault> {
+pub fn try_case(alloc: Global, case: Case<'_>) -> Result<(usize, bool), ParseFault> {
     let re = Regex::with_flags(alloc, case.pattern, Flags::from(case.flags))?;
     let list = found(alloc, &re, case.text)?;
     let bounded = check(alloc, &re, case, &list)?;

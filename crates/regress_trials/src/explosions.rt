@@ -2,7 +2,7 @@
 //! match, and how much their bound allows.
 
 use crate::bounded::enough;
-use crate::fault::Fault;
+use crate::fault::ParseFault;
 use regress_match::{BoundedRegex, Regex};
 use std::alloc::{AllocError, Global};
 
@@ -63,10 +63,10 @@ impl Explosion {
     }
 
     /// How often the work of a search through a text of so many characters goes into what its bound allows, rounded up.
-    pub fn factor(self, alloc: Global, size: usize) -> Result<u64, Fault> {
+    pub fn factor(self, alloc: Global, size: usize) -> Result<u64, ParseFault> {
         let re = Regex::new(alloc, self.pattern)?;
         let Some(bounded) = re.bounded()? else {
-            return Err(Fault::Unbounded);
+            return Err(ParseFault::Unbounded);
         };
         let text = self.text(alloc, size)?;
         factor_of(&bounded, &text)
@@ -74,18 +74,18 @@ impl Explosion {
 }
 
 // The same of a text without a match.
-fn factor_of(bounded: &BoundedRegex<'_>, text: &str) -> Result<u64, Fault> {
+fn factor_of(bounded: &BoundedRegex<'_>, text: &str) -> Result<u64, ParseFault> {
     let bound = enough(bounded, text.len());
     let mut matches = bounded.find_from(text, 0, bound)?;
     match matches.next() {
         None => {}
-        Some(Ok(_)) => return Err(Fault::Bounded),
-        Some(Err(error)) => return Err(Fault::from(error)),
+        Some(Ok(_)) => return Err(ParseFault::Bounded),
+        Some(Err(error)) => return Err(ParseFault::from(error)),
     }
     let work = bound.saturating_sub(matches.work_left());
     let almost = work.saturating_sub(1);
     match bound.saturating_add(almost).checked_div(work) {
         Some(factor) if factor <= MOST => Ok(factor),
-        _ => Err(Fault::Bounded),
+        _ => Err(ParseFault::Bounded),
     }
 }

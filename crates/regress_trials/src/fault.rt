@@ -6,7 +6,7 @@ use std::alloc::AllocError;
 
 /// What does not hold of a case.
 #[derive(Clone, Copy, Debug, PartialEq, Eq)]
-pub enum Fault {
+pub enum ParseFault {
     /// That the pattern is one.
     Pattern,
     /// That there is memory for all.
@@ -37,45 +37,45 @@ pub enum Fault {
     Wrong,
 }
 
-impl From<AllocError> for Fault {
-    fn from(_: AllocError) -> Fault {
-        Fault::Refused
+impl From<AllocError> for ParseFault {
+    fn from(_: AllocError) -> ParseFault {
+        ParseFault::Refused
     }
 }
 
-impl From<SearchError> for Fault {
-    fn from(error: SearchError) -> Fault {
+impl From<SearchError> for ParseFault {
+    fn from(error: SearchError) -> ParseFault {
         match error {
-            SearchError::Memory => Fault::Refused,
-            SearchError::StepLimit => Fault::Wrong,
+            SearchError::Memory => ParseFault::Refused,
+            SearchError::StepLimit => ParseFault::Wrong,
         }
     }
 }
 
-impl From<Error> for Fault {
-    fn from(error: Error) -> Fault {
+impl From<Error> for ParseFault {
+    fn from(error: Error) -> ParseFault {
         match error {
-            Error::Memory => Fault::Refused,
-            Error::Parse(_) => Fault::Pattern,
-            Error::Emit(_) => Fault::Wrong,
+            Error::Memory => ParseFault::Refused,
+            Error::Parse(_) => ParseFault::Pattern,
+            Error::Emit(_) => ParseFault::Wrong,
         }
     }
 }
 
-impl From<EmitError> for Fault {
-    fn from(error: EmitError) -> Fault {
+impl From<EmitError> for ParseFault {
+    fn from(error: EmitError) -> ParseFault {
         match error {
-            EmitError::Memory => Fault::Refused,
-            _ => Fault::Wrong,
+            EmitError::Memory => ParseFault::Refused,
+            _ => ParseFault::Wrong,
         }
     }
 }
 
-impl From<WorkError> for Fault {
-    fn from(error: WorkError) -> Fault {
+impl From<WorkError> for ParseFault {
+    fn from(error: WorkError) -> ParseFault {
         match error {
-            WorkError::Memory => Fault::Refused,
-            WorkError::WorkLimit => Fault::Bounded,
+            WorkError::Memory => ParseFault::Refused,
+            WorkError::WorkLimit => ParseFault::Bounded,
         }
     }
 }

@@ -1,10 +1,10 @@
 //! Searches whose steps are limited, by the steps that they say are left.
 
 ghost use Rattle.std.specs.Prelude.{◌<◌, ◌⊎◌, IsCharBoundary, length};
-ghost use Rattle.regress_match.specs.Programs.{IsStart};
+ghost use Rattle.regress_match.specs.RegexPrograms.{IsValidStart};
 
 use crate::checks::Case;
-use crate::fault::Fault;
+use crate::fault::ParseFault;
 use crate::lists::{is_same, is_start};
 use regress_match::backends::{LimitedExecutor, emit, optimize, try_parse};
 use regress_match::{Error, Flags, Match, Regex, SearchError};
@@ -25,7 +25,7 @@ pub fn program_of(alloc: Global, pattern: &str, flags: Flags) -> Result<Compiled
 
 // Has an executor look for the first match from a start on.
 fn ask<P: MatchProducer>(executor: &mut P, start: usize) -> Result<(), SearchError>
-    requires { IsStart (P.text executor.old) start }
+    requires { IsValidStart (P.text executor.old) start }
 {
     let Some(pos) = executor.initial_position(start) else {
         return Ok(());
@@ -117,13 +117,19 @@ fn are_to_come<P: MatchProducer + Drop>(
 }
 
 // Whether a search with so many steps yields so many items.
-fn yields(re: &Regex, text: &str, list: &[Match], steps: u64, items: usize) -> Result<bool, Fault> {
+fn yields(
+    re: &Regex,
+    text: &str,
+    list: &[Match],
+    steps: u64,
+    items: usize,
+) -> Result<bool, ParseFault> {
     let matches = re.find_from_limited(text, 0, steps)?;
     Ok(are_to_come(matches, list, items))
 }
 
 // What the items of a case need.
-fn sums_of(alloc: Global, case: Case<'_>, list: &[Match]) -> Result<Vec<u64>, Fault> {
+fn sums_of(alloc: Global, case: Case<'_>, list: &[Match]) -> Result<Vec<u64>, ParseFault> {
     let program = program_of(alloc, case.pattern, Flags::from(case.flags))?;
     Ok(sums(alloc, &program, case.text, list)?)
 }
@@ -134,7 +140,7 @@ pub fn is_limited(
     re: &Regex,
     case: Case<'_>,
     list: &[Match],
-) -> Result<bool, Fault> {
+) -> Result<bool, ParseFault> {
     let sums = sums_of(alloc, case, list)?;
     let mut holds = true;
     for sum in &sums {

@@ -1,4 +1,4 @@
-//! Prints where the dates of a text stand.
+//! Prints the byte ranges of the dates in a text.
 #![tactic(auto)]
 
 use anyhow::Result;

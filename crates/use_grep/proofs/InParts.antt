@@ -17,14 +17,14 @@ use Rattle.regex_meaning.specs.Tree.{Quantifier, Node, empty, goal, char, char_s
 use Rattle.regex_meaning.specs.Tree.{string_set, match_any, match_any_except_line_terminator, anchor, word_boundary, capture_group, back_ref}
 use Rattle.regex_meaning.specs.Tree.{lookaround, loop, loop_1_char_body}
 use Rattle.regex_meaning.specs.Text.{Text, character_after, character_before, is_word_char, rightwards, utf8_text}
-use Rattle.regex_meaning.specs.Offsets.{IsText, place_at}
-use Rattle.regex_meaning.specs.Find.{Found, no_groups, first_of, match_at, first_match, first_match_among}
-use Rattle.regex_meaning.specs.Names.{Answer, answer, answers_from}
-use Rattle.regex_meaning.specs.Answers.{first_answer, next_start, answer_then_list}
+use Rattle.regex_meaning.specs.CodeUnitOffsets.{IsText, place_at}
+use Rattle.regex_meaning.specs.FirstAndAllMatches.{Found, no_groups, first_outcome, match_at, first_match, first_match_among}
+use Rattle.regex_meaning.specs.Captures.{Answer, answer, answers_from}
+use Rattle.regex_meaning.specs.SearchAnswers.{first_answer, next_start, answer_then_list}
 use Rattle.regex_meaning.proofs.AnswerLemmas.{answers-go_on}
 use Rattle.regex_meaning.proofs.TextLemmas.{place_at-offset, utf8_text-IsText}
-use Rattle.regex_meaning.specs.Outcomes.{Groups, Outcome, Repetition, repetition, rounds, outcomes, captured, cleared, counts, differ, preferred}
-use Rattle.regex_meaning.specs.Outcomes.{most_of, one_character, is_at_word_boundary, is_some_and}
+use Rattle.regex_meaning.specs.Outcomes.{Groups, Outcome, Repetition, repetition, bounded_repeat, outcomes, captured, cleared, passes_empty_check, exclusive_or, preferred}
+use Rattle.regex_meaning.specs.Outcomes.{max_iterations, one_character, is_at_word_boundary, is_some_and}
 use Rattle.regex_meaning.proofs.Each.{Each, Each-append, Each-map, Each-when, Each-flat_map, Each-image}
 use Rattle.regex_meaning.proofs.Booleans.{and-left, and-right}
 use Rattle.use_grep.specs.Local.{is_local}
@@ -162,18 +162,18 @@ module _ (shift : ℕ) (q : Quantifier) (a b : ℕ → Groups → List Outcome)
   abbrev r' : Repetition Outcome
   r' = repetition q b
 
-  counts-among : (k place : ℕ) (o p : Outcome) → EndsBehind shift o.end p → counts r k place o ≡ true → counts r' k (shift + place) p ≡ true
+  counts-among : (k place : ℕ) (o p : Outcome) → EndsBehind shift o.end p → passes_empty_check r k place o ≡ true → passes_empty_check r' k (shift + place) p ≡ true
   counts-among k place o p e h = rw e (still-counts shift o.end place (nat_lt q.min (k + 1)) h)
 
-  rounds-among : (n m k place : ℕ) (g g' : Groups) → n ≤ m → AreAmong shift (rounds r n k place g) (rounds r' m k (shift + place) g')
-  unfolding rounds
+  rounds-among : (n m k place : ℕ) (g g' : Groups) → n ≤ m → AreAmong shift (bounded_repeat r n k place g) (bounded_repeat r' m k (shift + place) g')
+  unfolding bounded_repeat
   rounds-among zero m k place g g' le = tt
   rounds-among (suc n) zero k place g g' le = absurd (omega arith)
   rounds-among (suc n) (suc m) k place g g' le =
       preferred-among shift q.greedy _ _ _ _
-      (if-among shift (nat_lt k (most_of q)) _ _
+      (if-among shift (nat_lt k (max_iterations q)) _ _
       (chain-among shift _ _ (λ o p e. rw e (rounds-among n m (k + 1) o.end o.groups p.groups (omega arith))) _ _
-      (filter-among shift (counts r k place) (counts r' k (shift + place)) (counts-among k place) _ _ (among place g g'))))
+      (filter-among shift (passes_empty_check r k place) (passes_empty_check r' k (shift + place)) (counts-among k place) _ _ (among place g g'))))
       (if-among shift (nat_le q.min k) _ _ (here-among shift place g g'))
 
 -- ---- Trees
@@ -231,7 +231,7 @@ module _ (shift : ℕ) (s t : Text) (part : IsPart shift s t) (u : Bool) where
       let before : slice_get s.characters place ≡ None = get-past s.characters place (omega arith) in
       let after : slice_get s.characters (suc place) ≡ None = get-past s.characters (suc place) (omega arith) in
       let never : true ≡ false = sym h
-      ∙ ap (λ o. differ (is_some_and o is_word) (is_some_and (slice_get s.characters (suc place)) is_word)) before
+      ∙ ap (λ o. exclusive_or (is_some_and o is_word) (is_some_and (slice_get s.characters (suc place)) is_word)) before
       ∙ ap (λ o. is_some_and o is_word) after in
       absurd (cc)
 
@@ -239,8 +239,8 @@ module _ (shift : ℕ) (s t : Text) (part : IsPart shift s t) (u : Bool) where
   boundary-among place h = elim (cases_lt (length s.characters) place) [
     | inl past ↦ absurd (none-past place past h)
     | inr le ↦
-        ap (λ b. differ b (is_some_and (character_after t (shift + place)) is_word)) (word-before place le)
-        ∙ ap (λ b. differ (is_some_and (character_before s place) is_word) b) (word-after place le)
+        ap (λ b. exclusive_or b (is_some_and (character_after t (shift + place)) is_word)) (word-before place le)
+        ∙ ap (λ b. exclusive_or (is_some_and (character_before s place) is_word) b) (word-after place le)
         ∙ h
   ]
 
@@ -304,7 +304,7 @@ module _ (shift : ℕ) (s t : Text) (part : IsPart shift s t) where
 
 -- ---- Matches
 
-none-of : (start : ℕ) (os : List Outcome) → first_of start os ≡ None → os ≡ []
+none-of : (start : ℕ) (os : List Outcome) → first_outcome start os ≡ None → os ≡ []
 none-of start [] h = refl
 none-of start (o ∷ os) h = cc h
 
@@ -361,7 +361,7 @@ module _ (root : Node) (local : is_local root ≡ true) (shift : ℕ) (s t : Tex
   none-at place h =
       let none = none-of (shift + place) (outcomes t root rightwards (shift + place) (no_groups root)) h in
       let among = outcomes-among shift s t part root local place (no_groups root) (no_groups root) in
-      ap (first_of place) (nothing-among shift _ (subst (AreAmong shift (outcomes s root rightwards place (no_groups root))) none among))
+      ap (first_outcome place) (nothing-among shift _ (subst (AreAmong shift (outcomes s root rightwards place (no_groups root))) none among))
 
   none-first : first_match root t 0 ≡ None → first_match root s 0 ≡ None
   none-first h =

@@ -1,6 +1,6 @@
 -- Trees whose matches in a line are matches in a text with this line.
 use Rattle.std.specs.Prelude.{Bool, true, false, not}
-use Rattle.regex_meaning.specs.Tree.{Node, byte_sequence, string_set, anchor, word_boundary, back_ref, lookaround, every}
+use Rattle.regex_meaning.specs.Tree.{Node, byte_sequence, string_set, anchor, word_boundary, back_ref, lookaround, every_node_passes}
 
 -- A node that looks at no group, and beside a place at most for `\b`: what stands beside a line is no word's character, and
 -- neither is what stands past the end of a text. What an optimizer alone makes is left out, too.
@@ -14,4 +14,4 @@ is_local_node (lookaround l contents) = false
 is_local_node _ = true
 
 abbrev pub is_local : Node → Bool
-is_local root = every is_local_node root
+is_local root = every_node_passes is_local_node root

@@ -4,11 +4,11 @@ use Rattle.std.specs.Prelude.{slice_get, slice_range, if◌then◌else◌}
 use Rattle.std.specs.List.{slice_split}
 use Rattle.regex_meaning.specs.Tree.{Tree, Flags}
 use Rattle.regex_meaning.specs.Text.{utf8_text}
-use Rattle.regex_meaning.specs.Flags.{flags_of_text}
-use Rattle.regex_meaning.specs.Names.{Answer, answers_from}
+use Rattle.regex_meaning.specs.FlagLettersAndEscaping.{flags_from_letters}
+use Rattle.regex_meaning.specs.Captures.{Answer, answers_from}
 use Rattle.regex_meaning.specs.Replace.{replaced}
 use Rattle.regex_grammar.specs.Grammar.{Parses}
-use Rattle.regress_match.specs.Programs.{utf8_answers}
+use Rattle.regress_match.specs.RegexPrograms.{utf8_answers}
 use Rattle.regress_match.specs.declared.api.regex.Regex.{Regex}
 use Rattle.use_grep.specs.Local.{is_local}
 use Rattle.use_grep.specs.declared.select.Line.{Line}
@@ -56,7 +56,7 @@ colored re line = colored_from line 0 (utf8_answers re line 0)
 
 -- the flags that the pattern is read with
 abbrev pub tree_flags : (ignore_case : Bool) → Flags
-tree_flags ignore_case = if ignore_case then flags_of_text (codes "i") else flags_of_text []
+tree_flags ignore_case = if ignore_case then flags_from_letters (codes "i") else flags_from_letters []
 
 -- The grammar has a tree of the pattern, and a line has a match where such a tree finds one in it.
 pub record IsSearchOf (flags : Flags) (pattern : List ℕ) (re : Regex) : Type 0 where

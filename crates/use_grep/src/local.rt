@@ -3,12 +3,12 @@
 //!
 //! Such a pattern has no match in a line where it has none in a text with this line, so that texts are searched first. At
 //! the ends of a line a word ends in the text, too, since a line break is no word's character.
-#![tactic(auto, unfolding(regex_pattern_front::specs::TreeOf::node_of, regress_program::specs::Weights::weight))]
+#![tactic(auto, unfolding(regex_pattern_front::specs::AstToSpecTree::node_of, regress_program::specs::InnerNodeCounts::inner_node_count))]
 
 ghost use Rattle.std.specs.Prelude.{◌≡◌, IfOk, IsTrue, chars};
-ghost use Rattle.regex_pattern_front.specs.TreeOf.{node_of};
+ghost use Rattle.regex_pattern_front.specs.AstToSpecTree.{node_of};
 ghost use Rattle.regress_match.specs.Flags.{flags_of};
-ghost use Rattle.regress_program.specs.Nodes.{cat_of};
+ghost use Rattle.regress_program.specs.NodeListsAndLeaves.{cat_of};
 ghost use Rattle.use_grep.specs.{Local.{is_local as is_local_tree}, Selecting.{IsLocal}};
 
 use regex_pattern_front::ir::Node;

@@ -3,8 +3,8 @@
 ghost use Rattle.std.specs.Prelude.{◌≡◌, ◌++◌, ◌∷◌, ◌+◌, ◌^◌, ◌<◌, [], IfErr, IfOk, false};
 ghost use Rattle.std.specs.Prelude.{◌-◌, IsCharBoundary, drop, filter, length, map, nat_lt, slice_range, string_bytes, take};
 ghost use Rattle.std.specs.List.{position_or_len};
-ghost use Rattle.regress_exec.specs.Answers.{answer_of};
-ghost use Rattle.regress_match.specs.{Programs.{utf8_answers}, Refusals.{IsMemory}, Replacements.{FitsText, IsSlice}};
+ghost use Rattle.regress_exec.specs.MatchAnswers.{answer_of};
+ghost use Rattle.regress_match.specs.{RegexPrograms.{utf8_answers}, CompileErrors.{IsOutOfMemory}, Replacements.{MatchFitsText, IsCharBoundaryRange}};
 ghost use Rattle.use_grep.specs.Selecting.{colored, is_selected, lines_of, matched_parts, numbered, red, red_part, shown};
 
 use crate::pattern::Query;
@@ -31,7 +31,7 @@ pub struct Line<'t> {
 /// `Memory` where there is no memory for the search.
 pub fn is_selected(re: &Regex, invert: bool, line: &str) -> Result<bool, SearchError>
     ensures selected { IfOk result (λ b. b ≡ is_selected re.now invert line.now) }
-    ensures refused { IfErr result IsMemory }
+    ensures refused { IfErr result IsOutOfMemory }
 {
     Ok(re.find(line)?.is_some() != invert)
 }
@@ -85,7 +85,7 @@ pub fn selected<'t>(
     requires { before + length lines.now < 2 ^ 64 }
     ensures selected { IfOk result (λ v. map shown v.items
         ≡ filter (λ l. is_selected re.now invert l.1) (numbered (before + 1) (map (λ l. l.now) lines.now))) }
-    ensures refused { IfErr result IsMemory }
+    ensures refused { IfErr result IsOutOfMemory }
 {
     let mut found = Vec::new(alloc);
     let mut number = before;
@@ -113,7 +113,7 @@ pub fn selected_in<'t>(
     requires { before + length (lines_of text.now) < 2 ^ 64 }
     ensures selected { IfOk result (λ v. map shown v.items
         ≡ filter (λ l. is_selected query.now.re false l.1) (numbered (before + 1) (lines_of text.now))) }
-    ensures refused { IfErr result IsMemory }
+    ensures refused { IfErr result IsOutOfMemory }
 {
     if query.is_local && !is_selected(&query.re, false, text)? {
         return Ok(Vec::new(alloc));
@@ -153,7 +153,7 @@ pub fn matched_parts<'t>(
 ) -> Result<Vec<&'t str>, SearchError>
     ensures parts { IfOk result (λ v. map (λ l. l.now) v.items
         ≡ matched_parts line.now (utf8_answers re.now line.now 0)) }
-    ensures refused { IfErr result IsMemory }
+    ensures refused { IfErr result IsOutOfMemory }
 {
     let mut parts = Vec::new(alloc);
     for item in re.find_iter(line)? {
@@ -178,7 +178,7 @@ fn push_part<'t>(parts: &mut Vec<&'t str>, part: &'t str) -> Result<(), AllocErr
 /// `Memory` where there is no memory for the search or the line.
 pub fn colored(alloc: Global, re: &Regex, line: &str) -> Result<String, SearchError>
     ensures colored { IfOk result (λ s. string_bytes s ≡ colored re.now line.now) }
-    ensures refused { IfErr result IsMemory }
+    ensures refused { IfErr result IsOutOfMemory }
 {
     let mut made = String::new(alloc);
     let mut from = 0;
@@ -205,8 +205,8 @@ fn push_match(
     from: usize,
     found: &Match,
 ) -> Result<usize, AllocError>
-    requires before { IsSlice line.now (from, found.now.range.start) }
-    requires fits { FitsText line.now (answer_of found.now) }
+    requires before { IsCharBoundaryRange line.now (from, found.now.range.start) }
+    requires fits { MatchFitsText line.now (answer_of found.now) }
     ensures made { IfOk result (λ _. string_bytes made.new ≡ string_bytes made.old
         ++ (slice_range line.now from found.now.range.start ++ red_part line.now (answer_of found.now))) }
     ensures behind { IfOk result (λ to. to ≡ found.now.range.end) }

@@ -7,9 +7,9 @@ use Rattle.std.proofs.lemmas.List.{map-append}
 use Rattle.std.proofs.lemmas.List.Elements.{filter-append}
 use Rattle.std.proofs.lemmas.List.Folds.{drop_split}
 use Rattle.regex_meaning.specs.Laws.{Each}
-use Rattle.regex_meaning.specs.Names.{Answer}
+use Rattle.regex_meaning.specs.Captures.{Answer}
 use Rattle.regex_meaning.proofs.Each.{Each-append}
-use Rattle.regress_match.specs.Replacements.{IsSlice}
+use Rattle.regress_match.specs.Replacements.{IsCharBoundaryRange}
 use Rattle.use_highlighter.specs.Tokens.{token_of}
 use Rattle.use_highlighter.specs.Pieces.{range_of, part_of, IsSliceOf, StandInRow, marked, marks_of, IsCutAt}
 use Rattle.use_highlighter.specs.declared.pieces.Piece.{Piece}
@@ -54,7 +54,7 @@ module _ (text : List ℕ) (names : List (List ℕ)) (matches : List Answer) whe
 
   -- what stands in front of a match, and the match
   pub cut-more : (left rest : List Answer) (m : Answer) (from to token : ℕ) (pieces first both : List Piece) → IsCutTo text names matches left from pieces
-      → left ≡ m ∷ rest → IsSlice text (from, m.range.0) → IsSlice text m.range → to ≡ m.range.1 → token ≡ token_of names m
+      → left ≡ m ∷ rest → IsCharBoundaryRange text (from, m.range.0) → IsCharBoundaryRange text m.range → to ≡ m.range.1 → token ≡ token_of names m
       → first ≡ pieces ++ piece from m.range.0 None ∷ [] → both ≡ first ++ piece m.range.0 m.range.1 (Some token) ∷ []
       → IsCutTo text names matches rest to both
   cut-more left rest m from to token pieces first both cut l before whole t n f b =
@@ -73,7 +73,7 @@ module _ (text : List ℕ) (names : List (List ℕ)) (matches : List Answer) whe
 
   -- the rest of the text
   pub cut-rest : (left : List Answer) (from : ℕ) (pieces all : List Piece) → IsCutTo text names matches left from pieces
-      → left ≡ [] → IsSlice text (from, length text) → all ≡ pieces ++ piece from (length text) None ∷ [] → IsCutAt text names matches all
+      → left ≡ [] → IsCharBoundaryRange text (from, length text) → all ≡ pieces ++ piece from (length text) None ∷ [] → IsCutAt text names matches all
   cut-rest left from pieces all cut l rest a =
       let row = row-more 0 from (length text) None pieces cut.row rest.0 in
       subst (IsCutAt text names matches) (sym a) record {

@@ -1,8 +1,8 @@
 -- A text that is cut into pieces.
 use Rattle.std.specs.Prelude.{◌≡◌, ◌≤◌, ℕ, List, [], ◌∷◌, ◌++◌, Option, Some, map, filter, flat_map, is_some, length, slice_range}
 use Rattle.regex_meaning.specs.Laws.{Each}
-use Rattle.regex_meaning.specs.Names.{Answer}
-use Rattle.regress_match.specs.Replacements.{IsSlice}
+use Rattle.regex_meaning.specs.Captures.{Answer}
+use Rattle.regress_match.specs.Replacements.{IsCharBoundaryRange}
 use Rattle.use_highlighter.specs.Tokens.{token_of}
 use Rattle.use_highlighter.specs.declared.pieces.Piece.{Piece}
 
@@ -15,7 +15,7 @@ part_of text p = slice_range text p.start p.end
 
 -- its range is one of whole characters
 abbrev pub IsSliceOf : (text : List ℕ) → Piece → Type 0
-IsSliceOf text p = IsSlice text (range_of p)
+IsSliceOf text p = IsCharBoundaryRange text (range_of p)
 
 -- they stand in a row: each begins where the one before ended
 abbrev pub StandInRow : (from : ℕ) → List Piece → (to : ℕ) → Type 0

@@ -2,8 +2,8 @@
 use Rattle.std.specs.Prelude.{ℕ, List, [], ◌++◌, chars, codes, flat_map, is_some, map}
 use Rattle.std.specs.List.{position_or_len}
 use Rattle.regex_meaning.specs.Tree.{Tree}
-use Rattle.regex_meaning.specs.Flags.{flags_of_text}
-use Rattle.regex_meaning.specs.Names.{Answer, named_group}
+use Rattle.regex_meaning.specs.FlagLettersAndEscaping.{flags_from_letters}
+use Rattle.regex_meaning.specs.Captures.{Answer, named_group}
 use Rattle.regex_grammar.specs.Grammar.{Parses}
 use Rattle.use_highlighter.specs.declared.tokens.Token.{Token}
 
@@ -12,7 +12,7 @@ names_of tokens = map (λ t. t.name.now) tokens
 
 -- the token's pattern is one by itself: the grammar has a tree of it
 abbrev pub IsPattern : Token → Type 0
-IsPattern t = (tree : Tree) × Parses (flags_of_text []) (chars t.pattern.now) tree
+IsPattern t = (tree : Tree) × Parses (flags_from_letters []) (chars t.pattern.now) tree
 
 -- a token as an alternative of a pattern: a group by its name
 abbrev pub arm_of : Token → List ℕ

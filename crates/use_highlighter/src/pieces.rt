@@ -1,7 +1,7 @@
 //! A text in pieces: its tokens, and what stands between them.
 
 ghost use Rattle.std.specs.Prelude.{◌≡◌, ◌++◌, ◌∷◌, [], IfErr, IfOk};
-ghost use Rattle.regress_match.specs.{Programs.{utf8_answers}, Refusals.{IsMemory}};
+ghost use Rattle.regress_match.specs.{RegexPrograms.{utf8_answers}, CompileErrors.{IsOutOfMemory}};
 ghost use Rattle.use_highlighter.specs.{Pieces.{IsCutAt}, Tokens.{names_of}};
 
 use crate::tokens::{Token, token_of};
@@ -29,7 +29,7 @@ pub fn cut(
 ) -> Result<Vec<Piece>, SearchError>
     ensures cut { IfOk result (λ pieces.
         IsCutAt text.now (names_of tokens.now) (utf8_answers re.now text.now 0) pieces.items) }
-    ensures refused { IfErr result IsMemory }
+    ensures refused { IfErr result IsOutOfMemory }
 {
     let mut pieces = Vec::new(alloc);
     let mut from = 0;

@@ -1,9 +1,9 @@
 //! The tokens that are looked for.
 
 ghost use Rattle.std.specs.Prelude.{◌≡◌, ◌++◌, [], All, IfOk, chars, is_some, string_bytes};
-ghost use Rattle.regex_meaning.specs.{Flags.{flags_of_text}, Names.{named_group}};
-ghost use Rattle.regress_exec.specs.Answers.{answer_of};
-ghost use Rattle.regress_match.specs.{Flags.{flags_of}, Programs.{IsCompiledWith}};
+ghost use Rattle.regex_meaning.specs.{FlagLettersAndEscaping.{flags_from_letters}, Captures.{named_group}};
+ghost use Rattle.regress_exec.specs.MatchAnswers.{answer_of};
+ghost use Rattle.regress_match.specs.{Flags.{flags_of}, RegexPrograms.{IsCompiledWith}};
 ghost use Rattle.use_highlighter.specs.Tokens.{IsPattern, any_of, arm_of, names_of, token_of};
 
 use anyhow::{Result, bail};
@@ -39,7 +39,7 @@ pub fn tokens<'a>(alloc: Global, words: &[&'a str]) -> Result<Vec<Token<'a>>> {
 ///
 /// Where the pattern of a token is none by itself, or a name is none of a group, and where there is no memory.
 pub fn compile(alloc: Global, tokens: &[Token<'_>]) -> Result<Regex>
-    ensures compiled { IfOk result (IsCompiledWith (flags_of_text []) (chars (any_of tokens.now))) }
+    ensures compiled { IfOk result (IsCompiledWith (flags_from_letters []) (chars (any_of tokens.now))) }
     ensures alone { IfOk result (λ _. All IsPattern tokens.now) }
 {
     for token in tokens {
@@ -58,7 +58,7 @@ pub fn compile(alloc: Global, tokens: &[Token<'_>]) -> Result<Regex>
 
 // The flags that patterns are read with: none.
 fn flags() -> Flags
-    ensures { flags_of result ≡ flags_of_text [] }
+    ensures { flags_of result ≡ flags_from_letters [] }
 {
     Flags::default()
 }

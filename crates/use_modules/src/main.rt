@@ -1,4 +1,5 @@
-//! Tells why patterns are refused, what a program is made of, and which characters a text begins and ends with.
+//! Prints why a pattern is refused, what a program consists of, and the first and last character of
+//! a text.
 #![tactic(auto)]
 
 use anyhow::{Result, bail};
@@ -9,7 +10,7 @@ use regress_match::indexing::{InputIndexer, Utf8Input};
 use regress_match::insn::Insn;
 use regress_match::{Error, Regex};
 
-// Why there is no pattern.
+// Returns why a pattern was refused.
 fn reason(error: &Error) -> &'static str {
     match error {
         Error::Parse(_) => "no pattern",
@@ -20,7 +21,7 @@ fn reason(error: &Error) -> &'static str {
     }
 }
 
-// How many of these instructions read a character that the pattern names.
+// Counts the instructions that read one character named in the pattern.
 fn named_characters(insns: &[Insn]) -> usize {
     insns
         .iter()
@@ -28,7 +29,7 @@ fn named_characters(insns: &[Insn]) -> usize {
         .count()
 }
 
-// The first and the last character of a text.
+// Returns the first and the last character of a text.
 fn both_ends(text: &str) -> Option<(char, char)> {
     let input = Utf8Input::new(text, true);
     let first = input.peek_right(input.left_end())?;

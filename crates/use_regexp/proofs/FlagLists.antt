@@ -1,7 +1,7 @@
 -- Flags by the tests of their letters.
 use Rattle.std.proofs.Common.{◌≡◌, ℕ, List, Bool, true, refl}
 use Rattle.std.specs.Prelude.{Option, Some}
-use Rattle.regex_meaning.specs.Lists.{contains}
+use Rattle.regex_meaning.specs.NumberListHelpers.{contains}
 use Rattle.use_regexp.specs.Flags.{flags_of}
 use Rattle.use_regexp.specs.Letters.{are_flags}
 use Rattle.use_regexp.specs.declared.flags.Flags.{Flags}

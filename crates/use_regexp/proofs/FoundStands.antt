@@ -2,19 +2,19 @@
 use Rattle.std.proofs.Common.{◌≡◌, ℕ, ◌≤◌, Bool, true, false, not, ◌&&◌, List, length, IsTrue, refl, sym, ◌∙◌, ap, nat_le}
 use Rattle.std.specs.Prelude.{Option, Some, None, Result, IfOk, IfSome, option_map, if◌then◌else◌, slice_get}
 use Rattle.std.proofs.lemmas.Bool.{and_parts, cases_Bool}
-use Rattle.regex_meaning.specs.Answers.{answer_at, first_answer}
+use Rattle.regex_meaning.specs.SearchAnswers.{answer_at, first_answer}
 use Rattle.regex_meaning.specs.Laws.{IsRange, is_within_pair}
-use Rattle.regex_meaning.specs.Names.{Answer}
-use Rattle.regex_meaning.specs.Offsets.{IsBoundary, IsText, units}
+use Rattle.regex_meaning.specs.Captures.{Answer}
+use Rattle.regex_meaning.specs.CodeUnitOffsets.{IsBoundary, IsText, units}
 use Rattle.regex_meaning.specs.Text.{Text, is_unit_boundary, ucs2_text, utf16_text}
 use Rattle.regex_meaning.proofs.AnswerLemmas.{first_answer-stands}
 use Rattle.regex_meaning.proofs.TextLemmas.{ucs2_text-IsText, utf16_text-IsText}
 use Rattle.regex_meaning.proofs.UnitLemmas.{AreUnits, unit_boundary-between, unit_boundary-place_at, units-utf16}
 use Rattle.regex_meaning.proofs.UnitLengths.{ucs2_text-units}
-use Rattle.regress_exec.specs.Answers.{answer_of}
+use Rattle.regress_exec.specs.MatchAnswers.{answer_of}
 use Rattle.regress_exec.specs.declared.exec.Match.{Match}
-use Rattle.regress_match.specs.Programs.{as_ucs2, as_utf16, ucs2_answer_at, ucs2_answers, unit_tree, utf16_answer_at, utf16_answers}
-use Rattle.regress_match.specs.Replacements.{FitsUnits}
+use Rattle.regress_match.specs.RegexPrograms.{as_ucs2, as_utf16, ucs2_answer_at, ucs2_answers, unit_tree, utf16_answer_at, utf16_answers}
+use Rattle.regress_match.specs.Replacements.{MatchFitsCodeUnits}
 use Rattle.regress_match.specs.declared.api.regex.Regex.{Regex}
 use Rattle.regress_match.proofs.FlagLemmas.{IfOk-map}
 use Rattle.regress_match.proofs.FoundLemmas.{at-first, first-fits_units, head-first}
@@ -27,7 +27,7 @@ not-true false e = refl
 
 -- what is known of a match that is found from a start on
 pub record Stands (us : List ℕ) (u : Bool) (start : ℕ) (m : Answer) : Type 0 where
-  pub fits : FitsUnits us m
+  pub fits : MatchFitsCodeUnits us m
   pub behind : start ≤ m.range.0
   pub whole : IsTrue u → is_within_pair us m.range.1 ≡ false
 

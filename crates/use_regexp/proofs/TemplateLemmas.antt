@@ -5,9 +5,9 @@ use Rattle.std.specs.Prelude.{Option, Some, None, IfSome, if◌then◌else◌, o
 use Rattle.std.specs.List.{list_all}
 use Rattle.std.specs.Option.{option_or}
 use Rattle.regex_meaning.specs.Laws.{Each}
-use Rattle.regex_meaning.specs.Names.{Answer, first_range, group, ids_named, named_group}
+use Rattle.regex_meaning.specs.Captures.{Answer, first_range, group, ids_named, named_group}
 use Rattle.regex_meaning.specs.Outcomes.{group_range}
-use Rattle.regress_match.specs.Replacements.{FitsUnits, IsWithin}
+use Rattle.regress_match.specs.Replacements.{MatchFitsCodeUnits, IsRangeWithinUnits}
 use Rattle.regex_meaning.specs.Replace.{text_of}
 use Rattle.use_regexp.specs.Template.{IsWritten, Said, is_ascii, is_group, named_text, numbered, said, said_in, say, two_digits}
 
@@ -60,32 +60,32 @@ module _ (text : List ℕ) (m : Answer) where
 -- ---- Groups
 
 module _ (us : List ℕ) where
-  unwrapped : (o : Option (Option (ℕ × ℕ))) → IfSome o (λ g. IfSome g (IsWithin us)) → IfSome (unwrap_or o None) (IsWithin us)
+  unwrapped : (o : Option (Option (ℕ × ℕ))) → IfSome o (λ g. IfSome g (IsRangeWithinUnits us)) → IfSome (unwrap_or o None) (IsRangeWithinUnits us)
   unwrapped None h = tt
   unwrapped (Some g) h = h
 
-  either : (a b : Option (ℕ × ℕ)) → IfSome a (IsWithin us) → IfSome b (IsWithin us) → IfSome (option_or a b) (IsWithin us)
+  either : (a b : Option (ℕ × ℕ)) → IfSome a (IsRangeWithinUnits us) → IfSome b (IsRangeWithinUnits us) → IfSome (option_or a b) (IsRangeWithinUnits us)
   either None b h k = k
   either (Some x) b h k = h
 
-  get-within : (groups : List (Option (ℕ × ℕ))) (id : ℕ) → Each (λ g. IfSome g (IsWithin us)) groups → IfSome (slice_get groups id) (λ g. IfSome g (IsWithin us))
+  get-within : (groups : List (Option (ℕ × ℕ))) (id : ℕ) → Each (λ g. IfSome g (IsRangeWithinUnits us)) groups → IfSome (slice_get groups id) (λ g. IfSome g (IsRangeWithinUnits us))
   get-within [] id h = tt
   get-within (g ∷ groups) zero h = h.0
   get-within (g ∷ groups) (suc id) h = get-within groups id h.1
 
-  range-within : (m : Answer) (id : ℕ) → FitsUnits us m → IfSome (group_range m.captures id) (IsWithin us)
+  range-within : (m : Answer) (id : ℕ) → MatchFitsCodeUnits us m → IfSome (group_range m.captures id) (IsRangeWithinUnits us)
   range-within m id fits = unwrapped (slice_get m.captures id) (get-within m.captures id fits.groups)
 
   -- a group by number stands in the text
-  pub group-within : (m : Answer) (number : ℕ) → FitsUnits us m → IfSome (group m number) (IsWithin us)
+  pub group-within : (m : Answer) (number : ℕ) → MatchFitsCodeUnits us m → IfSome (group m number) (IsRangeWithinUnits us)
   group-within m zero fits = fits.whole
   group-within m (suc id) fits = range-within m id fits
 
-  first-within : (m : Answer) (ids : List ℕ) → FitsUnits us m → IfSome (first_range m ids) (IsWithin us)
+  first-within : (m : Answer) (ids : List ℕ) → MatchFitsCodeUnits us m → IfSome (first_range m ids) (IsRangeWithinUnits us)
   first-within m [] fits = tt
   first-within m (id ∷ ids) fits = either (group_range m.captures id) (first_range m ids) (range-within m id fits) (first-within m ids fits)
 
   -- so does one by name
-  pub named-within : (m : Answer) (name : List ℕ) → FitsUnits us m → IfSome (named_group m name) (IsWithin us)
+  pub named-within : (m : Answer) (name : List ℕ) → MatchFitsCodeUnits us m → IfSome (named_group m name) (IsRangeWithinUnits us)
   named-within m [] fits = tt
   named-within m (c ∷ name) fits = first-within m (ids_named m (c ∷ name)) fits

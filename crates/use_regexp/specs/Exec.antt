@@ -2,9 +2,9 @@
 use Rattle.std.specs.Prelude.{◌≡◌, ◌≤◌, ℕ, Bool, false, List, Option, IsTrue, if◌then◌else◌, slice_get}
 use Rattle.std.specs.Option.{option_map_or}
 use Rattle.regex_meaning.specs.Laws.{is_within_pair}
-use Rattle.regex_meaning.specs.Names.{Answer}
-use Rattle.regress_match.specs.Programs.{ucs2_answer_at, ucs2_answers, utf16_answer_at, utf16_answers}
-use Rattle.regress_match.specs.Replacements.{FitsUnits}
+use Rattle.regex_meaning.specs.Captures.{Answer}
+use Rattle.regress_match.specs.RegexPrograms.{ucs2_answer_at, ucs2_answers, utf16_answer_at, utf16_answers}
+use Rattle.regress_match.specs.Replacements.{MatchFitsCodeUnits}
 use Rattle.use_regexp.specs.Flags.{keeps_index}
 use Rattle.use_regexp.specs.Units.{character_start}
 use Rattle.use_regexp.specs.declared.pattern.Pattern.{Pattern}
@@ -43,6 +43,6 @@ module _ (p : Pattern) (text : List ℕ) where
 
   -- A match that is found from an index on stands in the text behind it, and its end cuts no pair.
   pub record StandsFrom (index : ℕ) (m : Answer) : Type 0 where
-    pub fits : FitsUnits text m
+    pub fits : MatchFitsCodeUnits text m
     pub behind : start_of index ≤ m.range.0
     pub whole : IsTrue p.flags.unicode → is_within_pair text m.range.1 ≡ false

@@ -1,7 +1,7 @@
 -- Flags of regular expressions.
 use Rattle.std.specs.Prelude.{ℕ, Bool, false, ◌||◌, List, ◌++◌, Option, Some, None, if◌then◌else◌}
-use Rattle.regex_meaning.specs.Flags.{letter_if}
-use Rattle.regex_meaning.specs.Lists.{contains}
+use Rattle.regex_meaning.specs.FlagLettersAndEscaping.{letter_if_flag_set}
+use Rattle.regex_meaning.specs.NumberListHelpers.{contains}
 use Rattle.regex_meaning.specs.Tree as tree
 use Rattle.use_regexp.specs.Letters.{are_flags}
 use Rattle.use_regexp.specs.declared.flags.Flags.{Flags}
@@ -24,8 +24,8 @@ flags_of letters = if are_flags letters then Some (flags_in letters) else None
 -- the letters of those that are set, in the order of the standard (21.2.5.4)
 abbrev pub letters_of : Flags → List ℕ
 letters_of f =
-    letter_if f.global 103 ++ letter_if f.ignore_case 105 ++ letter_if f.multiline 109
-    ++ letter_if f.dot_all 115 ++ letter_if f.unicode 117 ++ letter_if f.sticky 121
+    letter_if_flag_set f.global 103 ++ letter_if_flag_set f.ignore_case 105 ++ letter_if_flag_set f.multiline 109
+    ++ letter_if_flag_set f.dot_all 115 ++ letter_if_flag_set f.unicode 117 ++ letter_if_flag_set f.sticky 121
 
 -- those that the tree of the pattern has
 abbrev pub tree_flags : Flags → tree.Flags

@@ -1,6 +1,6 @@
 -- Letters that are those of flags.
 use Rattle.std.specs.Prelude.{ℕ, Bool, true, ◌&&◌, not, List, [], ◌∷◌, codes}
-use Rattle.regex_meaning.specs.Lists.{contains}
+use Rattle.regex_meaning.specs.NumberListHelpers.{contains}
 
 -- each letter is that of a flag, and none stands twice
 abbrev pub are_flags : List ℕ → Bool

@@ -1,6 +1,6 @@
 -- What refuses a regular expression.
 use Rattle.std.specs.Prelude.{◌≡◌, ℕ, List, Some, false}
-use Rattle.regress_match.specs.Refusals.{Refuses}
+use Rattle.regress_match.specs.CompileErrors.{IsPatternRefusedWith}
 use Rattle.regress_match.specs.declared.api.error.Error.{Error}
 use Rattle.regress_match.specs.declared.api.error.Error.TheVariants as error
 use Rattle.use_regexp.specs.Flags.{flags_of, tree_flags}
@@ -19,7 +19,7 @@ of_pattern e = Pattern e
 pub record IsRefused (source letters : List ℕ) (e : Error) : Type 0 where
   pub flags : flags.Flags
   pub are : flags_of letters ≡ Some flags
-  pub refused : Refuses (tree_flags flags) (characters_of flags.unicode source) e
+  pub refused : IsPatternRefusedWith (tree_flags flags) (characters_of flags.unicode source) e
 
 -- what refuses a pattern with these letters of flags
 abbrev pub CanRefuse : (source letters : List ℕ) → RegExpError → Type 0

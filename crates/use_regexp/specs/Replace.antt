@@ -1,13 +1,13 @@
 -- Texts with other text in place of matches (21.2.5.9, RegExp.prototype[@@replace]).
 use Rattle.std.specs.Prelude.{◌≡◌, ◌≤◌, ℕ, List, [], ◌∷◌, Result, Vec, length, map}
 use Rattle.std.specs.Borrow.{Bor}
-use Rattle.regex_meaning.specs.Names.{Answer}
+use Rattle.regex_meaning.specs.Captures.{Answer}
 use Rattle.regex_meaning.specs.Replace.{replaced}
 use Rattle.regress_exec.specs.declared.exec.Match.{Match}
-use Rattle.regress_match.specs.Answered as answered
-use Rattle.regress_match.specs.Closures.{CanBeCalled}
-use Rattle.regress_match.specs.Refusals.{IsMemory}
-use Rattle.regress_match.specs.Replacements.{FitsUnits}
+use Rattle.regress_match.specs.ClosureReplacements as answered
+use Rattle.regress_match.specs.ReplacementClosures.{ClosureCanBeCalled}
+use Rattle.regress_match.specs.CompileErrors.{IsOutOfMemory}
+use Rattle.regress_match.specs.Replacements.{MatchFitsCodeUnits}
 use Rattle.regress_match.specs.declared.api.error.ReplaceError.{ReplaceError}
 use Rattle.regress_match.specs.declared.api.error.ReplaceError.TheVariants.{Search, Closure}
 use Rattle.use_regexp.specs.Loops.{AreTaken}
@@ -17,7 +17,7 @@ use Rattle.use_regexp.specs.declared.pattern.Pattern.{Pattern}
 -- the range of each stands in the text, and none begins before the offset, or before the end of the one in front of it
 abbrev pub StandInUnits : (text : List ℕ) → (from : ℕ) → List Answer → Type 0
 StandInUnits text from [] = from ≤ length text
-StandInUnits text from (m ∷ ms) = (from ≤ m.range.0) × FitsUnits text m × StandInUnits text m.range.1 ms
+StandInUnits text from (m ∷ ms) = (from ≤ m.range.0) × MatchFitsCodeUnits text m × StandInUnits text m.range.1 ms
 
 -- these matches, each with what the template says for it
 abbrev pub substituted : (text template : List ℕ) → List Answer → List (Answer × List ℕ)
@@ -30,7 +30,7 @@ IsReplaced p last text template made =
 
 -- a closure may be called at each of the matches that are taken
 abbrev pub CanBeTaken : (takes : Bor Match → Type 0) → Pattern → (text : List ℕ) → (last : ℕ) → Type 0
-CanBeTaken takes p text last = (ms : List Answer) → AreTaken p text 0 last ms → CanBeCalled takes ms
+CanBeTaken takes p text last = (ms : List Answer) → AreTaken p text 0 last ms → ClosureCanBeCalled takes ms
 
 -- the units of what a closure answers
 abbrev pub units_of : {Z : Type 0} → Vec ℕ Z → List ℕ
@@ -52,5 +52,5 @@ module _ {Z E : Type 0} (says : Bor Match → Result (Vec ℕ Z) E → Type 0) w
     IsReplacedWith made = (ms : List Answer) × AreTaken p text 0 last ms × IsReplacedBy text ms made
 
     abbrev pub CanRefuseWith : ReplaceError E → Type 0
-    CanRefuseWith (Search e) = IsMemory e
+    CanRefuseWith (Search e) = IsOutOfMemory e
     CanRefuseWith (Closure e) = (ms : List Answer) × AreTaken p text 0 last ms × answered.IsRefusedAt says units_of ms e

@@ -1,7 +1,7 @@
 //! Flags of regular expressions.
 
 ghost use Rattle.std.specs.Prelude.{◌≡◌, ◌++◌, IfOk};
-ghost use Rattle.regex_meaning.specs.Flags.{letter_if};
+ghost use Rattle.regex_meaning.specs.FlagLettersAndEscaping.{letter_if_flag_set};
 ghost use Rattle.use_regexp.specs.Letters.{are_flags as are_flags_of};
 
 use regress_match::Flags as PatternFlags;
@@ -91,7 +91,7 @@ impl Flags {
 
 // One letter more, if its flag is set.
 fn push_if(letters: &mut Vec<u16>, set: bool, letter: u16) -> Result<(), AllocError>
-    ensures { IfOk result (λ _. letters.new.items ≡ letters.old.items ++ letter_if set letter) }
+    ensures { IfOk result (λ _. letters.new.items ≡ letters.old.items ++ letter_if_flag_set set letter) }
 {
     if set {
         letters.push(letter)?;

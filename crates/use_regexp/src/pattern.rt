@@ -2,8 +2,8 @@
 
 ghost use Rattle.std.specs.Prelude.{◌≡◌, ◌++◌, ◌∷◌, ◌≤◌, [], IfErr, IfOk, IfSome, IsTrue, false, if◌then◌else◌, length, map, option_map, slice_get};
 ghost use Rattle.std.specs.Option.{option_to_list};
-ghost use Rattle.regress_exec.specs.Answers.{answer_of};
-ghost use Rattle.regress_match.specs.Refusals.{IsMemory};
+ghost use Rattle.regress_exec.specs.MatchAnswers.{answer_of};
+ghost use Rattle.regress_match.specs.CompileErrors.{IsOutOfMemory};
 ghost use Rattle.use_regexp.specs.Refusals.{CanRefuse};
 
 use crate::error::RegExpError;
@@ -63,7 +63,7 @@ impl Pattern {
     // The first match from an index on.
     pub(crate) fn first_match(&self, text: &[u16], at: usize) -> Result<Option<Match>, SearchError>
         ensures found { IfOk result (λ m. option_map answer_of m ≡ first_match self.now text.now at) }
-        ensures refused { IfErr result IsMemory }
+        ensures refused { IfErr result IsOutOfMemory }
     {
         let start = units::character_start(self.flags.unicode, text, at);
         if self.flags.unicode {
@@ -76,7 +76,7 @@ impl Pattern {
     // The match that begins at an index, if one does. No other place is tried.
     pub(crate) fn match_here(&self, text: &[u16], at: usize) -> Result<Option<Match>, SearchError>
         ensures found { IfOk result (λ m. option_map answer_of m ≡ match_here self.now text.now at) }
-        ensures refused { IfErr result IsMemory }
+        ensures refused { IfErr result IsOutOfMemory }
     {
         let start = units::character_start(self.flags.unicode, text, at);
         if self.flags.unicode {
@@ -97,7 +97,7 @@ impl Pattern {
         ensures found { IfOk result (λ m. option_map answer_of m ≡ found self.now text.now last_index) }
         ensures stands { IfOk result (λ m. IfSome m (λ f.
             StandsFrom self.now text.now (search_index_of self.now last_index) (answer_of f))) }
-        ensures refused { IfErr result IsMemory }
+        ensures refused { IfErr result IsOutOfMemory }
     {
         let index = self.search_index(last_index);
         if self.flags.sticky {
@@ -147,7 +147,7 @@ impl Pattern {
     fn all_from(&self, alloc: Global, text: &[u16], first: usize) -> Result<Vec<Match>, SearchError>
         requires { IsTrue self.now.flags.global }
         ensures taken { IfOk result (λ v. AreFoundInTurn self.now text.now first (map answer_of v.items)) }
-        ensures refused { IfErr result IsMemory }
+        ensures refused { IfErr result IsOutOfMemory }
     {
         let mut matches = Vec::new(alloc);
         let mut last = first;
@@ -171,7 +171,7 @@ impl Pattern {
         last_index: usize,
     ) -> Result<Vec<Match>, SearchError>
         ensures taken { IfOk result (λ v. AreTaken self.now text.now first last_index (map answer_of v.items)) }
-        ensures refused { IfErr result IsMemory }
+        ensures refused { IfErr result IsOutOfMemory }
     {
         if self.flags.global {
             return self.all_from(alloc, text, first);
@@ -196,7 +196,7 @@ impl Pattern {
 // The first of the matches to come, if there is one.
 fn first<P: MatchProducer + Drop>(mut matches: Matches<P>) -> Result<Option<Match>, SearchError>
     ensures first { IfOk result (λ m. option_map answer_of m ≡ slice_get matches.answers 0) }
-    ensures refused { matches.limited ≡ false → IfErr result IsMemory }
+    ensures refused { matches.limited ≡ false → IfErr result IsOutOfMemory }
 {
     matches.next().transpose()
 }

@@ -1,8 +1,8 @@
 //! The object: a pattern, and where its next search begins.
 
 ghost use Rattle.std.specs.Prelude.{◌≡◌, IfErr, IfOk, OnErr, if◌then◌else◌, is_some, map, option_map, slice_get};
-ghost use Rattle.regress_exec.specs.Answers.{answer_of};
-ghost use Rattle.regress_match.specs.Refusals.{IsMemory};
+ghost use Rattle.regress_exec.specs.MatchAnswers.{answer_of};
+ghost use Rattle.regress_match.specs.CompileErrors.{IsOutOfMemory};
 ghost use Rattle.use_regexp.specs.{Compiled.{IsPatternOf}, Exec.{found, last_behind}, Loops.{AreTaken, LeavesTaken}, Refusals.{CanRefuse}};
 ghost use Rattle.use_regexp.specs.Source.{escaped_source, literal_of};
 
@@ -88,7 +88,7 @@ impl RegExp {
         ensures last { IfOk result (λ m. self.new.last_index
             ≡ last_behind self.old.pattern self.old.last_index (option_map answer_of m)) }
         ensures same { self.new.pattern ≡ self.old.pattern }
-        ensures refused { IfErr result IsMemory }
+        ensures refused { IfErr result IsOutOfMemory }
         ensures unchanged { OnErr result (self.new ≡ self.old) }
     {
         let found = self.pattern.find(text, self.last_index)?;
@@ -107,7 +107,7 @@ impl RegExp {
         ensures last { IfOk result (λ b. self.new.last_index ≡ last_behind self.old.pattern
             self.old.last_index (found self.old.pattern text.now self.old.last_index)) }
         ensures same { self.new.pattern ≡ self.old.pattern }
-        ensures refused { IfErr result IsMemory }
+        ensures refused { IfErr result IsOutOfMemory }
         ensures unchanged { OnErr result (self.new ≡ self.old) }
     {
         let found = self.exec(text)?;
@@ -123,7 +123,7 @@ impl RegExp {
     pub fn search(&self, text: &[u16]) -> Result<Option<usize>, SearchError>
         ensures found { IfOk result (λ at. at
             ≡ option_map (λ m. m.range.0) (found self.now.pattern text.now 0)) }
-        ensures refused { IfErr result IsMemory }
+        ensures refused { IfErr result IsOutOfMemory }
     {
         match self.pattern.find(text, 0)? {
             Some(found) => Ok(Some(found.start())),
@@ -142,7 +142,7 @@ impl RegExp {
             AreTaken self.old.pattern text.now 0 self.old.last_index (map answer_of v.items)) }
         ensures last { IfOk result (λ _. LeavesTaken self.old self.new text.now) }
         ensures same { self.new.pattern ≡ self.old.pattern }
-        ensures refused { IfErr result IsMemory }
+        ensures refused { IfErr result IsOutOfMemory }
         ensures unchanged { OnErr result (self.new ≡ self.old) }
     {
         let matches = self.pattern.taken(alloc, text, 0, self.last_index)?;
@@ -169,7 +169,7 @@ impl RegExp {
     pub fn match_all(&self, alloc: Global, text: &[u16]) -> Result<Vec<Match>, SearchError>
         ensures taken { IfOk result (λ v.
             AreTaken self.now.pattern text.now self.now.last_index self.now.last_index (map answer_of v.items)) }
-        ensures refused { IfErr result IsMemory }
+        ensures refused { IfErr result IsOutOfMemory }
     {
         self.pattern
             .taken(alloc, text, self.last_index, self.last_index)

@@ -3,8 +3,8 @@
 ghost use Rattle.std.specs.Prelude.{◌≡◌, ◌++◌, ◌≤◌, IfErr, IfOk, OnErr, drop, length, map, slice_range};
 ghost use Rattle.std.specs.Result.{IsOkAnd};
 ghost use Rattle.regex_meaning.specs.Replace.{replaced};
-ghost use Rattle.regress_exec.specs.Answers.{answer_of};
-ghost use Rattle.regress_match.specs.{Answered.{CanRefuseAnswer}, Closures.{CanBeCalled}, Refusals.{IsMemory}, Replacements.{FitsUnits}};
+ghost use Rattle.regress_exec.specs.MatchAnswers.{answer_of};
+ghost use Rattle.regress_match.specs.{ClosureReplacements.{IsErrorOfClosureResult}, ReplacementClosures.{ClosureCanBeCalled}, CompileErrors.{IsOutOfMemory}, Replacements.{MatchFitsCodeUnits}};
 ghost use Rattle.use_regexp.specs.Loops.{LeavesTaken};
 ghost use Rattle.use_regexp.specs.Replace.{CanBeTaken, CanRefuseAt, CanRefuseWith, IsReplaced, IsReplacedBy, IsReplacedWith, StandInUnits, substituted};
 
@@ -34,7 +34,7 @@ impl RegExp {
             IsReplaced self.old.pattern self.old.last_index text.now template.now v.items) }
         ensures last { IfOk result (λ _. LeavesTaken self.old self.new text.now) }
         ensures same { self.new.pattern ≡ self.old.pattern }
-        ensures refused { IfErr result IsMemory }
+        ensures refused { IfErr result IsOutOfMemory }
         ensures unchanged { OnErr result (self.new ≡ self.old) }
     {
         let matches = self.pattern.taken(alloc, text, 0, self.last_index)?;
@@ -77,7 +77,7 @@ impl RegExp {
 // Writes what stands before a match, and answers where the text goes on behind it.
 fn reach(made: &mut Vec<u16>, text: &[u16], from: usize, found: &Match) -> Result<usize, AllocError>
     requires rising { from ≤ found.now.range.start }
-    requires fits { FitsUnits text.now (answer_of found.now) }
+    requires fits { MatchFitsCodeUnits text.now (answer_of found.now) }
     ensures made { IfOk result (λ _. made.new.items
         ≡ made.old.items ++ slice_range text.now from found.now.range.start) }
     ensures behind { IfOk result (λ to. to ≡ found.now.range.end) }
@@ -112,7 +112,7 @@ fn write_template(
 // Writes what the closure answered at a match.
 fn write_answer<E>(made: &mut Vec<u16>, answer: Result<Vec<u16>, E>) -> Result<(), ReplaceError<E>>
     ensures made { IfOk result (λ _. IsOkAnd answer (λ piece. made.new.items ≡ made.old.items ++ piece.items)) }
-    ensures refused { IfErr result (CanRefuseAnswer answer) }
+    ensures refused { IfErr result (IsErrorOfClosureResult answer) }
 {
     let piece = answer.map_err(ReplaceError::Closure)?;
     made.extend_from_slice(&piece)?;
@@ -129,7 +129,7 @@ fn write_answers<E, F>(
 where
     F: Fn(&Match) -> Result<Vec<u16>, E>,
     requires stand { StandInUnits text.now 0 (map answer_of matches.now) }
-    requires can { CanBeCalled (F.pre with) (map answer_of matches.now) }
+    requires can { ClosureCanBeCalled (F.pre with) (map answer_of matches.now) }
     ensures made { IfOk result (λ v. IsReplacedBy (F.post with) text.now (map answer_of matches.now) v.items) }
     ensures refused { IfErr result (CanRefuseAt (F.post with) (map answer_of matches.now)) }
 {

@@ -1,8 +1,8 @@
 //! Texts that are cut where a pattern matches.
 
 ghost use Rattle.std.specs.Prelude.{◌≡◌, ◌++◌, ◌∷◌, ◌⊎◌, ◌≤◌, [], IfErr, IfNone, IfOk, IfSome, None, Some, length, map, option_map, take};
-ghost use Rattle.regress_exec.specs.Answers.{answer_of, range_of};
-ghost use Rattle.regress_match.specs.Refusals.{IsMemory};
+ghost use Rattle.regress_exec.specs.MatchAnswers.{answer_of, range_of};
+ghost use Rattle.regress_match.specs.CompileErrors.{IsOutOfMemory};
 ghost use Rattle.use_regexp.specs.Split.{ArePieces, IsSeparator, IsSplit, before_end as before_end_of, chosen, pieces_of_none, separator};
 
 use crate::pattern::Pattern;
@@ -27,7 +27,7 @@ impl RegExp {
     ) -> Result<Vec<Option<Range<usize>>>, SearchError>
         ensures split { IfOk result (λ v.
             IsSplit self.now.pattern text.now limit (map (option_map range_of) v.items)) }
-        ensures refused { IfErr result IsMemory }
+        ensures refused { IfErr result IsOutOfMemory }
     {
         let limit = limit as usize;
         if text.is_empty() {
@@ -47,7 +47,7 @@ impl Pattern {
     ) -> Result<Vec<Option<Range<usize>>>, SearchError>
         ensures pieces { IfOk result (λ v. map (option_map range_of) v.items
             ≡ take limit (pieces_of_none self.now text.now)) }
-        ensures refused { IfErr result IsMemory }
+        ensures refused { IfErr result IsOutOfMemory }
     {
         let mut pieces = Vec::new(alloc);
         if self.match_here(text, 0)?.is_none() {
@@ -65,7 +65,7 @@ impl Pattern {
         limit: usize,
     ) -> Result<Vec<Option<Range<usize>>>, SearchError>
         ensures pieces { IfOk result (λ v. ArePieces self.now text.now limit (map (option_map range_of) v.items)) }
-        ensures refused { IfErr result IsMemory }
+        ensures refused { IfErr result IsOutOfMemory }
     {
         let mut pieces = Vec::new(alloc);
         let mut from = 0;
@@ -96,7 +96,7 @@ impl Pattern {
             ((separator self.now text.now from ≡ None) ⊎ (limit ≤ length pieces.now))) }
         ensures goes { IfOk result (λ m. IfSome m (λ f. separator self.now text.now from ≡ Some (answer_of f))) }
         ensures stands { IfOk result (λ m. IfSome m (λ f. IsSeparator self.now text.now from (answer_of f))) }
-        ensures refused { IfErr result IsMemory }
+        ensures refused { IfErr result IsOutOfMemory }
     {
         if limit <= pieces.len() {
             return Ok(None);
@@ -109,7 +109,7 @@ impl Pattern {
         requires { from ≤ length text.now }
         ensures found { IfOk result (λ m. option_map answer_of m ≡ separator self.now text.now from) }
         ensures stands { IfOk result (λ m. IfSome m (λ f. IsSeparator self.now text.now from (answer_of f))) }
-        ensures refused { IfErr result IsMemory }
+        ensures refused { IfErr result IsOutOfMemory }
     {
         let first = self.first_match(text, from)?;
         let chosen = self.passed(text, from, first)?;
@@ -126,7 +126,7 @@ impl Pattern {
         requires { from ≤ length text.now }
         ensures chosen { IfOk result (λ m. option_map answer_of m
             ≡ chosen self.now text.now from (option_map answer_of first)) }
-        ensures refused { IfErr result IsMemory }
+        ensures refused { IfErr result IsOutOfMemory }
     {
         let Some(found) = first else {
             return Ok(None);

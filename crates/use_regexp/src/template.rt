@@ -3,9 +3,9 @@
 ghost use Rattle.std.specs.Prelude.{◌≡◌, ◌++◌, ◌<◌, IfOk, IfSome, IsTrue, None, Some, if◌then◌else◌, length, option_map, position, string_bytes};
 ghost use Rattle.std.specs.Char.{is_ascii_digit};
 ghost use Rattle.std.specs.List.{list_all};
-ghost use Rattle.regex_meaning.specs.{Names.{Answer}, Replace.{text_of}};
-ghost use Rattle.regress_exec.specs.Answers.{answer_of, range_of};
-ghost use Rattle.regress_match.specs.Replacements.{FitsUnits, IsWithin};
+ghost use Rattle.regex_meaning.specs.{Captures.{Answer}, Replace.{text_of}};
+ghost use Rattle.regress_exec.specs.MatchAnswers.{answer_of, range_of};
+ghost use Rattle.regress_match.specs.Replacements.{MatchFitsCodeUnits, IsRangeWithinUnits};
 ghost use Rattle.use_regexp.specs.Template.{IsWritten, behind_dollar, is_ascii, is_greater, is_group as is_group_of, name_end as name_end_of, named};
 ghost use Rattle.use_regexp.specs.Template.{named_text, numbered, plain, said, substitution, two_digits as two_digits_of};
 
@@ -26,7 +26,7 @@ pub(crate) fn substitute(
     found: &Match,
     template: &[u16],
 ) -> Result<(), AllocError>
-    requires { FitsUnits text.now (answer_of found.now) }
+    requires { MatchFitsCodeUnits text.now (answer_of found.now) }
     ensures { IfOk result (λ _. out.new.items
         ≡ out.old.items ++ substitution text.now (answer_of found.now) template.now) }
 {
@@ -49,7 +49,7 @@ fn push_said<'a>(
     first: u16,
     behind: &'a [u16],
 ) -> Result<&'a [u16], AllocError>
-    requires { FitsUnits text.now (answer_of found.now) }
+    requires { MatchFitsCodeUnits text.now (answer_of found.now) }
     ensures { IfOk result (λ rest. IsWritten out.old.items out.new.items rest.now
         (said text.now (answer_of found.now) first behind.now)) }
 {
@@ -68,7 +68,7 @@ fn push_behind_dollar<'a>(
     found: &Match,
     signs: &'a [u16],
 ) -> Result<&'a [u16], AllocError>
-    requires { FitsUnits text.now (answer_of found.now) }
+    requires { MatchFitsCodeUnits text.now (answer_of found.now) }
     ensures { IfOk result (λ rest. IsWritten out.old.items out.new.items rest.now
         (behind_dollar text.now (answer_of found.now) signs.now)) }
 {
@@ -88,7 +88,7 @@ fn push_behind_dollar<'a>(
 
 // Writes what a sign behind `$` says alone: `$` itself, the match, what stands before it or behind it; and else both signs.
 fn push_plain(out: &mut Vec<u16>, text: &[u16], found: &Match, sign: u16) -> Result<(), AllocError>
-    requires { FitsUnits text.now (answer_of found.now) }
+    requires { MatchFitsCodeUnits text.now (answer_of found.now) }
     ensures { IfOk result (λ _. out.new.items ≡ out.old.items ++ plain text.now (answer_of found.now) sign) }
 {
     if sign == 38 {
@@ -122,7 +122,7 @@ fn push_numbered<'a>(
     digit: u16,
     rest: &'a [u16],
 ) -> Result<&'a [u16], AllocError>
-    requires fits { FitsUnits text.now (answer_of found.now) }
+    requires fits { MatchFitsCodeUnits text.now (answer_of found.now) }
     requires digit { IsTrue (is_ascii_digit digit) }
     ensures { IfOk result (λ left. IsWritten out.old.items out.new.items left.now
         (numbered text.now (answer_of found.now) digit rest.now)) }
@@ -168,7 +168,7 @@ fn push_named<'a>(
     found: &Match,
     rest: &'a [u16],
 ) -> Result<&'a [u16], AllocError>
-    requires { FitsUnits text.now (answer_of found.now) }
+    requires { MatchFitsCodeUnits text.now (answer_of found.now) }
     ensures { IfOk result (λ left. IsWritten out.old.items out.new.items left.now
         (named text.now (answer_of found.now) rest.now)) }
 {
@@ -208,7 +208,7 @@ fn push_name(
     found: &Match,
     name: &[u16],
 ) -> Result<(), AllocError>
-    requires { FitsUnits text.now (answer_of found.now) }
+    requires { MatchFitsCodeUnits text.now (answer_of found.now) }
     ensures { IfOk result (λ _. out.new.items
         ≡ out.old.items ++ named_text text.now (answer_of found.now) name.now) }
 {
@@ -239,7 +239,7 @@ fn push_range(
     text: &[u16],
     range: Option<Range<usize>>,
 ) -> Result<(), AllocError>
-    requires { IfSome (option_map range_of range) (IsWithin text.now) }
+    requires { IfSome (option_map range_of range) (IsRangeWithinUnits text.now) }
     ensures { IfOk result (λ _. (m : Answer) → out.new.items
         ≡ out.old.items ++ text_of text.now m (option_map range_of range)) }
 {

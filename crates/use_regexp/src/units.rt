@@ -2,7 +2,7 @@
 
 ghost use Rattle.std.specs.Prelude.{◌≡◌, ◌≤◌, ◌∷◌, IfOk, length};
 ghost use Rattle.regex_meaning.specs.Laws.{is_within_pair as is_pair_at};
-ghost use Rattle.regex_meaning.specs.Text.{character_of_pair, is_high_surrogate, is_low_surrogate, utf16_characters};
+ghost use Rattle.regex_meaning.specs.Text.{decode_surrogate_pair, is_high_surrogate, is_low_surrogate, utf16_characters};
 ghost use Rattle.use_regexp.specs.Units.{advanced as advanced_of, character_start as start_of, characters_of};
 
 use std::alloc::{AllocError, Global};
@@ -72,7 +72,7 @@ fn first_character(unit: u16, behind: &[u16]) -> (u32, &[u16])
 
 // The character of a pair.
 fn character_of(high: u16, low: u16) -> u32
-    ensures { result ≡ character_of_pair high low }
+    ensures { result ≡ decode_surrogate_pair high low }
 {
     0x1_0000 + (u32::from(high) % 0x400 * 0x400 + u32::from(low) % 0x400)
 }

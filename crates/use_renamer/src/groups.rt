@@ -1,8 +1,8 @@
 //! What the groups with names matched.
 
 ghost use Rattle.std.specs.Prelude.{◌≡◌, ◌++◌, IfErr, IfOk, IfSome, option_map, string_bytes};
-ghost use Rattle.regress_exec.specs.Answers.{answer_of, range_of};
-ghost use Rattle.regress_match.specs.{Refusals.{IsMemory}, Replacements.{FitsText, IsSlice}};
+ghost use Rattle.regress_exec.specs.MatchAnswers.{answer_of, range_of};
+ghost use Rattle.regress_match.specs.{CompileErrors.{IsOutOfMemory}, Replacements.{MatchFitsText, IsCharBoundaryRange}};
 ghost use Rattle.use_renamer.specs.Names.{described, groups_shown, parts_of};
 
 use regress_match::{Match, Range, Regex, SearchError};
@@ -15,7 +15,7 @@ use std::alloc::{AllocError, Global};
 /// `Memory` where there is no memory for the search or the text.
 pub fn parts(alloc: Global, re: &Regex, name: &str) -> Result<String, SearchError>
     ensures shown { IfOk result (λ s. string_bytes s ≡ parts_of re.now name.now) }
-    ensures refused { IfErr result IsMemory }
+    ensures refused { IfErr result IsOutOfMemory }
 {
     match re.find(name)? {
         Some(found) => Ok(show(alloc, name, &found)?),
@@ -25,7 +25,7 @@ pub fn parts(alloc: Global, re: &Regex, name: &str) -> Result<String, SearchErro
 
 // The same of a match that stands in the text.
 fn show(alloc: Global, text: &str, found: &Match) -> Result<String, AllocError>
-    requires { FitsText text.now (answer_of found.now) }
+    requires { MatchFitsText text.now (answer_of found.now) }
     ensures { IfOk result (λ s. string_bytes s ≡ groups_shown text.now (answer_of found.now)) }
 {
     let mut line = String::new(alloc);
@@ -42,7 +42,7 @@ fn push_group(
     name: &str,
     range: Option<Range<usize>>,
 ) -> Result<(), AllocError>
-    requires { IfSome (option_map range_of range) (IsSlice text.now) }
+    requires { IfSome (option_map range_of range) (IsCharBoundaryRange text.now) }
     ensures { IfOk result (λ _. string_bytes line.new
         ≡ string_bytes line.old ++ described text.now (name.now, option_map range_of range)) }
 {

@@ -1,7 +1,7 @@
 //! Which file gets which name.
 
 ghost use Rattle.std.specs.Prelude.{◌≡◌, ◌||◌, ◌++◌, ◌∷◌, [], IfErr, IfOk, OnOk, bytes_eq, find, is_none, not, option_map, string_bytes};
-ghost use Rattle.regress_match.specs.Refusals.{IsMemory};
+ghost use Rattle.regress_match.specs.CompileErrors.{IsOutOfMemory};
 ghost use Rattle.use_renamer.specs.Names.{AreSafe, CanRefuse, all_differ, changes, changing, is_among, is_file_name, moves_of, texts};
 
 use crate::names::{is_among, is_file_name};
@@ -97,7 +97,7 @@ fn changes(
 ) -> Result<Vec<Rename>, SearchError>
     ensures each { IfOk result (λ renames. moves_of renames.items
         ≡ changes re.now template.now (texts files.now)) }
-    ensures refused { IfErr result IsMemory }
+    ensures refused { IfErr result IsOutOfMemory }
 {
     let mut renames = Vec::new(alloc);
     for name in files {

@@ -1,41 +1,42 @@
-//! What may stand on a command line, and what does.
+//! Descriptions of command lines, and the arguments given on them.
 
 use clap::{Arg, ArgAction, ArgMatches, Command, value_parser};
 use std::alloc::{AllocError, Global};
 
-/// What may stand on a program's command line, and what its help says.
+/// The arguments that a program accepts, and the text of its help.
 pub struct CommandLine {
     pub name: &'static str,
     pub about: &'static str,
-    /// What its help says last; nothing where it is empty.
+    /// The last lines of the help; none if empty.
     pub after: &'static str,
     pub arguments: &'static [Argument],
 }
 
-/// A word or an option of a command line: by which name it is asked for, and written where it is an option, what it looks
-/// like, and what the help says of it.
+/// A positional argument or an option: its id, which is also the long name of an option, its form,
+/// and its help text.
 pub struct Argument(pub &'static str, pub Form, pub &'static str);
 
-/// What an argument looks like.
+/// The form of an argument.
 #[derive(Clone, Copy)]
 pub enum Form {
-    /// `--ID`, perhaps with a letter for it.
+    /// `--ID`, with an optional short letter.
     Switch(Option<char>),
-    /// `--ID NAME`, perhaps with a letter for it: a number; perhaps which one it is where it is not there.
+    /// `--ID NAME`, a number: an optional short letter, the value's name, and an optional default.
     Number(Option<char>, &'static str, Option<&'static str>),
-    /// `--ID[=NAME]`: one of some words; which it is where it is not there, and where it has no value.
+    /// `--ID[=NAME]`, one of a list of words: the value's name, the words, the value if the option
+    /// is absent, and the value if it is given without one.
     Choice(&'static str, &'static [&'static str], &'static str, &'static str),
-    /// `--ID NAME`, with a letter for it, once or more.
+    /// `--ID NAME`, required and repeatable: the short letter, and the value's name.
     Each(char, &'static str),
-    /// A word, which has to be there.
+    /// A required word.
     Word(&'static str),
-    /// A word, and what stands for it where it is not there.
+    /// An optional word: its name, and its default.
     WordOr(&'static str, &'static str),
-    /// Words, and what stands for them where there are none.
+    /// Any number of words: their name, and their default if there are none.
     WordsOr(&'static str, &'static str),
 }
 
-// An option, perhaps with a letter.
+// Returns an option with an optional short letter.
 fn option(alloc: Global, id: &'static str, letter: Option<char>) -> Arg<'static> {
     let arg = Arg::new(alloc, id).long(id);
     match letter {
@@ -44,7 +45,7 @@ fn option(alloc: Global, id: &'static str, letter: Option<char>) -> Arg<'static>
     }
 }
 
-// A number.
+// Makes an argument a number, with an optional default.
 fn number(arg: Arg<'static>, default: Option<&'static str>) -> Arg<'static> {
     let arg = arg.value_parser(value_parser!(u64));
     match default {
@@ -53,7 +54,7 @@ fn number(arg: Arg<'static>, default: Option<&'static str>) -> Arg<'static> {
     }
 }
 
-// One of some words.
+// Makes an argument one of a list of words.
 fn choice(
     arg: Arg<'static>,
     words: &'static [&'static str],
@@ -67,12 +68,13 @@ fn choice(
         .value_parser(words)
 }
 
-// What has no name on the command line.
+// Returns a positional argument.
 fn word(alloc: Global, id: &'static str, name: &'static str) -> Arg<'static> {
     Arg::new(alloc, id).value_name(name)
 }
 
 impl Argument {
+    // Returns the argument for `clap`.
     fn arg(&self, alloc: Global) -> Arg<'static> {
         let id = self.0;
         let form = self.1;
@@ -104,11 +106,11 @@ impl Argument {
 }
 
 impl CommandLine {
-    /// The command that reads it.
+    /// Returns the `clap` command for this command line.
     ///
     /// # Errors
     ///
-    /// Where there is no memory for it.
+    /// `AllocError` if an allocation fails.
     pub(crate) fn command<'a>(&self, alloc: Global) -> Result<Command<'a>, AllocError> {
         let mut command = Command::new(alloc, self.name).about(self.about);
         if !self.after.is_empty() {
@@ -121,14 +123,15 @@ impl CommandLine {
     }
 }
 
-/// What stands on a command line, or for what does not.
+/// The arguments given on a command line, with the defaults of those that were not.
 #[derive(Drop)]
 pub struct Given<'a> {
-    // Each value behind its argument's id; no text for a switch.
+    // Each value with its argument's id; a switch has an empty text.
     values: Vec<(&'static str, &'a str)>,
 }
 
 impl<'a> Given<'a> {
+    // Collects the values of the arguments of `line` from what `clap` parsed.
     pub(crate) fn of(
         alloc: Global,
         line: &'static CommandLine,
@@ -150,12 +153,13 @@ impl<'a> Given<'a> {
         Ok(Given { values })
     }
 
-    /// Whether there is such an argument.
+    /// Checks whether the argument was given, or has a default.
     pub fn has(&self, id: &str) -> bool {
         self.values.iter().any(|(of, _)| *of == id)
     }
 
-    /// Its value; the first of several, and no text where it has none.
+    /// Returns the argument's value: the first if there are several, and an empty text if there is
+    /// none.
     pub fn text(&self, id: &str) -> &'a str {
         match self.values.iter().find(|(of, _)| *of == id) {
             Some((_, text)) => *text,
@@ -163,11 +167,11 @@ impl<'a> Given<'a> {
         }
     }
 
-    /// All of its values.
+    /// Returns all values of the argument.
     ///
     /// # Errors
     ///
-    /// Where there is no memory for them.
+    /// `AllocError` if an allocation fails.
     pub fn texts(&self, alloc: Global, id: &str) -> Result<Vec<&'a str>, AllocError> {
         let mut texts = Vec::new(alloc);
         for (of, text) in &self.values {
@@ -178,7 +182,8 @@ impl<'a> Given<'a> {
         Ok(texts)
     }
 
-    /// Its value as a number, where it has one.
+    /// Returns the argument's value as a number, or `None` if it has no value or the value is not a
+    /// number.
     pub fn number(&self, id: &str) -> Option<u64> {
         self.text(id).parse().ok()
     }

@@ -1,4 +1,4 @@
-//! What the programs that call the engine share: how a command line is read, and how a program ends.
+//! Code shared by the programs that use the engine: reading the command line, and the exit status.
 #![tactic(auto)]
 
 mod arguments;
@@ -8,24 +8,24 @@ use anyhow::{Context, Result};
 use std::env;
 use std::process::ExitCode;
 
-/// The status where something is wrong.
+/// The exit status of a program that fails.
 pub const TROUBLE: u8 = 2;
 
-/// A program: what may stand on its command line, and what it does.
+/// A program: its command line, and what it does.
 pub trait Program {
-    /// The command line.
+    /// Returns the description of the command line.
     fn line() -> &'static CommandLine;
 
-    /// Does what a command line asks for, and answers with which status the program ends.
+    /// Runs the program with the given arguments, and returns the exit status.
     ///
     /// # Errors
     ///
-    /// Where it cannot do so.
+    /// Any error that prevents it from doing what it was asked for.
     fn run(rt: &HostRuntime, given: &Given<'_>) -> Result<u8>;
 }
 
-/// Runs a program, and answers with which status it ends: with `TROUBLE` where it cannot do what it is asked for. Then why
-/// stands on standard error behind its name.
+/// Runs a program, and returns its exit status, which is `TROUBLE` if it fails. The reason is then
+/// printed on standard error after the program's name.
 pub fn run<P: Program>(rt: &HostRuntime) -> ExitCode {
     match run_words::<P>(rt) {
         Ok(status) => ExitCode::from(status),
@@ -37,6 +37,8 @@ pub fn run<P: Program>(rt: &HostRuntime) -> ExitCode {
     }
 }
 
+// Runs the program with the command line. If that is wrong or asks for help, prints a message
+// instead.
 fn run_words<P: Program>(rt: &HostRuntime) -> Result<u8> {
     let words = env::args(rt).context("reading the command line")?;
     let words: Vec<String> = words.collect(rt.alloc())?;

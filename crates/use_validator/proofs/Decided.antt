@@ -1,12 +1,12 @@
 -- What the first item of a search in so much work tells, and how much is enough.
 use Rattle.std.proofs.Common.{◌≡◌, ◌≤◌, ◌<◌, ◌+◌, ◌*◌, ◌^◌, ◌∙◌, ℕ, List, true, false, ap, sym, subst}
 use Rattle.std.specs.Prelude.{Option, Some, None, Result, Ok, Err, SomeIff}
-use Rattle.regress_exec.specs.Worked.{GivesInWork, InWork}
+use Rattle.regress_exec.specs.WorkLimits.{NextYieldsWithinWork, WorkView}
 use Rattle.regress_exec.specs.declared.exec.Match.{Match}
-use Rattle.regress_exec.specs.declared.exec.worked.WorkError.{WorkError}
-use Rattle.regress_exec.specs.declared.exec.worked.WorkError.TheVariants.{WorkLimit}
-use Rattle.regress_match.specs.Programs.{as_utf8, byte_tree, utf8_answers}
-use Rattle.regress_match.specs.Work.{YieldsInWork, all_work}
+use Rattle.regress_exec.specs.declared.exec.work_matches.WorkError.{WorkError}
+use Rattle.regress_exec.specs.declared.exec.work_matches.WorkError.TheVariants.{WorkLimit}
+use Rattle.regress_match.specs.RegexPrograms.{as_utf8, byte_tree, utf8_answers}
+use Rattle.regress_match.specs.WorkBounds.{YieldsWithinWork, total_work}
 use Rattle.regress_match.specs.declared.api.regex.Regex.{Regex}
 use Rattle.use_validator.specs.Judge.{by_matches}
 use Rattle.use_validator.specs.declared.judge.Verdict.{Verdict}
@@ -14,25 +14,25 @@ use Rattle.use_validator.specs.declared.judge.Verdict.TheVariants.{Matches, NoMa
 
 -- ---- The first item
 
-module _ (re : Regex) (text : List ℕ) (per_unit work : ℕ) (it behind : InWork) (yields : YieldsInWork (byte_tree re) (as_utf8 re text) 0 per_unit work it) where
+module _ (re : Regex) (text : List ℕ) (per_unit work : ℕ) (it behind : WorkView) (yields : YieldsWithinWork (byte_tree re) (as_utf8 re text) 0 per_unit work it) where
   abbrev truth : Verdict
   truth = by_matches (utf8_answers re text 0)
 
   -- a match came
-  pub work-match : (item : Result Match WorkError) (m : Match) → item ≡ Ok m → GivesInWork it (Some item) behind → Matches ≡ truth
+  pub work-match : (item : Result Match WorkError) (m : Match) → item ≡ Ok m → NextYieldsWithinWork it (Some item) behind → Matches ≡ truth
   work-match item m is gives =
-      let came = subst (λ r. GivesInWork it (Some r) behind) is gives in
+      let came = subst (λ r. NextYieldsWithinWork it (Some r) behind) is gives in
       ap by_matches (sym came.0.0 ∙ yields.answers)
 
   -- none came
-  pub work-none : GivesInWork it None behind → NoMatch ≡ truth
+  pub work-none : NextYieldsWithinWork it None behind → NoMatch ≡ truth
   work-none gives = ap by_matches (sym gives.0.0 ∙ yields.answers)
 
   -- want of work does not come where it is enough
-  pub never-out : all_work per_unit (as_utf8 re text) ≤ work → (item : Result Match WorkError) (e : WorkError) → item ≡ Err e → e ≡ WorkLimit
-      → GivesInWork it (Some item) behind → ⊥
+  pub never-out : total_work per_unit (as_utf8 re text) ≤ work → (item : Result Match WorkError) (e : WorkError) → item ≡ Err e → e ≡ WorkLimit
+      → NextYieldsWithinWork it (Some item) behind → ⊥
   never-out enough item e is limit gives =
-      let out = subst (λ e. GivesInWork it (Some (Err e)) behind) limit (subst (λ r. GivesInWork it (Some r) behind) is gives) in
+      let out = subst (λ e. NextYieldsWithinWork it (Some (Err e)) behind) limit (subst (λ r. NextYieldsWithinWork it (Some r) behind) is gives) in
       let never : true ≡ false = sym (yields.enough enough) ∙ out.0.0.0 in
       absurd (cc)
 

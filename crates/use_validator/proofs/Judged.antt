@@ -3,19 +3,19 @@ use Rattle.std.proofs.Common.{◌≡◌, ◌∙◌, ℕ, List, [], ◌∷◌, Bo
 use Rattle.std.specs.Prelude.{Option, Some, None, Result, Ok, Err, nat_le}
 use Rattle.regex_meaning.specs.Tree.{Tree}
 use Rattle.regex_meaning.specs.Text.{Text}
-use Rattle.regex_meaning.specs.Offsets.{IsText}
-use Rattle.regex_meaning.specs.Names.{Answer, answers_from}
-use Rattle.regex_meaning.specs.Answers.{first_answer, next_start, answer_then_list}
-use Rattle.regex_meaning.specs.Steps.{answers_within, end_within, need_from}
+use Rattle.regex_meaning.specs.CodeUnitOffsets.{IsText}
+use Rattle.regex_meaning.specs.Captures.{Answer, answers_from}
+use Rattle.regex_meaning.specs.SearchAnswers.{first_answer, next_start, answer_then_list}
+use Rattle.regex_meaning.specs.StepBudget.{answers_within, finishes_within, need_from}
 use Rattle.regex_meaning.proofs.AnswerLemmas.{answers-go_on}
 use Rattle.regex_meaning.proofs.StepLemmas.{within-some, within-none, beyond}
 use Rattle.regex_meaning.proofs.TextLemmas.{utf8_text-IsText}
-use Rattle.regress_exec.specs.Answers.{answer_of}
-use Rattle.regress_exec.specs.ToCome.{Gives, ToCome}
+use Rattle.regress_exec.specs.MatchAnswers.{answer_of}
+use Rattle.regress_exec.specs.RemainingAnswers.{NextYields, RemainingView}
 use Rattle.regress_exec.specs.declared.exec.Match.{Match}
 use Rattle.regress_exec.specs.declared.exec.SearchError.{SearchError}
 use Rattle.regress_exec.specs.declared.exec.SearchError.TheVariants.{StepLimit}
-use Rattle.regress_match.specs.Programs.{as_utf8, byte_tree, utf8_answers_within, is_utf8_end_within}
+use Rattle.regress_match.specs.RegexPrograms.{as_utf8, byte_tree, utf8_answers_within, is_utf8_end_within}
 use Rattle.regress_match.specs.declared.api.regex.Regex.{Regex}
 use Rattle.use_validator.specs.Judge.{by_matches, verdict_of, within}
 use Rattle.use_validator.specs.declared.judge.Verdict.{Verdict}
@@ -32,7 +32,7 @@ module _ (tree : Tree) (text : Text) (is : IsText text) (steps : ℕ) where
   all = answers_from tree.root text 0
 
   abbrev Told : Verdict → Type 0
-  Told = IsTold (answers_within tree text (Some steps) 0) (end_within tree text (Some steps) 0)
+  Told = IsTold (answers_within tree text (Some steps) 0) (finishes_within tree text (Some steps) 0)
 
   enough : (first : Option Answer) → first_answer tree.root text 0 ≡ first → nat_le (need_from tree text 0) steps ≡ true → Told (by_matches all)
   enough None f e =
@@ -50,13 +50,13 @@ module _ (tree : Tree) (text : Text) (is : IsText text) (steps : ℕ) where
   told = by (nat_le (need_from tree text 0) steps) refl
 
 -- what an item says of what was to come
-pub came : (before behind : ToCome) (item : Result Match SearchError) (m : Match) → item ≡ Ok m → Gives before (Some item) behind
+pub came : (before behind : RemainingView) (item : Result Match SearchError) (m : Match) → item ≡ Ok m → NextYields before (Some item) behind
     → before.answers ≡ answer_of m ∷ behind.answers
-came before behind item m is gives = (subst (λ r. Gives before (Some r) behind) is gives).0
+came before behind item m is gives = (subst (λ r. NextYields before (Some r) behind) is gives).0
 
-pub stopped : (before behind : ToCome) (item : Result Match SearchError) (e : SearchError) → item ≡ Err e → e ≡ StepLimit → Gives before (Some item) behind
+pub stopped : (before behind : RemainingView) (item : Result Match SearchError) (e : SearchError) → item ≡ Err e → e ≡ StepLimit → NextYields before (Some item) behind
     → (before.answers ≡ []) × (before.limited ≡ true)
-stopped before behind item e is limit gives = (subst (λ e. Gives before (Some (Err e)) behind) limit (subst (λ r. Gives before (Some r) behind) is gives)).0
+stopped before behind item e is limit gives = (subst (λ e. NextYields before (Some (Err e)) behind) limit (subst (λ r. NextYields before (Some r) behind) is gives)).0
 
 not-false : (b : Bool) → not b ≡ false → b ≡ true
 not-false true e = refl

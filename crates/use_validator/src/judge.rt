@@ -1,7 +1,7 @@
 //! Texts in which a pattern has a match.
 
 ghost use Rattle.std.specs.Prelude.{◌≡◌, ◌≤◌, ◌<◌, ◌^◌, IfOk, SomeIff};
-ghost use Rattle.regress_match.specs.{Programs.{as_utf8, utf8_answers}, Work.{all_work}};
+ghost use Rattle.regress_match.specs.{RegexPrograms.{as_utf8, utf8_answers}, WorkBounds.{total_work}};
 ghost use Rattle.use_validator.specs.Judge.{IsToldOf, by_matches, verdict_of};
 
 use regress_match::{BoundedRegex, Regex, SearchError, WorkError};
@@ -60,7 +60,7 @@ pub fn decide(re: &Regex, text: &str, steps: u64) -> Result<Verdict, AllocError>
 
 // How much work is enough for all matches of a text, where that is a number.
 fn enough(bounded: &BoundedRegex<'_>, text: &str) -> Option<u64>
-    ensures { let all = all_work bounded.now.per_unit (as_utf8 bounded.now.re text.now) in
+    ensures { let all = total_work bounded.now.per_unit (as_utf8 bounded.now.re text.now) in
         SomeIff result (all < 2 ^ 64) all }
 {
     bounded.work_per_unit().checked_mul(text.len() as u64 + 1)
@@ -68,7 +68,7 @@ fn enough(bounded: &BoundedRegex<'_>, text: &str) -> Option<u64>
 
 // Whether the pattern has a match in the text, in so much work, which is enough to tell.
 fn judge_in_work(bounded: &BoundedRegex<'_>, text: &str, work: u64) -> Result<Verdict, AllocError>
-    requires { all_work bounded.now.per_unit (as_utf8 bounded.now.re text.now) ≤ work }
+    requires { total_work bounded.now.per_unit (as_utf8 bounded.now.re text.now) ≤ work }
     ensures { IfOk result (λ verdict. verdict ≡ by_matches (utf8_answers bounded.now.re text.now 0)) }
 {
     let Ok(mut matches) = bounded.find_from(text, 0, work) else {

@@ -1,7 +1,7 @@
 //! The patterns of a schema.
 
 ghost use Rattle.std.specs.Prelude.{◌≡◌, IfOk, IfSome, codes, string_bytes};
-ghost use Rattle.regex_meaning.specs.Flags.{flags_of_text};
+ghost use Rattle.regex_meaning.specs.FlagLettersAndEscaping.{flags_from_letters};
 ghost use Rattle.regress_match.specs.Flags.{flags_of};
 ghost use Rattle.use_validator.specs.Patterns.{AreOfTheirTexts, IsPatternOf, IsProgramOf};
 
@@ -127,7 +127,7 @@ fn read(alloc: Global, pattern: &str) -> Result<Regex, Error>
 
 // The flags that patterns are read with.
 fn flags() -> Flags
-    ensures { flags_of result ≡ flags_of_text (codes "u") }
+    ensures { flags_of result ≡ flags_from_letters (codes "u") }
 {
     Flags::from("u")
 }

@@ -1,10 +1,10 @@
-//! Texts of ASCII, a character a byte.
+//! Texts in ASCII, with one byte per character.
 
 ghost use Rattle.std.specs.Prelude.{◌≡◌, refl, ◌<◌, ◌^◌, nat_le, ℕ, length, IsAscii};
 ghost use Rattle.std.proofs.Common.{rules};
 ghost use Rattle.regex_meaning.specs.Text.{ascii_text, fold_ascii};
 ghost use Rattle.regex_meaning.proofs.{CharactersIn.{ascii-characters}, TextLemmas.{ascii_text-IsText}};
-ghost use Rattle.regress_input.specs.{InUtf8.{ascii_text-IsInUtf8}, Spellings.{ascii_text-IsSpelled, ascii_text-fits}};
+ghost use Rattle.regress_input.specs.{ByteTextsAreUtf8.{ascii_text-IsInUtf8}, ValidlyEncodedTexts.{ascii_text-IsSpelled, ascii_text-fits}};
 
 use super::{ByteUnits, CharProperties, ElementType, HasUnits, InputIndexer};
 use crate::position::{DefPosition, IndexPosition};
@@ -29,7 +29,7 @@ impl ElementType for u8 {
     }
 }
 
-/// The properties of characters of a text of ASCII.
+/// The properties of characters of an ASCII text.
 pub struct ASCIICharProperties {}
 
 impl CharProperties for ASCIICharProperties {
@@ -47,7 +47,7 @@ impl CharProperties for ASCIICharProperties {
     }
 }
 
-/// A text of ASCII.
+/// A text in ASCII.
 #[derive(Clone, Copy, Debug)]
 pub struct AsciiInput<'a> {
     input: &'a [u8],
@@ -57,8 +57,8 @@ pub struct AsciiInput<'a> {
 }
 
 impl<'a> AsciiInput<'a> {
-    /// The bytes of `input`, folded to lower case where `unicode` is set and to upper case where not. `is_ascii` is the
-    /// test of what is asked.
+    /// Returns the text of the bytes of `input`, which fold to lower case if `unicode` is set and
+    /// to upper case otherwise. `input` must be ASCII, which `is_ascii` checks.
     #[inline(always)]
     pub fn new(input: &'a str, unicode: bool) -> Self
         requires { IsAscii input.now }

@@ -1,10 +1,10 @@
-//! Texts of 16-bit units, a character a unit.
+//! Texts of 16-bit code units, with one unit per character.
 
 ghost use Rattle.std.specs.Prelude.{◌≡◌, refl, ◌<◌, ◌*◌, ◌^◌, ℕ, true, length};
 ghost use Rattle.std.proofs.Common.{rules};
 ghost use Rattle.regex_meaning.specs.Text.{ucs2_text, fold_code_point};
 ghost use Rattle.regex_meaning.proofs.{CharactersIn.{ucs2-characters}, TextLemmas.{ucs2_text-IsText}};
-ghost use Rattle.regress_input.specs.{Utf16.{AreUnits}, Reading.{no_bytes}, Spellings.{ucs2_text-IsSpelled, ucs2_text-fits}};
+ghost use Rattle.regress_input.specs.{Utf16.{AreU16Units}, ReadsFromOffset.{no_bytes}, ValidlyEncodedTexts.{ucs2_text-IsSpelled, ucs2_text-fits}};
 
 use super::{CharProperties, ElementType, HasUnits, InputIndexer, Ucs2Units};
 use crate::front::fold_code_point;
@@ -30,18 +30,19 @@ impl ElementType for u32 {
     }
 }
 
-/// A text of 16-bit units, each of which is a character.
+/// A text of 16-bit code units, each of which is a character.
 #[derive(Clone, Copy, Debug)]
 pub struct Ucs2Input<'a> {
     input: &'a [u16],
     unicode: bool,
     ghost fits: { length input.now < 2 ^ 63 },
     ghost sized: { length input.now * 2 < 2 ^ 63 },
-    ghost small: { AreUnits input.now },
+    ghost small: { AreU16Units input.now },
 }
 
 impl<'a> Ucs2Input<'a> {
-    /// The units of `input`, folded as with the flag `u` where `unicode` is set.
+    /// Returns the text of the units of `input`, which fold as with the flag `u` if `unicode` is
+    /// set.
     #[inline(always)]
     pub fn new(input: &'a [u16], unicode: bool) -> Self
         ensures { ⟦<Ucs2Input<'a> as InputIndexer>⟧.text result ≡ ucs2_text input.now unicode }
@@ -50,7 +51,7 @@ impl<'a> Ucs2Input<'a> {
     }
 }
 
-/// The properties of characters of a text of 16-bit units.
+/// The properties of characters of a text of 16-bit code units.
 pub struct Utf16CharProperties {}
 
 impl CharProperties for Utf16CharProperties {

@@ -3,24 +3,26 @@
 ghost use Rattle.std.specs.Prelude.{◌≡◌, refl, ◌<◌, ◌*◌, ◌^◌, length};
 ghost use Rattle.regex_meaning.specs.Text.{utf16_text};
 ghost use Rattle.regex_meaning.proofs.{CharactersIn.{utf16-characters}, TextLemmas.{utf16_text-IsText}};
-ghost use Rattle.regress_input.specs.{Utf16.{AreUnits}, Reading.{no_bytes}, Spellings.{utf16_text-IsSpelled, utf16_text-fits}};
+ghost use Rattle.regress_input.specs.{Utf16.{AreU16Units}, ReadsFromOffset.{no_bytes}, ValidlyEncodedTexts.{utf16_text-IsSpelled, utf16_text-fits}};
 
 use super::{CharProperties, HasUnits, InputIndexer, Utf16CharProperties, Utf16Units};
 use crate::position::{DefPosition, IndexPosition};
 use crate::utf16;
 
-/// A text in UTF-16: a high surrogate before a low one is one character with it, and any other unit is itself.
+/// A text in UTF-16. A high surrogate and the low surrogate after it are one character; any other
+/// unit is a character by itself.
 #[derive(Clone, Copy, Debug)]
 pub struct Utf16Input<'a> {
     input: &'a [u16],
     unicode: bool,
     ghost fits: { length input.now < 2 ^ 63 },
     ghost sized: { length input.now * 2 < 2 ^ 63 },
-    ghost small: { AreUnits input.now },
+    ghost small: { AreU16Units input.now },
 }
 
 impl<'a> Utf16Input<'a> {
-    /// The characters of `input`, folded as with the flag `u` where `unicode` is set.
+    /// Returns the text of the characters of `input`, which fold as with the flag `u` if `unicode`
+    /// is set.
     #[inline(always)]
     pub fn new(input: &'a [u16], unicode: bool) -> Self
         ensures { ⟦<Utf16Input<'a> as InputIndexer>⟧.text result ≡ utf16_text input.now unicode }

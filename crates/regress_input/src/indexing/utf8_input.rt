@@ -4,7 +4,7 @@ ghost use Rattle.std.specs.Prelude.{◌≡◌, refl, ◌<◌, ◌^◌, ◌==◌,
 ghost use Rattle.regex_meaning.specs.Text.{utf8_text, is_scalar, fold_char};
 ghost use Rattle.regex_meaning.proofs.{CharactersIn.{utf8-characters}, TextLemmas.{utf8_text-IsText}};
 ghost use Rattle.std.proofs.Common.{rules};
-ghost use Rattle.regress_input.specs.{InUtf8.{utf8_text-IsInUtf8}, Spellings.{utf8_text-IsSpelled, utf8_text-fits}};
+ghost use Rattle.regress_input.specs.{ByteTextsAreUtf8.{utf8_text-IsInUtf8}, ValidlyEncodedTexts.{utf8_text-IsSpelled, utf8_text-fits}};
 
 use super::{ByteUnits, CharProperties, ElementType, HasUnits, InputIndexer};
 use crate::front::fold_code_point;
@@ -55,7 +55,8 @@ pub struct Utf8Input<'a> {
 }
 
 impl<'a> Utf8Input<'a> {
-    /// The characters of `input`, folded as with the flag `u` where `unicode` is set.
+    /// Returns the text of the characters of `input`, which fold as with the flag `u` if `unicode`
+    /// is set.
     #[inline(always)]
     pub fn new(input: &'a str, unicode: bool) -> Self
         ensures { ⟦<Utf8Input<'a> as InputIndexer>⟧.text result ≡ utf8_text input.now unicode }

@@ -1,4 +1,4 @@
-use Rattle.regex_meaning.specs.Offsets.{IsBoundary}
+use Rattle.regex_meaning.specs.CodeUnitOffsets.{IsBoundary}
 use Rattle.regress_input_bench.proofs.count_left.Given as goal
 
 abbrev pub invariant-loop-c : goal.invariant-loop-c

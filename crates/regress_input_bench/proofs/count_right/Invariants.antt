@@ -1,5 +1,5 @@
 use Rattle.std.proofs.Common.{◌-◌}
-use Rattle.regex_meaning.specs.Offsets.{units, IsBoundary}
+use Rattle.regex_meaning.specs.CodeUnitOffsets.{units, IsBoundary}
 use Rattle.regress_input_bench.proofs.count_right.Given as goal
 
 abbrev pub invariant-loop-c : goal.invariant-loop-c

@@ -1,7 +1,7 @@
-//! Why a pattern is not compiled, and why a text is not replaced.
+//! Errors of compiling a pattern and of replacing matches.
 
 ghost use Rattle.std.specs.Prelude.{◌≡◌};
-ghost use Rattle.regress_match.specs.Refusals.{of_emit, of_parse};
+ghost use Rattle.regress_match.specs.CompileErrors.{error_of_emit, error_of_parse};
 
 use regex_pattern_front::parse::ParseError;
 use regress_exec::exec::SearchError;
@@ -9,16 +9,16 @@ use regress_program::emit::EmitError;
 use std::alloc::AllocError;
 use std::fmt;
 
-/// Why a pattern is not compiled.
+/// The error of compiling a pattern.
 #[derive(Clone, Copy, Debug, PartialEq, Eq, thiserror::Error)]
 pub enum Error {
-    /// The text is no pattern.
+    /// The text is not a valid pattern.
     #[error("{0}")]
     Parse(ParseError),
-    /// The pattern's tree has no program.
+    /// The pattern's tree cannot be compiled to a program.
     #[error("{0}")]
     Emit(EmitError),
-    /// There was no memory.
+    /// An allocation failed.
     #[error("out of memory")]
     Memory,
 }
@@ -34,7 +34,7 @@ impl From<AllocError> for Error {
 }
 
 impl From<ParseError> for Error {
-    ghost from_gives = { λ refused e. e ≡ of_parse refused };
+    ghost from_gives = { λ refused e. e ≡ error_of_parse refused };
 
     fn from(error: ParseError) -> Self {
         match error {
@@ -45,7 +45,7 @@ impl From<ParseError> for Error {
 }
 
 impl From<EmitError> for Error {
-    ghost from_gives = { λ refused e. e ≡ of_emit refused };
+    ghost from_gives = { λ refused e. e ≡ error_of_emit refused };
 
     fn from(error: EmitError) -> Self {
         match error {
@@ -55,14 +55,14 @@ impl From<EmitError> for Error {
     }
 }
 
-/// Why a text is not made of what a closure answers for matches.
+/// The error of replacing matches by the results of a closure.
 #[derive(Debug, Drop, thiserror::Error)]
 #[error_bound(E: fmt::Display)]
 pub enum ReplaceError<E> {
-    /// The search was refused, or there was no memory for the text.
+    /// The search failed, or an allocation for the text failed.
     #[error("{0}")]
     Search(SearchError),
-    /// The closure refused a match.
+    /// The closure returned an error for a match.
     #[error("{0}")]
     Closure(E),
 }

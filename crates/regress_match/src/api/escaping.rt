@@ -1,18 +1,20 @@
-//! Texts that stand in a pattern for themselves.
+//! Escaping of texts that are to be matched literally.
 
 ghost use Rattle.std.specs.Prelude.{◌≡◌, IfOk, string_bytes};
-ghost use Rattle.regex_meaning.specs.{Flags.{escape as escaped_text, special}, Lists.{contains}};
+ghost use Rattle.regex_meaning.specs.{FlagLettersAndEscaping.{escape as escaped_text, syntax_characters}, NumberListHelpers.{contains}};
 
 use std::alloc::{AllocError, Global};
 
-/// The text with a backslash before each of its syntax characters, `\ ^ $ . | ? * + ( ) [ ] { }`, so that it can
-/// stand in a pattern for itself. All other characters stay. `a.b*c` becomes `a\.b\*c` (a row of `regress_checks`).
+/// Returns the text with a backslash before each syntax character, `\ ^ $ . | ? * + ( ) [ ] { }`,
+/// so that it matches itself literally in a pattern. All other characters are unchanged.
+///
+/// `a.b*c` becomes `a\.b\*c` (tested in `regress_checks`).
 ///
 /// # Errors
 ///
-/// `AllocError` where there is no memory for the text.
+/// `AllocError` if an allocation for the text fails.
 pub fn escape(alloc: Global, text: &str) -> Result<String, AllocError>
-    // Syntax characters are ASCII, so bytes are escaped as characters are.
+    // Syntax characters are ASCII, so escaping bytes is the same as escaping characters.
     ensures { IfOk result (λ s. string_bytes s ≡ escaped_text text.now) }
 {
     let mut escaped = String::new(alloc);
@@ -25,9 +27,9 @@ pub fn escape(alloc: Global, text: &str) -> Result<String, AllocError>
     Ok(escaped)
 }
 
-// Whether it is a syntax character (SyntaxCharacter of ECMA-262).
+// Checks whether `c` is a syntax character (SyntaxCharacter of ECMA-262).
 fn is_special(c: char) -> bool
-    ensures { result ≡ contains special c }
+    ensures { result ≡ contains syntax_characters c }
 {
     matches!(
         c,

@@ -1,40 +1,42 @@
-//! Flags, from letters and as text.
+//! Flags, and their conversion from and to letters.
 
 ghost use Rattle.std.specs.Prelude.{◌≡◌, if◌then◌else◌, Some, []};
 ghost use Rattle.std.specs.Iterator.{IsFinite};
 ghost use Rattle.std.specs.Iterator.Runs.{WholeRun};
-ghost use Rattle.regex_meaning.specs.Flags.{flags_of_text, flags_text};
+ghost use Rattle.regex_meaning.specs.FlagLettersAndEscaping.{flags_from_letters, flags_text};
 
 use regex_pattern_front::flags as front;
 use std::fmt;
 
-/// How a pattern is read and matched. The default is case-sensitive, without lines, and optimizing.
+/// How a pattern is parsed and matched. The default is case-sensitive, not multiline, and
+/// optimizing.
 #[derive(Clone, Copy, Debug, Default, PartialEq, Eq)]
 pub struct Flags {
-    /// Letters of ASCII match whatever their case (`i`).
+    /// ASCII letters match regardless of case (`i`).
     pub icase: bool,
-    /// `^` and `$` hold beside line terminators too (`m`).
+    /// `^` also matches after a line terminator, and `$` before one (`m`).
     pub multiline: bool,
-    /// `.` matches line terminators too (`s`).
+    /// `.` also matches line terminators (`s`).
     pub dot_all: bool,
-    /// The tree is run as it was parsed.
+    /// The tree is compiled as it was parsed, without optimizing it.
     pub no_opt: bool,
-    /// Patterns are read by code points, and with `i` U+017F matches as `s` does and U+212A as `k` (`u`).
+    /// Patterns are read by code points, and with `i`, U+017F matches like `s` and U+212A like `k`
+    /// (`u`).
     pub unicode: bool,
-    /// Classes with set operations, or with classes inside, are refused (`v`).
+    /// Classes with set operations or nested classes are refused (`v`).
     pub unicode_sets: bool,
 }
 
 impl Flags {
-    ghost use Rattle.regex_pattern_front.specs.TreeOf.{flags_of as front_flags_of};
+    ghost use Rattle.regex_pattern_front.specs.AstToSpecTree.{flags_of as front_flags_of};
     ghost use Rattle.regress_match.specs.Flags.{flags_of};
 
-    /// The flags whose letters, of `m`, `i`, `s`, `u` and `v`, are among the code points of an iterator, which ends;
-    /// others are ignored, and `no_opt` is never set.
+    /// Returns the flags whose letters (`m`, `i`, `s`, `u` and `v`) are among the code points of an
+    /// iterator, which must be finite. Other code points are ignored, and `no_opt` is never set.
     pub fn new<I: Iterator<Item = u32>>(letters: I) -> Self
         requires can { I.can_next letters }
         requires finite { IsFinite (I.remaining letters) }
-        ensures { WholeRun I.next_gives letters (λ run. flags_of result ≡ flags_of_text run.items) }
+        ensures { WholeRun I.next_gives letters (λ run. flags_of result ≡ flags_from_letters run.items) }
     {
         let mut flags = Flags::default();
         for letter in letters {
@@ -47,7 +49,7 @@ impl Flags {
         flags
     }
 
-    /// The same flags for `try_parse`.
+    /// Returns the same flags as the parser's type, for `try_parse`.
     pub fn for_front(self) -> front::Flags
         ensures { front_flags_of result ≡ flags_of self }
     {
@@ -65,10 +67,10 @@ impl Flags {
 impl From<&str> for Flags {
     ghost use Rattle.regress_match.specs.Flags.{flags_of};
 
-    ghost from_gives = { λ s f. flags_of f ≡ flags_of_text s.now };
+    ghost from_gives = { λ s f. flags_of f ≡ flags_from_letters s.now };
 
-    /// The flags whose letters, of `m`, `i`, `s`, `u` and `v`, are in the text; other characters are ignored,
-    /// and `no_opt` is never set.
+    /// Returns the flags whose letters (`m`, `i`, `s`, `u` and `v`) are in the text. Other
+    /// characters are ignored, and `no_opt` is never set.
     fn from(letters: &str) -> Self {
         let letters = letters.as_bytes();
         Flags {
@@ -87,7 +89,8 @@ impl fmt::Display for Flags {
 
     ghost output = { λ f. Some (flags_text (flags_of f)) };
 
-    /// Writes the letters of the flags that are set, in the order `m i s u v`; `no_opt` has none.
+    /// Writes the letters of the flags that are set, in the order `m i s u v`; `no_opt` has no
+    /// letter.
     fn fmt<W: fmt::Write>(&self, f: &mut fmt::Formatter<W>) -> fmt::Result {
         let multiline = letter_if(self.multiline, "m");
         let icase = letter_if(self.icase, "i");
@@ -98,7 +101,7 @@ impl fmt::Display for Flags {
     }
 }
 
-// The letter of a flag that is set, and else no text.
+// Returns the letter if the flag is set, and the empty text otherwise.
 fn letter_if(set: bool, letter: &str) -> &str
     ensures { result.now ≡ (if set then letter.now else []) }
 {

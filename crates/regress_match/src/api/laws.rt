@@ -1,25 +1,28 @@
-//! Laws of searches, which callers may cite: functions that do nothing.
+//! Laws of searches that callers may cite. They are functions that do nothing.
 
-ghost use Rattle.regress_match.specs.{Laws.{MatchesStandInText, SearchesFollowThePattern}, Searches.{SearchesAnswerInTurn}, Work.{SearchesAnswerInWork}};
+ghost use Rattle.regress_match.specs.{Laws.{MatchesStandInText, SearchesFollowThePattern}, SearchResults.{SearchesAnswerInTurn}, WorkBounds.{SearchesAnswerInWork}};
 
-/// A search answers the list's matches one after another, then `None` for good; it ends before only where memory is refused.
+/// States that a search yields the matches of the list one after another, and then `None` for good.
+/// It ends earlier only if an allocation fails.
 pub fn searches_answer_in_turn()
     ensures { SearchesAnswerInTurn }
 {}
 
-/// So does a search in so much work; it ends before also where its work is done, which never comes where it has as much as its
-/// bound says. No more work is left behind it than it had.
+/// States that a search within a work budget yields the matches of the list one after another, and
+/// then `None` for good. It ends earlier only if an allocation fails or the budget is used up,
+/// which never happens if the budget is at least what the pattern's bound requires. The work that
+/// is left never exceeds the budget.
 pub fn searches_answer_in_work()
     ensures { SearchesAnswerInWork }
 {}
 
-/// From the pattern to its matches: what a compiled pattern finds in a text, in each encoding, is the list of matches of the one
-/// tree that the grammar has of the pattern.
+/// States that what a compiled pattern finds in a text, in each encoding, is the list of matches of
+/// the unique tree that the grammar gives to the pattern.
 pub fn searches_follow_the_pattern()
     ensures { SearchesFollowThePattern }
 {}
 
-/// The matches of a search lie in the text, in order, and no two overlap.
+/// States that the matches of a search lie in the text, in order, and do not overlap.
 pub fn matches_stand_in_text()
     ensures { MatchesStandInText }
 {}

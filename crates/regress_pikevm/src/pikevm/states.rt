@@ -1,24 +1,25 @@
-//! What an executor has in hand: states, and what a turn makes of one.
+//! The states of an executor, and the results of executing an instruction.
 
 ghost use Rattle.std.specs.Prelude.{◌≡◌, IfOk, map, replicate, option_map};
 ghost use Rattle.std.specs.Option.{option_to_list};
-ghost use Rattle.regex_pattern_front.specs.TreeOf.{tree_of};
-ghost use Rattle.regress_program.specs.Code.{compiled};
-ghost use Rattle.regress_machine.specs.{Machine.{resumed}, Finds.{initial}};
-ghost use Rattle.regress_pikevm.specs.States.{state_of, running_of};
+ghost use Rattle.regex_pattern_front.specs.AstToSpecTree.{tree_of};
+ghost use Rattle.regress_program.specs.CodeOfTrees.{compiled};
+ghost use Rattle.regress_machine.specs.{Machine.{after_lookaround}, SearchResults.{state_before_first_insn}};
+ghost use Rattle.regress_pikevm.specs.States.{state_of, running_thread};
 
 use regress_input::position::PositionType;
 use regress_program::insn::Program;
 use std::alloc::{AllocError, Global};
 
-/// A loop's finished iterations, and where the current one began.
+/// The number of finished iterations of a loop, and the position at which the current one began.
 #[derive(Clone, Copy)]
 pub struct LoopData<P> {
     pub iters: usize,
     pub entry: P,
 }
 
-/// Where a thread stands: an instruction and a position, the groups, where each open group began, and the loops.
+/// The state of a thread: an instruction and a position, the groups, where each open group began,
+/// and the loops.
 #[derive(Drop)]
 pub struct State<P> {
     pub ip: usize,
@@ -28,28 +29,29 @@ pub struct State<P> {
     pub loops: Vec<LoopData<P>>,
 }
 
-/// What comes next, the preferred state first.
+/// The threads after an instruction, the preferred one first.
 #[derive(Drop)]
-pub enum Turn<P> {
+pub enum NextStates<P> {
     /// The thread has failed.
     Dead,
-    Go(State<P>),
+    Continue(State<P>),
     Fork(State<P>, State<P>),
-    /// So many characters were tried, and these are the threads behind them, the preferred one last.
-    Scan(usize, Vec<State<P>>),
-    /// It depends on a search from `inner` whether `after` goes on.
-    Ask {
+    /// This number of characters was tried, and these are the threads at the exits, the preferred
+    /// one last.
+    CharLoopExits(usize, Vec<State<P>>),
+    /// A search from `inner` decides whether `after` continues.
+    Lookaround {
         forward: bool,
         negate: bool,
         inner: State<P>,
         after: State<P>,
     },
     /// The search has ended.
-    Done(State<P>),
+    Accept(State<P>),
 }
 
-/// A state like another.
-pub(crate) fn copy_of<P: PositionType>(state: &State<P>) -> Result<State<P>, AllocError>
+/// Copies a state.
+pub(crate) fn copy_state<P: PositionType>(state: &State<P>) -> Result<State<P>, AllocError>
     ensures { IfOk result (λ s. state_of P.offset s ≡ state_of P.offset state.now) }
 {
     Ok(State {
@@ -61,7 +63,7 @@ pub(crate) fn copy_of<P: PositionType>(state: &State<P>) -> Result<State<P>, All
     })
 }
 
-// So many of a value.
+// Returns a vector of `count` copies of a value.
 fn copies<T: Copy>(alloc: Global, value: T, count: usize) -> Result<Vec<T>, AllocError>
     ensures { IfOk result (λ v. v.items ≡ replicate count value) }
 {
@@ -72,10 +74,10 @@ fn copies<T: Copy>(alloc: Global, value: T, count: usize) -> Result<Vec<T>, Allo
     Ok(values)
 }
 
-/// The state before the first instruction.
+/// Returns the state before the first instruction.
 pub fn initial_state<P: PositionType>(program: &Program, pos: P) -> Result<State<P>, AllocError>
     ensures { IfOk result (λ s. state_of P.offset s
-        ≡ initial (compiled (tree_of program.now)) (P.offset pos)) }
+        ≡ state_before_first_insn (compiled (tree_of program.now)) (P.offset pos)) }
 {
     let alloc = program.allocator();
     let groups = program.groups() as usize;
@@ -96,15 +98,16 @@ pub fn initial_state<P: PositionType>(program: &Program, pos: P) -> Result<State
     })
 }
 
-/// What goes on behind a search that was asked for, by the end that it found: where it was to succeed, with what it
-/// did to groups and loops.
-pub(crate) fn resume<P: PositionType>(
+/// Returns the state that continues after a lookaround, given the end that its search found. After
+/// a positive lookaround, it keeps the groups and loops of that search. Returns `None` if the
+/// lookaround fails.
+pub(crate) fn resume_after_lookaround<P: PositionType>(
     negate: bool,
     after: State<P>,
     found: Option<State<P>>,
 ) -> Option<State<P>>
-    ensures { running_of P.offset result
-        ≡ resumed negate (state_of P.offset after) (option_map (λ s. state_of P.offset s) found) }
+    ensures { running_thread P.offset result
+        ≡ after_lookaround negate (state_of P.offset after) (option_map (λ s. state_of P.offset s) found) }
 {
     match found {
         Some(mut inner) => {

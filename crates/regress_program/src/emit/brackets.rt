@@ -1,13 +1,13 @@
-//! The code of brackets.
+//! Emits the code of brackets (character classes).
 
 ghost use Rattle.std.specs.Prelude.{◌≡◌, ◌||◌, ◌&&◌, nat_lt, is_some, map, OnOk, IfSome};
 ghost use Rattle.std.specs.Int.{is_in_range};
 ghost use Rattle.std.specs.List.{list_all};
-ghost use Rattle.regex_meaning.specs.{Lists.{contains}, Tree.{bracket}, Layout.{is_ascii_set}, Outcomes.{in_intervals}, StartPredicate.{bytes_where}};
-ghost use Rattle.regex_pattern_front.specs.{TreeOf.{contents_of}, ByteSets.{ascii_bitmap_bytes}, Intervals.{interval_of}};
-ghost use Rattle.regress_program.specs.Emitting.{IsEmitted, state_of, with_bracket};
+ghost use Rattle.regex_meaning.specs.{NumberListHelpers.{contains}, Tree.{bracket}, CompilationRelation.{is_ascii_set}, Outcomes.{in_intervals}, StartPredicate.{bytes_that_pass}};
+ghost use Rattle.regex_pattern_front.specs.{AstToSpecTree.{class_as_spec}, ByteSetMembers.{ascii_bitmap_bytes}, Intervals.{interval_of}};
+ghost use Rattle.regress_program.specs.EmitterModel.{IsEmitted, emitter_state, with_bracket};
 
-use crate::emit::emitter::{Emitter, Mode};
+use crate::emit::emitter::{EmitMode, Emitter};
 use regex_pattern_front::bytesearch::AsciiBitmap;
 use regex_pattern_front::codepointset::Interval;
 use regex_pattern_front::types::BracketContents;
@@ -15,13 +15,14 @@ use regress_plan::insn::Insn;
 use std::alloc::AllocError;
 
 impl Emitter {
-    // A set of bytes below 128 stands in the instruction, any other beside the code.
+    // Emits a bracket. A set of bytes below 128 is stored in the instruction, and any other set in
+    // the list of brackets.
     pub(crate) fn emit_bracket(
         &mut self,
-        mode: Mode,
+        mode: EmitMode,
         contents: &BracketContents,
     ) -> Result<(), AllocError>
-        ensures { OnOk result (IsEmitted mode (bracket (contents_of contents.now)) self.old self.new) }
+        ensures { OnOk result (IsEmitted mode (bracket (class_as_spec contents.now)) self.old self.new) }
     {
         match ascii_bitmap(contents) {
             Some(bitmap) => {
@@ -37,21 +38,21 @@ impl Emitter {
         }
     }
 
-    // One bracket more beside the code.
+    // Adds a bracket to the list of brackets.
     fn add_bracket(&mut self, contents: &BracketContents) -> Result<(), AllocError>
-        ensures { OnOk result (state_of self.new
-            ≡ with_bracket (contents_of contents.now) (state_of self.old)) }
+        ensures { OnOk result (emitter_state self.new
+            ≡ with_bracket (class_as_spec contents.now) (emitter_state self.old)) }
     {
         self.brackets.push(contents.clone()?)?;
         Ok(())
     }
 }
 
-// The set as one of bytes below 128, if it is one.
+// Returns the set as a bitmap if it has only bytes below 128.
 fn ascii_bitmap(contents: &BracketContents) -> Option<AsciiBitmap>
-    ensures found { is_some result ≡ is_ascii_set (contents_of contents.now) }
+    ensures found { is_some result ≡ is_ascii_set (class_as_spec contents.now) }
     ensures members { IfSome result (λ b. ascii_bitmap_bytes b
-        ≡ bytes_where (in_intervals (contents_of contents.now).intervals)) }
+        ≡ bytes_that_pass (in_intervals (class_as_spec contents.now).intervals)) }
 {
     if !is_ascii(contents) {
         return None;
@@ -59,10 +60,10 @@ fn ascii_bitmap(contents: &BracketContents) -> Option<AsciiBitmap>
     Some(ascii_members(contents.cps.intervals()))
 }
 
-// The members of these intervals that are below 128.
+// Returns the members of these intervals that are below 128.
 fn ascii_members(intervals: &[Interval]) -> AsciiBitmap
     ensures { ascii_bitmap_bytes result
-        ≡ bytes_where (λ b. nat_lt b 128 && in_intervals (map interval_of intervals.now) b) }
+        ≡ bytes_that_pass (λ b. nat_lt b 128 && in_intervals (map interval_of intervals.now) b) }
 {
     let mut bitmap = AsciiBitmap::default();
     for interval in intervals {
@@ -74,7 +75,7 @@ fn ascii_members(intervals: &[Interval]) -> AsciiBitmap
 // Adds the members of the interval that are below 128.
 fn add_ascii_members(interval: Interval, bitmap: &mut AsciiBitmap)
     ensures { ascii_bitmap_bytes bitmap.new
-        ≡ bytes_where (λ b. contains (ascii_bitmap_bytes bitmap.old) b
+        ≡ bytes_that_pass (λ b. contains (ascii_bitmap_bytes bitmap.old) b
         || (nat_lt b 128 && is_in_range interval.first interval.last b)) }
 {
     let end = interval.last.min(127) + 1;
@@ -83,9 +84,9 @@ fn add_ascii_members(interval: Interval, bitmap: &mut AsciiBitmap)
     }
 }
 
-// Whether the set holds bytes below 128 alone.
+// Checks whether the set has only bytes below 128.
 fn is_ascii(contents: &BracketContents) -> bool
-    ensures { result ≡ is_ascii_set (contents_of contents.now) }
+    ensures { result ≡ is_ascii_set (class_as_spec contents.now) }
 {
     !contents.invert && are_ascii(contents.cps.intervals())
 }

@@ -1,16 +1,16 @@
-//! The code of a node, put behind the code so far.
-#![tactic(auto, using(std::proofs::lemmas::Grind::common_steps), unfolding(regex_pattern_front::specs::TreeOf::node_of, crate::specs::Code::code_of, crate::specs::Emitting::shaped, crate::specs::Code::loop_count, crate::specs::Code::brackets_of, crate::specs::Code::size))]
+//! The emitter, which appends the code of nodes to the code emitted so far.
+#![tactic(auto, using(std::proofs::lemmas::Grind::common_steps), unfolding(regex_pattern_front::specs::AstToSpecTree::node_of, crate::specs::CodeOfTrees::code_of, crate::specs::EmitterModel::with_char_loops, crate::specs::CodeOfTrees::loop_count, crate::specs::CodeOfTrees::brackets_of, crate::specs::CodeOfTrees::node_insn_count))]
 
 ghost use Rattle.std.specs.Prelude.{◌≡◌, ◌&&◌, ◌+◌, ◌-◌, ◌<◌, ◌^◌, true, length, map, IfOk, OnOk, IsTrue, if◌then◌else◌};
-ghost use Rattle.regex_meaning.specs.{Tree.{every}, WellFormed.{fits_instructions}, Layout.{EnterLoop, lookaround_insn}};
-ghost use Rattle.regex_pattern_front.specs.{Optimized.{reads_one_character as is_one_character}, TreeOf.{contents_of, node_of}};
-ghost use Rattle.regress_plan.specs.Insns.{loop_fields_of};
-ghost use Rattle.regress_program.specs.{Insns.{insn_of}, Code.{resets}, Nodes.{is_leaf}};
-ghost use Rattle.regress_program.specs.Emitting.{HasRoom, state_of, with_insn, with_insns, with_insn_at, with_loop, nothing, IsEmitted};
-ghost use Rattle.regress_program.specs.Emitting.{lookaround_of};
+ghost use Rattle.regex_meaning.specs.{Tree.{every_node_passes}, WellFormedTrees.{fits_instructions}, CompilationRelation.{EnterLoop, lookaround_insn}};
+ghost use Rattle.regex_pattern_front.specs.{OptimizedTrees.{reads_one_character as is_one_character}, AstToSpecTree.{class_as_spec, node_of}};
+ghost use Rattle.regress_plan.specs.InsnsAsSpecInsns.{spec_loop_fields_of};
+ghost use Rattle.regress_program.specs.{InsnMeanings.{spec_insn_of}, CodeOfTrees.{group_reset_insns}, NodeListsAndLeaves.{is_leaf}};
+ghost use Rattle.regress_program.specs.EmitterModel.{HasIndexRoom, emitter_state, with_insn, with_insns, with_insn_at, with_loop, empty_state, IsEmitted};
+ghost use Rattle.regress_program.specs.EmitterModel.{lookaround_of};
 
-use crate::emit::leaves::{anchor_insn, byte_set_insn, char_set_insn, word_boundary_insn};
-use crate::insn::Emitted;
+use crate::emit::leaf_insns::{anchor_insn, byte_set_insn, char_set_insn, word_boundary_insn};
+use crate::insn::EmittedCode;
 use regex_pattern_front::ir::Node;
 use regex_pattern_front::optimizer::reads_one_character;
 use regex_pattern_front::types::{BracketContents, CaptureGroupID, LoopID};
@@ -18,17 +18,18 @@ use regress_plan::insn::{Insn, LoopFields};
 use std::alloc::{AllocError, Global};
 use std::ops::Range;
 
-/// How nodes are compiled: with Unicode's folds or not, with each loop over a node that reads one character as a loop over
-/// one character or not, inside a lookbehind or not.
+/// How nodes are compiled: `unicode` selects Unicode case folding, `narrow` makes a char loop of
+/// each loop over a node that reads one character, and `behind` is true inside a lookbehind.
 #[derive(Clone, Copy)]
-pub(crate) struct Mode {
+pub(crate) struct EmitMode {
     pub(crate) unicode: bool,
     pub(crate) narrow: bool,
     pub(crate) behind: bool,
 }
 
-impl Mode {
-    // Where the part that comes in turn `at` stands, of so many parts: the last one first inside a lookbehind.
+impl EmitMode {
+    // Returns the index in the code of part `at` of `count` parts. Inside a lookbehind the order is
+    // reversed.
     pub(crate) fn place(self, at: usize, count: usize) -> usize
         requires { at < count }
         ensures value { result ≡ (if self.behind then count - 1 - at else at) }
@@ -37,26 +38,30 @@ impl Mode {
         if self.behind { count - 1 - at } else { at }
     }
 
-    // Whether a loop over this node is to be one over one character.
-    pub(crate) fn narrows(self, loopee: &Node) -> bool
+    // Checks whether a loop over this node is to become a char loop.
+    pub(crate) fn should_become_char_loop(self, loopee: &Node) -> bool
         ensures { result ≡ (self.narrow && is_one_character (node_of loopee.now)) }
     {
         self.narrow && reads_one_character(loopee)
     }
 }
 
-/// What a lookaround says besides its contents.
+/// The fields of a lookaround other than its contents.
 #[derive(Clone, Copy)]
-pub(crate) struct Lookaround {
+pub(crate) struct LookaroundFields {
     pub(crate) negate: bool,
     pub(crate) backwards: bool,
     pub(crate) start_group: CaptureGroupID,
     pub(crate) end_group: CaptureGroupID,
 }
 
-impl Lookaround {
-    // The one over these groups.
-    pub(crate) fn new(negate: bool, backwards: bool, groups: Range<CaptureGroupID>) -> Lookaround
+impl LookaroundFields {
+    // Builds the fields of a lookaround that encloses these groups.
+    pub(crate) fn new(
+        negate: bool,
+        backwards: bool,
+        groups: Range<CaptureGroupID>,
+    ) -> LookaroundFields
         ensures { result ≡ record {
           negate = negate;
           backwards = backwards;
@@ -64,7 +69,7 @@ impl Lookaround {
           end_group = groups.end;
         } }
     {
-        Lookaround {
+        LookaroundFields {
             negate,
             backwards,
             start_group: groups.start,
@@ -73,9 +78,9 @@ impl Lookaround {
     }
 
     pub(crate) fn insn(self, continuation: u32) -> Insn
-        ensures { insn_of result ≡ lookaround_insn (lookaround_of self) continuation }
+        ensures { spec_insn_of result ≡ lookaround_insn (lookaround_of self) continuation }
     {
-        let Lookaround {
+        let LookaroundFields {
             negate,
             backwards,
             start_group,
@@ -99,7 +104,7 @@ impl Lookaround {
     }
 }
 
-/// A program that is being made.
+/// A program that is being built.
 #[derive(Drop)]
 pub(crate) struct Emitter {
     pub(crate) insns: Vec<Insn>,
@@ -108,9 +113,9 @@ pub(crate) struct Emitter {
 }
 
 impl Emitter {
-    // Of no node yet, with room for so many instructions.
+    // Creates an emitter without code, with room for `room` instructions.
     pub(crate) fn new(alloc: Global, room: usize) -> Result<Emitter, AllocError>
-        ensures { IfOk result (λ e. state_of e ≡ nothing) }
+        ensures { IfOk result (λ e. emitter_state e ≡ empty_state) }
     {
         Ok(Emitter {
             insns: Vec::with_capacity(alloc, room)?,
@@ -119,29 +124,29 @@ impl Emitter {
         })
     }
 
-    // What was emitted.
-    pub(crate) fn end(self) -> Emitted
-        ensures insns { map insn_of result.insns.items ≡ (state_of self).insns }
-        ensures brackets { map contents_of result.brackets.items ≡ (state_of self).brackets }
-        ensures loops { result.loops ≡ (state_of self).loops }
+    // Returns the emitted code.
+    pub(crate) fn end(self) -> EmittedCode
+        ensures insns { map spec_insn_of result.insns.items ≡ (emitter_state self).insns }
+        ensures brackets { map class_as_spec result.brackets.items ≡ (emitter_state self).brackets }
+        ensures loops { result.loops ≡ (emitter_state self).loops }
     {
         let Emitter {
             insns,
             brackets,
             loops,
         } = self;
-        Emitted {
+        EmittedCode {
             insns,
             brackets,
             loops: u32::from(loops),
         }
     }
 
-    // The code of a node that holds no other.
-    pub(crate) fn emit_leaf(&mut self, mode: Mode, node: &Node) -> Result<(), AllocError>
+    // Emits the code of a leaf, a node without child nodes.
+    pub(crate) fn emit_leaf(&mut self, mode: EmitMode, node: &Node) -> Result<(), AllocError>
         requires leaf { is_leaf (node_of node.now) ≡ true }
-        requires sets { IsTrue (every fits_instructions (node_of node.now)) }
-        requires room { HasRoom (state_of self.old) (node_of node.now) }
+        requires sets { IsTrue (every_node_passes fits_instructions (node_of node.now)) }
+        requires room { HasIndexRoom (emitter_state self.old) (node_of node.now) }
         ensures { OnOk result (IsEmitted mode (node_of node.now) self.old self.new) }
     {
         match node {
@@ -179,13 +184,13 @@ impl Emitter {
         }
     }
 
-    // The clearing of the groups from the first up to the end, which is not counted in.
-    pub(crate) fn put_resets(
+    // Emits the instructions that reset the groups `start..end`.
+    pub(crate) fn emit_group_resets(
         &mut self,
         start: CaptureGroupID,
         end: CaptureGroupID,
     ) -> Result<(), AllocError>
-        ensures { OnOk result (state_of self.new ≡ with_insns (resets start end) (state_of self.old)) }
+        ensures { OnOk result (emitter_state self.new ≡ with_insns (group_reset_insns start end) (emitter_state self.old)) }
     {
         for id in start..end {
             self.put(Insn::ResetCaptureGroup(id))?;
@@ -193,42 +198,42 @@ impl Emitter {
         Ok(())
     }
 
-    // One loop more.
+    // Counts one more loop.
     pub(crate) fn add_loop(&mut self)
-        requires { (state_of self.old).loops + 1 < 2 ^ 16 }
-        ensures { state_of self.new ≡ with_loop (state_of self.old) }
+        requires { (emitter_state self.old).loops + 1 < 2 ^ 16 }
+        ensures { emitter_state self.new ≡ with_loop (emitter_state self.old) }
     {
         self.loops += 1;
     }
 
-    // The number of the next instruction.
+    // Returns the index of the next instruction.
     pub(crate) fn next(&self) -> u32
-        requires { length (state_of self.now).insns < 2 ^ 32 }
-        ensures { result ≡ length (state_of self.now).insns }
+        requires { length (emitter_state self.now).insns < 2 ^ 32 }
+        ensures { result ≡ length (emitter_state self.now).insns }
     {
         self.insns.len() as u32
     }
 
-    // One more instruction.
+    // Appends an instruction.
     pub(crate) fn put(&mut self, insn: Insn) -> Result<(), AllocError>
-        ensures { OnOk result (state_of self.new ≡ with_insn (insn_of insn) (state_of self.old)) }
+        ensures { OnOk result (emitter_state self.new ≡ with_insn (spec_insn_of insn) (emitter_state self.old)) }
     {
         self.insns.push(insn)?;
         Ok(())
     }
 
-    // Another instruction in place of one.
+    // Replaces the instruction at an index.
     pub(crate) fn set(&mut self, place: usize, insn: Insn)
-        requires { place < length (state_of self.old).insns }
-        ensures { state_of self.new ≡ with_insn_at place (insn_of insn) (state_of self.old) }
+        requires { place < length (emitter_state self.old).insns }
+        ensures { emitter_state self.new ≡ with_insn_at place (spec_insn_of insn) (emitter_state self.old) }
     {
         self.insns[place] = insn;
     }
 }
 
-// The head of a loop.
-pub(crate) fn head_insn(fields: LoopFields) -> Insn
-    ensures { insn_of result ≡ EnterLoop (loop_fields_of fields) }
+// Returns the first instruction of a loop.
+pub(crate) fn loop_head_insn(fields: LoopFields) -> Insn
+    ensures { spec_insn_of result ≡ EnterLoop (spec_loop_fields_of fields) }
 {
     Insn::EnterLoop {
         greedy: fields.greedy,

@@ -2,7 +2,7 @@
 
 ghost use Rattle.std.specs.Prelude.{◌<◌, ◌⊎◌, IsAscii, IsCharBoundary, IsTrue, length};
 
-use crate::fault::Fault;
+use crate::fault::ParseFault;
 use crate::hostile::executors::finds;
 use crate::hostile::lists::{are_found, is_first};
 use crate::hostile::patterns::Compiled;
@@ -38,33 +38,38 @@ pub fn is_start(text: &str, offset: usize) -> bool
     text.is_char_boundary(offset) || text.len() < offset
 }
 
-fn all(re: &Regex, text: &str, start: usize, wanted: &str) -> Result<bool, Fault>
+fn all(re: &Regex, text: &str, start: usize, wanted: &str) -> Result<bool, ParseFault>
     requires { IsCharBoundary text.now start ⊎ (length text.now < start) }
 {
     are_found(re.find_from(text, start)?, wanted)
 }
 
-fn limited(re: &Regex, text: &str, start: usize, wanted: &str) -> Result<bool, Fault>
+fn limited(re: &Regex, text: &str, start: usize, wanted: &str) -> Result<bool, ParseFault>
     requires { IsCharBoundary text.now start ⊎ (length text.now < start) }
 {
     are_found(re.find_from_limited(text, start, u64::MAX)?, wanted)
 }
 
-fn asked(re: &CompiledRegex, text: &str, start: usize, wanted: &str) -> Result<bool, Fault>
+fn asked(re: &CompiledRegex, text: &str, start: usize, wanted: &str) -> Result<bool, ParseFault>
     requires { IsCharBoundary text.now start ⊎ (length text.now < start) }
 {
     let mut executor = DefaultExecutor::new(re, text)?;
     finds(&mut executor, start, wanted)
 }
 
-fn copying_all(re: &Regex, text: &str, start: usize, wanted: &str) -> Result<bool, Fault>
+fn copying_all(re: &Regex, text: &str, start: usize, wanted: &str) -> Result<bool, ParseFault>
     requires { IsCharBoundary text.now start ⊎ (length text.now < start) }
 {
     let matches = find::<PikeVMExecutor<Utf8Input>>(re, text, start)?;
     are_found(matches, wanted)
 }
 
-fn copying_asked(re: &CompiledRegex, text: &str, start: usize, wanted: &str) -> Result<bool, Fault>
+fn copying_asked(
+    re: &CompiledRegex,
+    text: &str,
+    start: usize,
+    wanted: &str,
+) -> Result<bool, ParseFault>
     requires { IsCharBoundary text.now start ⊎ (length text.now < start) }
 {
     let mut executor = PikeVMExecutor::<Utf8Input>::new(re, text)?;
@@ -78,7 +83,7 @@ pub fn in_utf8(
     start: usize,
     wanted: &str,
     way: Way,
-) -> Result<bool, Fault>
+) -> Result<bool, ParseFault>
     requires { IsCharBoundary text.now start ⊎ (length text.now < start) }
 {
     match way {
@@ -92,20 +97,30 @@ pub fn in_utf8(
     }
 }
 
-fn all_in_ascii(re: &Regex, text: &str, start: usize, wanted: &str) -> Result<bool, Fault>
+fn all_in_ascii(re: &Regex, text: &str, start: usize, wanted: &str) -> Result<bool, ParseFault>
     requires { IsAscii text.now }
 {
     are_found(re.find_from_ascii(text, start)?, wanted)
 }
 
-fn asked_in_ascii(re: &CompiledRegex, text: &str, start: usize, wanted: &str) -> Result<bool, Fault>
+fn asked_in_ascii(
+    re: &CompiledRegex,
+    text: &str,
+    start: usize,
+    wanted: &str,
+) -> Result<bool, ParseFault>
     requires { IsAscii text.now }
 {
     let mut executor = DefaultAsciiExecutor::new(re, text)?;
     finds(&mut executor, start, wanted)
 }
 
-fn copying_all_in_ascii(re: &Regex, text: &str, start: usize, wanted: &str) -> Result<bool, Fault>
+fn copying_all_in_ascii(
+    re: &Regex,
+    text: &str,
+    start: usize,
+    wanted: &str,
+) -> Result<bool, ParseFault>
     requires { IsAscii text.now }
 {
     let matches = find_ascii::<PikeVMExecutor<Utf8Input>>(re, text, start)?;
@@ -117,7 +132,7 @@ fn copying_asked_in_ascii(
     text: &str,
     start: usize,
     wanted: &str,
-) -> Result<bool, Fault>
+) -> Result<bool, ParseFault>
     requires { IsAscii text.now }
 {
     let mut executor = PikeVMExecutor::<AsciiInput>::new(re, text)?;
@@ -131,7 +146,7 @@ pub fn in_ascii(
     start: usize,
     wanted: &str,
     way: Way,
-) -> Result<bool, Fault>
+) -> Result<bool, ParseFault>
     requires { IsAscii text.now }
 {
     match way {

@@ -1,6 +1,6 @@
 //! Constructors of patterns, and escaped texts.
 
-use crate::fault::Fault;
+use crate::fault::ParseFault;
 use crate::hostile::fields::Fields;
 use crate::hostile::lists::is_first;
 use regress_match::{Error, Flags, Regex, escape};
@@ -41,14 +41,14 @@ fn construct(alloc: Global, pattern: &str, flags: Flags, by: Constructor) -> Res
 }
 
 // Whether a clone of the pattern finds a match that is wanted.
-fn is_cloned(re: &Regex, text: &str, wanted: &str) -> Result<bool, Fault> {
+fn is_cloned(re: &Regex, text: &str, wanted: &str) -> Result<bool, ParseFault> {
     let re = re.clone()?;
     is_first(re.find(text)?, wanted)
 }
 
 /// Whether each constructor answers a pattern whose first match in a text is the one that is wanted, or, for `Syntax`, that
 /// it is no pattern.
-pub fn are_constructed(alloc: Global, line: &str) -> Result<bool, Fault> {
+pub fn are_constructed(alloc: Global, line: &str) -> Result<bool, ParseFault> {
     let mut fields = Fields::of(line);
     let (pattern, flags) = (fields.next(), Flags::from(fields.next()));
     let (text, wanted) = (fields.next(), fields.next());
@@ -57,14 +57,14 @@ pub fn are_constructed(alloc: Global, line: &str) -> Result<bool, Fault> {
         agree &= match construct(alloc, pattern, flags, by) {
             Ok(re) => is_cloned(&re, text, wanted)?,
             Err(Error::Parse(_)) => wanted == "Syntax",
-            Err(error) => return Err(Fault::from(error)),
+            Err(error) => return Err(ParseFault::from(error)),
         };
     }
     Ok(agree)
 }
 
 /// Whether a text is escaped as it has to be.
-pub fn is_escaped(alloc: Global, line: &str) -> Result<bool, Fault> {
+pub fn is_escaped(alloc: Global, line: &str) -> Result<bool, ParseFault> {
     let mut fields = Fields::of(line);
     let text = fields.next();
     Ok(escape(alloc, text)?.as_str() == fields.next())

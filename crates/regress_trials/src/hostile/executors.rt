@@ -1,8 +1,8 @@
 //! Executors that are asked themselves.
 
-ghost use Rattle.regress_match.specs.Programs.{IsStart};
+ghost use Rattle.regress_match.specs.RegexPrograms.{IsValidStart};
 
-use crate::fault::Fault;
+use crate::fault::ParseFault;
 use crate::hostile::lists::is_first;
 use crate::hostile::wanted::is_none;
 use regress_match::SearchError;
@@ -10,8 +10,12 @@ use regress_pikevm::exec::MatchProducer;
 
 /// Whether an executor finds the first match that is wanted from a start on. One to which memory is refused leaves where
 /// the list goes on, and answers the match when it is asked again.
-pub fn finds<P: MatchProducer>(executor: &mut P, start: usize, words: &str) -> Result<bool, Fault>
-    requires { IsStart (P.text executor.old) start }
+pub fn finds<P: MatchProducer>(
+    executor: &mut P,
+    start: usize,
+    words: &str,
+) -> Result<bool, ParseFault>
+    requires { IsValidStart (P.text executor.old) start }
 {
     let Some(pos) = executor.initial_position(start) else {
         return Ok(is_none(words));
@@ -23,9 +27,9 @@ pub fn finds<P: MatchProducer>(executor: &mut P, start: usize, words: &str) -> R
             let unchanged = error == SearchError::Memory && next == Some(pos);
             let found = executor.next_match(pos, &mut next)?;
             if unchanged && is_first(found, words)? {
-                Err(Fault::Refused)
+                Err(ParseFault::Refused)
             } else {
-                Err(Fault::Wrong)
+                Err(ParseFault::Wrong)
             }
         }
     }

@@ -1,9 +1,9 @@
 //! Searches that end where their steps do.
 
 ghost use Rattle.std.specs.Prelude.{◌<◌, ◌⊎◌, IsCharBoundary, length};
-ghost use Rattle.regress_match.specs.Programs.{IsStart};
+ghost use Rattle.regress_match.specs.RegexPrograms.{IsValidStart};
 
-use crate::fault::Fault;
+use crate::fault::ParseFault;
 use crate::hostile::bytes::is_start;
 use crate::hostile::fields::Fields;
 use crate::hostile::lists::{are_found, is_first};
@@ -30,14 +30,14 @@ fn is_answered(
     before: u64,
     after: u64,
     answer: Result<Option<Match>, SearchError>,
-) -> Result<bool, Fault> {
+) -> Result<bool, ParseFault> {
     match answer {
         Ok(found) => {
             let spent = before.checked_sub(row.need) == Some(after);
             Ok(spent && row.wanted != LIMIT && is_first(found, row.wanted)?)
         }
         Err(SearchError::StepLimit) => Ok(before < row.need && after == 0),
-        Err(SearchError::Memory) => Err(Fault::Refused),
+        Err(SearchError::Memory) => Err(ParseFault::Refused),
     }
 }
 
@@ -55,8 +55,8 @@ impl<'r, 't> Counting for LimitedExecutor<'r, 't> {
 
 // Whether an executor answers by its steps. One to which memory is refused leaves where the list goes on, has no more steps
 // than before, and answers by those when it is asked again.
-fn answers<P: Counting>(executor: &mut P, start: usize, row: Row<'_>) -> Result<bool, Fault>
-    requires { IsStart (P.text executor.old) start }
+fn answers<P: Counting>(executor: &mut P, start: usize, row: Row<'_>) -> Result<bool, ParseFault>
+    requires { IsValidStart (P.text executor.old) start }
 {
     let Some(pos) = executor.initial_position(start) else {
         return Ok(executor.left() == row.steps);
@@ -70,20 +70,20 @@ fn answers<P: Counting>(executor: &mut P, start: usize, row: Row<'_>) -> Result<
     let unchanged = left <= row.steps && next == Some(pos);
     let second = executor.next_match(pos, &mut next);
     if unchanged && is_answered(row, left, executor.left(), second)? {
-        Err(Fault::Refused)
+        Err(ParseFault::Refused)
     } else {
-        Err(Fault::Wrong)
+        Err(ParseFault::Wrong)
     }
 }
 
-fn is_asked(re: &CompiledRegex, text: &str, start: usize, row: Row<'_>) -> Result<bool, Fault>
+fn is_asked(re: &CompiledRegex, text: &str, start: usize, row: Row<'_>) -> Result<bool, ParseFault>
     requires { IsCharBoundary text.now start ⊎ (length text.now < start) }
 {
     let mut executor = LimitedExecutor::new(re, text, row.steps)?;
     answers(&mut executor, start, row)
 }
 
-fn are_all(re: &Regex, text: &str, start: usize, row: Row<'_>) -> Result<bool, Fault>
+fn are_all(re: &Regex, text: &str, start: usize, row: Row<'_>) -> Result<bool, ParseFault>
     requires { IsCharBoundary text.now start ⊎ (length text.now < start) }
 {
     are_found(re.find_from_limited(text, start, row.steps)?, row.wanted)
@@ -95,7 +95,7 @@ fn agrees(
     start: usize,
     row: Row<'_>,
     asked: bool,
-) -> Result<bool, Fault> {
+) -> Result<bool, ParseFault> {
     if !is_start(text, start) {
         Ok(false)
     } else if asked {
@@ -106,7 +106,7 @@ fn agrees(
 }
 
 /// Whether the searches of a row agree. One to which memory is refused is made once more, with the same pattern.
-pub fn agree(alloc: Global, line: &str) -> Result<bool, Fault> {
+pub fn agree(alloc: Global, line: &str) -> Result<bool, ParseFault> {
     let mut fields = Fields::of(line);
     let re = compile(alloc, fields.next(), fields.next(), false)?;
     let text = fields.next();
@@ -119,7 +119,7 @@ pub fn agree(alloc: Global, line: &str) -> Result<bool, Fault> {
     let mut agree = true;
     for asked in [false, true] {
         let mut tried = agrees(&re, text, start, row, asked);
-        if matches!(tried, Err(Fault::Refused)) {
+        if matches!(tried, Err(ParseFault::Refused)) {
             tried = agrees(&re, text, start, row, asked);
         }
         agree &= matches!(tried, Ok(true));
@@ -135,9 +135,9 @@ fn finds_both<P: Counting>(
     first: &str,
     second: &str,
     taken: u64,
-) -> Result<bool, Fault>
-    requires first { IsStart (P.text executor.old) 0 }
-    requires second { IsStart (P.text executor.old) behind }
+) -> Result<bool, ParseFault>
+    requires first { IsValidStart (P.text executor.old) 0 }
+    requires second { IsValidStart (P.text executor.old) behind }
 {
     let (Some(pos), Some(behind)) = (
         executor.initial_position(0),
@@ -154,8 +154,8 @@ fn finds_both<P: Counting>(
     let before = executor.left();
     match executor.next_match(behind, &mut next) {
         Ok(found) => is_first(found, second),
-        Err(_) if before.saturating_sub(executor.left()) < taken => Err(Fault::Wrong),
-        Err(error) => Err(Fault::from(error)),
+        Err(_) if before.saturating_sub(executor.left()) < taken => Err(ParseFault::Wrong),
+        Err(error) => Err(ParseFault::from(error)),
     }
 }
 
@@ -166,7 +166,7 @@ fn is_taken(
     first: &str,
     second: &str,
     taken: u64,
-) -> Result<bool, Fault>
+) -> Result<bool, ParseFault>
     requires first { IsCharBoundary text.now 0 ⊎ (length text.now < 0) }
     requires second { IsCharBoundary text.now behind ⊎ (length text.now < behind) }
 {
@@ -176,7 +176,7 @@ fn is_taken(
 
 /// Whether steps stay taken that were taken before memory was refused, of a row with a pattern, the letters of its flags, a text,
 /// its first two matches, how many steps the second takes at least before it asks for memory, and where it is looked for.
-pub fn stay_taken(alloc: Global, line: &str) -> Result<bool, Fault> {
+pub fn stay_taken(alloc: Global, line: &str) -> Result<bool, ParseFault> {
     let mut fields = Fields::of(line);
     let re = compile(alloc, fields.next(), fields.next(), false)?;
     let text = fields.next();

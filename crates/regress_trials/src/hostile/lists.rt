@@ -1,12 +1,12 @@
 //! First matches, and lists of matches that may be refused.
 
-use crate::fault::Fault;
+use crate::fault::ParseFault;
 use crate::hostile::wanted::{LIMIT, NONE, is_match, is_none, split_first};
 use regress_match::{Match, SearchError};
 use regress_pikevm::exec::{MatchProducer, Matches};
 
 /// Whether a clone of this is the first match that is wanted, or none is.
-pub fn is_first(found: Option<Match>, words: &str) -> Result<bool, Fault> {
+pub fn is_first(found: Option<Match>, words: &str) -> Result<bool, ParseFault> {
     match found {
         Some(found) => Ok(is_match(&found.clone()?, split_first(words).0)),
         None => Ok(is_none(words)),
@@ -18,7 +18,7 @@ pub fn is_first(found: Option<Match>, words: &str) -> Result<bool, Fault> {
 pub fn are_found<P: MatchProducer + Drop>(
     mut matches: Matches<P>,
     words: &str,
-) -> Result<bool, Fault> {
+) -> Result<bool, ParseFault> {
     let mut words = words;
     let mut agrees = true;
     let mut over = false;
@@ -43,10 +43,10 @@ pub fn are_found<P: MatchProducer + Drop>(
         }
     }
     if !agrees || matches.next().is_some() {
-        return Err(Fault::Wrong);
+        return Err(ParseFault::Wrong);
     }
     if refused {
-        return Err(Fault::Refused);
+        return Err(ParseFault::Refused);
     }
     Ok(is_none(words))
 }

@@ -1,6 +1,6 @@
 //! What rows search with: a pattern, or a tree in words.
 
-use crate::fault::Fault;
+use crate::fault::ParseFault;
 use regex_pattern_front::bytesearch::{ByteBitmap, ByteSet};
 use regex_pattern_front::ir;
 use regress_match::backends::{emit, emit_units, optimize, try_parse};
@@ -26,26 +26,26 @@ fn parsed(alloc: Global, pattern: &str, flags: Flags) -> Result<ir::Regex, Error
 }
 
 // The tree of a row.
-fn tree_of_row(alloc: Global, pattern: &str, flags: &str) -> Result<ir::Regex, Fault> {
+fn tree_of_row(alloc: Global, pattern: &str, flags: &str) -> Result<ir::Regex, ParseFault> {
     if flags == "tree" {
-        tree_of(alloc, pattern).ok_or(Fault::Refused)
+        tree_of(alloc, pattern).ok_or(ParseFault::Refused)
     } else {
         Ok(parsed(alloc, pattern, Flags::from(flags))?)
     }
 }
 
 // The program for 16-bit units. In place of a tree that reads bytes stands one that always matches.
-fn units_of(alloc: Global, tree: &ir::Regex) -> Result<CompiledUnits, Fault> {
+fn units_of(alloc: Global, tree: &ir::Regex) -> Result<CompiledUnits, ParseFault> {
     match emit_units(alloc, tree) {
         Err(EmitError::BytesInUnits) => {
-            let always = tree_of(alloc, "goal").ok_or(Fault::Refused)?;
+            let always = tree_of(alloc, "goal").ok_or(ParseFault::Refused)?;
             Ok(emit_units(alloc, &always)?)
         }
         emitted => Ok(emitted?),
     }
 }
 
-fn of_programs(bytes: CompiledRegex, units: CompiledUnits) -> Result<Compiled, Fault> {
+fn of_programs(bytes: CompiledRegex, units: CompiledUnits) -> Result<Compiled, ParseFault> {
     let regex = Regex::from_programs(bytes.clone()?, units.clone()?);
     Ok(Compiled {
         regex,
@@ -80,20 +80,25 @@ fn is_same(one: &StartPredicate, other: &StartPredicate) -> bool {
 }
 
 // The program for bytes, whose predicate is the tree's, as is a copy of that.
-fn bytes_of(alloc: Global, tree: &ir::Regex) -> Result<CompiledRegex, Fault> {
+fn bytes_of(alloc: Global, tree: &ir::Regex) -> Result<CompiledRegex, ParseFault> {
     let bytes = emit(alloc, tree)?;
     let predicate = predicate_for_re(alloc, tree)?;
     let copy = predicate.clone()?;
     if is_same(&copy, &predicate) && is_same(bytes.start_pred(), &predicate) {
         Ok(bytes)
     } else {
-        Err(Fault::Wrong)
+        Err(ParseFault::Wrong)
     }
 }
 
 /// What a pattern with flags is searched with, or a tree in words, for `tree` in place of flags. It is optimized unless
 /// `no_opt` is set.
-pub fn compile(alloc: Global, pattern: &str, flags: &str, no_opt: bool) -> Result<Compiled, Fault> {
+pub fn compile(
+    alloc: Global,
+    pattern: &str,
+    flags: &str,
+    no_opt: bool,
+) -> Result<Compiled, ParseFault> {
     let mut tree = tree_of_row(alloc, pattern, flags)?;
     if !no_opt {
         optimize(&mut tree);

@@ -1,6 +1,6 @@
 //! Texts with other text in place of matches.
 
-use crate::fault::Fault;
+use crate::fault::ParseFault;
 use crate::hostile::fields::Fields;
 use regress_match::{Flags, Match, Regex, ReplaceError};
 use std::alloc::{AllocError, Global};
@@ -52,16 +52,16 @@ fn is_made(
     made: Result<String, ReplaceError<Failure>>,
     calls: &Cell<(u8, bool)>,
     wanted: &str,
-) -> Result<bool, Fault> {
+) -> Result<bool, ParseFault> {
     let (count, refused) = calls.get();
     match made {
         Ok(made) => Ok(!refused && made.as_str() == wanted),
-        Err(ReplaceError::Search(error)) if !refused => Err(Fault::from(error)),
-        Err(ReplaceError::Closure(Failure::Memory)) if refused => Err(Fault::Refused),
+        Err(ReplaceError::Search(error)) if !refused => Err(ParseFault::from(error)),
+        Err(ReplaceError::Closure(Failure::Memory)) if refused => Err(ParseFault::Refused),
         Err(ReplaceError::Closure(Failure::TooGreat(number))) => {
             Ok(is_refusal(number, count, wanted))
         }
-        Err(_) => Err(Fault::Wrong),
+        Err(_) => Err(ParseFault::Wrong),
     }
 }
 
@@ -72,7 +72,7 @@ fn is_made_by(
     text: &str,
     how: &str,
     wanted: &str,
-) -> Result<bool, Fault> {
+) -> Result<bool, ParseFault> {
     let calls = Cell::new((0u8, false));
     let answer = |found: &Match| {
         let made = answer_to(alloc, text, found, how);
@@ -89,7 +89,7 @@ fn is_made_by(
 
 /// Whether a replacement of a row makes what it has to, which is a text of its own and no part of one: by the pattern as it is
 /// written and by the optimized one.
-pub fn is_replaced(alloc: Global, line: &str) -> Result<bool, Fault> {
+pub fn is_replaced(alloc: Global, line: &str) -> Result<bool, ParseFault> {
     let mut fields = Fields::of(line);
     let pattern = fields.next();
     let (text, how, by, wanted) = (fields.next(), fields.next(), fields.next(), fields.next());

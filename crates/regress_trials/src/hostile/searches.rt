@@ -1,6 +1,6 @@
 //! Rows of searches, each by all calls and over each input that can hold its text.
 
-use crate::fault::Fault;
+use crate::fault::ParseFault;
 use crate::hostile::bytes::{Way, in_ascii, in_utf8, is_start};
 use crate::hostile::fields::Fields;
 use crate::hostile::patterns::{Compiled, compile};
@@ -57,7 +57,7 @@ struct Row<'a> {
 }
 
 // Whether a search of a text of bytes agrees.
-fn agrees_in_bytes(re: &Compiled, row: Row<'_>, way: Way, ascii: bool) -> Result<bool, Fault> {
+fn agrees_in_bytes(re: &Compiled, row: Row<'_>, way: Way, ascii: bool) -> Result<bool, ParseFault> {
     let Row {
         text,
         start,
@@ -80,7 +80,7 @@ fn agrees_in_bytes(re: &Compiled, row: Row<'_>, way: Way, ascii: bool) -> Result
 }
 
 // Whether a search in UTF-16 agrees.
-fn agrees_in_utf16(re: &Compiled, row: Row<'_>, asked: bool) -> Result<bool, Fault> {
+fn agrees_in_utf16(re: &Compiled, row: Row<'_>, asked: bool) -> Result<bool, ParseFault> {
     let made = Units::of(row.text);
     let units = made.as_slice();
     if row.utf16 == APART {
@@ -95,7 +95,7 @@ fn agrees_in_utf16(re: &Compiled, row: Row<'_>, asked: bool) -> Result<bool, Fau
 }
 
 // Whether a search in UCS-2 agrees.
-fn agrees_in_ucs2(re: &Compiled, row: Row<'_>, asked: bool) -> Result<bool, Fault> {
+fn agrees_in_ucs2(re: &Compiled, row: Row<'_>, asked: bool) -> Result<bool, ParseFault> {
     let made = Units::of(row.text);
     let units = made.as_slice();
     if row.ucs2 == APART {
@@ -107,7 +107,7 @@ fn agrees_in_ucs2(re: &Compiled, row: Row<'_>, asked: bool) -> Result<bool, Faul
     }
 }
 
-fn agrees(re: &Compiled, row: Row<'_>, search: Search) -> Result<bool, Fault> {
+fn agrees(re: &Compiled, row: Row<'_>, search: Search) -> Result<bool, ParseFault> {
     match search {
         Search::Utf8(way) => agrees_in_bytes(re, row, way, false),
         Search::Ascii(way) => agrees_in_bytes(re, row, way, true),
@@ -123,7 +123,7 @@ fn all_agree(re: &Compiled, row: Row<'_>) -> bool {
     let mut agree = true;
     for search in SEARCHES {
         let mut tried = agrees(re, row, search);
-        if matches!(tried, Err(Fault::Refused)) {
+        if matches!(tried, Err(ParseFault::Refused)) {
             tried = agrees(re, row, search);
         }
         agree &= matches!(tried, Ok(true));
@@ -132,7 +132,7 @@ fn all_agree(re: &Compiled, row: Row<'_>) -> bool {
 }
 
 /// Whether the searches of a row agree, of the pattern as it is written and of the optimized one.
-pub fn agree(alloc: Global, line: &str) -> Result<bool, Fault> {
+pub fn agree(alloc: Global, line: &str) -> Result<bool, ParseFault> {
     let mut fields = Fields::of(line);
     let (pattern, flags) = (fields.next(), fields.next());
     let row = Row {

@@ -1,6 +1,6 @@
 //! The sections.
 
-use crate::fault::Fault;
+use crate::fault::ParseFault;
 use crate::hostile::calls::{are_constructed, is_escaped};
 use crate::hostile::replacements::is_replaced;
 use crate::hostile::tool::is_run;
@@ -59,7 +59,7 @@ impl Section {
         }
     }
 
-    fn try_row(self, alloc: Global, line: &str) -> Result<bool, Fault> {
+    fn try_row(self, alloc: Global, line: &str) -> Result<bool, ParseFault> {
         match self {
             Section::Searches | Section::Odd => searches::agree(alloc, line),
             Section::Limits => limits::agree(alloc, line),
@@ -74,7 +74,7 @@ impl Section {
     /// Whether a row agrees, which is tried once more where memory is refused.
     pub fn agrees(self, alloc: Global, line: &str) -> bool {
         let mut tried = self.try_row(alloc, line);
-        if matches!(tried, Err(Fault::Refused)) {
+        if matches!(tried, Err(ParseFault::Refused)) {
             tried = self.try_row(alloc, line);
         }
         matches!(tried, Ok(true))

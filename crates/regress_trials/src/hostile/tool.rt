@@ -1,6 +1,6 @@
 //! The body of `regress-tool`, with pages that take no memory to write to.
 
-use crate::fault::Fault;
+use crate::fault::ParseFault;
 use crate::hostile::fields::Fields;
 use regress_match::program;
 use std::alloc::{AllocError, Global};
@@ -70,7 +70,7 @@ fn is_beginning(printed: &[u8], wanted: &str) -> bool {
 
 /// Whether the program answers, prints and tells what it has to. Where memory is refused it says so, and the lines before
 /// stand.
-pub fn is_run(alloc: Global, line: &str) -> Result<bool, Fault> {
+pub fn is_run(alloc: Global, line: &str) -> Result<bool, ParseFault> {
     let mut fields = Fields::of(line);
     let words = words_of(alloc, [fields.next(), fields.next(), fields.next()])?;
     let (status, printed, told) = (fields.next(), fields.next(), fields.next());
@@ -79,9 +79,9 @@ pub fn is_run(alloc: Global, line: &str) -> Result<bool, Fault> {
     let got = program::run(alloc, &words, &mut out, &mut err);
     if err.written() == b"out of memory;".as_slice() {
         return Err(if got == 2 && is_beginning(out.written(), printed) {
-            Fault::Refused
+            ParseFault::Refused
         } else {
-            Fault::Wrong
+            ParseFault::Wrong
         });
     }
     let answered = status.parse::<u8>() == Ok(got);

@@ -3,7 +3,7 @@
 ghost use Rattle.std.specs.Prelude.{◌<◌, ◌⊎◌, IsTrue, length};
 ghost use Rattle.regex_meaning.specs.Text.{is_unit_boundary as is_boundary_of};
 
-use crate::fault::Fault;
+use crate::fault::ParseFault;
 use crate::hostile::executors::finds;
 use crate::hostile::lists::are_found;
 use regress_match::backends::{DefaultUcs2Executor, DefaultUtf16Executor};
@@ -18,7 +18,12 @@ pub fn is_unit_start(units: &[u16], offset: usize) -> bool
 }
 
 /// Whether all matches in UTF-16 are those that are wanted.
-pub fn all_in_utf16(re: &Regex, units: &[u16], start: usize, wanted: &str) -> Result<bool, Fault>
+pub fn all_in_utf16(
+    re: &Regex,
+    units: &[u16],
+    start: usize,
+    wanted: &str,
+) -> Result<bool, ParseFault>
     requires { IsTrue (is_boundary_of units.now start) ⊎ (length units.now < start) }
 {
     are_found(re.find_from_utf16(units, start)?, wanted)
@@ -30,7 +35,7 @@ pub fn asked_in_utf16(
     units: &[u16],
     start: usize,
     wanted: &str,
-) -> Result<bool, Fault>
+) -> Result<bool, ParseFault>
     requires { IsTrue (is_boundary_of units.now start) ⊎ (length units.now < start) }
 {
     let mut executor = DefaultUtf16Executor::new_utf16(re, units)?;
@@ -38,7 +43,12 @@ pub fn asked_in_utf16(
 }
 
 /// Whether all matches in UCS-2 are those that are wanted.
-pub fn all_in_ucs2(re: &Regex, units: &[u16], start: usize, wanted: &str) -> Result<bool, Fault> {
+pub fn all_in_ucs2(
+    re: &Regex,
+    units: &[u16],
+    start: usize,
+    wanted: &str,
+) -> Result<bool, ParseFault> {
     are_found(re.find_from_ucs2(units, start)?, wanted)
 }
 
@@ -48,7 +58,7 @@ pub fn asked_in_ucs2(
     units: &[u16],
     start: usize,
     wanted: &str,
-) -> Result<bool, Fault> {
+) -> Result<bool, ParseFault> {
     let mut executor = DefaultUcs2Executor::new_ucs2(re, units)?;
     finds(&mut executor, start, wanted)
 }

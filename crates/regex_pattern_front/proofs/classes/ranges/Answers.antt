@@ -1,6 +1,6 @@
 use Rattle.std.proofs.Common.{◌++◌, ◌∷◌, [], ◌∙◌, ap, refl, arith, ℕ}
 use Rattle.std.proofs.lemmas.Bool.{ne_eqb}
-use Rattle.regex_pattern_front.specs.TreeOf.{flags_of}
+use Rattle.regex_pattern_front.specs.AstToSpecTree.{flags_of}
 use Rattle.regex_pattern_front.proofs.ClassLemmas.{ranges-begin, ranges-next, ranges-end, ranges-none, adds-none, adds-more, set-of_members}
 use Rattle.regex_pattern_front.proofs.ClassLemmas.{member-nothing, err-ranges}
 use Rattle.regex_pattern_front.proofs.classes.ranges.Goals as goal
@@ -11,7 +11,7 @@ loop-c-init c = (omega arith, ([], ranges-begin _, rw c.new-intervals.ensures.it
 pub returns-then-c-clause-text : goal.returns-then-c-clause-text
 returns-then-c-clause-text c =
     let i = c.loop-c.invariant.1 in
-    (i.0, ranges-end i.1 (c.in-Some.ensures.text ∙ ap (λ (x : ℕ). x ∷ c.next.new.self.rest.now) c.if-c.true), set-of_members (flags_of c.args.flags) _ i.0 _ i.2 c.in_ok-closed.ensures)
+    (i.0, ranges-end i.1 (c.in-Some.ensures.text ∙ ap (λ (x : ℕ). x ∷ c.next.new.self.rest.now) c.if-c.true), set-of_members (flags_of c.args.flags) _ i.0 _ i.2 c.in_ok-case_closed.ensures)
 
 pub loop-c-preserved : goal.loop-c-preserved
 loop-c-preserved c =

@@ -1,13 +1,13 @@
 use Rattle.std.proofs.Common.{◌≡◌, ◌∙◌, sym, false}
 use Rattle.std.specs.Prelude.{if◌then◌else◌}
-use Rattle.regex_grammar.specs.Characters.{begins_name, goes_on_name}
+use Rattle.regex_grammar.specs.EscapesNamesQuantifiers.{is_identifier_start, is_identifier_part}
 use Rattle.regex_pattern_front.proofs.EscapeLemmas.{scalar-same}
 use Rattle.regex_pattern_front.proofs.NameLemmas.{no_letter_of_name}
 use Rattle.regex_pattern_front.proofs.escapes.letter_of_name.Goals as goal
 
 pub returns-in_default : goal.returns-in_default
 returns-in_default c =
-    let none : (if c.args.is_first then begins_name c.in-Some.letter else goes_on_name c.in-Some.letter) ≡ false =
+    let none : (if c.args.is_first then is_identifier_start c.in-Some.letter else is_identifier_part c.in-Some.letter) ≡ false =
     sym c.may_stand_in_name.ensures ∙ c.if-may_stand_in_name.false in
     let same : c.in-Some.letter ≡ c.args.c = scalar-same {o = c.from_u32.result} {c = c.args.c} {x = c.in-Some.letter} c.from_u32.ensures.value c.in-Some.is in
     rw same at none

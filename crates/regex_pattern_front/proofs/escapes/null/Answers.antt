@@ -1,6 +1,6 @@
 use Rattle.std.proofs.Common.{◌≡◌, ◌∙◌, sym, ap, refl}
 use Rattle.std.specs.Char.{is_ascii_digit}
-use Rattle.regex_grammar.specs.Characters.{null}
+use Rattle.regex_grammar.specs.EscapesNamesQuantifiers.{null}
 use Rattle.regex_pattern_front.proofs.EscapeLemmas.{no_digit_here}
 use Rattle.regex_pattern_front.proofs.escapes.null.Goals as goal
 

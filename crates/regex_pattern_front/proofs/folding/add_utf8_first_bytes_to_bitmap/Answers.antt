@@ -1,6 +1,6 @@
 use Rattle.std.proofs.Common.{◌≡◌, ℕ, ◌+◌, Bool, ◌∷◌, [], false, get_or, sym, ◌∙◌, inl, inr, arith}
-use Rattle.regex_meaning.specs.StartPredicate.{begun_by, meet}
-use Rattle.regex_pattern_front.specs.ByteSets.{byte_bitmap_bytes}
+use Rattle.regex_meaning.specs.StartPredicate.{chars_with_first_byte, intersects}
+use Rattle.regex_pattern_front.specs.ByteSetMembers.{byte_bitmap_bytes}
 use Rattle.regex_pattern_front.specs.Intervals.{interval_of}
 use Rattle.regex_pattern_front.proofs.AddedBytes.{with_bytes_below, with_bytes-from, with_bytes-more, with_bytes-same, with_bytes-to}
 use Rattle.regex_pattern_front.proofs.FirstByteLemmas.{none-outside}
@@ -14,7 +14,7 @@ loop-byte-init c =
 
 pub loop-byte-preserved : goal.loop-byte-preserved
 loop-byte-preserved c =
-    let test : ℕ → Bool = λ b. meet (begun_by b) (interval_of c.args.interval ∷ []) in
+    let test : ℕ → Bool = λ b. intersects (chars_with_first_byte b) (interval_of c.args.interval ∷ []) in
     let old = byte_bitmap_bytes c.args.bitmap.now in
     let now = byte_bitmap_bytes c.loop-byte.bitmap in
     elim c.if-may_begin.branch [
@@ -24,12 +24,12 @@ loop-byte-preserved c =
 
 pub returns : goal.returns
 returns c =
-    c.loop-byte.invariant ∙ with_bytes-to (byte_bitmap_bytes c.args.bitmap.now) (λ b. meet (begun_by b) (interval_of c.args.interval ∷ [])) c.loop-byte.byte
+    c.loop-byte.invariant ∙ with_bytes-to (byte_bitmap_bytes c.args.bitmap.now) (λ b. intersects (chars_with_first_byte b) (interval_of c.args.interval ∷ [])) c.loop-byte.byte
     (λ b above h. none-outside c.args.interval.first c.args.interval.last _ _ _ _ c.min.ensures c.min-2.ensures (c.utf8_first_byte-least.ensures.begins (omega arith)) (c.utf8_first_byte-greatest.ensures.begins (omega arith)) b (inr (omega arith)))
 
 pub returns-after-may_begin : goal.returns-after-may_begin
 returns-after-may_begin c =
-    let test : ℕ → Bool = λ b. meet (begun_by b) (interval_of c.args.interval ∷ []) in
+    let test : ℕ → Bool = λ b. intersects (chars_with_first_byte b) (interval_of c.args.interval ∷ []) in
     let old = byte_bitmap_bytes c.args.bitmap.now in
     let now = byte_bitmap_bytes c.loop-byte.bitmap in
     let next = byte_bitmap_bytes c.if-may_begin.bitmap in

@@ -1,10 +1,10 @@
-use Rattle.regex_pattern_front.specs.Parting.{weight, weight_of}
-use Rattle.regex_pattern_front.specs.TreeOf.{node_of}
+use Rattle.regex_pattern_front.specs.IterativeDropMeasure.{tree_size, node_size}
+use Rattle.regex_pattern_front.specs.AstToSpecTree.{node_of}
 use Rattle.regex_pattern_front.proofs.PartingLemmas.{linked-less}
 use Rattle.regex_pattern_front.proofs.ir.parted_alternatives.Goals as goal
 
 pub returns-in-Some : goal.returns-in-Some
-unfolding node_of weight
+unfolding node_of tree_size
 returns-in-Some c =
     rw (c.in-Some.is, c.replace-node.ensures.value, c.replace-node.ensures.after, c.deref_mut.ensures.value)
-    (linked-less (weight_of c.args.left.value) (weight_of c.args.right.value) (weight_of c.in-Some.link))
+    (linked-less (node_size c.args.left.value) (node_size c.args.right.value) (node_size c.in-Some.link))

@@ -1,6 +1,6 @@
 use Rattle.std.proofs.Common.{◌≡◌, ◌==◌, ◌∙◌, true, vec_len, ap, arith, sym}
 use Rattle.std.proofs.lemmas.Bool.{eqb-true}
-use Rattle.regex_pattern_front.specs.Parting.{weight}
+use Rattle.regex_pattern_front.specs.IterativeDropMeasure.{tree_size}
 use Rattle.regex_pattern_front.proofs.NodeLemmas.{node_of-Cat}
 use Rattle.regex_pattern_front.proofs.PartingLemmas.{no-nodes, only-less, popped-less}
 use Rattle.regex_pattern_front.proofs.ir.popped.Goals as goal
@@ -15,5 +15,5 @@ returns-then-is_empty c =
 
 pub returns : goal.returns
 returns c =
-    rw (ap weight (node_of-Cat c.pop.new.self))
+    rw (ap tree_size (node_of-Cat c.pop.new.self))
     (popped-less c.args.children.items c.pop.new.self.items c.in-Some.node c.in-Some.ensures.items)

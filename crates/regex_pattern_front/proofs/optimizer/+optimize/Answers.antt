@@ -1,12 +1,12 @@
 use Rattle.std.proofs.Common.{◌≡◌, ◌<◌, ◌∙◌, true, false, refl, ap, arith, rules, Box, Vec, Global}
 use Rattle.regex_meaning.specs.Tree.{alt}
-use Rattle.regex_pattern_front.specs.TreeOf.{cat_of, node_of}
+use Rattle.regex_pattern_front.specs.AstToSpecTree.{cat_of, node_of}
 use Rattle.regex_pattern_front.specs.declared.ir.Node.{Node, size-Node}
 use Rattle.regex_pattern_front.specs.declared.ir.Node.TheViews.{out-Node}
 use Rattle.regex_pattern_front.specs.declared.ir.Node.TheBlock.{hidden-the_row-Node-0, the_depth}
 use denote.Hole.Carrier.{fold, out}
 use denote.Hole.Rolled.{depth}
-use Rattle.regex_pattern_front.specs.Optimized.{optimized, reads_one_character}
+use Rattle.regex_pattern_front.specs.OptimizedTrees.{optimized, reads_one_character}
 use Rattle.regex_pattern_front.proofs.NodeLemmas.{optimized-children, optimized-leaf, node_of-Cat, turned-one}
 use Rattle.regex_pattern_front.proofs.optimizer.+optimize.Goals as goal
 
@@ -52,7 +52,7 @@ unfolding node_of optimized out-Node out
 optimize_node-returns-then-reads_one_character t c =
     let read : c.deref.result.now ≡ c.in-Loop.loopee.value = c.deref.ensures ∙ ap (λ (b : Box Node Global). b.value) c.in-Loop.loopee-is in
     let test : reads_one_character (node_of c.in-Loop.loopee.value) ≡ true = rw (← read, ← c.reads_one_character.ensures) c.if-reads_one_character.true in
-    rw (c.narrow.ensures, c.in-Loop.is, test)
+    rw (c.to_char_loop.ensures, c.in-Loop.is, test)
 
 pub optimize_node-returns-else-reads_one_character : goal.optimize_node-returns-else-reads_one_character
 unfolding node_of optimized out-Node out
@@ -80,11 +80,11 @@ unfolding optimized
 optimize_row-loop-rest-init t c = record { deep = omega arith; turned = rw c.optimize_node.ensures refl }
 
 -- what stands behind the first alternative is next, whatever became of the first
-next : (t : _) (c : goal.optimize_row-After-turn t) → c.turn.new.from ≡ c.in-Alt._right.value
+next : (t : _) (c : goal.optimize_row-After-move_alternative t) → c.move_alternative.new.from ≡ c.in-Alt._right.value
 unfolding out-Node out
-next t c = c.turn.ensures.part (record c.in-Alt.left { value = c.optimize_node-in-Alt.new.node }) c.in-Alt._right (rw c.in-Alt.is refl)
+next t c = c.move_alternative.ensures.part (record c.in-Alt.left { value = c.optimize_node-in-Alt.new.node }) c.in-Alt._right (rw c.in-Alt.is refl)
 
-less : (t : _) (c : goal.optimize_row-After-turn t) → size-Node c.turn.new.from < size-Node c.loop-rest.rest
+less : (t : _) (c : goal.optimize_row-After-move_alternative t) → size-Node c.move_alternative.new.from < size-Node c.loop-rest.rest
 unfolding the_depth depth fold
 less t c =
     let inside : size-Node c.in-Alt._right.value < size-Node c.loop-rest.rest = rw c.in-Alt.is (search rules) in
@@ -98,8 +98,8 @@ unfolding node_of optimized
 optimize_row-loop-rest-preserved t c =
     let now = c.loop-rest in
     let left : c.deref_mut.result.now ≡ c.in-Alt.left.value = c.deref_mut.ensures.value ∙ ap (λ (b : Box Node Global). b.value) c.in-Alt.left-is in
-    let to : node_of c.turn.new.to ≡ alt (optimized (node_of c.in-Alt.left.value)) (node_of now.first) =
-    c.turn.ensures.to ∙ ap (λ n. alt n (node_of now.first)) (c.optimize_node-in-Alt.ensures ∙ ap (λ n. optimized (node_of n)) left) in
+    let to : node_of c.move_alternative.new.to ≡ alt (optimized (node_of c.in-Alt.left.value)) (node_of now.first) =
+    c.move_alternative.ensures.to ∙ ap (λ n. alt n (node_of now.first)) (c.optimize_node-in-Alt.ensures ∙ ap (λ n. optimized (node_of n)) left) in
     record {
       deep = omega (arith, less t c, now.invariant.deep);
       turned =

@@ -1,4 +1,4 @@
-use Rattle.regex_pattern_front.specs.TreeOf.{node_of, quantifier_of}
+use Rattle.regex_pattern_front.specs.AstToSpecTree.{node_of, quantifier_of}
 use Rattle.regex_pattern_front.proofs.PartLemmas.{part-loop, order-from}
 use Rattle.std.proofs.Common.{◌≡◌, refl}
 use Rattle.regex_meaning.specs.Tree.{loop}

@@ -1,19 +1,19 @@
 use Rattle.std.proofs.Common.{◌≡◌, ◌≤◌, ◌+◌, [], ◌∷◌, length, arith, ap, ap₂, sym, subst, refl, ◌∙◌}
 use Rattle.std.specs.Prelude.{IsSome, true, option_map, Option, Err}
-use Rattle.regex_meaning.specs.Offsets.{units}
+use Rattle.regex_meaning.specs.CodeUnitOffsets.{units}
 use Rattle.regress_input.proofs.Places.{boundary_inside}
-use Rattle.regress_program.specs.Code.{compiled}
+use Rattle.regress_program.specs.CodeOfTrees.{compiled}
 use Rattle.regress_exec.proofs.Searchable.{can-search}
 use Rattle.regress_exec.specs.Attempts.{ticks_from}
-use Rattle.regress_exec.specs.Spends.{Spends, TakesIfBegun}
+use Rattle.regress_exec.specs.StepCosts.{CostsSteps, AllocFailureCostsOneStep}
 use Rattle.regress_exec.specs.declared.exec.SearchError.TheVariants.{Memory}
 use Rattle.regress_exec.proofs.Budget.{handed}
-use Rattle.regress_backtrack.specs.Memory.{Held, state_of, since}
-use Rattle.regress_scan.specs.Searching.{program_of}
-use Rattle.regress_backtrack.specs.Attempted.{IsLaidOut}
-use Rattle.regress_backtrack.specs.Searches.{searched_from, NeedAtLeast}
-use Rattle.regress_backtrack.specs.Steps.{limit_of}
-use Rattle.regress_machine.specs.Finds.{initial}
+use Rattle.regress_backtrack.specs.State.{StateModel, machine_state_of, last_mark_log}
+use Rattle.regress_scan.specs.SearchInputs.{program_of}
+use Rattle.regress_backtrack.specs.AttemptResults.{HasSlots}
+use Rattle.regress_backtrack.specs.SearchProgress.{found_from_state, NeedStepsAtLeast}
+use Rattle.regress_backtrack.specs.StepsTakenFromBudget.{step_limit}
+use Rattle.regress_machine.specs.SearchResults.{state_before_first_insn}
 use Rattle.regress_machine.specs.Machine.{running}
 use Rattle.regress_backtrack.proofs.Attempting.{Begins, first-state, begins, attempt-ends, attempt-spends, attempt-stops, found-with, spends-none}
 use Rattle.regress_backtrack.proofs.Attempting.{stopped-takes, takes-none, tells-memory}
@@ -23,104 +23,104 @@ use Rattle.regress_backtrack.proofs.attempts.attempt.Goals.{In_ok-begin}
 use Rattle.regress_backtrack.proofs.attempts.attempt.Goals as goal
 
 -- the search from the first state at the place
-search-here : (g : Over) (c : In_ok-begin g) → Begins (g.W.Planned.searching c.args.planned.now) (g.W.Input.Position.PositionType.offset c.args.pos)
+search-here : (g : Over) (c : In_ok-begin g) → Begins (g.W.SearchContext.searching c.args.planned.now) (g.W.Input.Position.PositionType.offset c.args.pos)
 search-here g c =
-    let w = g.W.Planned.searching c.args.planned.now in
+    let w = g.W.SearchContext.searching c.args.planned.now in
     begins w (g.W.Input.Position.PositionType.offset c.args.pos)
-    (can-search w.tree w.text c.requires.can.0.well_formed (g.met.W.Planned.is_text c.args.planned.now) c.requires.can.0.unicode c.requires.can.0.bytes) c.requires.can.1
+    (can-search w.tree w.text c.requires.can.0.well_formed (g.met.W.SearchContext.is_text c.args.planned.now) c.requires.can.0.unicode c.requires.can.0.bytes) c.requires.can.1
 
 -- what is remembered begins as that state
 state-here : (g : Over) (c : In_ok-begin g)
-    → state_of c.begin.new.self 0 c.pos_to_offset-at.result ≡ initial (program_of (g.W.Planned.searching c.args.planned.now)) (g.W.Input.Position.PositionType.offset c.args.pos)
+    → machine_state_of c.begin.new.self 0 c.pos_to_offset-at.result ≡ state_before_first_insn (program_of (g.W.SearchContext.searching c.args.planned.now)) (g.W.Input.Position.PositionType.offset c.args.pos)
 state-here g c =
-    let w = g.W.Planned.searching c.args.planned.now in
+    let w = g.W.SearchContext.searching c.args.planned.now in
     let at = c.pos_to_offset-at.result in
     let groups = c.groups-groups.ensures ∙ c.program.ensures.groups in
     let loops = c.loops-loops.ensures in
-    ap (λ h. state_of h 0 at) c.in_ok-begin.ensures.begun ∙ first-state (program_of w) c.groups-groups.result c.loops-loops.result _ at refl groups loops
-    ∙ ap (initial (program_of w)) c.pos_to_offset-at.ensures
+    ap (λ h. machine_state_of h 0 at) c.in_ok-begin.ensures.begun ∙ first-state (program_of w) c.groups-groups.result c.loops-loops.result _ at refl groups loops
+    ∙ ap (state_before_first_insn (program_of w)) c.pos_to_offset-at.ensures
 
-pub run-requires-clause-inside : goal.run-requires-clause-inside
-run-requires-clause-inside g c =
-    let text = (g.W.Planned.searching c.args.planned.now).text in
+pub run_search-requires-clause-inside : goal.run_search-requires-clause-inside
+run_search-requires-clause-inside g c =
+    let text = (g.W.SearchContext.searching c.args.planned.now).text in
     subst (λ at. at ≤ units text) (sym c.pos_to_offset-at.ensures)
-    (boundary_inside text (g.met.W.Planned.is_text c.args.planned.now) (g.W.Input.Position.PositionType.offset c.args.pos) c.requires.can.1)
+    (boundary_inside text (g.met.W.SearchContext.is_text c.args.planned.now) (g.W.Input.Position.PositionType.offset c.args.pos) c.requires.can.1)
 
-pub run-requires-clause-noted : goal.run-requires-clause-noted
-run-requires-clause-noted g c = subst (λ (h : Held). length h.log ≤ since h.marks) (sym c.in_ok-begin.ensures.begun) (omega arith)
+pub run_search-requires-clause-noted : goal.run_search-requires-clause-noted
+run_search-requires-clause-noted g c = subst (λ (h : StateModel). length h.log ≤ last_mark_log h.marks) (sym c.in_ok-begin.ensures.begun) (omega arith)
 
-pub run-requires-clause-answers : goal.run-requires-clause-answers
-run-requires-clause-answers g c =
-    let w = g.W.Planned.searching c.args.planned.now in
-    let b = search-here g (goal.at.run-requires-clause-answers g c).In_ok-begin in
-    let first = state-here g (goal.at.run-requires-clause-answers g c).In_ok-begin in
-    subst IsSome (sym (ap (searched_from w true) first ∙ b.searches)) refl
+pub run_search-requires-clause-answers : goal.run_search-requires-clause-answers
+run_search-requires-clause-answers g c =
+    let w = g.W.SearchContext.searching c.args.planned.now in
+    let b = search-here g (goal.at.run_search-requires-clause-answers g c).In_ok-begin in
+    let first = state-here g (goal.at.run_search-requires-clause-answers g c).In_ok-begin in
+    subst IsSome (sym (ap (found_from_state w true) first ∙ b.searches)) refl
 
 pub returns-in-Ok-clause-found : goal.returns-in-Ok-clause-found
 returns-in-Ok-clause-found g c =
-    let w = g.W.Planned.searching c.args.planned.now in
+    let w = g.W.SearchContext.searching c.args.planned.now in
     let offset = g.W.Input.Position.PositionType.offset in
-    let groups = (state_of c.run.new.memory 0 0).groups in
+    let groups = (machine_state_of c.run_search.new.memory 0 0).groups in
     let b = search-here g (goal.at.returns-in-Ok-clause-found g c).In_ok-begin in
     let first = state-here g (goal.at.returns-in-Ok-clause-found g c).In_ok-begin in
-    found-with offset c.end_in.result groups ∙ ap (option_map (λ e. (e, groups))) c.end_in.ensures
-    ∙ attempt-ends w (offset c.args.pos) c.pos_to_offset-at.result c.begin.new.self c.run.new.memory _ _ _ c.in-Ok.end b first c.in-Ok.ensures.ran
+    found-with offset c.end_position.result groups ∙ ap (option_map (λ e. (e, groups))) c.end_position.ensures
+    ∙ attempt-ends w (offset c.args.pos) c.pos_to_offset-at.result c.begin.new.self c.run_search.new.memory _ _ _ c.in-Ok.end b first c.in-Ok.ensures.ran
 
 pub returns-in-Ok-clause-steps : goal.returns-in-Ok-clause-steps
 returns-in-Ok-clause-steps g c =
-    let w = g.W.Planned.searching c.args.planned.now in
+    let w = g.W.SearchContext.searching c.args.planned.now in
     let at = g.W.Input.Position.PositionType.offset c.args.pos in
     let begun = (goal.at.returns-in-Ok-clause-steps g c).In_ok-begin in
-    let budget = g.S.Steps.budget in
-    attempt-spends w at c.pos_to_offset-at.result c.begin.new.self (budget c.args.course.now.steps) (budget c.run.new.course.steps) g.S.Steps.COUNTS (search-here g begun) (state-here g begun)
-    c.run.new.memory c.in-Ok.end c.end_in.result c.in-Ok.ensures.ran
+    let budget = g.S.StepCounter.budget in
+    attempt-spends w at c.pos_to_offset-at.result c.begin.new.self (budget c.args.course.now.steps) (budget c.run_search.new.course.steps) g.S.StepCounter.COUNTS (search-here g begun) (state-here g begun)
+    c.run_search.new.memory c.in-Ok.end c.end_position.result c.in-Ok.ensures.ran
 
 pub returns-in-Err-clause-steps : goal.returns-in-Err-clause-steps
 returns-in-Err-clause-steps g c =
-    let w = g.W.Planned.searching c.args.planned.now in
+    let w = g.W.SearchContext.searching c.args.planned.now in
     let at = g.W.Input.Position.PositionType.offset c.args.pos in
     let b = search-here g (goal.at.returns-in-Err-clause-steps g c).In_ok-begin in
     let first = state-here g (goal.at.returns-in-Err-clause-steps g c).In_ok-begin in
-    let budget = g.S.Steps.budget in
-    let counts = g.S.Steps.COUNTS in
+    let budget = g.S.StepCounter.budget in
+    let counts = g.S.StepCounter.COUNTS in
     let before = budget c.args.course.now.steps in
-    let after = budget c.run.new.course.steps in
-    subst (λ e. Spends {X = Option g.row.W-Input-Position.Denot} (ticks_from w.tree w.text at) (limit_of counts before) (Err e) (limit_of counts after)) (sym c.cause.ensures)
+    let after = budget c.run_search.new.course.steps in
+    subst (λ e. CostsSteps {X = Option g.row.W-Input-Position.Denot} (ticks_from w.tree w.text at) (step_limit counts before) (Err e) (step_limit counts after)) (sym c.cause.ensures)
     (attempt-stops w at c.pos_to_offset-at.result c.begin.new.self before after counts b first (Option g.row.W-Input-Position.Denot) c.requires.fresh c.in-Err.ensures.stopped)
 
 pub returns-in-Err-clause-begun : goal.returns-in-Err-clause-begun
 returns-in-Err-clause-begun g c =
-    let w = g.W.Planned.searching c.args.planned.now in
-    let budget = g.S.Steps.budget in
-    let counts = g.S.Steps.COUNTS in
+    let w = g.W.SearchContext.searching c.args.planned.now in
+    let budget = g.S.StepCounter.budget in
+    let counts = g.S.StepCounter.COUNTS in
     let before = budget c.args.course.now.steps in
-    let after = budget c.run.new.course.steps in
-    let begun = IsLaidOut w.tree c.run.new.memory in
-    subst (λ e. TakesIfBegun {X = Option g.row.W-Input-Position.Denot} begun (limit_of counts before) (Err e) (limit_of counts after)) (sym c.cause.ensures)
-    (stopped-takes (Option g.row.W-Input-Position.Denot) counts begun (NeedAtLeast w true (running (state_of c.begin.new.self 0 c.pos_to_offset-at.result) ∷ [])) before after c.requires.fresh c.in-Err.ensures.stopped)
+    let after = budget c.run_search.new.course.steps in
+    let begun = HasSlots w.tree c.run_search.new.memory in
+    subst (λ e. AllocFailureCostsOneStep {X = Option g.row.W-Input-Position.Denot} begun (step_limit counts before) (Err e) (step_limit counts after)) (sym c.cause.ensures)
+    (stopped-takes (Option g.row.W-Input-Position.Denot) counts begun (NeedStepsAtLeast w true (running (machine_state_of c.begin.new.self 0 c.pos_to_offset-at.result) ∷ [])) before after c.requires.fresh c.in-Err.ensures.stopped)
 
 pub returns-in_err-begin-clause-steps : goal.returns-in_err-begin-clause-steps
 returns-in_err-begin-clause-steps g c =
-    let w = g.W.Planned.searching c.args.planned.now in
+    let w = g.W.SearchContext.searching c.args.planned.now in
     let need = ticks_from w.tree w.text (g.W.Input.Position.PositionType.offset c.args.pos) in
-    let budget = g.S.Steps.budget c.args.course.now.steps in
-    let counts = g.S.Steps.COUNTS in
+    let budget = g.S.StepCounter.budget c.args.course.now.steps in
+    let counts = g.S.StepCounter.COUNTS in
     let X = Option g.row.W-Input-Position.Denot in
-    handed X X need (limit_of counts budget) (limit_of counts budget) Memory c.from_residual.result c.from_residual.ensures.1 (spends-none X counts need budget budget refl)
+    handed X X need (step_limit counts budget) (step_limit counts budget) Memory c.from_residual.result c.from_residual.ensures.1 (spends-none X counts need budget budget refl)
 
 pub returns-in_err-begin-clause-begun : goal.returns-in_err-begin-clause-begun
 returns-in_err-begin-clause-begun g c =
     let groups = c.groups-groups.ensures ∙ c.program.ensures.groups in
     let loops = c.loops-loops.ensures in
-    let w = g.W.Planned.searching c.args.planned.now in
-    let left = limit_of g.S.Steps.COUNTS (g.S.Steps.budget c.args.course.now.steps) in
-    takes-none (Option g.row.W-Input-Position.Denot) (IsLaidOut w.tree c.begin.new.self) left left c.from_residual.result (λ e. c.in_err-begin.ensures.refused (e ∙ ap₂ (λ n m. n + m) (sym groups) (sym loops)))
+    let w = g.W.SearchContext.searching c.args.planned.now in
+    let left = step_limit g.S.StepCounter.COUNTS (g.S.StepCounter.budget c.args.course.now.steps) in
+    takes-none (Option g.row.W-Input-Position.Denot) (HasSlots w.tree c.begin.new.self) left left c.from_residual.result (λ e. c.in_err-begin.ensures.refused (e ∙ ap₂ (λ n m. n + m) (sym groups) (sym loops)))
 
 pub returns-in_err-begin-clause-cause : goal.returns-in_err-begin-clause-cause
 returns-in_err-begin-clause-cause g c = tells-memory c.from_residual.result c.from_residual.ensures.1 c.requires.fresh
 
-pub run-requires-clause-sound : goal.run-requires-clause-sound
-run-requires-clause-sound g c = c.requires.sound
+pub run_search-requires-clause-sound : goal.run_search-requires-clause-sound
+run_search-requires-clause-sound g c = c.requires.sound
 
 pub returns-in_err-begin-clause-sound : goal.returns-in_err-begin-clause-sound
 returns-in_err-begin-clause-sound g c = sound-same c.requires.sound

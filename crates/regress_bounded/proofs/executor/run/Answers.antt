@@ -1,5 +1,5 @@
 use Rattle.std.proofs.Common.{Some, ap, sym, refl, ◌∙◌, arith}
-use Rattle.regress_memo.specs.Room.{Known}
+use Rattle.regress_memo.specs.MemoContractView.{MemoView}
 use Rattle.regress_pikevm.proofs.Remains.{popped-none}
 use Rattle.regress_bounded.proofs.Standing.{knows, still-knows, standing-on, less-on, stands-as, standing-as}
 use Rattle.regress_bounded.proofs.Stopping.{runs-handed, came-on, came-end}
@@ -9,65 +9,65 @@ pub search-init : goal.search-init
 search-init g c = record {
   stands = standing-as {next = Some c.args.start} refl (sym c.clear.ensures.items) c.requires.stands;
   from = λ b h. stands-as {next = Some c.args.start} refl (sym c.clear.ensures.items) h;
-  ledger = refl;
+  memo_analysis = refl;
   left = omega arith;
 }
 
 -- ---- A thread in hand
 
-pub turn-requires-clause-stands : goal.turn-requires-clause-stands
-turn-requires-clause-stands g c = standing-as c.in-Some.is refl c.search.invariant.stands
+pub execute_thread-requires-clause-stands : goal.execute_thread-requires-clause-stands
+execute_thread-requires-clause-stands g c = standing-as c.in-Some.is refl c.search.invariant.stands
 
 pub returns-in_err-next-in-Some-clause-right : goal.returns-in_err-next-in-Some-clause-right
-returns-in_err-next-in-Some-clause-right g c = still-knows c.search.invariant.stands c.turn.ensures.memo
+returns-in_err-next-in-Some-clause-right g c = still-knows c.search.invariant.stands c.execute_thread.ensures.memo
 
-pub returns-in_err-next-in-Some-clause-ledger : goal.returns-in_err-next-in-Some-clause-ledger
-returns-in_err-next-in-Some-clause-ledger g c = ap (λ (m : Known). m.ledger) c.turn.ensures.memo ∙ c.search.invariant.ledger
+pub returns-in_err-next-in-Some-clause-memo_analysis : goal.returns-in_err-next-in-Some-clause-memo_analysis
+returns-in_err-next-in-Some-clause-memo_analysis g c = ap (λ (m : MemoView). m.memo_analysis) c.execute_thread.ensures.memo ∙ c.search.invariant.memo_analysis
 
 pub returns-in_err-next-in-Some-clause-runs : goal.returns-in_err-next-in-Some-clause-runs
 returns-in_err-next-in-Some-clause-runs g c = λ b h.
     let stops = c.in_err-next-in-Some.ensures.goes b (stands-as c.in-Some.is refl (c.search.invariant.from b h)) in
-    runs-handed h c.turn.new.course c.from_residual.result c.in_err-next-in-Some.field-0.0 c.from_residual.ensures.1 stops
+    runs-handed h c.execute_thread.new.course c.from_residual.result c.in_err-next-in-Some.field-0.0 c.from_residual.ensures.1 stops
 
 pub returns-in-End-clause-right : goal.returns-in-End-clause-right
-returns-in-End-clause-right g c = still-knows c.search.invariant.stands c.turn.ensures.memo
+returns-in-End-clause-right g c = still-knows c.search.invariant.stands c.execute_thread.ensures.memo
 
-pub returns-in-End-clause-ledger : goal.returns-in-End-clause-ledger
-returns-in-End-clause-ledger g c = ap (λ (m : Known). m.ledger) c.turn.ensures.memo ∙ c.search.invariant.ledger
+pub returns-in-End-clause-memo_analysis : goal.returns-in-End-clause-memo_analysis
+returns-in-End-clause-memo_analysis g c = ap (λ (m : MemoView). m.memo_analysis) c.execute_thread.ensures.memo ∙ c.search.invariant.memo_analysis
 
 pub returns-in-End-clause-runs : goal.returns-in-End-clause-runs
 returns-in-End-clause-runs g c = λ b h.
     let there = standing-as c.in-Some.is refl c.search.invariant.stands in
-    came-end there c.turn.new.stack.items c.turn.new.course c.in-End.is c.in_ok-next-in-Some.ensures.goes b (stands-as c.in-Some.is refl (c.search.invariant.from b h))
+    came-end there c.execute_thread.new.stack.items c.execute_thread.new.course c.in-End.is c.in_ok-next-in-Some.ensures.goes b (stands-as c.in-Some.is refl (c.search.invariant.from b h))
 
 pub search-smaller-in-On : goal.search-smaller-in-On
 search-smaller-in-On g c =
     let there = standing-as c.in-Some.is refl c.search.invariant.stands in
-    less-on there (λ b h. (came-on there c.turn.new.stack.items c.turn.new.course c.in-On.is c.in_ok-next-in-Some.ensures.goes b h).less)
+    less-on there (λ b h. (came-on there c.execute_thread.new.stack.items c.execute_thread.new.course c.in-On.is c.in_ok-next-in-Some.ensures.goes b h).less)
 
 pub search-preserved-in-On : goal.search-preserved-in-On
 search-preserved-in-On g c =
     let there = standing-as c.in-Some.is refl c.search.invariant.stands in
-    let came = came-on there c.turn.new.stack.items c.turn.new.course c.in-On.is c.in_ok-next-in-Some.ensures.goes in
+    let came = came-on there c.execute_thread.new.stack.items c.execute_thread.new.course c.in-On.is c.in_ok-next-in-Some.ensures.goes in
     record {
       stands = standing-on there (λ b h. (came b h).stands);
       from = λ b h. (came b (stands-as c.in-Some.is refl (c.search.invariant.from b h))).stands;
-      ledger = ap (λ (m : Known). m.ledger) c.turn.ensures.memo ∙ c.search.invariant.ledger;
-      left = omega (arith, c.turn.ensures.left, c.search.invariant.left);
+      memo_analysis = ap (λ (m : MemoView). m.memo_analysis) c.execute_thread.ensures.memo ∙ c.search.invariant.memo_analysis;
+      left = omega (arith, c.execute_thread.ensures.left, c.search.invariant.left);
     }
 
 -- ---- One that waits
 
-pub back_to-requires-clause-stands : goal.back_to-requires-clause-stands
-back_to-requires-clause-stands g c = standing-as c.in-None.is c.in-Some-pop.ensures.items c.search.invariant.stands
+pub backtrack_to_entry-requires-clause-stands : goal.backtrack_to_entry-requires-clause-stands
+backtrack_to_entry-requires-clause-stands g c = standing-as c.in-None.is c.in-Some-pop.ensures.items c.search.invariant.stands
 
-pub returns-in_err-next-in-Some-pop-clause-ledger : goal.returns-in_err-next-in-Some-pop-clause-ledger
-returns-in_err-next-in-Some-pop-clause-ledger g c = c.back_to.ensures.ledger ∙ c.search.invariant.ledger
+pub returns-in_err-next-in-Some-pop-clause-memo_analysis : goal.returns-in_err-next-in-Some-pop-clause-memo_analysis
+returns-in_err-next-in-Some-pop-clause-memo_analysis g c = c.backtrack_to_entry.ensures.memo_analysis ∙ c.search.invariant.memo_analysis
 
 pub returns-in_err-next-in-Some-pop-clause-runs : goal.returns-in_err-next-in-Some-pop-clause-runs
 returns-in_err-next-in-Some-pop-clause-runs g c = λ b h.
     let stops = c.in_err-next-in-Some-pop.ensures.goes b (stands-as c.in-None.is c.in-Some-pop.ensures.items (c.search.invariant.from b h)) in
-    runs-handed h c.back_to.new.course c.from_residual-in_err-next-in-Some-pop.result c.in_err-next-in-Some-pop.field-0.0 c.from_residual-in_err-next-in-Some-pop.ensures.1 stops
+    runs-handed h c.backtrack_to_entry.new.course c.from_residual-in_err-next-in-Some-pop.result c.in_err-next-in-Some-pop.field-0.0 c.from_residual-in_err-next-in-Some-pop.ensures.1 stops
 
 pub search-smaller : goal.search-smaller
 search-smaller g c =
@@ -77,8 +77,8 @@ pub search-preserved : goal.search-preserved
 search-preserved g c = record {
   stands = standing-on (standing-as c.in-None.is c.in-Some-pop.ensures.items c.search.invariant.stands) (λ b h. (c.in_ok-next-in-Some-pop.ensures.goes b h).stands);
   from = λ b h. (c.in_ok-next-in-Some-pop.ensures.goes b (stands-as c.in-None.is c.in-Some-pop.ensures.items (c.search.invariant.from b h))).stands;
-  ledger = c.back_to.ensures.ledger ∙ c.search.invariant.ledger;
-  left = omega (arith, c.back_to.ensures.left, c.search.invariant.left);
+  memo_analysis = c.backtrack_to_entry.ensures.memo_analysis ∙ c.search.invariant.memo_analysis;
+  left = omega (arith, c.backtrack_to_entry.ensures.left, c.search.invariant.left);
 }
 
 -- ---- None
@@ -86,8 +86,8 @@ search-preserved g c = record {
 pub returns-in-None-pop-clause-right : goal.returns-in-None-pop-clause-right
 returns-in-None-pop-clause-right g c = knows c.search.invariant.stands
 
-pub returns-in-None-pop-clause-ledger : goal.returns-in-None-pop-clause-ledger
-returns-in-None-pop-clause-ledger g c = c.search.invariant.ledger
+pub returns-in-None-pop-clause-memo_analysis : goal.returns-in-None-pop-clause-memo_analysis
+returns-in-None-pop-clause-memo_analysis g c = c.search.invariant.memo_analysis
 
 pub returns-in-None-pop-clause-runs : goal.returns-in-None-pop-clause-runs
 returns-in-None-pop-clause-runs g c = λ b h.

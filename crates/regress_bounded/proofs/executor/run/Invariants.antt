@@ -1,7 +1,7 @@
 use Rattle.std.proofs.Common.{◌≡◌, ◌≤◌, [], Some}
-use Rattle.regex_pattern_front.specs.TreeOf.{tree_of}
-use Rattle.regress_program.specs.Code.{compiled}
-use Rattle.regress_bounded.specs.Courses.{Begin, Stands, IsStanding, front_of}
+use Rattle.regex_pattern_front.specs.AstToSpecTree.{tree_of}
+use Rattle.regress_program.specs.CodeOfTrees.{compiled}
+use Rattle.regress_bounded.specs.SearchStateEntries.{AttemptBeginning, Stands, IsStanding, front_of}
 use Rattle.regress_bounded.proofs.executor.run.Given as goal
 
 abbrev pub invariant-search : goal.invariant-search
@@ -11,8 +11,8 @@ invariant-search g l =
     let offset = g.Input.Position.PositionType.offset in
     record {
       stands : IsStanding offset program text (front_of offset l.next) l.stack.items l.course;
-      from : (b : Begin) → Stands offset program text b (front_of offset (Some l.fn.start)) [] l.fn.course → Stands offset program text b (front_of offset l.next) l.stack.items l.course;
-      ledger : l.course.memo.ledger ≡ l.fn.course.memo.ledger;
+      from : (b : AttemptBeginning) → Stands offset program text b (front_of offset (Some l.fn.start)) [] l.fn.course → Stands offset program text b (front_of offset l.next) l.stack.items l.course;
+      memo_analysis : l.course.memo.memo_analysis ≡ l.fn.course.memo.memo_analysis;
       left : l.course.left ≤ l.fn.course.left;
     }
 

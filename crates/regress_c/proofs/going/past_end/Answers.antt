@@ -1,5 +1,5 @@
 use Rattle.std.proofs.Common.{ap, arith}
-use Rattle.regex_meaning.specs.Offsets.{units}
+use Rattle.regex_meaning.specs.CodeUnitOffsets.{units}
 use Rattle.regress_c.proofs.going.past_end.Goals as goal
 
 pub returns-clause-past : goal.returns-clause-past

@@ -5,5 +5,5 @@ use Rattle.regress_checks.proofs.remembered.write_remembering_at_once.Goals as g
 
 pub new-requires-2 : goal.new-requires-2
 new-requires-2 c =
-    utf8_start _ c.args.text.now _ (c.remember.ensures.text ∙ c.in_ok-executor.ensures.text) c.utf8.text 0
+    utf8_start _ c.args.text.now _ (c.always_memoize.ensures.text ∙ c.in_ok-executor.ensures.text) c.utf8.text 0
     (inl (IsCharBoundary-start c.args.text.now c.utf8.text))

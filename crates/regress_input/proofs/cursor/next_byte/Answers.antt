@@ -1,6 +1,6 @@
 use Rattle.std.proofs.Common.{slice_get, sym, ◌∙◌, arith}
 use Rattle.std.proofs.lemmas.Option.{slice_get_within}
-use Rattle.regress_input.specs.Reading.{bytes_of}
+use Rattle.regress_input.specs.ReadsFromOffset.{bytes_of}
 use Rattle.regress_input.proofs.Moves.{are_bytes}
 use Rattle.regress_input.proofs.ByteTests.{units-bytes_of}
 use Rattle.regress_input.proofs.cursor.next_byte.Goals as goal

@@ -1,5 +1,5 @@
 use Rattle.std.specs.Prelude.{◌≤◌}
-use Rattle.regex_meaning.specs.Offsets.{IsBoundary}
+use Rattle.regex_meaning.specs.CodeUnitOffsets.{IsBoundary}
 use Rattle.regress_input_rows.proofs.answers.further.Given as goal
 
 abbrev pub invariant-loop : goal.invariant-loop

@@ -1,26 +1,27 @@
-//! Texts with what a closure answers in place of matches.
+//! Replacement of matches in a text by the results of a closure.
 
 ghost use Rattle.std.specs.Prelude.{◌≡◌, ◌++◌, IfErr, IfOk, false, string_bytes, take};
 ghost use Rattle.std.specs.Result.{IsOkAnd};
-ghost use Rattle.regress_match.specs.{Answered.{CanRefuseAnswer}, Closures.{CanBeCalled, CanRefuseWith, IsReplacedBy}, Programs.{utf8_answers}};
-ghost use Rattle.regress_match.specs.Replacements.{StandFrom};
+ghost use Rattle.regress_match.specs.{ClosureReplacements.{IsErrorOfClosureResult}, ReplacementClosures.{ClosureCanBeCalled, CanRefuseWith, IsReplacedBy}, RegexPrograms.{utf8_answers}};
+ghost use Rattle.regress_match.specs.Replacements.{MatchesAreOrderedFrom};
 
-use crate::api::replace::{finish, reach};
+use crate::api::replace::{append_rest, append_up_to};
 use crate::api::{Match, Regex, ReplaceError};
 use regress_exec::exec::{MatchProducer, Matches};
 use std::alloc::Global;
 
 impl Regex {
-    /// The text with what the closure answers at the first match in place of that match. Without a match it is the text,
-    /// and the closure is not called.
+    /// Returns `text` with the first match replaced by the closure's result for it. Without a
+    /// match, returns `text` itself and does not call the closure.
     ///
     /// # Errors
     ///
-    /// `Search` where there is no memory for the search or the text, and `Closure` with the closure's error.
+    /// - `Search` if an allocation for the search or the text fails.
+    /// - `Closure` with the closure's error.
     pub fn replace_with<E, F>(&self, text: &str, with: F) -> Result<String, ReplaceError<E>>
     where
         F: FnOnce(&Match) -> Result<String, E>,
-        requires { CanBeCalled (F.pre with) (take 1 (utf8_answers self.now text.now 0)) }
+        requires { ClosureCanBeCalled (F.pre with) (take 1 (utf8_answers self.now text.now 0)) }
         ensures made { IfOk result (λ s. IsReplacedBy (F.post with) text.now
             (take 1 (utf8_answers self.now text.now 0)) (string_bytes s)) }
         ensures refused { IfErr result
@@ -29,44 +30,48 @@ impl Regex {
         write_first(self.allocator(), self.find_iter(text)?, text, with)
     }
 
-    /// The text with what the closure answers at each match in place of that match. It is called at one match after the
-    /// other, and not again after an error.
+    /// Returns `text` with each match replaced by the closure's result for it. The closure is
+    /// called for one match after the other, and not again after an error.
     ///
     /// # Errors
     ///
-    /// `Search` where there is no memory for the search or the text, and `Closure` with the closure's error.
+    /// - `Search` if an allocation for the search or the text fails.
+    /// - `Closure` with the closure's error.
     pub fn replace_all_with<E, F>(&self, text: &str, with: F) -> Result<String, ReplaceError<E>>
     where
         F: Fn(&Match) -> Result<String, E>,
-        requires { CanBeCalled (F.pre with) (utf8_answers self.now text.now 0) }
+        requires { ClosureCanBeCalled (F.pre with) (utf8_answers self.now text.now 0) }
         ensures made { IfOk result (λ s.
             IsReplacedBy (F.post with) text.now (utf8_answers self.now text.now 0) (string_bytes s)) }
         ensures refused { IfErr result (CanRefuseWith (F.post with) (utf8_answers self.now text.now 0)) }
     {
-        write_each(self.allocator(), self.find_iter(text)?, text, with)
+        replace_each_match(self.allocator(), self.find_iter(text)?, text, with)
     }
 }
 
-// Writes what the closure answered at a match.
-fn write_answer<E>(made: &mut String, answer: Result<String, E>) -> Result<(), ReplaceError<E>>
+// Appends the closure's result for a match.
+fn append_closure_result<E>(
+    made: &mut String,
+    answer: Result<String, E>,
+) -> Result<(), ReplaceError<E>>
     ensures made { IfOk result (λ _. IsOkAnd answer (λ piece. string_bytes made.new
         ≡ string_bytes made.old ++ string_bytes piece)) }
-    ensures refused { IfErr result (CanRefuseAnswer answer) }
+    ensures refused { IfErr result (IsErrorOfClosureResult answer) }
 {
     let piece = answer.map_err(ReplaceError::Closure)?;
     made.push_str(&piece)?;
     Ok(())
 }
 
-// The text with what the closure answers at the first match in place of it.
+// Returns the text with the first match replaced by the closure's result for it.
 fn write_first<P: MatchProducer + Drop, E, F: FnOnce(&Match) -> Result<String, E>>(
     alloc: Global,
     mut matches: Matches<P>,
     text: &str,
     with: F,
 ) -> Result<String, ReplaceError<E>>
-    requires stand { StandFrom text.now 0 matches.answers }
-    requires can { CanBeCalled (F.pre with) (take 1 matches.answers) }
+    requires stand { MatchesAreOrderedFrom text.now 0 matches.answers }
+    requires can { ClosureCanBeCalled (F.pre with) (take 1 matches.answers) }
     ensures made { IfOk result (λ s.
         IsReplacedBy (F.post with) text.now (take 1 matches.answers) (string_bytes s)) }
     ensures refused { matches.limited ≡ false
@@ -74,23 +79,23 @@ fn write_first<P: MatchProducer + Drop, E, F: FnOnce(&Match) -> Result<String, E
 {
     let mut made = String::new(alloc);
     let Some(item) = matches.next() else {
-        return Ok(finish(made, text, 0)?);
+        return Ok(append_rest(made, text, 0)?);
     };
     let found = item?;
-    let behind = reach(&mut made, text, 0, &found)?;
-    write_answer(&mut made, with(&found))?;
-    Ok(finish(made, text, behind)?)
+    let behind = append_up_to(&mut made, text, 0, &found)?;
+    append_closure_result(&mut made, with(&found))?;
+    Ok(append_rest(made, text, behind)?)
 }
 
-// The text with what the closure answers at each match in place of it.
-fn write_each<P: MatchProducer + Drop, E, F: Fn(&Match) -> Result<String, E>>(
+// Returns the text with each match replaced by the closure's result for it.
+fn replace_each_match<P: MatchProducer + Drop, E, F: Fn(&Match) -> Result<String, E>>(
     alloc: Global,
     matches: Matches<P>,
     text: &str,
     with: F,
 ) -> Result<String, ReplaceError<E>>
-    requires stand { StandFrom text.now 0 matches.answers }
-    requires can { CanBeCalled (F.pre with) matches.answers }
+    requires stand { MatchesAreOrderedFrom text.now 0 matches.answers }
+    requires can { ClosureCanBeCalled (F.pre with) matches.answers }
     ensures made { IfOk result (λ s.
         IsReplacedBy (F.post with) text.now matches.answers (string_bytes s)) }
     ensures refused { matches.limited ≡ false
@@ -100,8 +105,8 @@ fn write_each<P: MatchProducer + Drop, E, F: Fn(&Match) -> Result<String, E>>(
     let mut from = 0;
     for item in matches {
         let found = item?;
-        from = reach(&mut made, text, from, &found)?;
-        write_answer(&mut made, with(&found))?;
+        from = append_up_to(&mut made, text, from, &found)?;
+        append_closure_result(&mut made, with(&found))?;
     }
-    Ok(finish(made, text, from)?)
+    Ok(append_rest(made, text, from)?)
 }

@@ -1,11 +1,11 @@
 use Rattle.std.proofs.Common.{ℕ, ap, sym, subst, ◌∙◌, ◌++◌, ◌∷◌}
-use Rattle.regex_pattern_front.specs.TreeOf.{tree_of}
-use Rattle.regress_input.specs.Reading.{heading}
-use Rattle.regress_program.specs.Code.{compiled}
-use Rattle.regress_machine.specs.Machine.{running, in_turn, resumed}
-use Rattle.regress_pikevm.specs.States.{state_of, next_of, running_of, waiting_of, preferred_last}
-use Rattle.regress_exec.specs.Attempts.{turns_from, search_from}
-use Rattle.regress_machine.specs.Turns.{end_of_search}
+use Rattle.regex_pattern_front.specs.AstToSpecTree.{tree_of}
+use Rattle.regress_input.specs.ReadsFromOffset.{reading_direction}
+use Rattle.regress_program.specs.CodeOfTrees.{compiled}
+use Rattle.regress_machine.specs.Machine.{running, first_runs_others_wait, after_lookaround}
+use Rattle.regress_pikevm.specs.States.{state_of, next_threads, running_thread, waiting_threads, preferred_last}
+use Rattle.regress_exec.specs.Attempts.{steps_for_attempt, search_from}
+use Rattle.regress_machine.specs.InsnEffects.{end_of_search}
 use Rattle.regress_machine.proofs.Remains.{Remains, steps_of, remains-begin}
 use Rattle.regress_pikevm.proofs.Remains.{TakenUp, less-by, turn-can, turn-inside, turn-dead, turn-go, turn-fork, turn-scans, taken-up}
 use Rattle.regress_pikevm.proofs.Remains.{reads-literals, turn-ends, turn-ask, turn-resumed, turn-none}
@@ -19,14 +19,14 @@ IsTaken g n c =
     let tree = tree_of c.args.searched.now.program.now in
     let text = g.Input.InputIndexer.text c.args.searched.now.input in
     let offset = g.Input.Position.PositionType.offset in
-    let found = search_from tree text (offset c.args.at) (heading c.args.forward) (state_of offset c.args.start) in
-    TakenUp offset (compiled tree) text (turns_from tree text (offset c.args.at)) (heading c.args.forward) (steps_of found) (end_of_search found)
-    (running_of offset c.search.next ++ waiting_of offset c.search.stack.items) c.in-Some.state c.take_up.new.stack.items
+    let found = search_from tree text (offset c.args.at) (reading_direction c.args.forward) (state_of offset c.args.start) in
+    TakenUp offset (compiled tree) text (steps_for_attempt tree text (offset c.args.at)) (reading_direction c.args.forward) (steps_of found) (end_of_search found)
+    (running_thread offset c.search.next ++ waiting_threads offset c.search.stack.items) c.in-Some.state c.next_thread.new.stack.items
 
 taken : (g : Over) (n : ℕ) (c : In-Some g n) → IsTaken g n c
 taken g n c =
     taken-up g.Input.Position.PositionType.offset c.search.invariant (g.met.Input.InputIndexer.is_text c.args.searched.now.input)
-    (reads-literals (tree_of c.args.searched.now.program.now) _ c.args.searched.now.bytes) c.in-Some.state c.take_up.new.stack.items c.in-Some.ensures
+    (reads-literals (tree_of c.args.searched.now.program.now) _ c.args.searched.now.bytes) c.in-Some.state c.next_thread.new.stack.items c.in-Some.ensures
 
 pub search-init : goal.search-init
 search-init g n c =
@@ -35,70 +35,70 @@ search-init g n c =
     let program = compiled tree in
     let text = g.Input.InputIndexer.text searched.input in
     let offset = g.Input.Position.PositionType.offset in
-    let turns = turns_from tree text (offset c.args.at) in
-    let d = heading c.args.forward in
+    let turns = steps_for_attempt tree text (offset c.args.at) in
+    let d = reading_direction c.args.forward in
     let top = steps_of (search_from tree text (offset c.args.at) d (state_of offset c.args.start)) in
     let end = end_of_search (search_from tree text (offset c.args.at) d (state_of offset c.args.start)) in
-    subst (λ l. Remains program text turns d top end (running (state_of offset c.args.start) ∷ waiting_of offset l)) (sym c.clear.ensures.items)
+    subst (λ l. Remains program text turns d top end (running (state_of offset c.args.start) ∷ waiting_threads offset l)) (sym c.clear.ensures.items)
     (remains-begin program text turns d (state_of offset c.args.start) c.requires.inside c.requires.answers)
 
 pub returns-in_default : goal.returns-in_default
 returns-in_default g n c =
     turn-none c.search.invariant c.in_default.ensures
 
-pub turn_in-requires-clause-can : goal.turn_in-requires-clause-can
-turn_in-requires-clause-can g n c = turn-can (taken g n (goal.at.turn_in-requires-clause-can g n c).In-Some)
+pub execute_in_direction-requires-clause-can : goal.execute_in_direction-requires-clause-can
+execute_in_direction-requires-clause-can g n c = turn-can (taken g n (goal.at.execute_in_direction-requires-clause-can g n c).In-Some)
 
-pub turn_in-requires-clause-inside : goal.turn_in-requires-clause-inside
-turn_in-requires-clause-inside g n c = turn-inside (taken g n (goal.at.turn_in-requires-clause-inside g n c).In-Some)
+pub execute_in_direction-requires-clause-inside : goal.execute_in_direction-requires-clause-inside
+execute_in_direction-requires-clause-inside g n c = turn-inside (taken g n (goal.at.execute_in_direction-requires-clause-inside g n c).In-Some)
 
 pub search-preserved-in-Dead : goal.search-preserved-in-Dead
-search-preserved-in-Dead g n c = (turn-dead (taken g n (goal.at.search-preserved-in-Dead g n c).In-Some) _ c.in_ok-turn_in.ensures c.in-Dead.is).remains
+search-preserved-in-Dead g n c = (turn-dead (taken g n (goal.at.search-preserved-in-Dead g n c).In-Some) _ c.in_ok-execute_in_direction.ensures c.in-Dead.is).remains
 
 pub search-smaller-in-Dead : goal.search-smaller-in-Dead
-search-smaller-in-Dead g n c = (turn-dead (taken g n (goal.at.search-smaller-in-Dead g n c).In-Some) _ c.in_ok-turn_in.ensures c.in-Dead.is).fewer
+search-smaller-in-Dead g n c = (turn-dead (taken g n (goal.at.search-smaller-in-Dead g n c).In-Some) _ c.in_ok-execute_in_direction.ensures c.in-Dead.is).fewer
 
-pub search-preserved-in-Go : goal.search-preserved-in-Go
-search-preserved-in-Go g n c = (turn-go (taken g n (goal.at.search-preserved-in-Go g n c).In-Some) _ c.in_ok-turn_in.ensures c.in-Go.state c.in-Go.is).remains
+pub search-preserved-in-Continue : goal.search-preserved-in-Continue
+search-preserved-in-Continue g n c = (turn-go (taken g n (goal.at.search-preserved-in-Continue g n c).In-Some) _ c.in_ok-execute_in_direction.ensures c.in-Continue.state c.in-Continue.is).remains
 
-pub search-smaller-in-Go : goal.search-smaller-in-Go
-search-smaller-in-Go g n c = (turn-go (taken g n (goal.at.search-smaller-in-Go g n c).In-Some) _ c.in_ok-turn_in.ensures c.in-Go.state c.in-Go.is).fewer
+pub search-smaller-in-Continue : goal.search-smaller-in-Continue
+search-smaller-in-Continue g n c = (turn-go (taken g n (goal.at.search-smaller-in-Continue g n c).In-Some) _ c.in_ok-execute_in_direction.ensures c.in-Continue.state c.in-Continue.is).fewer
 
 pub search-preserved-in-Fork : goal.search-preserved-in-Fork
-search-preserved-in-Fork g n c = (turn-fork (taken g n (goal.at.search-preserved-in-Fork g n c).In-Some) _ c.in_ok-turn_in.ensures c.in-Fork.preferred c.in-Fork.other _ c.in-Fork.is c.in_ok-push-in-Fork.ensures.items).remains
+search-preserved-in-Fork g n c = (turn-fork (taken g n (goal.at.search-preserved-in-Fork g n c).In-Some) _ c.in_ok-execute_in_direction.ensures c.in-Fork.preferred c.in-Fork.other _ c.in-Fork.is c.in_ok-push-in-Fork.ensures.items).remains
 
 pub search-smaller-in-Fork : goal.search-smaller-in-Fork
-search-smaller-in-Fork g n c = (turn-fork (taken g n (goal.at.search-smaller-in-Fork g n c).In-Some) _ c.in_ok-turn_in.ensures c.in-Fork.preferred c.in-Fork.other _ c.in-Fork.is c.in_ok-push-in-Fork.ensures.items).fewer
+search-smaller-in-Fork g n c = (turn-fork (taken g n (goal.at.search-smaller-in-Fork g n c).In-Some) _ c.in_ok-execute_in_direction.ensures c.in-Fork.preferred c.in-Fork.other _ c.in-Fork.is c.in_ok-push-in-Fork.ensures.items).fewer
 
-pub search-preserved-in-Scan : goal.search-preserved-in-Scan
-search-preserved-in-Scan g n c =
+pub search-preserved-in-CharLoopExits : goal.search-preserved-in-CharLoopExits
+search-preserved-in-CharLoopExits g n c =
     let offset = g.Input.Position.PositionType.offset in
-    (turn-scans (taken g n (goal.at.search-preserved-in-Scan g n c).In-Some) c.in-Scan.field-0 (in_turn (preferred_last offset c.in-Scan.states.items)) c.in_ok-turn_in.ensures (ap (next_of offset) (sym c.in-Scan.is))
-    c.in_ok-next-in-Scan.ensures).remains
+    (turn-scans (taken g n (goal.at.search-preserved-in-CharLoopExits g n c).In-Some) c.in-CharLoopExits.field-0 (first_runs_others_wait (preferred_last offset c.in-CharLoopExits.states.items)) c.in_ok-execute_in_direction.ensures (ap (next_threads offset) (sym c.in-CharLoopExits.is))
+    c.in_ok-next-in-CharLoopExits.ensures).remains
 
-pub search-smaller-in-Scan : goal.search-smaller-in-Scan
-search-smaller-in-Scan g n c =
+pub search-smaller-in-CharLoopExits : goal.search-smaller-in-CharLoopExits
+search-smaller-in-CharLoopExits g n c =
     let offset = g.Input.Position.PositionType.offset in
-    (turn-scans (taken g n (goal.at.search-smaller-in-Scan g n c).In-Some) c.in-Scan.field-0 (in_turn (preferred_last offset c.in-Scan.states.items)) c.in_ok-turn_in.ensures (ap (next_of offset) (sym c.in-Scan.is))
-    c.in_ok-next-in-Scan.ensures).fewer
+    (turn-scans (taken g n (goal.at.search-smaller-in-CharLoopExits g n c).In-Some) c.in-CharLoopExits.field-0 (first_runs_others_wait (preferred_last offset c.in-CharLoopExits.states.items)) c.in_ok-execute_in_direction.ensures (ap (next_threads offset) (sym c.in-CharLoopExits.is))
+    c.in_ok-next-in-CharLoopExits.ensures).fewer
 
 pub run-requires : goal.run-requires
 run-requires g n c =
     let up = taken g n (goal.at.run-requires g n c).In-Some in
-    let asked = turn-ask up _ c.in_ok-turn_in.ensures c.in-Ask.forward c.in-Ask.negate c.in-Ask.inner c.in-Ask.after c.in-Ask.is in
+    let asked = turn-ask up _ c.in_ok-execute_in_direction.ensures c.in-Lookaround.forward c.in-Lookaround.negate c.in-Lookaround.inner c.in-Lookaround.after c.in-Lookaround.is in
     λ κs h. (less-by _ _ n asked.fewer c.decreases, (h.0, (h.1.0, (h.1.1.0, (h.1.1.1.0, (h.1.1.1.1.0, (h.1.1.1.1.1, (asked.inside, asked.answers))))))))
 
 pub search-preserved : goal.search-preserved
 search-preserved g n c =
-    (turn-resumed (taken g n (goal.at.search-preserved g n c).In-Some) _ c.in_ok-turn_in.ensures c.in-Ask.forward c.in-Ask.negate c.in-Ask.inner c.in-Ask.after c.in-Ask.is
-    (c.resume-next.ensures ∙ ap (resumed c.in-Ask.negate (state_of g.Input.Position.PositionType.offset c.in-Ask.after)) c.in_ok-found-in-Ask.ensures)).remains
+    (turn-resumed (taken g n (goal.at.search-preserved g n c).In-Some) _ c.in_ok-execute_in_direction.ensures c.in-Lookaround.forward c.in-Lookaround.negate c.in-Lookaround.inner c.in-Lookaround.after c.in-Lookaround.is
+    (c.resume_after_lookaround-next.ensures ∙ ap (after_lookaround c.in-Lookaround.negate (state_of g.Input.Position.PositionType.offset c.in-Lookaround.after)) c.in_ok-found-in-Lookaround.ensures)).remains
 
 pub search-smaller : goal.search-smaller
 search-smaller g n c =
-    (turn-resumed (taken g n (goal.at.search-smaller g n c).In-Some) _ c.in_ok-turn_in.ensures c.in-Ask.forward c.in-Ask.negate c.in-Ask.inner c.in-Ask.after c.in-Ask.is
-    (c.resume-next.ensures ∙ ap (resumed c.in-Ask.negate (state_of g.Input.Position.PositionType.offset c.in-Ask.after)) c.in_ok-found-in-Ask.ensures)).fewer
+    (turn-resumed (taken g n (goal.at.search-smaller g n c).In-Some) _ c.in_ok-execute_in_direction.ensures c.in-Lookaround.forward c.in-Lookaround.negate c.in-Lookaround.inner c.in-Lookaround.after c.in-Lookaround.is
+    (c.resume_after_lookaround-next.ensures ∙ ap (after_lookaround c.in-Lookaround.negate (state_of g.Input.Position.PositionType.offset c.in-Lookaround.after)) c.in_ok-found-in-Lookaround.ensures)).fewer
 
-pub returns-in-Done : goal.returns-in-Done
-returns-in-Done g n c =
+pub returns-in-Accept : goal.returns-in-Accept
+returns-in-Accept g n c =
     let offset = g.Input.Position.PositionType.offset in
-    turn-ends (taken g n (goal.at.returns-in-Done g n c).In-Some) (state_of offset c.in-Done.end) c.in_ok-turn_in.ensures (ap (next_of offset) (sym c.in-Done.is))
+    turn-ends (taken g n (goal.at.returns-in-Accept g n c).In-Some) (state_of offset c.in-Accept.end) c.in_ok-execute_in_direction.ensures (ap (next_threads offset) (sym c.in-Accept.is))

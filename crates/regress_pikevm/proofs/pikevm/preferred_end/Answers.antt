@@ -1,13 +1,13 @@
 use Rattle.std.proofs.Common.{◌≡◌, ap, sym, subst, ◌∙◌, ◌≤◌}
 use Rattle.std.specs.Prelude.{IsSome, option_map}
-use Rattle.regex_meaning.specs.Offsets.{units}
+use Rattle.regex_meaning.specs.CodeUnitOffsets.{units}
 use Rattle.regex_meaning.specs.Text.{rightwards}
-use Rattle.regex_pattern_front.specs.TreeOf.{tree_of}
+use Rattle.regex_pattern_front.specs.AstToSpecTree.{tree_of}
 use Rattle.regress_input.proofs.Places.{boundary_inside}
 use Rattle.regress_machine.specs.Machine as machine
-use Rattle.regress_machine.specs.Finds.{end_of}
+use Rattle.regress_machine.specs.SearchResults.{end_of}
 use Rattle.regress_exec.specs.Attempts.{search_from}
-use Rattle.regress_machine.specs.Turns.{end_of_search}
+use Rattle.regress_machine.specs.InsnEffects.{end_of_search}
 use Rattle.regress_exec.proofs.Searchable.{can-search}
 use Rattle.regress_exec.proofs.Attempts.{begins}
 use Rattle.regress_pikevm.proofs.Remains.{map-end}

@@ -1,12 +1,12 @@
 use Rattle.std.proofs.Common.{subst}
 use Rattle.std.specs.Prelude.{IfOk}
 use Rattle.std.specs.Arc.{arc_value}
-use Rattle.regex_pattern_front.specs.TreeOf.{tree_of}
-use Rattle.regress_program.specs.Programs.{IsCodeIn}
+use Rattle.regex_pattern_front.specs.AstToSpecTree.{tree_of}
+use Rattle.regress_program.specs.ProgramFields.{IsCodeOfTree}
 use Rattle.regress_program.proofs.RunningLemmas.{to_run-shaped}
 use Rattle.regress_program.proofs.emit.code_to_run.Goals as goal
 
 pub returns : goal.returns
 returns c =
     let optimized = c.is_run_itself.ensures.optimized c.if-is_run_itself.false in
-    subst (λ t. IfOk c.emitted.result (λ code. IsCodeIn t (arc_value code))) (to_run-shaped (tree_of c.args.re.now) optimized) c.emitted.ensures
+    subst (λ t. IfOk c.emit_code.result (λ code. IsCodeOfTree t (arc_value code))) (to_run-shaped (tree_of c.args.re.now) optimized) c.emit_code.ensures

@@ -1,19 +1,19 @@
 use Rattle.std.proofs.Common.{◌≡◌, sym, ap, ◌∙◌, ◌<◌, ◌≤◌, ◌^◌, subst, true, arith, length}
 use Rattle.std.specs.Arc.{arc_value}
-use Rattle.regex_pattern_front.specs.TreeOf.{tree_of}
-use Rattle.regress_program.specs.Code.{size}
+use Rattle.regex_pattern_front.specs.AstToSpecTree.{tree_of}
+use Rattle.regress_program.specs.CodeOfTrees.{node_insn_count}
 use Rattle.regress_program.proofs.CodeLemmas.{compiled-is_code}
 use Rattle.regress_program.proofs.RunningLemmas.{run-fits, size-to_run, well_formed-planned}
 use Rattle.regress_program.proofs.emit.emit_both.Goals as goal
 
-pub run_of-requires : goal.run_of-requires
-run_of-requires c =
+pub unit_plan_of-requires : goal.unit_plan_of-requires
+unit_plan_of-requires c =
     subst (λ code. length code.insns.items < 2 ^ 32) (sym c.in_ok-clone.ensures.cases)
     (run-fits (tree_of c.args.re) (arc_value c.in_ok-code.code) c.in_ok-code.ensures c.in_ok-program.ensures.fits.insns)
 
-pub for_bytes-requires-clause-fits : goal.for_bytes-requires-clause-fits
-for_bytes-requires-clause-fits c =
-    omega (arith, size-to_run (tree_of c.args.re), c.in_ok-program.ensures.fits.insns, ap (λ t. size t.root) c.to_run-tree.ensures)
+pub byte_program_of-requires-clause-fits : goal.byte_program_of-requires-clause-fits
+byte_program_of-requires-clause-fits c =
+    omega (arith, size-to_run (tree_of c.args.re), c.in_ok-program.ensures.fits.insns, ap (λ t. node_insn_count t.root) c.to_run-tree.ensures)
 
 pub returns-clause-unit_code : goal.returns-clause-unit_code
 returns-clause-unit_code c = record {

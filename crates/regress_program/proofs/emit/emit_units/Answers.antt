@@ -1,12 +1,12 @@
 use Rattle.std.proofs.Common.{sym, ◌∙◌}
 use Rattle.std.specs.Arc.{arc_value}
-use Rattle.regex_pattern_front.specs.TreeOf.{tree_of}
+use Rattle.regex_pattern_front.specs.AstToSpecTree.{tree_of}
 use Rattle.regress_program.proofs.CodeLemmas.{compiled-is_code}
 use Rattle.regress_program.proofs.RunningLemmas.{run-fits}
 use Rattle.regress_program.proofs.emit.emit_units.Goals as goal
 
-pub run_of-requires : goal.run_of-requires
-run_of-requires c = run-fits (tree_of c.args.re.now) (arc_value c.in_ok-code.code) c.in_ok-code.ensures c.in_ok-program.ensures.fits.insns
+pub unit_plan_of-requires : goal.unit_plan_of-requires
+unit_plan_of-requires c = run-fits (tree_of c.args.re.now) (arc_value c.in_ok-code.code) c.in_ok-code.ensures c.in_ok-program.ensures.fits.insns
 
 pub returns-clause-code : goal.returns-clause-code
 returns-clause-code c = record {

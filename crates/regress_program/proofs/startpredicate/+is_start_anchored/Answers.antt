@@ -1,9 +1,9 @@
 use Rattle.std.proofs.Common.{◌≡◌, ◌∙◌, ap, sym, arith}
 use Rattle.regex_meaning.specs.StartPredicate.{is_anchored}
-use Rattle.regex_pattern_front.specs.TreeOf.{node_of}
-use Rattle.regress_program.specs.Nodes.{cat_of}
+use Rattle.regex_pattern_front.specs.AstToSpecTree.{node_of}
+use Rattle.regress_program.specs.NodeListsAndLeaves.{cat_of}
 use Rattle.regress_program.proofs.NodeLemmas.{node_of-Cat, is_anchored-first, is_anchored-none}
-use Rattle.regress_program.proofs.Weights.{weight, weight-member}
+use Rattle.regress_program.proofs.Weights.{inner_node_count, weight-member}
 use Rattle.regress_program.proofs.startpredicate.+is_start_anchored.Goals as goal
 
 pub returns-in-None : goal.returns-in-None
@@ -14,12 +14,12 @@ returns-in-None t c =
 pub loop-rest-smaller-in-Cat-1 : goal.loop-rest-smaller-in-Cat-1
 loop-rest-smaller-in-Cat-1 t c =
     let is : node_of c.loop-rest.rest.now ≡ cat_of c.deref.result.now = ap node_of c.in-Cat.is ∙ node_of-Cat c.in-Cat.nodes ∙ ap cat_of (sym c.deref.ensures.value) in
-    omega (arith, ap weight is, weight-member c.deref.result.now 0 c.in-Some.first.now (sym c.in-Some.ensures.value))
+    omega (arith, ap inner_node_count is, weight-member c.deref.result.now 0 c.in-Some.first.now (sym c.in-Some.ensures.value))
 
 pub loop-rest-preserved-in-Cat-1 : goal.loop-rest-preserved-in-Cat-1
 loop-rest-preserved-in-Cat-1 t c =
     let is : node_of c.loop-rest.rest.now ≡ cat_of c.deref.result.now = ap node_of c.in-Cat.is ∙ node_of-Cat c.in-Cat.nodes ∙ ap cat_of (sym c.deref.ensures.value) in
     record {
       same = sym (is_anchored-first c.deref.result.now c.in-Some.first.now (sym c.in-Some.ensures.value)) ∙ sym (ap is_anchored is) ∙ c.loop-rest.invariant.same;
-      within = omega (arith, ap weight is, weight-member c.deref.result.now 0 c.in-Some.first.now (sym c.in-Some.ensures.value), c.loop-rest.invariant.within);
+      within = omega (arith, ap inner_node_count is, weight-member c.deref.result.now 0 c.in-Some.first.now (sym c.in-Some.ensures.value), c.loop-rest.invariant.within);
     }

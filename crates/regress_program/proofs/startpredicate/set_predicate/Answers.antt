@@ -1,5 +1,5 @@
 use Rattle.std.proofs.Common.{◌∙◌, ◌∷◌, ap, false, get_or}
-use Rattle.regex_pattern_front.specs.ByteSets.{byte_bitmap_bytes}
+use Rattle.regex_pattern_front.specs.ByteSetMembers.{byte_bitmap_bytes}
 use Rattle.regress_program.proofs.ByteSetLemmas.{bytes_from-all}
 use Rattle.regress_program.proofs.BeginningLemmas.{predicate-none, predicate-members, predicate-bracket, members_behind, more_than_three}
 use Rattle.regress_program.proofs.startpredicate.set_predicate.Goals as goal

@@ -5,5 +5,5 @@ use Rattle.regress_trials.proofs.checks.found_remembering.Goals as goal
 
 pub new-requires-2 : goal.new-requires-2
 new-requires-2 c =
-    utf8_start _ c.args.text.now _ (c.remember.ensures.text ∙ c.in_ok-executor.ensures.text) c.utf8.text 0
+    utf8_start _ c.args.text.now _ (c.always_memoize.ensures.text ∙ c.in_ok-executor.ensures.text) c.utf8.text 0
     (inl (IsCharBoundary-start c.args.text.now c.utf8.text))

@@ -1,19 +1,19 @@
 use Rattle.std.proofs.Common.{◌≡◌, ◌<◌, ◌∙◌, ap, arith, rules, sym}
-use Rattle.regex_pattern_front.specs.TreeOf.{node_of}
-use Rattle.regress_program.specs.Nodes.{cat_of}
+use Rattle.regex_pattern_front.specs.AstToSpecTree.{node_of}
+use Rattle.regress_program.specs.NodeListsAndLeaves.{cat_of}
 use Rattle.regress_program.proofs.NodeLemmas.{node_of-Cat}
-use Rattle.regress_program.proofs.Weights.{weight, weight-child}
+use Rattle.regress_program.proofs.Weights.{inner_node_count, weight-child}
 use Rattle.use_grep.specs.Local.{is_local}
 use Rattle.use_grep.proofs.local.+is_local_node.Goals as goal
 
 pub are_local-is_local_node-requires : goal.are_local-is_local_node-requires
 are_local-is_local_node-requires t c =
-    let smaller : weight (node_of c.node-item.result) < weight (cat_of c.args.nodes.now) = weight-child _ _ _ c.loop-node-test.true c.node-item.is in search rules
+    let smaller : inner_node_count (node_of c.node-item.result) < inner_node_count (cat_of c.args.nodes.now) = weight-child _ _ _ c.loop-node-test.true c.node-item.is in search rules
 
 pub is_local_node-are_local-requires : goal.is_local_node-are_local-requires
 is_local_node-are_local-requires t c =
-    let same : weight (node_of c.loop-rest.rest.now) ≡ weight (cat_of c.deref.result.now) =
-    ap weight (ap node_of c.in-Cat.is ∙ node_of-Cat c.in-Cat.nodes ∙ ap cat_of (sym c.deref.ensures.value)) in
+    let same : inner_node_count (node_of c.loop-rest.rest.now) ≡ inner_node_count (cat_of c.deref.result.now) =
+    ap inner_node_count (ap node_of c.in-Cat.is ∙ node_of-Cat c.in-Cat.nodes ∙ ap cat_of (sym c.deref.ensures.value)) in
     let within = c.loop-rest.invariant.within in
     search rules
 

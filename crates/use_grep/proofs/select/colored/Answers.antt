@@ -1,6 +1,6 @@
 use Rattle.std.proofs.Common.{◌≡◌, ◌∙◌, ◌++◌, false, ap, string_bytes}
-use Rattle.regress_exec.specs.Answers.{answer_of}
-use Rattle.regress_exec.specs.ToCome.{ToCome}
+use Rattle.regress_exec.specs.MatchAnswers.{answer_of}
+use Rattle.regress_exec.specs.RemainingAnswers.{RemainingView}
 use Rattle.regress_match.proofs.CallerLemmas.{IsReached, reached-unlimited, takes-next}
 use Rattle.use_grep.specs.Selecting.{colored, colored_from}
 use Rattle.use_grep.proofs.Parts.{red-more, red-end}
@@ -16,7 +16,7 @@ loop-item-init c = record {
       c.into_iter-item-iterator.ensures.into_iter_gives;
   made =
       ap (λ bs. bs ++ colored_from c.args.line.now 0 c.into_iter-item-iterator.result.answers) c.new-made.ensures.bytes
-      ∙ ap (colored_from c.args.line.now 0) (ap (λ (it : ToCome). it.answers) c.into_iter-item-iterator.ensures.into_iter_gives ∙ c.in_ok-item-items.ensures.answers.answers);
+      ∙ ap (colored_from c.args.line.now 0) (ap (λ (it : RemainingView). it.answers) c.into_iter-item-iterator.ensures.into_iter_gives ∙ c.in_ok-item-items.ensures.answers.answers);
 }
 
 pub push_match-requires-clause-before : goal.push_match-requires-clause-before

@@ -1,9 +1,9 @@
 use Rattle.std.proofs.Common.{◌≡◌, ◌∙◌, ◌++◌, ◌∷◌, ℕ, [], false, ap, ap₂}
 use Rattle.std.specs.Prelude.{Some, None}
 use Rattle.std.proofs.lemmas.Str.{IsCharBoundary-end}
-use Rattle.regress_exec.specs.Answers.{answer_of}
-use Rattle.regress_exec.specs.ToCome.{ToCome}
-use Rattle.regress_match.specs.Programs.{utf8_answers}
+use Rattle.regress_exec.specs.MatchAnswers.{answer_of}
+use Rattle.regress_exec.specs.RemainingAnswers.{RemainingView}
+use Rattle.regress_match.specs.RegexPrograms.{utf8_answers}
 use Rattle.regress_match.proofs.CallerLemmas.{IsReached, reached-unlimited, takes-next}
 use Rattle.use_highlighter.specs.Tokens.{names_of}
 use Rattle.use_highlighter.proofs.Rows.{IsCutTo, cut-more, cut-none, cut-rest, piece}
@@ -16,7 +16,7 @@ loop-item-init c = record {
   finite = tt;
   reached = reached-unlimited c.args.text.now _ _ c.utf8.text c.in_ok-item-items.ensures.answers.unlimited c.in_ok-item-items.ensures.stand c.into_iter-item-iterator.ensures.into_iter_gives;
   cut = cut-none c.args.text.now (names_of c.args.tokens.now) _ c.into_iter-item-iterator.result.answers c.new-pieces.result.items
-      (ap (λ (it : ToCome). it.answers) c.into_iter-item-iterator.ensures.into_iter_gives ∙ c.in_ok-item-items.ensures.answers.answers) c.new-pieces.ensures.items;
+      (ap (λ (it : RemainingView). it.answers) c.into_iter-item-iterator.ensures.into_iter_gives ∙ c.in_ok-item-items.ensures.answers.answers) c.new-pieces.ensures.items;
 }
 
 -- what holds once a match is cut

@@ -1,6 +1,6 @@
 use Rattle.std.proofs.Common.{length, map}
-use Rattle.regress_exec.specs.Answers.{answer_of}
-use Rattle.regress_match.specs.Closures.{CanBeCalled}
+use Rattle.regress_exec.specs.MatchAnswers.{answer_of}
+use Rattle.regress_match.specs.ReplacementClosures.{ClosureCanBeCalled}
 use Rattle.regress_match.proofs.Answering.{IsBegun}
 use Rattle.use_regexp.specs.Replace.{StandInUnits, units_of}
 use Rattle.use_regexp.proofs.replacing.write_answers.Given as goal
@@ -8,7 +8,7 @@ use Rattle.use_regexp.proofs.replacing.write_answers.Given as goal
 abbrev pub invariant-loop-found : goal.invariant-loop-found
 invariant-loop-found g l = record {
   stand : StandInUnits l.text l.from (map answer_of l.rest);
-  callable : CanBeCalled (goal.F-pre g l.with) (map answer_of l.rest);
+  callable : ClosureCanBeCalled (goal.F-pre g l.with) (map answer_of l.rest);
   begun : IsBegun (goal.F-post g l.with) units_of l.text (map answer_of l.matches) (map answer_of l.rest) l.from l.made.items;
 }
 

@@ -1,6 +1,6 @@
 use Rattle.std.proofs.Common.{◌≡◌, ◌++◌, map, take}
 use Rattle.std.specs.Prelude.{option_map}
-use Rattle.regress_exec.specs.Answers.{range_of}
+use Rattle.regress_exec.specs.MatchAnswers.{range_of}
 use Rattle.use_regexp.proofs.splitting.push_pieces.Given as goal
 
 abbrev pub invariant-loop-group : goal.invariant-loop-group

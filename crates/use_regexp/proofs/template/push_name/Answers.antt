@@ -2,8 +2,8 @@ use Rattle.std.proofs.Common.{◌≡◌, ◌∙◌, ◌++◌, ap, sym, subst}
 use Rattle.std.specs.Prelude.{IfSome, None, Some, if◌then◌else◌, option_map, string_bytes}
 use Rattle.std.specs.List.{list_all}
 use Rattle.regex_meaning.specs.Replace.{text_of}
-use Rattle.regress_exec.specs.Answers.{answer_of}
-use Rattle.regress_match.specs.Replacements.{IsWithin}
+use Rattle.regress_exec.specs.MatchAnswers.{answer_of}
+use Rattle.regress_match.specs.Replacements.{IsRangeWithinUnits}
 use Rattle.regress_match.proofs.FlagLemmas.{IfOk-map}
 use Rattle.use_regexp.specs.Template.{is_ascii}
 use Rattle.use_regexp.proofs.TemplateLemmas.{named-text-is, named-within}
@@ -11,7 +11,7 @@ use Rattle.use_regexp.proofs.template.push_name.Goals as goal
 
 pub push_range-requires : goal.push_range-requires
 push_range-requires c =
-    subst (λ g. IfSome g (IsWithin c.args.text.now)) (sym c.named_group.ensures) (named-within c.args.text.now (answer_of c.args.found.now) c.deref.result.now c.requires)
+    subst (λ g. IfSome g (IsRangeWithinUnits c.args.text.now)) (sym c.named_group.ensures) (named-within c.args.text.now (answer_of c.args.found.now) c.deref.result.now c.requires)
 
 pub returns-in-Some : goal.returns-in-Some
 returns-in-Some c =

@@ -2,8 +2,8 @@ use Rattle.std.proofs.Common.{◌∙◌, ◌++◌, ap, refl, sym, subst}
 use Rattle.std.proofs.lemmas.List.{take_rest}
 use Rattle.std.specs.Prelude.{IfSome}
 use Rattle.regex_meaning.specs.Replace.{text_of}
-use Rattle.regress_exec.specs.Answers.{answer_of}
-use Rattle.regress_match.specs.Replacements.{IsWithin}
+use Rattle.regress_exec.specs.MatchAnswers.{answer_of}
+use Rattle.regress_match.specs.Replacements.{IsRangeWithinUnits}
 use Rattle.use_regexp.proofs.TemplateLemmas.{group-within, one-written, two-written}
 use Rattle.use_regexp.proofs.template.push_numbered.Goals as goal
 
@@ -17,7 +17,7 @@ returns-then-is_group c =
 
 pub push_range-requires-then-is_group-2 : goal.push_range-requires-then-is_group-2
 push_range-requires-then-is_group-2 c =
-    subst (λ g. IfSome g (IsWithin c.args.text.now)) (sym c.group-then-is_group-2.ensures)
+    subst (λ g. IfSome g (IsRangeWithinUnits c.args.text.now)) (sym c.group-then-is_group-2.ensures)
     (group-within c.args.text.now (answer_of c.args.found.now) c.from-one.result c.requires.fits)
 
 pub returns-then-is_group-2 : goal.returns-then-is_group-2

@@ -1,8 +1,8 @@
 use Rattle.std.proofs.Common.{◌∙◌, ◌++◌, ap, flat_map, subst, sym, ℕ, List}
 use Rattle.std.specs.Prelude.{IfSome, Option}
 use Rattle.regex_meaning.specs.Laws.{Each}
-use Rattle.regress_exec.specs.Answers.{answer_of}
-use Rattle.regress_match.specs.Replacements.{IsSlice}
+use Rattle.regress_exec.specs.MatchAnswers.{answer_of}
+use Rattle.regress_match.specs.Replacements.{IsCharBoundaryRange}
 use Rattle.regress_match.proofs.CallerLemmas.{named-fit}
 use Rattle.use_renamer.specs.Names.{described}
 use Rattle.use_renamer.proofs.groups.show.Goals as goal
@@ -14,6 +14,6 @@ loop-name-init c =
     record {
       can = tt;
       finite = tt;
-      fit = subst (Each (λ (named : List ℕ × Option (ℕ × ℕ)). IfSome named.1 (IsSlice text))) (sym all) (named-fit text (answer_of c.args.found.now) c.requires);
+      fit = subst (Each (λ (named : List ℕ × Option (ℕ × ℕ)). IfSome named.1 (IsCharBoundaryRange text))) (sym all) (named-fit text (answer_of c.args.found.now) c.requires);
       written = ap (λ bs. bs ++ flat_map (described text) c.into_iter-name-iterator.result) c.new-line.ensures.bytes ∙ ap (flat_map (described text)) all;
     }

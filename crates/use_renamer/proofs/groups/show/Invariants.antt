@@ -1,8 +1,8 @@
 use Rattle.std.proofs.Common.{◌≡◌, ◌++◌, flat_map, string_bytes, ℕ, List}
 use Rattle.std.specs.Prelude.{IfSome, Option}
 use Rattle.regex_meaning.specs.Laws.{Each}
-use Rattle.regress_exec.specs.Answers.{answer_of}
-use Rattle.regress_match.specs.Replacements.{IsSlice}
+use Rattle.regress_exec.specs.MatchAnswers.{answer_of}
+use Rattle.regress_match.specs.Replacements.{IsCharBoundaryRange}
 use Rattle.use_renamer.specs.Names.{described, groups_shown}
 use Rattle.use_renamer.proofs.groups.show.Given as goal
 
@@ -10,6 +10,6 @@ abbrev pub invariant-loop-name : goal.invariant-loop-name
 invariant-loop-name l = record {
   can : (goal.iterator-loop-name).can_next l.name-iterator;
   finite : (goal.iterator-loop-name).is_finite l.name-iterator;
-  fit : Each (λ (named : List ℕ × Option (ℕ × ℕ)). IfSome named.1 (IsSlice l.text)) l.name-iterator;
+  fit : Each (λ (named : List ℕ × Option (ℕ × ℕ)). IfSome named.1 (IsCharBoundaryRange l.text)) l.name-iterator;
   written : string_bytes l.line ++ flat_map (described l.text) l.name-iterator ≡ groups_shown l.text (answer_of l.found);
 }

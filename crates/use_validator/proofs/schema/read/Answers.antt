@@ -1,6 +1,6 @@
 use Rattle.std.proofs.Common.{chars, subst}
 use Rattle.std.specs.Prelude.{IfOk}
-use Rattle.regress_match.specs.Programs.{IsCompiledWith}
+use Rattle.regress_match.specs.RegexPrograms.{IsCompiledWith}
 use Rattle.use_validator.proofs.schema.read.Goals as goal
 
 pub returns : goal.returns

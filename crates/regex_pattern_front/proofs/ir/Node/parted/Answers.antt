@@ -1,31 +1,31 @@
 use Rattle.std.proofs.Common.{◌≡◌, ◌∙◌, ap, arith}
-use Rattle.regex_pattern_front.specs.Parting.{weight, weight_of}
-use Rattle.regex_pattern_front.specs.TreeOf.{cat_of, node_of}
+use Rattle.regex_pattern_front.specs.IterativeDropMeasure.{tree_size, node_size}
+use Rattle.regex_pattern_front.specs.AstToSpecTree.{cat_of, node_of}
 use Rattle.regex_pattern_front.proofs.NodeLemmas.{node_of-Cat}
 use Rattle.regex_pattern_front.proofs.PartingLemmas.{inside-less}
 use Rattle.regex_pattern_front.proofs.ir.Node.parted.Goals as goal
 
 pub returns-in-Cat : goal.returns-in-Cat
 returns-in-Cat c =
-    let same : weight_of c.args.self ≡ weight (cat_of c.in-Cat.children.items) = ap weight_of c.in-Cat.is ∙ ap weight (node_of-Cat c.in-Cat.children) in
+    let same : node_size c.args.self ≡ tree_size (cat_of c.in-Cat.children.items) = ap node_size c.in-Cat.is ∙ ap tree_size (node_of-Cat c.in-Cat.children) in
     rw same c.parted_row.ensures
 
 pub returns-in-Alt : goal.returns-in-Alt
-unfolding node_of weight
+unfolding node_of tree_size
 returns-in-Alt c = rw c.in-Alt.is c.parted_alternatives.ensures
 
 pub returns-in-CaptureGroup : goal.returns-in-CaptureGroup
-unfolding node_of weight
+unfolding node_of tree_size
 returns-in-CaptureGroup c = inside-less _ _ c.args.rest (rw (c.in-CaptureGroup.is, c.into_inner.ensures) (omega arith))
 
 pub returns-in-LookaroundAssertion : goal.returns-in-LookaroundAssertion
-unfolding node_of weight
+unfolding node_of tree_size
 returns-in-LookaroundAssertion c = inside-less _ _ c.args.rest (rw (c.in-LookaroundAssertion.is, c.into_inner-in-LookaroundAssertion.ensures) (omega arith))
 
 pub returns-in-Loop : goal.returns-in-Loop
-unfolding node_of weight
+unfolding node_of tree_size
 returns-in-Loop c = inside-less _ _ c.args.rest (rw (c.in-Loop.is, c.into_inner-in-Loop.ensures) (omega arith))
 
 pub returns-in-Loop1CharBody : goal.returns-in-Loop1CharBody
-unfolding node_of weight
+unfolding node_of tree_size
 returns-in-Loop1CharBody c = inside-less _ _ c.args.rest (rw (c.in-Loop1CharBody.is, c.into_inner-in-Loop1CharBody.ensures) (omega arith))

@@ -1,5 +1,5 @@
 use Rattle.std.proofs.Common.{◌+◌}
-use Rattle.regex_pattern_front.specs.Levels.{captures}
+use Rattle.regex_pattern_front.specs.GroupStackInvariant.{captures}
 use Rattle.regex_pattern_front.proofs.PartLemmas.{parts-none}
 use Rattle.regex_pattern_front.proofs.LevelLemmas.{open-push}
 use Rattle.std.proofs.Common.{[], arith}
@@ -18,7 +18,7 @@ returns-clause-reading c =
       inner = groups + captures opening;
       around = rw c.in_ok-push.ensures.items
           (open-push references 0 r.inner c.args.self.now.around.items
-          (record { outer = c.replace.result; opening = opening; name = c.in_ok-name.name; start = groups; left = c.left_from_last.result })
+          (record { outer = c.replace.result; opening = opening; name = c.in_ok-name.name; start = groups; left = c.count_left_with_last.result })
           r.around (rw c.replace.ensures.value r.level));
       level = rw (c.replace.ensures.after, c.new-inner.ensures.parts, c.captures-more.ensures) (parts-none (groups + captures opening) references);
     })
@@ -26,17 +26,17 @@ returns-clause-reading c =
 pub returns-in_err-opening-clause-text : goal.returns-in_err-opening-clause-text
 returns-in_err-opening-clause-text c =
     err-reads _ c.args.self.now _ c.from_residual.result _ c.from_residual.ensures.1 (λ x h. h)
-    (λ r pattern h. opening-refused h.stands c.opened.new.reader.rest.now c.in_err-opening.ensures.text)
+    (λ r pattern h. opening-refused h.stands c.read_group_kind.new.reader.rest.now c.in_err-opening.ensures.text)
 
 pub returns-in_err-name-clause-text : goal.returns-in_err-name-clause-text
 returns-in_err-name-clause-text c =
     err-reads _ c.args.self.now _ c.from_residual-in_err-name.result _ c.from_residual-in_err-name.ensures.1 (λ x h. h)
-    (λ r pattern h. name-refused h.stands c.opened.new.reader.rest.now _ c.in_ok-opening.opening c.in_ok-opening.ensures.text
+    (λ r pattern h. name-refused h.stands c.read_group_kind.new.reader.rest.now _ c.in_ok-opening.opening c.in_ok-opening.ensures.text
     (λ x. get_by_text c.args.self.now.leaves.numbers x) h.numbers _ _ r c.in_err-name.ensures.text)
 
 pub returns-then-more-start-clause-text : goal.returns-then-more-start-clause-text
 returns-then-more-start-clause-text c = λ r pattern h.
-    past-most (entered h.stands c.opened.new.reader.rest.now c.in_ok-opening.opening c.in_ok-opening.ensures.text
+    past-most (entered h.stands c.read_group_kind.new.reader.rest.now c.in_ok-opening.opening c.in_ok-opening.ensures.text
     (λ x. get_by_text c.args.self.now.leaves.numbers x) h.numbers c.in_ok-name.name _ c.in_ok-name.ensures.text)
     (omega (arith, c.if-more-start.true, c.captures-more.ensures))
 
@@ -51,12 +51,12 @@ returns-clause-text c = λ pattern h. record {
     c.in_ok-push.ensures.items,
     c.replace.ensures.value,
     around-push [] c.args.self.now.around.items
-        (record { outer = c.args.self.now.level; opening = c.in_ok-opening.opening; name = c.in_ok-name.name; start = c.args.self.now.groups; left = c.left_from_last.result }),
+        (record { outer = c.args.self.now.level; opening = c.in_ok-opening.opening; name = c.in_ok-name.name; start = c.args.self.now.groups; left = c.count_left_with_last.result }),
     c.replace.ensures.after,
     c.new-inner.ensures.level,
-    c.is_behind.ensures,
+    c.reverses_terms.ensures,
     c.behind.ensures,
   )
-      (entered h.stands c.opened.new.reader.rest.now c.in_ok-opening.opening c.in_ok-opening.ensures.text
+      (entered h.stands c.read_group_kind.new.reader.rest.now c.in_ok-opening.opening c.in_ok-opening.ensures.text
       (λ x. get_by_text c.args.self.now.leaves.numbers x) h.numbers c.in_ok-name.name _ c.in_ok-name.ensures.text);
 }

@@ -1,7 +1,7 @@
 use Rattle.std.proofs.Common.{true≢false, ◌≡◌, ◌≤◌, ◌∙◌, [], refl, sym, arith, vec_len}
 use Rattle.std.proofs.lemmas.Bool.{eqb-true, eq-eqb}
 use Rattle.regex_meaning.specs.Tree.{goal as the_goal}
-use Rattle.regex_pattern_front.specs.TreeOf.{node_of}
+use Rattle.regex_pattern_front.specs.AstToSpecTree.{node_of}
 use Rattle.regex_pattern_front.specs.declared.ir.Node.TheVariants.{Goal}
 use Rattle.regex_pattern_front.proofs.NodeLemmas.{node_of-Cat}
 use Rattle.regex_pattern_front.proofs.PartLemmas.{empty-list, whole, whole-plain, whole-reads_none}

@@ -1,6 +1,6 @@
 use Rattle.std.proofs.Common.{◌∙◌, subst}
-use Rattle.regex_grammar.specs.Standing.{NoTree}
-use Rattle.regex_pattern_front.specs.TreeOf.{flags_of}
+use Rattle.regex_grammar.specs.ParserInvariants.{HasNoTree}
+use Rattle.regex_pattern_front.specs.AstToSpecTree.{flags_of}
 use Rattle.regex_pattern_front.proofs.ParsedLemmas.{err-reads}
 use Rattle.regex_pattern_front.proofs.parse.Parser.read_all.Goals as goal
 
@@ -18,5 +18,5 @@ returns-in_err-step-clause-text c =
     err-reads _ c.args.self.now _ c.from_residual.result _ c.from_residual.ensures.1 (λ x h. h)
     (λ r pattern h.
     let k = c.loop-c.invariant.text pattern h in
-    subst (λ x. NoTree (flags_of x) pattern) c.loop-c.invariant.same
+    subst (λ x. HasNoTree (flags_of x) pattern) c.loop-c.invariant.same
     (c.in_err-step.ensures.text r pattern (record { numbers = k.numbers; few = k.few; stands = rw c.in-Some.ensures.text at k.stands })))

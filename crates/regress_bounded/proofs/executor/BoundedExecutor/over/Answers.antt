@@ -4,17 +4,17 @@ use Rattle.std.specs.Prelude.{MatchOption}
 use Rattle.std.proofs.Math.Logic.{∥∥₁_map, ∥∥₁_elim}
 use Rattle.std.proofs.Props.{props}
 use Rattle.std.proofs.lemmas.Bool.{leb-true}
-use Rattle.regex_meaning.specs.Offsets.{units}
-use Rattle.regex_pattern_front.specs.TreeOf.{tree_of}
-use Rattle.regress_memo.specs.Memo.{IsBegun}
-use Rattle.regress_program.specs.Code.{compiled}
+use Rattle.regex_meaning.specs.CodeUnitOffsets.{units}
+use Rattle.regex_pattern_front.specs.AstToSpecTree.{tree_of}
+use Rattle.regress_memo.specs.MemoContents.{IsEmptyMemo}
+use Rattle.regress_program.specs.CodeOfTrees.{compiled}
 use Rattle.regress_pikevm.proofs.Remains.{reads-literals}
-use Rattle.regress_bounded.specs.Bounds.{work_per_unit}
+use Rattle.regress_bounded.specs.ProgramWorkBounds.{work_per_unit}
 use Rattle.regress_bounded.proofs.Ending.{begun-right, begun-walked}
 use Rattle.regress_bounded.proofs.executor.BoundedExecutor.over.Goals as goal
 
 pub memory-requires : goal.memory-requires
-memory-requires g c = ∥∥₁_elim c.requires (Prim.hlevel props) (λ b. b.has.ledger.coded)
+memory-requires g c = ∥∥₁_elim c.requires (Prim.hlevel props) (λ b. b.has.memo_analysis.coded)
 
 pub invariant_of-result : goal.invariant_of-result
 invariant_of-result g c =
@@ -25,11 +25,11 @@ invariant_of-result g c =
     let is = g.met.Input.InputIndexer.is_text searched.input in
     let short = g.met.Input.InputIndexer.offsets_fit searched.input in
     let bytes = reads-literals tree text searched.bytes in
-    let t = arc_value c.args.bound.now.ledger in
+    let t = arc_value c.args.bound.now.memo_analysis in
     let m = c.in-Some.memo in
     let places = c.unit_count-places.result + 1 in
-    let begun' : IsBegun t places false m = subst (λ o. MatchOption o (2 ^ 64 ≤ t.codes * places) (IsBegun t places false)) c.in-Some.is c.in_ok-memo.ensures in
-    let begun : IsBegun t (units text + 1) false m = subst (λ n. IsBegun t (n + 1) false m) c.unit_count-places.ensures begun' in
+    let begun' : IsEmptyMemo t places false m = subst (λ o. MatchOption o (2 ^ 64 ≤ t.codes * places) (IsEmptyMemo t places false)) c.in-Some.is c.in_ok-memo.ensures in
+    let begun : IsEmptyMemo t (units text + 1) false m = subst (λ n. IsEmptyMemo t (n + 1) false m) c.unit_count-places.ensures begun' in
     record {
       right = ∥∥₁_map c.requires (λ b. begun-right program text is bytes short t b.has m begun);
       walked = λ e. ∥∥₁_map c.requires (λ b.

@@ -1,6 +1,6 @@
 use Rattle.std.proofs.Common.{ap, map, option_map, rules}
 use Rattle.std.proofs.lemmas.List.Elements.{same_from_all_zip}
-use Rattle.regress_exec.specs.Answers.{range_of}
+use Rattle.regress_exec.specs.MatchAnswers.{range_of}
 use Rattle.regress_exec.proofs.FirstMatch.{same-answer}
 use Rattle.regress_exec.proofs.exec.Match.clone.Goals as goal
 

@@ -1,6 +1,6 @@
 use Rattle.std.proofs.Common.{◌<◌, length, string_bytes, bytes_eq, map, option_map, true, false, ap, sym, ◌∙◌, arith}
 use Rattle.regex_meaning.specs.Outcomes.{group_range}
-use Rattle.regress_exec.specs.Answers.{answer_of, range_of}
+use Rattle.regress_exec.specs.MatchAnswers.{answer_of, range_of}
 use Rattle.regress_exec.proofs.Groups.{found-first, other-name, none-here, is_some-image}
 use Rattle.regress_exec.proofs.exec.Match.first_named.Goals as goal
 

@@ -1,5 +1,5 @@
 use Rattle.std.proofs.Common.{◌∙◌, ap, arith}
-use Rattle.regress_input.specs.Reading.{heading}
+use Rattle.regress_input.specs.ReadsFromOffset.{reading_direction}
 use Rattle.regress_input.proofs.Places.{boundary_inside}
 use Rattle.regress_input.proofs.HeldUnits.{count-is, again-is}
 use Rattle.regress_input.proofs.indexing.InputIndexer.past_again.Goals as goal
@@ -16,7 +16,7 @@ past_range-to-requires-clause-to g c =
 
 pub returns : goal.returns
 returns g c =
-    c.position_at.ensures ∙ c.if_whole.ensures
+    c.position_at.ensures ∙ c.unless_splitting_pair.ensures
     ∙ again-is g.Self.Units.Unit.CodeUnit.number g.Self.Units.CodeUnits.encoding (g.Self.InputIndexer.text c.args.self.now) c.code_units-all.result.now c.code_units-all.ensures.again
-    g.Self.Units.Unit.PartialEq.eq g.met.Self.Units.Unit.CodeUnit.equal _ _ (ap heading c.FORWARD.ensures) _ _ _ _ _ _ c.to_offset-at.ensures c.to_offset.ensures c.to_offset-2.ensures
+    g.Self.Units.Unit.PartialEq.eq g.met.Self.Units.Unit.CodeUnit.equal _ _ (ap reading_direction c.FORWARD.ensures) _ _ _ _ _ _ c.to_offset-at.ensures c.to_offset.ensures c.to_offset-2.ensures
     c.requires.at c.requires.from c.requires.to c.requires.in_order _ c.past_range-to.ensures

@@ -1,6 +1,6 @@
 use Rattle.std.proofs.Common.{◌≡◌, Some, slice_get, refl, sym, ◌∙◌, arith}
 use Rattle.std.proofs.lemmas.Option.{slice_get_read}
-use Rattle.regress_plan.specs.Closing.{table_in}
+use Rattle.regress_plan.specs.FirstSetFixpoint.{first_set_table}
 use Rattle.regress_plan.proofs.plan.Plan.contents.Goals as goal
 
 pub returns-then-reads_character : goal.returns-then-reads_character
@@ -8,4 +8,4 @@ returns-then-reads_character c =
     let op = c.index.result.now in
     let there : slice_get c.args.self.now.ops.items 1 ≡ Some op =
     slice_get_read c.args.self.now.ops.items _ 1 op refl (omega (arith, c.if-len-gt1.true, c.len.ensures)) c.index.ensures in
-    (table_in c.none-sets.result, op, there, sym c.reads_character.ensures ∙ c.if-reads_character.true, c.lets_through.ensures op there)
+    (first_set_table c.none-sets.result, op, there, sym c.reads_character.ensures ∙ c.if-reads_character.true, c.first_set_from_successors.ensures op there)

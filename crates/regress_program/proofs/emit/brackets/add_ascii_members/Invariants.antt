@@ -1,7 +1,7 @@
 use Rattle.std.proofs.Common.{◌≡◌}
 use Rattle.std.specs.Prelude.{nat_lt, ◌&&◌}
 use Rattle.std.specs.Int.{is_in_range}
-use Rattle.regex_pattern_front.specs.ByteSets.{ascii_bitmap_bytes}
+use Rattle.regex_pattern_front.specs.ByteSetMembers.{ascii_bitmap_bytes}
 use Rattle.regex_pattern_front.proofs.AddedBytes.{with_bytes_below}
 use Rattle.regress_program.proofs.emit.brackets.add_ascii_members.Given as goal
 

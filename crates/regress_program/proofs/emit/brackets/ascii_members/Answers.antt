@@ -1,8 +1,8 @@
 use Rattle.std.proofs.Common.{◌≡◌, map, take, take_all, ◌∙◌, ap, arith}
 use Rattle.std.specs.Prelude.{nat_lt, ◌&&◌}
 use Rattle.regex_meaning.specs.Outcomes.{in_intervals}
-use Rattle.regex_meaning.specs.StartPredicate.{bytes_where}
-use Rattle.regex_pattern_front.specs.ByteSets.{ascii_bitmap_bytes}
+use Rattle.regex_meaning.specs.StartPredicate.{bytes_that_pass}
+use Rattle.regex_pattern_front.specs.ByteSetMembers.{ascii_bitmap_bytes}
 use Rattle.regex_pattern_front.specs.Intervals.{interval_of}
 use Rattle.regress_program.proofs.AsciiLemmas.{ascii_none, ascii_more}
 use Rattle.std.proofs.lemmas.List.{length-map}
@@ -20,4 +20,4 @@ pub returns : goal.returns
 returns c =
     let all : take c.loop-interval.interval-index (map interval_of c.args.intervals.now) ≡ map interval_of c.args.intervals.now =
     take_all _ _ (omega (arith, length-map c.args.intervals.now interval_of)) in
-    c.loop-interval.invariant ∙ ap (λ xs. bytes_where (λ b. nat_lt b 128 && in_intervals xs b)) all
+    c.loop-interval.invariant ∙ ap (λ xs. bytes_that_pass (λ b. nat_lt b 128 && in_intervals xs b)) all

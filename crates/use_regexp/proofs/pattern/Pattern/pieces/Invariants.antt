@@ -1,6 +1,6 @@
 use Rattle.std.proofs.Common.{◌-◌, length, map}
 use Rattle.std.specs.Prelude.{option_map}
-use Rattle.regress_exec.specs.Answers.{range_of}
+use Rattle.regress_exec.specs.MatchAnswers.{range_of}
 use Rattle.use_regexp.proofs.SplitLemmas.{IsCutTo}
 use Rattle.use_regexp.proofs.pattern.Pattern.pieces.Given as goal
 

@@ -1,6 +1,6 @@
 use Rattle.std.proofs.Common.{◌∙◌, map, sym}
 use Rattle.std.specs.Prelude.{option_map}
-use Rattle.regress_exec.specs.Answers.{range_of}
+use Rattle.regress_exec.specs.MatchAnswers.{range_of}
 use Rattle.regress_match.proofs.FlagLemmas.{IfOk-map}
 use Rattle.use_regexp.proofs.SplitLemmas.{split-empty, split-some}
 use Rattle.use_regexp.proofs.regexp.RegExp.split.Goals as goal

@@ -1,6 +1,6 @@
 use Rattle.std.proofs.Common.{refl}
 use Rattle.regex_meaning.specs.Text.{ascii_text, fold_ascii}
-use Rattle.regex_meaning.specs.Units.{utf8}
+use Rattle.regex_meaning.specs.CodeUnits.{utf8}
 use Rattle.regress_input.proofs.HeldUnits.{numbers, stand}
 use Rattle.regress_input.proofs.OneUnit.{literal-one}
 use Rattle.regress_input.proofs.UnitsIn.{ascii_text-units_in}

@@ -1,6 +1,6 @@
 use Rattle.std.proofs.Common.{refl}
 use Rattle.regex_meaning.specs.Text.{ucs2_text, fold_code_point}
-use Rattle.regex_meaning.specs.Units.{ucs2}
+use Rattle.regex_meaning.specs.CodeUnits.{ucs2}
 use Rattle.regress_input.proofs.HeldUnits.{numbers, stand}
 use Rattle.regress_input.proofs.OneUnit.{literal-one}
 use Rattle.regress_input.proofs.UnitsIn.{ucs2_text-units_in}

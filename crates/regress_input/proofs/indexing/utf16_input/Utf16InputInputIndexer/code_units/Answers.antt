@@ -1,6 +1,6 @@
 use Rattle.std.proofs.Common.{refl}
 use Rattle.regex_meaning.specs.Text.{utf16_text}
-use Rattle.regex_meaning.specs.Units.{utf16}
+use Rattle.regex_meaning.specs.CodeUnits.{utf16}
 use Rattle.regress_input.proofs.HeldUnits.{numbers, stand}
 use Rattle.regress_input.proofs.Utf16Slices.{literal}
 use Rattle.regress_input.proofs.UnitsIn.{utf16_text-units_in}

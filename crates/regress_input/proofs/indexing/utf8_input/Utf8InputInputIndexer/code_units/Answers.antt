@@ -1,5 +1,5 @@
 use Rattle.regex_meaning.specs.Text.{utf8_text}
-use Rattle.regex_meaning.specs.Units.{utf8}
+use Rattle.regex_meaning.specs.CodeUnits.{utf8}
 use Rattle.regress_input.proofs.HeldUnits.{numbers, stand}
 use Rattle.regress_input.proofs.Utf8Slices.{literal}
 use Rattle.regress_input.proofs.UnitsIn.{utf8_text-units_in}

@@ -1,6 +1,6 @@
 use Rattle.std.proofs.Common.{ap, sym, ◌∙◌}
 use Rattle.std.proofs.iter.runs.Made.{run_of_exit}
-use Rattle.regex_meaning.specs.Flags.{flags_of_text}
+use Rattle.regex_meaning.specs.FlagLettersAndEscaping.{flags_from_letters}
 use Rattle.regress_match.proofs.FlagLemmas.{flags-none, flags-more}
 use Rattle.regress_match.proofs.api.flags.Flags.new.Goals as goal
 
@@ -18,4 +18,4 @@ loop-letter-preserved g c =
 pub returns : goal.returns
 returns g c =
     let run = run_of_exit _ _ c.loop-letter.yielded _ c.loop-letter.yielded_by _ c.in-None.ensures.steps in
-    (run.0, run.1 ∙ c.into_iter-letter-iterator.ensures.into_iter_gives, run.2, c.loop-letter.invariant ∙ ap flags_of_text (sym run.3.0))
+    (run.0, run.1 ∙ c.into_iter-letter-iterator.ensures.into_iter_gives, run.2, c.loop-letter.invariant ∙ ap flags_from_letters (sym run.3.0))

@@ -1,6 +1,6 @@
 use Rattle.std.proofs.Common.{◌∙◌, ap, nat_le, not, refl, subst, sym}
-use Rattle.regress_match.specs.Programs.{byte_tree}
-use Rattle.regress_match.specs.Replacements.{StandFrom}
+use Rattle.regress_match.specs.RegexPrograms.{byte_tree}
+use Rattle.regress_match.specs.Replacements.{MatchesAreOrderedFrom}
 use Rattle.regress_match.proofs.CallerLemmas.{matches-stand}
 use Rattle.regress_match.proofs.FlagLemmas.{IfOk-map}
 use Rattle.regress_match.proofs.Starts.{utf8_start, utf8_units}
@@ -16,4 +16,4 @@ returns-clause-ended c =
 pub returns-clause-stand : goal.returns-clause-stand
 returns-clause-stand c =
     IfOk-map c.search_from.result _ _
-    (λ it y. subst (StandFrom c.args.text.now c.args.start) (sym y.answers) (matches-stand c.args.self.now c.args.text.now c.args.start c.utf8.text)) c.search_from.ensures.answers
+    (λ it y. subst (MatchesAreOrderedFrom c.args.text.now c.args.start) (sym y.answers) (matches-stand c.args.self.now c.args.text.now c.args.start c.utf8.text)) c.search_from.ensures.answers

@@ -1,6 +1,6 @@
 use Rattle.std.proofs.Common.{◌≡◌, ◌∙◌, ap, nat_le, not, rules, subst, sym}
-use Rattle.regress_match.specs.Programs.{utf8_answers_within}
-use Rattle.regress_match.specs.Replacements.{StandFrom}
+use Rattle.regress_match.specs.RegexPrograms.{utf8_answers_within}
+use Rattle.regress_match.specs.Replacements.{MatchesAreOrderedFrom}
 use Rattle.regress_match.proofs.CallerLemmas.{matches-stand, within-stand}
 use Rattle.regress_match.proofs.Starts.{utf8_start, utf8_units}
 use Rattle.regress_match.proofs.api.regex.Regex.find_from_limited.Goals as goal
@@ -17,4 +17,4 @@ pub returns-clause-stand : goal.returns-clause-stand
 returns-clause-stand c =
     let text = c.args.text.now in
     let yields : c.new-matches.result.answers ≡ utf8_answers_within c.args.steps c.args.self.now text c.args.start = search rules in
-    subst (StandFrom text c.args.start) (sym yields) (within-stand text c.args.start c.args.steps _ _ (matches-stand c.args.self.now text c.args.start c.utf8.text))
+    subst (MatchesAreOrderedFrom text c.args.start) (sym yields) (within-stand text c.args.start c.args.steps _ _ (matches-stand c.args.self.now text c.args.start c.utf8.text))

@@ -1,16 +1,16 @@
 use Rattle.std.proofs.Common.{◌∙◌, ap, sym, subst, IsTrue}
-use Rattle.regex_meaning.specs.Layout.{IsByteCodeOf, IsUnitCodeOf}
+use Rattle.regex_meaning.specs.CompilationRelation.{IsByteCodeOf, IsUnitCodeOf}
 use Rattle.regex_meaning.specs.Tree.{Tree}
-use Rattle.regex_meaning.specs.WellFormed.{IsWellFormed}
-use Rattle.regex_pattern_front.specs.Optimized.{has_plain_loops}
-use Rattle.regex_pattern_front.specs.TreeOf.{tree_of, flags_of}
-use Rattle.regress_program.specs.Code.{compiled}
-use Rattle.regress_program.specs.Running.{tree_to_run}
-use Rattle.regress_program.specs.Refusals.{IsRefusedInUnits, IsRefusedWith}
+use Rattle.regex_meaning.specs.WellFormedTrees.{IsWellFormed}
+use Rattle.regex_pattern_front.specs.OptimizedTrees.{has_no_char_loops}
+use Rattle.regex_pattern_front.specs.AstToSpecTree.{tree_of, flags_of}
+use Rattle.regress_program.specs.CodeOfTrees.{compiled}
+use Rattle.regress_program.specs.TreeToRun.{tree_to_run}
+use Rattle.regress_program.specs.CompileRefusals.{IsUnitCompileErrorCause, IsCompileErrorCause}
 use Rattle.std.specs.Prelude.{Err}
 use Rattle.regex_grammar.specs.Grammar.{Parses}
-use Rattle.regex_grammar.specs.Standing.{NoTree}
-use Rattle.regress_match.specs.Refusals.{of_emit, of_parse}
+use Rattle.regex_grammar.specs.ParserInvariants.{HasNoTree}
+use Rattle.regress_match.specs.CompileErrors.{error_of_emit, error_of_parse}
 use Rattle.regress_match.proofs.RefusalLemmas.{parse-refuses, emit-refuses, err-refused, reads-not}
 use Rattle.regress_match.proofs.api.regex.Regex.from_unicode.Goals as goal
 
@@ -22,7 +22,7 @@ returns-clause-compiled c =
       parsed = subst (Parses _ _) (sym (ap tree_of both.units)) (subst (λ f. Parses f c.args.pattern.now (tree_of c.in_ok-parsed.parsed)) c.for_front.ensures parsed.tree);
       flags = ap (λ t. (tree_of t).flags) both.units ∙ ap flags_of parsed.flags ∙ c.for_front.ensures;
       well_formed = subst (λ t. IsWellFormed (tree_of t).root) (sym both.units) parsed.well_formed;
-      plain = subst (λ t. IsTrue (has_plain_loops (tree_of t).root)) (sym both.units) parsed.plain;
+      plain = subst (λ t. IsTrue (has_no_char_loops (tree_of t).root)) (sym both.units) parsed.plain;
       units = subst (λ t. IsUnitCodeOf (compiled (tree_of t)) (tree_of t)) (sym both.units) both.unit_code;
       optimized = both.bytes ∙ ap (λ t. tree_to_run (tree_of t)) (sym both.units);
       bytes = subst (λ (t : Tree). IsByteCodeOf (compiled t) t) (sym both.bytes) both.byte_code;
@@ -31,8 +31,8 @@ returns-clause-compiled c =
 pub returns-in_err-parsed-clause-refused : goal.returns-in_err-parsed-clause-refused
 returns-in_err-parsed-clause-refused c =
     let e = c.in_err-parsed.field-0.0 in
-    err-refused c.from_residual.result (of_parse e) _ _ (λ x h. h) c.from_residual.ensures.1
-    (parse-refuses _ _ e (λ is. subst (λ f. NoTree f c.args.pattern.now) c.for_front.ensures
+    err-refused c.from_residual.result (error_of_parse e) _ _ (λ x h. h) c.from_residual.ensures.1
+    (parse-refuses _ _ e (λ is. subst (λ f. HasNoTree f c.args.pattern.now) c.for_front.ensures
     (c.in_err-parsed.ensures.refused (ap Err is))))
 
 pub returns-in_err-cr-clause-refused : goal.returns-in_err-cr-clause-refused
@@ -41,8 +41,8 @@ returns-in_err-cr-clause-refused c =
     let parsed = c.in_ok-parsed.ensures in
     let e = c.in_err-cr.field-0.0 in
     let refused = c.in_err-cr.ensures.refused in
-    err-refused c.from_residual-in_err-cr.result (of_emit e) _ _ (λ x h. h) c.from_residual-in_err-cr.ensures.1
+    err-refused c.from_residual-in_err-cr.result (error_of_emit e) _ _ (λ x h. h) c.from_residual-in_err-cr.ensures.1
     (emit-refuses _ _ tree (subst (λ f. Parses f c.args.pattern.now tree) c.for_front.ensures parsed.tree) e
-    (λ is. subst (λ x. IsRefusedInUnits x tree) is refused parsed.well_formed)
-    (λ is. reads-not tree.root parsed.characters (subst (λ x. IsRefusedInUnits x tree) is refused).1)
-    (subst (λ b. IsRefusedWith b e tree) parsed.characters refused))
+    (λ is. subst (λ x. IsUnitCompileErrorCause x tree) is refused parsed.well_formed)
+    (λ is. reads-not tree.root parsed.characters (subst (λ x. IsUnitCompileErrorCause x tree) is refused).1)
+    (subst (λ b. IsCompileErrorCause b e tree) parsed.characters refused))

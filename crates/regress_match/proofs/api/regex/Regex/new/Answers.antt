@@ -1,16 +1,16 @@
 use Rattle.std.proofs.Common.{◌≡◌, [], subst}
-use Rattle.regex_meaning.specs.Flags.{flags_of_text}
+use Rattle.regex_meaning.specs.FlagLettersAndEscaping.{flags_from_letters}
 use Rattle.regress_match.proofs.FlagLemmas.{IfErr-map, IfOk-map, flags-none, flags_by}
 use Rattle.std.specs.Prelude.{chars}
-use Rattle.regress_match.specs.Programs.{IsCompiledWith}
-use Rattle.regress_match.specs.Refusals.{Refuses}
+use Rattle.regress_match.specs.RegexPrograms.{IsCompiledWith}
+use Rattle.regress_match.specs.CompileErrors.{IsPatternRefusedWith}
 use Rattle.regress_match.proofs.api.regex.Regex.new.Goals.{After-with_flags}
 use Rattle.regress_match.proofs.api.regex.Regex.new.Goals as goal
 
 -- the flags are none
 none : (c : After-with_flags)
     → flags_by c.default.result.icase c.default.result.multiline c.default.result.dot_all c.default.result.no_opt c.default.result.unicode
-    c.default.result.unicode_sets ≡ flags_of_text []
+    c.default.result.unicode_sets ≡ flags_from_letters []
 none c =
     let d = c.default.ensures in
     let f = c.default.result in
@@ -22,4 +22,4 @@ returns-clause-compiled c =
 
 pub returns-clause-refused : goal.returns-clause-refused
 returns-clause-refused c =
-    IfErr-map c.with_flags.result _ _ (λ e h. subst (λ flags. Refuses flags (chars c.args.pattern.now) e) (none c) h) c.with_flags.ensures.refused
+    IfErr-map c.with_flags.result _ _ (λ e h. subst (λ flags. IsPatternRefusedWith flags (chars c.args.pattern.now) e) (none c) h) c.with_flags.ensures.refused

@@ -1,12 +1,12 @@
 use Rattle.std.proofs.Common.{◌≡◌, ◌+◌, ◌*◌, ◌∙◌, ap, [], sym, arith}
 use Rattle.std.proofs.lemmas.Result.{IfOk-weaker}
 use Rattle.regex_meaning.specs.Tree.{capture_group}
-use Rattle.regex_pattern_front.specs.TreeOf.{node_of}
-use Rattle.regress_program.specs.Nodes.{cat_of}
-use Rattle.regress_program.specs.Code.{code_of, loop_count, brackets_of}
-use Rattle.regress_program.specs.Weights.{weight}
-use Rattle.regress_program.specs.Emitting.{HasRoom, shaped, state_of, with_code}
-use Rattle.regress_program.specs.Remaining.{load}
+use Rattle.regex_pattern_front.specs.AstToSpecTree.{node_of}
+use Rattle.regress_program.specs.NodeListsAndLeaves.{cat_of}
+use Rattle.regress_program.specs.CodeOfTrees.{code_of, loop_count, brackets_of}
+use Rattle.regress_program.specs.InnerNodeCounts.{inner_node_count}
+use Rattle.regress_program.specs.EmitterModel.{HasIndexRoom, with_char_loops, emitter_state, with_code}
+use Rattle.regress_program.specs.PendingEmission.{node_measure}
 use Rattle.regress_program.proofs.EmitLemmas.{room-unnamed}
 use Rattle.regress_program.proofs.LeafLemmas.{leaf-left}
 use Rattle.regress_program.proofs.NodeLemmas.{node_of-Cat}
@@ -15,33 +15,33 @@ use Rattle.regress_program.proofs.RemainingLemmas.{begun-cheap, begun-whole, gro
 use Rattle.regress_program.proofs.emit.emitter.Emitter.begin.Goals as goal
 
 pub begin_group-requires-clause-room : goal.begin_group-requires-clause-room
-unfolding node_of shaped
+unfolding node_of with_char_loops
 begin_group-requires-clause-room c =
     let is = ap node_of c.in-CaptureGroup.is in
     let inside = node_of c.in-CaptureGroup.contents.value in
-    let room : HasRoom (state_of c.args.self.now) (capture_group c.in-CaptureGroup.id [] (shaped c.args.mode.narrow inside)) = room-unnamed _ _ _ _ (rw is at c.requires.room) in
+    let room : HasIndexRoom (emitter_state c.args.self.now) (capture_group c.in-CaptureGroup.id [] (with_char_loops c.args.mode.narrow inside)) = room-unnamed _ _ _ _ (rw is at c.requires.room) in
     rw c.deref-in-CaptureGroup.ensures room
 
-pub begin_row-requires-clause-sets : goal.begin_row-requires-clause-sets
-begin_row-requires-clause-sets c =
+pub begin_node_list-requires-clause-sets : goal.begin_node_list-requires-clause-sets
+begin_node_list-requires-clause-sets c =
     let same : node_of c.args.node.now ≡ cat_of c.deref.result.now = ap node_of c.in-Cat.is ∙ node_of-Cat c.in-Cat.nodes ∙ ap cat_of (sym c.deref.ensures.value) in
     rw same at c.requires.sets
 
-pub begin_row-requires-clause-room : goal.begin_row-requires-clause-room
-begin_row-requires-clause-room c =
+pub begin_node_list-requires-clause-room : goal.begin_node_list-requires-clause-room
+begin_node_list-requires-clause-room c =
     let same : node_of c.args.node.now ≡ cat_of c.deref.result.now = ap node_of c.in-Cat.is ∙ node_of-Cat c.in-Cat.nodes ∙ ap cat_of (sym c.deref.ensures.value) in
     rw same at c.requires.room
 
 pub returns-in-Cat : goal.returns-in-Cat
 returns-in-Cat c =
     let m = c.args.mode in
-    let row = shaped m.narrow (cat_of c.deref.result.now) in
+    let row = with_char_loops m.narrow (cat_of c.deref.result.now) in
     let same : node_of c.args.node.now ≡ cat_of c.deref.result.now = ap node_of c.in-Cat.is ∙ node_of-Cat c.in-Cat.nodes ∙ ap cat_of (sym c.deref.ensures.value) in
     rw same
-    (IfOk-weaker c.begin_row.result _ _ (λ _ b. begun-cheap (with_code m.unicode m.behind row) (5 * weight row + 1) (load row) _ _ b (omega arith)) c.begin_row.ensures)
+    (IfOk-weaker c.begin_node_list.result _ _ (λ _ b. begun-cheap (with_code m.unicode m.behind row) (5 * inner_node_count row + 1) (node_measure row) _ _ b (omega arith)) c.begin_node_list.ensures)
 
 pub returns-in-CaptureGroup : goal.returns-in-CaptureGroup
-unfolding node_of shaped code_of loop_count brackets_of weight
+unfolding node_of with_char_loops code_of loop_count brackets_of inner_node_count
 returns-in-CaptureGroup c = rw (c.in-CaptureGroup.is, ← c.deref-in-CaptureGroup.ensures) c.begin_group.ensures
 
 pub emit_leaf-requires : goal.emit_leaf-requires
@@ -60,9 +60,9 @@ returns-in_default c =
     let m = c.args.mode in
     let leaf = leaf-left c.args.node.now d.not-Cat d.not-Alt d.not-CaptureGroup d.not-LookaroundAssertion d.not-Loop d.not-Loop1CharBody in
     let n = node_of c.args.node.now in
-    let s = state_of c.args.self.now in
-    let t = state_of c.emit_leaf.new.self in
+    let s = emitter_state c.args.self.now in
+    let t = emitter_state c.emit_leaf.new.self in
     rw (shaped-leaf m.narrow n leaf)
     (IfOk-weaker c.emit_leaf.result _ _
-    (λ _ e. begun-whole (with_code m.unicode m.behind n) (load n) c.args.rest.now.items s t e (rw e (grows-code m.unicode m.behind n s)) (omega arith))
+    (λ _ e. begun-whole (with_code m.unicode m.behind n) (node_measure n) c.args.rest.now.items s t e (rw e (grows-code m.unicode m.behind n s)) (omega arith))
     c.emit_leaf.ensures)

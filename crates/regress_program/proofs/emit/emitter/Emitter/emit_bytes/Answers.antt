@@ -1,12 +1,12 @@
 use Rattle.std.proofs.Common.{◌*◌, ◌<◌, ◌∙◌, sym, arith, length, take, drop}
-use Rattle.regex_meaning.specs.Layout.{ByteSeq, ordered, chunks}
-use Rattle.regress_program.specs.Emitting.{state_of}
+use Rattle.regex_meaning.specs.CompilationRelation.{ByteSeq, ordered, chunks}
+use Rattle.regress_program.specs.EmitterModel.{emitter_state}
 use Rattle.regress_program.proofs.TextLemmas.{chunk_begins, chunk_at, ordered-next, parts_step, parts_end, with_code-byte_sequence}
 use Rattle.regress_program.proofs.emit.emitter.Emitter.emit_bytes.Goals as goal
 use Rattle.regress_program.proofs.EmitLemmas.{length-ordered}
 
-pub put_chunk-requires : goal.put_chunk-requires
-put_chunk-requires c =
+pub emit_chunk-requires : goal.emit_chunk-requires
+emit_chunk-requires c =
     let within : c.place.result < length (chunks c.args.bytes.now) = omega (arith, c.place.ensures.within, c.chunk_count-count.ensures) in
     chunk_begins c.args.bytes.now c.place.result within
 
@@ -18,11 +18,11 @@ loop-at-preserved c =
     let here : at < length (chunks bytes) = omega (arith, c.chunk_count-count.ensures, c.loop-at-test.true) in
     let begins : c.place.result * 16 < length bytes = chunk_begins bytes c.place.result within in
     let next = ordered-next c.args.mode.behind (chunks bytes) at c.place.result (take 16 (drop (c.place.result * 16) bytes)) here (rw (← c.chunk_count-count.ensures) c.place.ensures.value) (chunk_at bytes c.place.result begins) in
-    parts_step ByteSeq (ordered c.args.mode.behind (chunks bytes)) at (take 16 (drop (c.place.result * 16) bytes)) (state_of c.loop-at.self) (state_of c.put_chunk.new.self) _ next c.in_ok-put_chunk.ensures c.loop-at.invariant
+    parts_step ByteSeq (ordered c.args.mode.behind (chunks bytes)) at (take 16 (drop (c.place.result * 16) bytes)) (emitter_state c.loop-at.self) (emitter_state c.emit_chunk.new.self) _ next c.in_ok-emit_chunk.ensures c.loop-at.invariant
 
 pub returns : goal.returns
 returns c =
     let bytes = c.args.bytes.now in
     let all = ordered c.args.mode.behind (chunks bytes) in
-    parts_end ByteSeq all c.loop-at.at (state_of c.loop-at.self) _ (omega (arith, c.chunk_count-count.ensures, length-ordered c.args.mode.behind (chunks bytes))) c.loop-at.invariant
-    ∙ sym (with_code-byte_sequence c.args.mode.unicode c.args.mode.behind bytes (state_of c.args.self.now))
+    parts_end ByteSeq all c.loop-at.at (emitter_state c.loop-at.self) _ (omega (arith, c.chunk_count-count.ensures, length-ordered c.args.mode.behind (chunks bytes))) c.loop-at.invariant
+    ∙ sym (with_code-byte_sequence c.args.mode.unicode c.args.mode.behind bytes (emitter_state c.args.self.now))

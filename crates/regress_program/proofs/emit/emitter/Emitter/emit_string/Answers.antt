@@ -1,8 +1,8 @@
 use Rattle.std.proofs.Common.{get_or}
 use Rattle.std.proofs.lemmas.Option.{slice_get-get_or}
 use Rattle.regex_meaning.specs.Text.{expand_code_point}
-use Rattle.regex_meaning.specs.Layout.{spelling_insn, ordered}
-use Rattle.regress_program.specs.Emitting.{state_of}
+use Rattle.regex_meaning.specs.CompilationRelation.{case_variants_insn, ordered}
+use Rattle.regress_program.specs.EmitterModel.{emitter_state}
 use Rattle.regress_program.proofs.TextLemmas.{ordered-next, parts_step}
 use Rattle.regress_program.proofs.emit.emitter.Emitter.emit_string.Goals as goal
 
@@ -12,5 +12,5 @@ loop-at-preserved c =
     let at = c.loop-at.at in
     let x = get_or string c.place.result 0 in
     let next = ordered-next c.args.mode.behind string at c.place.result x c.loop-at-test.true c.place.ensures.value (slice_get-get_or string c.place.result 0 c.place.ensures.within) in
-    parts_step (λ y. spelling_insn (expand_code_point y c.args.icase c.args.mode.unicode)) (ordered c.args.mode.behind string) at x
-    (state_of c.loop-at.self) (state_of c.put_spellings.new.self) _ next c.in_ok-put_spellings.ensures c.loop-at.invariant
+    parts_step (λ y. case_variants_insn (expand_code_point y c.args.icase c.args.mode.unicode)) (ordered c.args.mode.behind string) at x
+    (emitter_state c.loop-at.self) (emitter_state c.emit_spellings.new.self) _ next c.in_ok-emit_spellings.ensures c.loop-at.invariant

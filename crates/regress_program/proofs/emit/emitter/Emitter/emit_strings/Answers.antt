@@ -1,8 +1,8 @@
 use Rattle.std.proofs.Common.{◌≡◌, ◌+◌, ◌-◌, ◌<◌, [], ◌∙◌, ap, sym, arith, length, drop, get_or}
 use borrow.Author.Tests.{eqb-true}
 use Rattle.regex_meaning.specs.Tree.{string_set}
-use Rattle.regress_program.specs.Code.{string_code, strings_code, strings_size}
-use Rattle.regress_program.specs.Emitting.{state_of, with_insns, with_code, code_points_of}
+use Rattle.regress_program.specs.CodeOfTrees.{string_code, strings_code, strings_size}
+use Rattle.regress_program.specs.EmitterModel.{emitter_state, with_insns, with_code, strings_as_code_points}
 use Rattle.regress_program.proofs.TextLemmas.{code_points-next, length-code_points, size_from, last_code, strings_step, strings_target}
 use Rattle.regress_program.proofs.TextLemmas.{with_code-string_set, no_length, ne_zero}
 use Rattle.regress_program.proofs.emit.emitter.Emitter.emit_strings.Goals as goal
@@ -10,7 +10,7 @@ use Rattle.regress_program.proofs.emit.emitter.Emitter.emit_strings.Goals as goa
 pub returns-then-is_empty : goal.returns-then-is_empty
 returns-then-is_empty c =
     let none : c.args.strings.now ≡ [] = no_length c.args.strings.now (eqb-true _ _ (sym c.if-is_empty.ensures)) in
-    rw (none, with_code-string_set c.args.mode.unicode c.args.mode.behind c.args.icase [] (state_of c.args.self.now)) c.put.ensures
+    rw (none, with_code-string_set c.args.mode.unicode c.args.mode.behind c.args.icase [] (emitter_state c.args.self.now)) c.put.ensures
 
 pub overflow_cast-secondary : goal.overflow_cast-secondary
 overflow_cast-secondary c =
@@ -35,15 +35,15 @@ loop-at-preserved c =
     let u = c.args.mode.unicode in
     let d = c.args.mode.behind in
     let more : at + 1 < length strings = omega arith in
-    let rest = drop (at + 1) (code_points_of strings) in
+    let rest = drop (at + 1) (strings_as_code_points strings) in
     let some : 0 < length rest = omega (arith, length-code_points strings (at + 1)) in
     let size = size_from strings at s more c.index-strings-at.is in
     let second = c.next-in-loop-at.result + c.len.result + 2 in
     let target = c.next.result + c.strings_size.result in
-    let s0 = state_of c.loop-at.self in
-    let s1 = state_of c.put-in-loop-at.new.self in
-    let s2 = state_of c.emit_string.new.self in
-    let s3 = state_of c.put-in-loop-at-2.new.self in
+    let s0 = emitter_state c.loop-at.self in
+    let s1 = emitter_state c.put-in-loop-at.new.self in
+    let s2 = emitter_state c.emit_string.new.self in
+    let s3 = emitter_state c.put-in-loop-at-2.new.self in
     let es : second ≡ length s0.insns + length s.items + 2 = omega (arith, c.next-in-loop-at.ensures, c.len.ensures, s.ok.0) in
     let et : target ≡ second + strings_size rest = omega (arith, es, size, c.loop-at.invariant.target) in
     let e2 : s2 ≡ with_insns (string_code u c.args.icase d s.items) s1 = rw (← c.deref.ensures.value) c.in_ok-emit_string.ensures in
@@ -57,13 +57,13 @@ loop-at-preserved c =
 pub returns : goal.returns
 returns c =
     let strings = c.args.strings.now in
-    let s0 = state_of c.loop-at.self in
+    let s0 = emitter_state c.loop-at.self in
     let u = c.args.mode.unicode in
     let d = c.args.mode.behind in
     let last : c.loop-at.at + 1 ≡ length strings = omega (arith, ne_zero strings c.if-is_empty.ensures) in
     let at_last : c.loop-at.at ≡ length strings - 1 = omega arith in
     let here : c.index-strings-last.result ≡ get_or strings c.loop-at.at c.index-strings-last.result = rw at_last c.index-strings-last.is in
-    let code : with_insns (string_code u c.args.icase d c.index-strings-last.result.items) s0 ≡ with_code u d (string_set (code_points_of strings) c.args.icase) (state_of c.args.self.now) =
+    let code : with_insns (string_code u c.args.icase d c.index-strings-last.result.items) s0 ≡ with_code u d (string_set (strings_as_code_points strings) c.args.icase) (emitter_state c.args.self.now) =
     sym (ap (λ xs. with_insns xs s0) (last_code u c.args.icase d strings c.loop-at.at (length s0.insns) c.index-strings-last.result last here))
-    ∙ c.loop-at.invariant.code ∙ sym (with_code-string_set u d c.args.icase (code_points_of strings) (state_of c.args.self.now)) in
+    ∙ c.loop-at.invariant.code ∙ sym (with_code-string_set u d c.args.icase (strings_as_code_points strings) (emitter_state c.args.self.now)) in
     rw (← code, ← c.deref-2.ensures.value) c.emit_string-2.ensures

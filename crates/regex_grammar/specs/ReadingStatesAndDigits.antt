@@ -1,0 +1,79 @@
+-- States, digits and names, with which the grammar reads a pattern.
+use Rattle.std.specs.Prelude.{ℕ, suc, ◌+◌, ◌*◌, ◌<◌, Bool, List, [], ◌∷◌, ◌++◌, nat_eq, length, drop, take_while, fold, codes, reverse, Option, Some}
+use Rattle.std.specs.Prelude.{None, option_map, if◌then◌else◌}
+use Rattle.std.specs.List.{starts_with}
+use Rattle.std.specs.Char.{digit_value, is_digit}
+use lib.Pointwise.{pointwise}
+use Rattle.regex_meaning.specs.NumberListHelpers.{contains}
+use Rattle.regex_meaning.specs.Tree.{Node, Flags, cat, end_of_cat}
+use Prim.Native.String.{String}
+
+-- the code points that are still to be read
+abbrev pub RemainingPattern : Type 0
+RemainingPattern = List ℕ
+
+-- a position in a pattern: the text that is still to be read, and the name of each group that has
+-- opened, empty if it has none; so group ids and the groups inside a loop or a lookaround are
+-- lengths of that list (*parenIndex* and *parenCount* of 21.2.2.5 and 21.2.2.8)
+pub record ParseState : Type 0 where
+  pub text : RemainingPattern
+  pub opened : List RemainingPattern
+
+-- what is known of the whole pattern: its flags, and the name of each of its groups, since a
+-- reference may precede its group
+pub record PatternContext : Type 0 where
+  pub flags : Flags
+  pub groups : List RemainingPattern
+
+-- the number of groups that have opened
+abbrev pub groups_at : ParseState → ℕ
+groups_at p = length p.opened
+
+-- the state before a terminal: `p ≡ "(" ▸ q` reads a `(` from p to q
+infixr 40 ◌▸◌
+abbrev pub ◌▸◌ : String → ParseState → ParseState
+word ▸ p = record p { text = codes word ++ p.text }
+
+-- the state after a text without groups, with `there` left
+abbrev pub state_with_text_left : RemainingPattern → ParseState → ParseState
+state_with_text_left there p = record p { text = there }
+
+-- the state after a group with this name has opened
+abbrev pub with_opened_group : (name : RemainingPattern) → ParseState → ParseState
+with_opened_group name p = record p { opened = p.opened ++ name ∷ [] }
+
+-- whether the character is one of these
+infix 60 ◌∈◌
+abbrev pub ◌∈◌ : ℕ → String → Bool
+c ∈ s = contains (codes s) c
+
+-- whether the text begins with these characters
+abbrev pub begins_with_characters : String → RemainingPattern → Bool
+begins_with_characters word here = starts_with nat_eq here (codes word)
+
+-- the longest prefix of digits
+abbrev pub digits : (base : ℕ) → RemainingPattern → RemainingPattern
+digits base here = take_while (λ c. is_digit c base) here
+
+-- the value of digits
+abbrev pub value_of_digits : (base : ℕ) → RemainingPattern → ℕ
+value_of_digits base here = fold (λ n c. base * n + digit_value c) 0 here
+
+-- DecimalDigits or HexDigits and their value: at least one digit, and no digit follows
+pub data Digits (base : ℕ) (here : RemainingPattern) : (there : RemainingPattern) (n : ℕ) → Type 0 where
+  digits_from : 0 < length (digits base here)
+      → Digits base here (drop (length (digits base here)) here) (value_of_digits base (digits base here))
+
+-- the number of the first group with this name, counted from 1
+abbrev pub group_number_of : (name : RemainingPattern) → List RemainingPattern → Option ℕ
+group_number_of name [] = None
+group_number_of name (other ∷ names) = if pointwise nat_eq name other then Some 1 else option_map suc (group_number_of name names)
+
+-- a sequence of nodes
+abbrev pub sequence_node : List Node → Node
+sequence_node [] = end_of_cat
+sequence_node (n ∷ ns) = cat n (sequence_node ns)
+
+-- the node of an alternative: its terms, in reverse order inside a lookbehind (21.2.2.4)
+abbrev pub arm : (behind : Bool) → List Node → Node
+arm behind terms = sequence_node (if behind then reverse terms else terms)

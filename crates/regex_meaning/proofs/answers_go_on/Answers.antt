@@ -1,5 +1,0 @@
-use Rattle.regex_meaning.proofs.AnswerLemmas.{answers-go_on}
-use Rattle.regex_meaning.proofs.answers_go_on.Goals as goal
-
-pub returns : goal.returns
-returns c = answers-go_on

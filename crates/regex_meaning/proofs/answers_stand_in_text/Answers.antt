@@ -1,5 +1,0 @@
-use Rattle.regex_meaning.proofs.AnswerLemmas.{first_answer-stands}
-use Rattle.regex_meaning.proofs.answers_stand_in_text.Goals as goal
-
-pub returns : goal.returns
-returns c = first_answer-stands

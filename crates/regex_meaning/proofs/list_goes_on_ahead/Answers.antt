@@ -1,5 +1,0 @@
-use Rattle.regex_meaning.proofs.AnswerLemmas.{next_start-ahead}
-use Rattle.regex_meaning.proofs.list_goes_on_ahead.Goals as goal
-
-pub returns : goal.returns
-returns c = next_start-ahead

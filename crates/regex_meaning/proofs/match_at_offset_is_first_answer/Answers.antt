@@ -1,0 +1,5 @@
+use Rattle.regex_meaning.proofs.AtOnePlace.{matches_at-first}
+use Rattle.regex_meaning.proofs.match_at_offset_is_first_answer.Goals as goal
+
+pub returns : goal.returns
+returns c = matches_at-first

@@ -1,5 +1,0 @@
-use Rattle.regex_meaning.proofs.Clean.{predicate-sound}
-use Rattle.regex_meaning.proofs.predicate_is_sound.Goals as goal
-
-pub returns : goal.returns
-returns c tree w = predicate-sound tree w

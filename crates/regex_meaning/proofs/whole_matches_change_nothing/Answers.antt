@@ -1,5 +1,0 @@
-use Rattle.regex_meaning.proofs.TextOut.{replaced-whole}
-use Rattle.regex_meaning.proofs.whole_matches_change_nothing.Goals as goal
-
-pub returns : goal.returns
-returns c = λ text ms. replaced-whole text 0 ms

@@ -1,0 +1,34 @@
+-- The code units in which the characters of a text are encoded.
+use Rattle.std.specs.Prelude.{◌≡◌, ℕ, ◌+◌, ◌-◌, ◌/◌, ◌%◌, Bool, List, [], ◌∷◌, length, map, flat_map, if◌then◌else◌, nat_lt, encode_utf8_all}
+use Rattle.regex_meaning.specs.Text.{Text, offsets_from, is_scalar}
+
+-- The code units are bytes in UTF-8, of which ASCII is a part, and have 16 bits in UTF-16 and
+-- UCS-2.
+pub data Encoding : Type 0 where
+  utf8 : Encoding
+  utf16 : Encoding
+  ucs2 : Encoding
+
+-- whether a number can be a character of a text in this encoding
+abbrev pub is_character : Encoding → ℕ → Bool
+is_character utf8 c = is_scalar c
+is_character utf16 c = nat_lt c 0x11_0000
+is_character ucs2 c = nat_lt c 0x1_0000
+
+-- the surrogate pair of a code point from U+10000 on, the high surrogate first
+abbrev pub surrogate_pair : ℕ → List ℕ
+surrogate_pair c = (0xD800 + (c - 0x1_0000) / 0x400) ∷ (0xDC00 + (c - 0x1_0000) % 0x400) ∷ []
+
+-- the code units of one character
+abbrev pub spelled_in : Encoding → ℕ → List ℕ
+spelled_in utf8 c = encode_utf8_all (c ∷ [])
+spelled_in utf16 c = if nat_lt c 0x1_0000 then c ∷ [] else surrogate_pair c
+spelled_in ucs2 c = c ∷ []
+
+-- the code units of a text
+abbrev pub units_in : Encoding → Text → List ℕ
+units_in e text = flat_map (spelled_in e) text.characters
+
+-- The offsets of the text are those of its characters' code units in this encoding.
+pub record IsSpelledIn (e : Encoding) (text : Text) : Type 0 where
+  pub offsets : text.offsets ≡ offsets_from 0 (map (λ c. length (spelled_in e c)) text.characters)

@@ -1,0 +1,112 @@
+-- Well-formed trees, which are those that can be compiled (a rule of this crate).
+use Rattle.std.specs.Prelude.{ℕ, ◌+◌, ◌-◌, Bool, true, false, ◌&&◌, length, chars, count_by, if◌then◌else◌, nat_lt, nat_le, nat_eq, ◌==◌, IsTrue}
+use Rattle.std.specs.List.{list_all}
+use Rattle.std.specs.Option.{option_map_or}
+use Rattle.std.specs.Str.{is_utf8}
+use Rattle.regex_meaning.specs.NumberListHelpers.{contains, numbers_from}
+use Rattle.regex_meaning.specs.Tree.{Quantifier, Node, goal, char, char_set, byte_set, byte_sequence, cat, end_of_cat, bracket, string_set}
+use Rattle.regex_meaning.specs.Tree.{match_any, match_any_except_line_terminator, back_ref, lookaround, loop, loop_1_char_body, fold_nodes, group_ids}
+use Rattle.regex_meaning.specs.Tree.{every_node_passes}
+
+-- 1 for `Goal`, 0 for any other node
+abbrev pub own_goals : Node → ℕ
+own_goals goal = 1
+own_goals _ = 0
+
+-- the number of `Goal` nodes in the tree
+abbrev pub number_of_goals : Node → ℕ
+number_of_goals root = fold_nodes ◌+◌ own_goals root
+
+-- the node is the end of a `Cat`
+abbrev pub is_end_of_cat : Node → Bool
+is_end_of_cat end_of_cat = true
+is_end_of_cat _ = false
+
+-- the node is `Goal`, or a `Cat` whose last child ends in `Goal`
+abbrev pub ends_in_goal : Node → Bool
+ends_in_goal goal = true
+ends_in_goal (cat first rest) = if is_end_of_cat rest then ends_in_goal first else ends_in_goal rest
+ends_in_goal _ = false
+
+-- there is exactly one `Goal`, and it is last
+abbrev pub goal_is_last : Node → Bool
+goal_is_last root = number_of_goals root == 1 && ends_in_goal root
+
+-- each number below the number of groups is the id of exactly one group
+abbrev pub each_id_stands_once : Node → Bool
+each_id_stands_once root =
+    let ids = group_ids root in
+    list_all (λ id. count_by (nat_eq id) ids == 1) (numbers_from 0 (length ids))
+
+-- the ids from `start_group` up to `end_group`, exclusive, are exactly those of the groups inside
+abbrev pub encloses : (start_group end_group : ℕ) → (contents : Node) → Bool
+encloses start_group end_group contents =
+    let ids = group_ids contents in
+    let named = numbers_from start_group (end_group - start_group) in
+    nat_le start_group end_group && list_all (contains named) ids && list_all (contains ids) named
+
+-- a loop or a lookaround names exactly the groups inside it
+abbrev pub names_the_groups_inside : Node → Bool
+names_the_groups_inside (lookaround l contents) = encloses l.start_group l.end_group contents
+names_the_groups_inside (loop q start_group end_group loopee) = encloses start_group end_group loopee
+names_the_groups_inside _ = true
+
+-- a backreference is to one of n groups, which count from 1
+abbrev pub refers_to_a_group : (n : ℕ) → Node → Bool
+refers_to_a_group n (back_ref group icase) = nat_le 1 group && nat_le group n
+refers_to_a_group n _ = true
+
+-- the minimum is at most the maximum, if there is a maximum
+abbrev pub is_in_order : Quantifier → Bool
+is_in_order q = option_map_or (nat_le q.min) q.max true
+
+-- the minimum of a loop is at most its maximum
+abbrev pub has_order_in_quantifier : Node → Bool
+has_order_in_quantifier (loop q start_group end_group loopee) = is_in_order q
+has_order_in_quantifier (loop_1_char_body q loopee) = is_in_order q
+has_order_in_quantifier _ = true
+
+-- the node matches exactly one character
+abbrev pub is_one_character : Node → Bool
+is_one_character (char c) = true
+is_one_character (char_set members) = true
+is_one_character (byte_set members) = true
+is_one_character (bracket contents) = true
+is_one_character match_any = true
+is_one_character match_any_except_line_terminator = true
+is_one_character (byte_sequence bytes) = length (chars bytes) == 1
+is_one_character _ = false
+
+-- the body of a loop over one character is a one-character node
+abbrev pub has_one_character_body : Node → Bool
+has_one_character_body (loop_1_char_body q loopee) = is_one_character loopee
+has_one_character_body _ = true
+
+-- a byte sequence is the UTF-8 of at least one character
+abbrev pub has_text_in_sequence : Node → Bool
+has_text_in_sequence (byte_sequence bytes) = nat_lt 0 (length bytes) && is_utf8 bytes
+has_text_in_sequence _ = true
+
+-- sets have at most four members, sets of bytes only ASCII, and code points of strings are at most
+-- U+10FFFF
+abbrev pub fits_instructions : Node → Bool
+fits_instructions (byte_set members) = nat_le (length members) 4 && list_all (λ b. nat_lt b 128) members
+fits_instructions (char_set members) = nat_le (length members) 4
+fits_instructions (string_set strings icase) = list_all (list_all (λ c. nat_le c 0x10_FFFF)) strings
+fits_instructions _ = true
+
+-- the tree satisfies all of these conditions
+unfoldable pub is_well_formed : Node → Bool
+is_well_formed root =
+    goal_is_last root
+    && each_id_stands_once root
+    && every_node_passes names_the_groups_inside root
+    && every_node_passes (refers_to_a_group (length (group_ids root))) root
+    && every_node_passes has_order_in_quantifier root
+    && every_node_passes has_one_character_body root
+    && every_node_passes has_text_in_sequence root
+    && every_node_passes fits_instructions root
+
+-- `is_well_formed` as a proposition
+abbrev pub IsWellFormed : Node → Type 0
+IsWellFormed root = IsTrue (is_well_formed root)

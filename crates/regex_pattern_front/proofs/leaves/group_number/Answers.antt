@@ -1,9 +1,0 @@
-use Rattle.std.specs.BTreeMap.{get_by_text}
-use Rattle.regex_pattern_front.proofs.ReferenceLemmas.{by-decimal, by-name}
-use Rattle.regex_pattern_front.proofs.leaves.group_number.Goals as goal
-
-pub returns-then-eat-clause-text : goal.returns-then-eat-clause-text
-returns-then-eat-clause-text c = by-name (λ x. get_by_text c.args.numbers.now x) _ _ _ c.group_of_name.result c.if-eat.ensures.text c.group_of_name.ensures.text
-
-pub returns-else-eat-clause-text : goal.returns-else-eat-clause-text
-returns-else-eat-clause-text c = by-decimal (λ x. get_by_text c.args.numbers.now x) _ _ _ c.decimal.result c.counted.result c.if-eat.ensures.text c.decimal.ensures.text c.counted.ensures

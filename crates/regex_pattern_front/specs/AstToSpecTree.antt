@@ -1,0 +1,73 @@
+-- The pattern tree of the code as a tree of the definitions, without its pointers.
+use Rattle.std.specs.Prelude.{◌∷◌, ℕ, List, [], map, string_bytes, Option, Some, None, String}
+use Rattle.regex_meaning.specs.Tree as tree
+use Rattle.regex_pattern_front.specs.declared.ir.AnchorType.{AnchorType}
+use Rattle.regex_pattern_front.specs.declared.ir.AnchorType.TheVariants.{StartOfLine, EndOfLine}
+use Rattle.regex_pattern_front.specs.declared.ir.Quantifier.{Quantifier}
+use Rattle.regex_pattern_front.specs.declared.ir.Regex.{Regex}
+use Rattle.regex_pattern_front.specs.declared.flags.Flags.{Flags}
+use Rattle.regex_pattern_front.specs.declared.types.BracketContents.{BracketContents}
+use Rattle.regex_pattern_front.specs.declared.ir.Node.{Node, Row_of-Node, end_of-Node, more_of-Node, Cat', Alt', CaptureGroup', LookaroundAssertion'}
+use Rattle.regex_pattern_front.specs.declared.ir.Node.{Loop', Loop1CharBody'}
+use Rattle.regex_pattern_front.specs.declared.ir.Node.TheVariants.{Empty, Goal, Char, CharSet, ByteSet, ByteSequence, Bracket, StringSet, MatchAny}
+use Rattle.regex_pattern_front.specs.declared.ir.Node.TheVariants.{MatchAnyExceptLineTerminator, Anchor, WordBoundary, BackRef}
+
+-- an anchor type as that of the definitions
+abbrev pub anchor_of : AnchorType → tree.AnchorType
+anchor_of StartOfLine = tree.start_of_line
+anchor_of EndOfLine = tree.end_of_line
+
+-- a quantifier as that of the definitions
+abbrev pub quantifier_of : Quantifier → tree.Quantifier
+quantifier_of q = record { min = q.min; max = q.max; greedy = q.greedy }
+
+-- a class as that of the definitions
+abbrev pub class_as_spec : BracketContents → tree.BracketContents
+class_as_spec b = record { invert = b.invert; intervals = b.cps }
+
+-- the bytes of a group name; empty if there is none
+abbrev pub group_name_bytes : {R : Type 0} → Option (String R) → List ℕ
+group_name_bytes None = []
+group_name_bytes (Some s) = string_bytes s
+
+-- a node, and a list of children, as a tree of the definitions
+unfoldable mutual
+  pub node_of : Node → tree.Node
+  node_of Empty = tree.empty
+  node_of Goal = tree.goal
+  node_of (Char c) = tree.char c
+  node_of (CharSet members) = tree.char_set members.items
+  node_of (ByteSet members) = tree.byte_set members.items
+  node_of (ByteSequence bytes) = tree.byte_sequence bytes.items
+  node_of (Cat' shape children) = nodes_of children
+  node_of (Alt' p left q right) = tree.alt (node_of left) (node_of right)
+  node_of (Bracket contents) = tree.bracket (class_as_spec contents)
+  node_of (StringSet alternatives icase) = tree.string_set (map (λ s. s.items) alternatives.items) icase
+  node_of MatchAny = tree.match_any
+  node_of MatchAnyExceptLineTerminator = tree.match_any_except_line_terminator
+  node_of (Anchor type multiline) = tree.anchor (anchor_of type) multiline
+  node_of (WordBoundary invert unicode_icase) = tree.word_boundary invert unicode_icase
+  node_of (CaptureGroup' id p contents name) = tree.capture_group id (group_name_bytes name) (node_of contents)
+  node_of (BackRef group icase) = tree.back_ref group icase
+  node_of (LookaroundAssertion' negate backwards start_group end_group p contents) =
+      tree.lookaround (record { negate = negate; backwards = backwards; start_group = start_group; end_group = end_group })
+      (node_of contents)
+  node_of (Loop' p loopee quant enclosed) = tree.loop (quantifier_of quant) enclosed.start enclosed.end (node_of loopee)
+  node_of (Loop1CharBody' p loopee quant) = tree.loop_1_char_body (quantifier_of quant) (node_of loopee)
+
+  pub nodes_of : {m : _} → Row_of-Node m → tree.Node
+  nodes_of end_of-Node = tree.end_of_cat
+  nodes_of (more_of-Node child rest) = tree.cat (node_of child) (nodes_of rest)
+
+-- a sequence of nodes
+abbrev pub cat_of : List Node → tree.Node
+cat_of [] = tree.end_of_cat
+cat_of (node ∷ nodes) = tree.cat (node_of node) (cat_of nodes)
+
+-- flags as those of the definitions
+abbrev pub flags_of : Flags → tree.Flags
+flags_of f = record { icase = f.icase; multiline = f.multiline; dot_all = f.dot_all; no_opt = f.no_opt; unicode = f.unicode; unicode_sets = f.unicode_sets }
+
+-- the tree of a pattern
+abbrev pub tree_of : Regex → tree.Tree
+tree_of re = record { root = node_of re.node; flags = flags_of re.flags }

@@ -1,0 +1,18 @@
+-- The bytes of the sets that a program holds.
+use Rattle.std.specs.Prelude.{ℕ, ◌/◌, ◌%◌, Bool, ◌&&◌, false, List, nat_lt, ◌==◌, slice_index, slice_index_or}
+use Rattle.std.specs.Int.{bit_at}
+use Rattle.regex_meaning.specs.StartPredicate.{bytes_that_pass}
+use Rattle.regex_pattern_front.specs.declared.bytesearch.AsciiBitmap.{AsciiBitmap}
+use Rattle.regex_pattern_front.specs.declared.bytesearch.ByteBitmap.{ByteBitmap}
+
+-- whether the bit of a byte is set; a word holds 64 bytes, the lowest bit first
+abbrev pub is_bit_set : List ℕ → ℕ → Bool
+is_bit_set bits byte = nat_lt byte 128 && bit_at (slice_index bits (byte / 64)) (byte % 64) == 1
+
+-- the bytes of the set, in increasing order
+abbrev pub ascii_bitmap_bytes : AsciiBitmap → List ℕ
+ascii_bitmap_bytes bitmap = bytes_that_pass (is_bit_set bitmap.bits)
+
+-- the bytes of the set, in increasing order
+abbrev pub byte_bitmap_bytes : ByteBitmap → List ℕ
+byte_bitmap_bytes bitmap = bytes_that_pass (λ b. slice_index_or bitmap.table b false)

@@ -1,0 +1,45 @@
+-- The measure of what is left to drop of a tree; each separated node decreases it.
+use Rattle.std.specs.Prelude.{ℕ, ◌≡◌, ◌<◌, ◌+◌, ◌*◌, ⊤, Option, Some, None, IfSome, []}
+use Rattle.regex_meaning.specs.Tree as tree
+use Rattle.regex_meaning.specs.Tree.{cat, alt, capture_group, lookaround, loop, loop_1_char_body}
+use Rattle.regex_pattern_front.specs.AstToSpecTree.{node_of}
+use Rattle.regex_pattern_front.specs.declared.ir.Node.{Node}
+use Rattle.regex_pattern_front.specs.declared.ir.DropStep.{DropStep}
+use Rattle.regex_pattern_front.specs.declared.ir.DropStep.TheVariants.{Inside, Row, Nothing}
+
+-- the number of nodes, and of entries of lists
+unfoldable pub tree_size : tree.Node → ℕ
+tree_size (cat first rest) = tree_size first + tree_size rest + 1
+tree_size (alt left right) = tree_size left + tree_size right + 1
+tree_size (capture_group id name contents) = tree_size contents + 1
+tree_size (lookaround l contents) = tree_size contents + 1
+tree_size (loop q start_group end_group loopee) = tree_size loopee + 1
+tree_size (loop_1_char_body q loopee) = tree_size loopee + 1
+tree_size _ = 1
+
+-- the size of a node
+abbrev pub node_size : Node → ℕ
+node_size n = tree_size (node_of n)
+
+-- the size of the rest, if there is one
+abbrev pub rest_size : (rest : Option Node) → ℕ
+rest_size None = 0
+rest_size (Some n) = node_size n
+
+-- the measure: first the size of all that is left, and then the size of the current node
+abbrev pub drop_measure : (all at : ℕ) → ℕ
+drop_measure all at = all * all + at
+
+-- the measure, given the size of the current node and the rest
+abbrev pub drop_measure_in : (at : ℕ) (rest : Option Node) → ℕ
+drop_measure_in at rest = drop_measure (at + rest_size rest) at
+
+-- the measure, given the current node and the rest
+abbrev pub drop_measure_of : Node → (rest : Option Node) → ℕ
+drop_measure_of n rest = drop_measure_in (node_size n) rest
+
+-- The measure of what is left is below `before`, and a list that is dropped has no nodes.
+abbrev pub DecreasesDropMeasure : DropStep → (before : ℕ) → Type 0
+DecreasesDropMeasure (Inside node rest) before = drop_measure_of node rest < before
+DecreasesDropMeasure (Row row rest) before = (row.items ≡ []) × IfSome rest (λ node. drop_measure_of node None < before)
+DecreasesDropMeasure Nothing before = ⊤

@@ -1,0 +1,74 @@
+-- The optimized tree, which has loops over one character.
+use Rattle.std.specs.Prelude.{◌≡◌, ℕ, zero, suc, Bool, true, false, IsTrue, if◌then◌else◌}
+use Rattle.regex_meaning.specs.Tree.{Node, group_ids, char, char_set, byte_set, cat, alt, bracket, match_any, match_any_except_line_terminator}
+use Rattle.regex_meaning.specs.Tree.{capture_group, lookaround, loop, loop_1_char_body}
+use Rattle.regex_meaning.specs.Text.{Text, Direction}
+use Rattle.regex_meaning.specs.Outcomes.{Groups, outcomes}
+use Rattle.regex_meaning.specs.WellFormedTrees.{is_well_formed}
+use Rattle.regex_meaning.specs.Captures.{answers_from, capturing_group_ids_and_names}
+pub use Rattle.regex_grammar.specs.TreesWithoutCharLoops.{has_no_char_loops}
+
+-- whether the node reads one character and accepts it or not
+abbrev pub reads_one_character : Node → Bool
+reads_one_character (char c) = true
+reads_one_character (char_set members) = true
+reads_one_character (byte_set members) = true
+reads_one_character (bracket contents) = true
+reads_one_character match_any = true
+reads_one_character match_any_except_line_terminator = true
+reads_one_character _ = false
+
+-- the tree with each loop over such a node turned into a loop over one character
+unfoldable pub optimized : Node → Node
+optimized (cat first rest) = cat (optimized first) (optimized rest)
+optimized (alt left right) = alt (optimized left) (optimized right)
+optimized (capture_group id name contents) = capture_group id name (optimized contents)
+optimized (lookaround l contents) = lookaround l (optimized contents)
+optimized (loop q start_group end_group loopee) =
+    if reads_one_character loopee then loop_1_char_body q loopee else loop q start_group end_group (optimized loopee)
+optimized (loop_1_char_body q loopee) = loop_1_char_body q (optimized loopee)
+optimized node = node
+
+-- a loop as a loop over one character; other nodes are unchanged
+abbrev pub as_one_char_loop : Node → Node
+as_one_char_loop (loop q start_group end_group loopee) = loop_1_char_body q loopee
+as_one_char_loop node = node
+
+-- the alternatives after the first one
+abbrev pub rest_of_alternatives : Node → Node
+rest_of_alternatives (alt left right) = right
+rest_of_alternatives node = node
+
+-- the first alternative of one chain before another chain
+abbrev pub prepend_alternative : (row rest : Node) → Node
+prepend_alternative (alt left right) rest = alt left rest
+prepend_alternative _ rest = rest
+
+-- `count` alternatives whose links were reversed, the last of them first, in their original order
+-- before the rest
+abbrev pub restored_alternatives : (count : ℕ) (done rest : Node) → Node
+restored_alternatives zero done rest = alt done rest
+restored_alternatives (suc count) done rest = restored_alternatives count (rest_of_alternatives done) (prepend_alternative done rest)
+
+-- optimization keeps a tree well formed
+abbrev pub OptimizedIsWellFormed : Type 0
+OptimizedIsWellFormed = (root : Node) → IsTrue (is_well_formed root) → IsTrue (is_well_formed (optimized root))
+
+-- optimization keeps the outcomes of a well-formed tree
+abbrev pub OptimizedHasSameOutcomes : Type 0
+OptimizedHasSameOutcomes = (root : Node) → IsTrue (is_well_formed root)
+    → (text : Text) (direction : Direction) (place : ℕ) (groups : Groups)
+    → outcomes text (optimized root) direction place groups ≡ outcomes text root direction place groups
+
+-- optimization keeps the list of matches of a well-formed tree, from each start
+abbrev pub OptimizedHasSameAnswers : Type 0
+OptimizedHasSameAnswers = (root : Node) → IsTrue (is_well_formed root)
+    → (text : Text) (start : ℕ) → answers_from (optimized root) text start ≡ answers_from root text start
+
+-- optimization keeps the group ids in the order of the tree, and so their number
+abbrev pub OptimizedHasSameGroups : Type 0
+OptimizedHasSameGroups = (root : Node) → group_ids (optimized root) ≡ group_ids root
+
+-- optimization keeps the name of each group
+abbrev pub OptimizedHasSameNames : Type 0
+OptimizedHasSameNames = (root : Node) → capturing_group_ids_and_names (optimized root) ≡ capturing_group_ids_and_names root

@@ -1,0 +1,105 @@
+-- What the functions of the parser ensure, in terms of the grammar.
+use Rattle.std.specs.Prelude.{◌≡◌, ℕ, ◌+◌, ◌≤◌, Bool, true, false, List, [], ◌∷◌, length, Option, Some, Result, Ok, Err, String, IsTrue}
+use Rattle.regex_meaning.specs.Tree as tree
+use Rattle.regex_grammar.specs.ReadingStatesAndDigits.{RemainingPattern}
+use Rattle.regex_grammar.specs.EscapesNamesQuantifiers.{GroupName, BeginsQuantifier, ValidQuantifier}
+use Rattle.regex_grammar.specs.Grammar.{Parses}
+use Rattle.regex_grammar.specs.ParseStack as grammar
+use Rattle.regex_grammar.specs.ParserInvariants.{HasNoTree, group_names_of, AreWithinGroupLimit, parse_state, IsParserInvariant}
+use Rattle.regex_pattern_front.specs.declared.parser_error.ParseFault.{ParseFault}
+use Rattle.regex_pattern_front.specs.declared.group_openings_and_names.GroupKind.{GroupKind}
+use Rattle.regex_pattern_front.specs.declared.group_openings_and_names.GroupKind.TheVariants.{Capture, Named, Plain, Look}
+use Rattle.regex_pattern_front.specs.declared.ir.Node.{Node}
+use Rattle.regex_pattern_front.specs.declared.group_stack.OpenGroup.{OpenGroup}
+use Rattle.regex_pattern_front.specs.declared.parse.Parser.{Parser}
+use Rattle.regex_pattern_front.specs.GroupReaderContracts.{AreGroupNumbers}
+use Rattle.regex_pattern_front.specs.PartialDisjunctionModel.{disjunction_of}
+use Rattle.regex_pattern_front.specs.CodePointReaderContracts.{is_syntax_error}
+use Rattle.regex_pattern_front.specs.AstToSpecTree.{node_of, group_name_bytes, flags_of}
+
+-- ---- Open groups
+
+-- the kind of an open group, as in the grammar
+abbrev pub group_kind_of : GroupKind → (name : RemainingPattern) → (start : ℕ) → grammar.OpenGroupKind
+group_kind_of Capture name start = grammar.captures start name
+group_kind_of Named name start = grammar.captures start name
+group_kind_of Plain name start = grammar.plain
+group_kind_of (Look negate backwards) name start = grammar.looks negate backwards start
+
+-- an open group, as in the grammar
+abbrev pub open_group_of : OpenGroup → grammar.OpenGroup
+open_group_of o = record { outer = disjunction_of o.outer; opened = group_kind_of o.opening (group_name_bytes o.name) o.start; start = o.start }
+
+-- the open groups, the innermost first as in the grammar
+abbrev pub around_from : List grammar.OpenGroup → List OpenGroup → List grammar.OpenGroup
+around_from inner [] = inner
+around_from inner (o ∷ os) = around_from (open_group_of o ∷ inner) os
+
+-- the node of a group with these contents
+abbrev pub group_node_around : GroupKind → (name : RemainingPattern) → (start end : ℕ) → tree.Node → tree.Node
+group_node_around Capture name start end contents = tree.capture_group start name contents
+group_node_around Named name start end contents = tree.capture_group start name contents
+group_node_around Plain name start end contents = contents
+group_node_around (Look negate backwards) name start end contents =
+    tree.lookaround (record { negate = negate; backwards = backwards; start_group = start; end_group = end }) contents
+
+-- ---- Results of functions
+
+-- The result is the term or, if it is an atom with a quantifier, a loop over it. A quantifier is
+-- refused if it is out of order or does not follow an atom.
+abbrev pub IsTermWithQuantifier :
+    (is_atom : Bool) → (here : RemainingPattern) → (start end : ℕ) → tree.Node → Result Node ParseFault → (there : RemainingPattern) → Type 0
+IsTermWithQuantifier true here start end term (Ok n) there =
+    (opened : List RemainingPattern) → length opened ≡ end
+    → grammar.IsTerm start term (parse_state here opened) (parse_state there opened) (node_of n)
+IsTermWithQuantifier false here start end term (Ok n) there = (there ≡ here) × (node_of n ≡ term)
+IsTermWithQuantifier true here start end term (Err e) there =
+    IsTrue (is_syntax_error e) → BeginsQuantifier here × ((rest : RemainingPattern) (q : tree.Quantifier) → ValidQuantifier here rest q → ⊥)
+IsTermWithQuantifier false here start end term (Err e) there = BeginsQuantifier here
+
+-- whether the group has a name
+abbrev pub is_named_group : GroupKind → Bool
+is_named_group Named = true
+is_named_group Capture = false
+is_named_group Plain = false
+is_named_group (Look negate backwards) = false
+
+-- the name of a named group is read and has the number of this group; after a syntax error there is
+-- no such name
+abbrev pub IsGroupNameRead :
+    {R : Type 0} → (numbers : RemainingPattern → Option ℕ) → (groups : ℕ) → (named : Bool) → (here : RemainingPattern)
+    → Result (Option (String R)) ParseFault → (there : RemainingPattern) → Type 0
+IsGroupNameRead numbers groups true here (Ok name) there =
+    GroupName here there (group_name_bytes name) × (numbers (group_name_bytes name) ≡ Some (groups + 1))
+IsGroupNameRead numbers groups false here (Ok name) there = (there ≡ here) × (group_name_bytes name ≡ [])
+IsGroupNameRead numbers groups true here (Err e) there =
+    IsTrue (is_syntax_error e) → (rest name : RemainingPattern) → GroupName here rest name → numbers name ≡ Some (groups + 1) → ⊥
+IsGroupNameRead numbers groups false here (Err e) there = IsTrue (is_syntax_error e) → ⊥
+
+-- ---- The parser
+
+-- the parser has read the pattern up to `here`
+pub record HasReadPatternUpTo (pattern here : RemainingPattern) (p : Parser) : Type 0 where
+  pub numbers : AreWithinGroupLimit (group_names_of pattern) → AreGroupNumbers p.leaves.numbers (group_names_of pattern)
+  pub few : p.groups ≤ 65535
+  pub stands :
+      let around = around_from [] p.around.items in
+      IsParserInvariant (flags_of p.leaves.flags) pattern p.leaves.references p.groups around (disjunction_of p.level) here
+
+-- The parser has advanced from `here`; after a syntax error the pattern has no tree. Nothing is
+-- claimed on allocation failure.
+abbrev pub AdvancesOrHasNoTree : (here : RemainingPattern) → (old : Parser) → {A : Type 0} → Result A ParseFault → (new : Parser) → Type 0
+AdvancesOrHasNoTree here old (Ok u) new =
+    (pattern : RemainingPattern) → HasReadPatternUpTo pattern here old → HasReadPatternUpTo pattern new.leaves.reader.rest.now new
+AdvancesOrHasNoTree here old (Err e) new =
+    IsTrue (is_syntax_error e) → (pattern : RemainingPattern) → HasReadPatternUpTo pattern here old → HasNoTree (flags_of old.leaves.flags) pattern
+
+-- the result is the tree of the pattern; after a syntax error it has none. Allocation failure says
+-- nothing.
+abbrev pub IsParseResult : {A : Type 0} → (of : A → tree.Tree) → tree.Flags → (pattern : RemainingPattern) → Result A ParseFault → Type 0
+IsParseResult of flags pattern (Ok a) = Parses flags pattern (of a)
+IsParseResult of flags pattern (Err e) = IsTrue (is_syntax_error e) → HasNoTree flags pattern
+
+-- the tree with this root and these flags
+abbrev pub tree_with_flags : tree.Flags → Node → tree.Tree
+tree_with_flags flags n = record { root = node_of n; flags = flags }

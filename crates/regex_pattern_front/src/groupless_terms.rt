@@ -1,0 +1,336 @@
+//! Terms that contain no group.
+
+ghost use Rattle.std.specs.Prelude.{◌≡◌, ℕ, ◌<◌, ◌≤◌, max, length, IfOk, IfErr, IfSome, List, ◌∷◌, true, false};
+ghost use Rattle.std.specs.BTreeMap.{get_by_text};
+ghost use Rattle.regex_meaning.specs.Tree.{bracket as bracket_of, back_ref};
+ghost use Rattle.regex_grammar.specs.{ReadingStatesAndDigits.{RemainingPattern}, Grammar.{character_node}};
+ghost use Rattle.regex_pattern_front.specs.{AstToSpecTree.{node_of, flags_of, class_as_spec}, SubtreeListInvariants.{IsSoundLeaf}, CodePointReaderContracts.{is_syntax_error}};
+ghost use Rattle.regex_pattern_front.specs.GrouplessTermContracts.{pattern_context, AreKnownGroupNumbers, IsGrouplessTerm, IsGrouplessTermRead, IsAtomRead, OpensNoGroup, IsAnchorOrDotTerm, CannotBeTermAlone, is_paren_or_bar};
+ghost use Rattle.regex_pattern_front.specs.GrouplessTermContracts.{is_quantifier_sign, is_brace_or_bracket, begins_backreference, anchor_sign, boundary_letter, IsReferenceNumberRead, IsNamedReferenceRead};
+ghost use Rattle.regex_pattern_front.specs.GrouplessTermContracts.{IsNonzeroGroupNumber, IsDecimalNumberRead};
+
+use crate::classes::{ClassEscape, read_class};
+use crate::code_point_reader::PatternReader;
+use crate::diagnosis::Cause;
+use crate::escapes::{character_escape, name};
+use crate::flags::Flags;
+use crate::folding::expand_code_point;
+use crate::group_openings_and_names::GroupNumbers;
+use crate::ir::{AnchorType, Node};
+use crate::parser_error::ParseFault;
+use crate::types::BracketContents;
+use std::alloc::Global;
+
+/// A reader of terms that contain no group.
+#[derive(Drop)]
+pub(crate) struct GrouplessTermReader<'p> {
+    pub(crate) alloc: Global,
+    pub(crate) flags: Flags,
+    pub(crate) numbers: GroupNumbers,
+    pub(crate) reader: PatternReader<'p>,
+    /// The greatest group number that a reference names.
+    pub(crate) references: u32,
+    /// Number of code points that are left from that reference on.
+    pub(crate) reference_left: usize,
+}
+
+/// A term that contains no group, and whether it may have a quantifier.
+#[derive(Drop)]
+pub(crate) struct GrouplessTerm {
+    pub(crate) node: Node,
+    pub(crate) is_atom: bool,
+}
+
+impl GrouplessTermReader<'_> {
+    /// Reads the term that begins with this code point, which is no parenthesis.
+    pub(crate) fn leaf(&mut self, c: u32) -> Result<GrouplessTerm, ParseFault>
+        ensures moves { length self.new.reader.rest.now ≤ length self.old.reader.rest.now }
+        ensures leaf { IfOk result (λ l. IsSoundLeaf self.new.references (node_of l.node)) }
+        ensures references { self.old.references ≤ self.new.references }
+        ensures same { (self.new.flags ≡ self.old.flags) × (self.new.numbers ≡ self.old.numbers) }
+        ensures passed { is_paren_or_bar c ≡ false
+            → IfOk result (λ l. OpensNoGroup (c ∷ self.old.reader.rest.now) self.new.reader.rest.now) }
+        ensures text { is_paren_or_bar c ≡ false → (groups : List RemainingPattern) → AreKnownGroupNumbers self.old.numbers groups
+            → IsGrouplessTermRead (pattern_context self.old.flags groups) (c ∷ self.old.reader.rest.now) result self.old.references
+            self.new.references self.new.reader.rest.now }
+    {
+        if c == '\\' as u32 {
+            return self.escape();
+        }
+        if c == '[' as u32 {
+            let contents = read_class(self.alloc, &mut self.reader, self.flags)?;
+            return Ok(bracket(contents));
+        }
+        if let Some(leaf) = self.sign(c) {
+            return Ok(leaf);
+        }
+        if let Some(cause) = self.wrong_alone(c) {
+            return Err(self.reader.error_at_last_read(cause));
+        }
+        self.character(c)
+    }
+
+    // Returns the term of `^`, `$` or `.`, or `None` for any other code point.
+    fn sign(&self, c: u32) -> Option<GrouplessTerm>
+        ensures leaf { IfSome result (λ l. (greatest : ℕ) → IsSoundLeaf greatest (node_of l.node)) }
+        ensures text { (groups : List RemainingPattern) (there : RemainingPattern)
+            → IsAnchorOrDotTerm (pattern_context self.now.flags groups) c there result }
+    {
+        if c == '^' as u32 {
+            Some(self.anchor(AnchorType::StartOfLine))
+        } else if c == '$' as u32 {
+            Some(self.anchor(AnchorType::EndOfLine))
+        } else if c == '.' as u32 {
+            Some(self.dot())
+        } else {
+            None
+        }
+    }
+
+    // Returns the error if this code point, the last one read, is no term by itself.
+    fn wrong_alone(&self, c: u32) -> Option<Cause>
+        ensures { CannotBeTermAlone self.now.flags.unicode c self.now.reader.rest.now result }
+    {
+        if is_quantifier_sign(c) {
+            return Some(Cause::NothingToRepeat);
+        }
+        if !is_brace_or_bracket(c) {
+            return None;
+        }
+        if c == '{' as u32 && self.reader.begins_braces_quantifier() {
+            return Some(Cause::NothingToRepeat);
+        }
+        if self.flags.unicode {
+            Some(Cause::LoneBracket)
+        } else {
+            None
+        }
+    }
+
+    fn anchor(&self, anchor_type: AnchorType) -> GrouplessTerm
+        ensures leaf { (greatest : ℕ) → IsSoundLeaf greatest (node_of result.node) }
+        ensures text { (groups : List RemainingPattern) (there : RemainingPattern)
+            → IsGrouplessTerm (pattern_context self.now.flags groups) (anchor_sign anchor_type ∷ there) result there }
+    {
+        GrouplessTerm {
+            node: Node::Anchor {
+                anchor_type,
+                multiline: self.flags.multiline,
+            },
+            is_atom: false,
+        }
+    }
+
+    fn dot(&self) -> GrouplessTerm
+        ensures leaf { (greatest : ℕ) → IsSoundLeaf greatest (node_of result.node) }
+        ensures text { (groups : List RemainingPattern) (there : RemainingPattern)
+            → IsGrouplessTerm (pattern_context self.now.flags groups) (46 ∷ there) result there }
+    {
+        if self.flags.dot_all {
+            atom(Node::MatchAny)
+        } else {
+            atom(Node::MatchAnyExceptLineTerminator)
+        }
+    }
+
+    // Returns the term of a character: with `icase`, if several code points have its fold, the set
+    // of them.
+    fn character(&self, c: u32) -> Result<GrouplessTerm, ParseFault>
+        ensures leaf { IfOk result (λ l. (greatest : ℕ) → IsSoundLeaf greatest (node_of l.node)) }
+        ensures atom { IfOk result (λ l. l.is_atom ≡ true) }
+        ensures node { IfOk result (λ l. node_of l.node ≡ character_node (flags_of self.now.flags) c) }
+        ensures memory { IfErr result (λ e. is_syntax_error e ≡ false) }
+    {
+        let members = expand_code_point(self.alloc, c, self.flags.icase, self.flags.unicode)?;
+        if members.len() > 1 {
+            Ok(atom(Node::CharSet(members)))
+        } else {
+            Ok(atom(Node::Char { c }))
+        }
+    }
+
+    // Reads a term after its backslash.
+    fn escape(&mut self) -> Result<GrouplessTerm, ParseFault>
+        ensures moves { length self.new.reader.rest.now ≤ length self.old.reader.rest.now }
+        ensures leaf { IfOk result (λ l. IsSoundLeaf self.new.references (node_of l.node)) }
+        ensures references { self.old.references ≤ self.new.references }
+        ensures same { (self.new.flags ≡ self.old.flags) × (self.new.numbers ≡ self.old.numbers) }
+        ensures passed { IfOk result (λ l. OpensNoGroup (92 ∷ self.old.reader.rest.now) self.new.reader.rest.now) }
+        ensures text { (groups : List RemainingPattern) → AreKnownGroupNumbers self.old.numbers groups
+            → IsGrouplessTermRead (pattern_context self.old.flags groups) (92 ∷ self.old.reader.rest.now) result self.old.references
+            self.new.references self.new.reader.rest.now }
+    {
+        if self.reader.eat('b') {
+            return Ok(self.boundary(false));
+        }
+        if self.reader.eat('B') {
+            return Ok(self.boundary(true));
+        }
+        self.atom_escape()
+    }
+
+    // Reads an atom after its backslash (ECMA-262, 21.2.1 `AtomEscape`).
+    fn atom_escape(&mut self) -> Result<GrouplessTerm, ParseFault>
+        ensures moves { length self.new.reader.rest.now ≤ length self.old.reader.rest.now }
+        ensures leaf { IfOk result (λ l. IsSoundLeaf self.new.references (node_of l.node)) }
+        ensures references { self.old.references ≤ self.new.references }
+        ensures same { (self.new.flags ≡ self.old.flags) × (self.new.numbers ≡ self.old.numbers) }
+        ensures passed { IfOk result (λ l. OpensNoGroup (92 ∷ self.old.reader.rest.now) self.new.reader.rest.now) }
+        ensures text { (groups : List RemainingPattern) → AreKnownGroupNumbers self.old.numbers groups
+            → IsAtomRead (pattern_context self.old.flags groups) (92 ∷ self.old.reader.rest.now) result self.old.references
+            self.new.references self.new.reader.rest.now }
+    {
+        let letter = self.reader.peek();
+        if let Some(escape) = ClassEscape::of(letter) {
+            let _ = self.reader.next();
+            let contents = escape.contents(self.alloc, self.flags)?;
+            return Ok(bracket(contents));
+        }
+        if begins_backreference(letter) {
+            let left = self.reader.count_left_with_last();
+            let group = group_number(self.alloc, &mut self.reader, &self.numbers)?;
+            return Ok(self.reference(group, left));
+        }
+        let c = character_escape(&mut self.reader, self.flags.unicode)?;
+        self.character(c)
+    }
+
+    fn boundary(&self, invert: bool) -> GrouplessTerm
+        ensures leaf { (greatest : ℕ) → IsSoundLeaf greatest (node_of result.node) }
+        ensures text { (groups : List RemainingPattern) (there : RemainingPattern)
+            → IsGrouplessTerm (pattern_context self.now.flags groups) (92 ∷ boundary_letter invert ∷ there) result there }
+    {
+        GrouplessTerm {
+            node: Node::WordBoundary {
+                invert,
+                unicode_icase: self.flags.icase && self.flags.unicode,
+            },
+            is_atom: false,
+        }
+    }
+
+    // Returns a reference to a group; `left` code points are left from the reference on.
+    fn reference(&mut self, group: u32, left: usize) -> GrouplessTerm
+        requires { 0 < group }
+        ensures leaf { IsSoundLeaf self.new.references (node_of result.node) }
+        ensures moves { self.new.reader ≡ self.old.reader }
+        ensures references { self.new.references ≡ max self.old.references group }
+        ensures same { (self.new.flags ≡ self.old.flags) × (self.new.numbers ≡ self.old.numbers) }
+        ensures atom { result.is_atom ≡ true }
+        ensures node { node_of result.node ≡ back_ref group self.old.flags.icase }
+    {
+        let is_greatest = self.references < group;
+        self.reference_left = if is_greatest {
+            left
+        } else {
+            self.reference_left
+        };
+        self.references = self.references.max(group);
+        atom(Node::BackRef {
+            group,
+            icase: self.flags.icase,
+        })
+    }
+}
+
+// Checks whether the code point is `*`, `+` or `?`.
+fn is_quantifier_sign(c: u32) -> bool
+    ensures { result ≡ is_quantifier_sign c }
+{
+    c == '*' as u32 || c == '+' as u32 || c == '?' as u32
+}
+
+// Checks whether the code point is `{`, `}` or `]`.
+fn is_brace_or_bracket(c: u32) -> bool
+    ensures { result ≡ is_brace_or_bracket c }
+{
+    c == '{' as u32 || c == '}' as u32 || c == ']' as u32
+}
+
+// Checks whether a reference to a group begins with this letter or digit.
+fn begins_backreference(letter: Option<char>) -> bool
+    ensures { result ≡ begins_backreference letter }
+{
+    match letter {
+        Some(c) => c == 'k' || '1' <= c && c <= '9',
+        None => false,
+    }
+}
+
+fn atom(node: Node) -> GrouplessTerm
+    ensures node { result.node ≡ node }
+    ensures atom { result.is_atom ≡ true }
+{
+    GrouplessTerm {
+        node,
+        is_atom: true,
+    }
+}
+
+fn bracket(contents: BracketContents) -> GrouplessTerm
+    ensures leaf { (greatest : ℕ) → IsSoundLeaf greatest (node_of result.node) }
+    ensures atom { result.is_atom ≡ true }
+    ensures node { node_of result.node ≡ bracket_of (class_as_spec contents) }
+{
+    atom(Node::Bracket(contents))
+}
+
+// Reads the group number of `\1` or `\k<name>`, after the backslash.
+fn group_number(
+    alloc: Global,
+    reader: &mut PatternReader,
+    numbers: &GroupNumbers,
+) -> Result<u32, ParseFault>
+    ensures moves { length reader.new.rest.now ≤ length reader.old.rest.now }
+    ensures counts_from_one { IfOk result (λ group. 0 < group) }
+    ensures text { IsReferenceNumberRead (λ x. get_by_text numbers.now x) reader.old.rest.now result reader.new.rest.now }
+{
+    let start = *reader;
+    if reader.eat('k') {
+        read_name_reference(alloc, start, reader, numbers)
+    } else {
+        counted(start, decimal(reader))
+    }
+}
+
+// Reads `<name>` and returns its group number; the reference begins just before `start`.
+fn read_name_reference(
+    alloc: Global,
+    start: PatternReader,
+    reader: &mut PatternReader,
+    numbers: &GroupNumbers,
+) -> Result<u32, ParseFault>
+    ensures moves { length reader.new.rest.now ≤ length reader.old.rest.now }
+    ensures counts_from_one { IfOk result (λ group. 0 < group) }
+    ensures text { IsNamedReferenceRead (λ x. get_by_text numbers.now x) reader.old.rest.now result reader.new.rest.now }
+{
+    if !reader.eat('<') {
+        return Err(start.error_at_last_read(Cause::MissingName));
+    }
+    let name = name(alloc, reader)?;
+    counted(start, numbers.get(name.as_str()).copied())
+}
+
+// Returns the number of a group, counted from 1, or the error for the reference that begins just
+// before `start`.
+fn counted(start: PatternReader, number: Option<u32>) -> Result<u32, ParseFault>
+    ensures { IsNonzeroGroupNumber number result }
+{
+    match number {
+        Some(number) if number > 0 => Ok(number),
+        _ => Err(start.error_at_last_read(Cause::NoSuchGroup)),
+    }
+}
+
+// Reads a decimal number; `None` if there is none or it is past `u32::MAX`.
+fn decimal(reader: &mut PatternReader) -> Option<u32>
+    ensures moves { length reader.new.rest.now ≤ length reader.old.rest.now }
+    ensures text { IsDecimalNumberRead reader.old.rest.now result reader.new.rest.now }
+{
+    let n = reader.number(10)?;
+    if n <= u32::MAX as usize {
+        Some(n as u32)
+    } else {
+        None
+    }
+}

@@ -1,7 +1,0 @@
-use Rattle.regress_backtrack.proofs.classicalbacktrack.next_place.Goals as goal
-
-pub returns-in-Some : goal.returns-in-Some
-returns-in-Some g c = rw (← c.offset_in.ensures, c.position_in.ensures) c.in-Some.ensures.next
-
-pub returns-in-None : goal.returns-in-None
-returns-in-None g c = rw (← c.offset_in.ensures) c.in-None.ensures.next

@@ -1,5 +1,0 @@
-use Rattle.regress_backtrack.proofs.Slots.{of-group}
-use Rattle.regress_backtrack.proofs.memory.Memory.start_of.Goals as goal
-
-pub returns : goal.returns
-returns c = let h = c.args.self.now in of-group (λ s. s.at) h.groups h.slots c.args.id c.held.result c.requires c.held.ensures.slot

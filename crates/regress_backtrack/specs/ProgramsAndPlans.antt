@@ -1,0 +1,32 @@
+-- A program and its plan.
+use Rattle.std.specs.Prelude.{◌≡◌, ℕ, Bool, List, map}
+use Rattle.regex_meaning.specs.Tree.{Tree}
+use Rattle.regex_pattern_front.specs.AstToSpecTree.{tree_of}
+use Rattle.regex_pattern_front.specs.declared.ir.Regex.{Regex}
+use Rattle.regress_program.specs.CodeOfTrees.{compiled}
+use Rattle.regress_program.specs.TreeToRun.{planned_tree}
+use Rattle.regress_plan.specs.InsnsAsSpecInsns.{spec_insn_of}
+use Rattle.regress_plan.specs.declared.insn.Insn.{Insn}
+use Rattle.regress_plan.specs.declared.plan.Plan.{Plan}
+use Rattle.regress_plan.specs.Plans.{IsPlanOf}
+
+-- A regex, a plan of its program or of the program that is executed in its place, and whether that
+-- is for 16-bit units.
+pub record PlannedView : Type 0 where
+  pub regex : Regex
+  pub plan : Plan
+  pub wide : Bool
+
+-- The tree whose code is executed.
+abbrev pub executed_tree_of : PlannedView → Tree
+executed_tree_of p = planned_tree p.wide (tree_of p.regex)
+
+-- The plan is one of the program that is executed.
+abbrev pub IsPlanOfExecutedProgram : PlannedView → Type 0
+IsPlanOfExecutedProgram p = IsPlanOf p.wide (compiled (executed_tree_of p)) p.plan
+
+-- The plan, and the number of loops and the instructions of the code that is executed.
+pub record IsPlannedProgram (loops : ℕ) (code : List Insn) (p : PlannedView) : Type 0 where
+  pub planned : IsPlanOfExecutedProgram p
+  pub counted : loops ≡ (compiled (executed_tree_of p)).loops
+  pub insns : map spec_insn_of code ≡ (compiled (executed_tree_of p)).insns

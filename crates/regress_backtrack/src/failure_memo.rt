@@ -1,0 +1,126 @@
+//! What is recorded of searches that failed.
+
+ghost use Rattle.std.specs.Prelude.{◌≡◌, ◌≤◌, ◌⊎◌, ◌∷◌, [], Bool, true, false, IfSome};
+ghost use Rattle.regex_meaning.specs.CodeUnitOffsets.{units};
+ghost use Rattle.regress_memo_laws.specs.MemoSearch.{Key as KeyOf};
+ghost use Rattle.regress_machine.specs.Machine.{running};
+ghost use Rattle.regress_backtrack.specs.{State.{machine_state_of}, MemoizedCharLoops.{DecidesLoopRest}, FailureMemo.{MemoScheme, AreFailuresRight, IsKeyOf, as_key, no_scheme}};
+
+use crate::control::DirectedPos;
+use crate::state::BacktrackState;
+use crate::step_and_work_budgets::StepCounter;
+use regress_scan::search_context::SearchContext;
+
+/// A memo key as choice points hold it: an instruction and an offset, with a code for the state of
+/// the loops.
+#[derive(Clone, Copy)]
+pub struct RecordKey {
+    pub ip: u32,
+    pub at: usize,
+    pub code: usize,
+}
+
+/// Records what has failed, by keys; or nothing.
+pub trait FailureMemo {
+    ghost ON: { Bool };
+
+    /// Whether anything is recorded.
+    const ON: bool;
+
+    ghost terms: { Self → MemoScheme };
+
+    ghost failed: { Self → KeyOf → Bool };
+
+    /// Returns the key of a thread, if it has one.
+    fn key_at<W: SearchContext>(
+        &self,
+        planned: &W,
+        thread: DirectedPos,
+        memory: &BacktrackState,
+    ) -> Option<RecordKey>
+        requires right { AreFailuresRight (W.searching planned.now) (terms self.now) (failed self.now) }
+        requires inside { thread.here.at ≤ units (W.searching planned.now).text }
+        ensures { IfSome result (λ k. IsKeyOf (W.searching planned.now) (terms self.now) thread.forward (as_key k)
+            (running (machine_state_of memory.now thread.here.ip thread.here.at) ∷ [])) };
+
+    /// Returns the key of the rest of a char loop without a maximum from an offset on, if it has
+    /// one.
+    fn loop_rest_key<W: SearchContext>(
+        &self,
+        planned: &W,
+        run: DirectedPos,
+        memory: &BacktrackState,
+    ) -> Option<RecordKey>
+        requires right { AreFailuresRight (W.searching planned.now) (terms self.now) (failed self.now) }
+        ensures { IfSome result (λ k. DecidesLoopRest (W.searching planned.now) (terms self.now) run.forward run.here
+            (as_key k) memory.now) };
+
+    /// Returns whether a key is known to fail.
+    fn is_known_to_fail(&self, key: RecordKey) -> bool
+        ensures { result ≡ failed self.now (as_key key) };
+
+    /// Records that a key has failed.
+    fn record_key_failed(&mut self, key: RecordKey)
+        ensures terms { terms self.new ≡ terms self.old }
+        ensures failed { (k : KeyOf) → failed self.new k ≡ true → (failed self.old k ≡ true) ⊎ (k ≡ as_key key) };
+}
+
+/// The step counter of a search, and its failure memo.
+#[derive(Drop)]
+pub struct StepsAndMemo<S: StepCounter, M: FailureMemo> {
+    pub steps: S,
+    pub memo: M,
+    /// Where a rare call leaves an end: to return it, each search would have to reserve space for
+    /// it.
+    pub end: Option<usize>,
+}
+
+/// Whether a call had a result, which it then left outside of its return value (as in `end` of
+/// `StepsAndMemo`).
+#[derive(Clone, Copy)]
+pub enum DoneOrStopped {
+    Done,
+    Stopped,
+}
+
+/// A memo that records nothing.
+#[derive(Clone, Copy)]
+pub struct NoMemo;
+
+impl FailureMemo for NoMemo {
+    ghost ON = { false };
+
+    const ON: bool = false;
+
+    ghost terms = { λ _. no_scheme };
+
+    ghost failed = { λ _ _. false };
+
+    #[inline(always)]
+    fn key_at<W: SearchContext>(
+        &self,
+        _: &W,
+        _: DirectedPos,
+        _: &BacktrackState,
+    ) -> Option<RecordKey> {
+        None
+    }
+
+    #[inline(always)]
+    fn loop_rest_key<W: SearchContext>(
+        &self,
+        _: &W,
+        _: DirectedPos,
+        _: &BacktrackState,
+    ) -> Option<RecordKey> {
+        None
+    }
+
+    #[inline(always)]
+    fn is_known_to_fail(&self, _key: RecordKey) -> bool {
+        false
+    }
+
+    #[inline(always)]
+    fn record_key_failed(&mut self, _key: RecordKey) {}
+}

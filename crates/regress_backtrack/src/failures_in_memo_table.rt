@@ -1,0 +1,275 @@
+//! Failures that a memo table records, by the memo analysis of a program.
+
+ghost use Rattle.std.specs.Prelude.{◌≡◌, ℕ, true, false, None, is_some, IfOk, IfSome, map};
+ghost use Rattle.regress_memo_laws.specs.{LoopDataKeyCodes.{HasSlotsOfProgram}, CharLoopMemoKeys.{char_loop_greediness_at, insn_before}};
+ghost use Rattle.regress_memo.specs.MemoContents.{has_failure, as_key as key_known};
+ghost use Rattle.regress_plan.specs.{InsnsAsSpecInsns.{spec_insn_of}, Plans.{char_loop_of}};
+ghost use Rattle.regress_scan.specs.SearchInputs.{program_of};
+ghost use Rattle.regress_backtrack.specs.{State.{machine_state_of}, FailuresInMemoTable.{scheme_of, IsMemoRight}, FailureMemo.{as_key, scheme_in, failed_in}};
+
+use crate::control::DirectedPos;
+use crate::failure_memo::{FailureMemo, RecordKey, StepsAndMemo};
+use crate::state::BacktrackState;
+use crate::step_and_work_budgets::Unlimited;
+use regex_pattern_front::types::LoopID;
+use regress_memo::memo::{MemoKey as Known, MemoTable};
+use regress_memo_analysis::analysis::MemoAnalysis;
+use regress_memo_analysis::key_codes::{LoopState, LoopStates};
+use regress_plan::insn::Insn;
+use regress_plan::ops::Op;
+use regress_scan::search_context::{SearchContext, text_end};
+use std::alloc::{AllocError, Global};
+
+impl LoopStates for BacktrackState {
+    ghost rounds = { λ m. (machine_state_of m 0 0).loops };
+
+    #[inline(always)]
+    fn round(&self, id: LoopID) -> Option<LoopState> {
+        let id = usize::from(id);
+        if id >= self.loop_count() {
+            return None;
+        }
+        let held = self.loop_data(id);
+        Some(LoopState {
+            iters: held.from,
+            entry: held.at,
+        })
+    }
+}
+
+// Checks whether an operation comes after a char loop. It is the loop's body then, which no thread
+// reaches.
+#[inline(always)]
+fn is_loop_body<W: SearchContext>(planned: &W, ip: usize) -> bool
+    ensures { let program = program_of (W.searching planned.now) in
+        result ≡ false → char_loop_greediness_at (insn_before program ip) ≡ None }
+{
+    if ip == 0 {
+        return false;
+    }
+    planned.plan_fits_program();
+    match planned.op_at(ip - 1) {
+        Some(op) => op.run().is_some(),
+        None => false,
+    }
+}
+
+// Checks whether there are as many groups and loops as the program has.
+#[inline(always)]
+fn has_all_slots<W: SearchContext>(planned: &W, memory: &BacktrackState) -> bool
+    ensures { result ≡ true → (ip at : ℕ)
+        → HasSlotsOfProgram (program_of (W.searching planned.now)) (machine_state_of memory.now ip at) }
+{
+    memory.group_count() == planned.program().groups() as usize
+        && memory.loop_count() == planned.loops() as usize
+}
+
+impl FailureMemo for MemoTable {
+    ghost ON = { true };
+
+    const ON: bool = true;
+
+    ghost terms = { λ m. scheme_of m.memo_analysis };
+
+    ghost failed = { λ m. has_failure m };
+
+    #[inline(always)]
+    fn key_at<W: SearchContext>(
+        &self,
+        planned: &W,
+        thread: DirectedPos,
+        memory: &BacktrackState,
+    ) -> Option<RecordKey> {
+        let DirectedPos { here, forward } = thread;
+        let line = self.memo_analysis().line(here.ip);
+        if !line.records || line.forward != forward || is_loop_body(planned, here.ip) {
+            return None;
+        }
+        if !has_all_slots(planned, memory) {
+            return None;
+        }
+        let end = text_end(planned);
+        if !self
+            .memo_analysis()
+            .is_reachable_loop_state(here.ip, here.at, end, memory)
+        {
+            return None;
+        }
+        let key = MemoTable::key_at(self, here.ip, here.at, memory)?;
+        record_key_of(key)
+    }
+
+    #[inline(always)]
+    fn loop_rest_key<W: SearchContext>(
+        &self,
+        planned: &W,
+        run: DirectedPos,
+        memory: &BacktrackState,
+    ) -> Option<RecordKey> {
+        let (from, forward) = (run.here, run.forward);
+        if from.ip >= usize::MAX - 2 {
+            return None;
+        }
+        let (body, behind) = (from.ip + 1, from.ip + 2);
+        let line = self.memo_analysis().line(body);
+        if !line.records || line.forward != forward {
+            return None;
+        }
+        if self.memo_analysis().line(behind).forward != forward || !has_all_slots(planned, memory) {
+            return None;
+        }
+        let end = text_end(planned);
+        if !self
+            .memo_analysis()
+            .is_reachable_loop_state(behind, from.at, end, memory)
+        {
+            return None;
+        }
+        let key = MemoTable::key_at(self, body, from.at, memory)?;
+        record_key_of(key)
+    }
+
+    #[inline(always)]
+    fn is_known_to_fail(&self, key: RecordKey) -> bool {
+        let key = memo_key_of(key);
+        self.has(key) && self.fails(key)
+    }
+
+    #[inline(always)]
+    fn record_key_failed(&mut self, key: RecordKey) {
+        let key = memo_key_of(key);
+        if self.has(key) {
+            self.record_failure(key);
+        }
+    }
+}
+
+// Converts a key of the memo table to the one that a choice point holds.
+#[inline(always)]
+fn record_key_of(key: Known) -> Option<RecordKey>
+    ensures { IfSome result (λ k. as_key k ≡ key_known key) }
+{
+    match u32::try_from(key.ip) {
+        Ok(ip) => Some(RecordKey {
+            ip,
+            at: key.at,
+            code: key.code,
+        }),
+        Err(_) => None,
+    }
+}
+
+// Converts a key of a choice point to the one of the memo table.
+#[inline(always)]
+fn memo_key_of(key: RecordKey) -> Known
+    ensures { key_known result ≡ as_key key }
+{
+    Known {
+        ip: key.ip as usize,
+        at: key.at,
+        code: key.code,
+    }
+}
+
+/// Records nothing where there is no memo.
+impl<M: FailureMemo> FailureMemo for Option<Box<M>> {
+    ghost ON = { M.ON };
+
+    const ON: bool = M::ON;
+
+    ghost terms = { scheme_in (λ memo. M.terms memo.value) };
+
+    ghost failed = { failed_in (λ memo. M.failed memo.value) };
+
+    #[inline(always)]
+    fn key_at<W: SearchContext>(
+        &self,
+        planned: &W,
+        thread: DirectedPos,
+        memory: &BacktrackState,
+    ) -> Option<RecordKey> {
+        match self {
+            Some(memo) => memo.key_at(planned, thread, memory),
+            None => None,
+        }
+    }
+
+    #[inline(always)]
+    fn loop_rest_key<W: SearchContext>(
+        &self,
+        planned: &W,
+        run: DirectedPos,
+        memory: &BacktrackState,
+    ) -> Option<RecordKey> {
+        match self {
+            Some(memo) => memo.loop_rest_key(planned, run, memory),
+            None => None,
+        }
+    }
+
+    #[inline(always)]
+    fn is_known_to_fail(&self, key: RecordKey) -> bool {
+        match self {
+            Some(memo) => memo.is_known_to_fail(key),
+            None => false,
+        }
+    }
+
+    #[inline(always)]
+    fn record_key_failed(&mut self, key: RecordKey) {
+        match self {
+            Some(memo) => memo.record_key_failed(key),
+            None => {}
+        }
+    }
+}
+
+/// The state of attempts that are made again.
+#[derive(Drop)]
+pub(crate) struct MemoizedRetryState {
+    /// The counter and the memo. Failures are recorded where there is a memo analysis and memory
+    /// for it.
+    pub course: StepsAndMemo<Unlimited, Option<Box<MemoTable>>>,
+    /// Whether creation of the memo was tried.
+    pub began: bool,
+}
+
+/// Creates the memo, unless that was tried before. If it is refused, nothing is recorded.
+pub(crate) fn enable_memo<W: SearchContext>(
+    planned: &W,
+    insns: &[Insn],
+    again: &mut MemoizedRetryState,
+)
+    requires insns { map spec_insn_of insns.now ≡ (program_of (W.searching planned.now)).insns }
+    requires right { IsMemoRight (λ memo. memo.value) (W.searching planned.now) again.old.course.memo }
+    ensures { IsMemoRight (λ memo. memo.value) (W.searching planned.now) again.new.course.memo }
+{
+    if again.began {
+        return;
+    }
+    again.began = true;
+    let alloc = planned.program().allocator();
+    if let Ok(memo) = new_memo(alloc, planned, insns) {
+        again.course.memo = memo;
+    }
+}
+
+// Creates a memo table for a search whose instructions these are. No failure is recorded in it yet.
+// Returns `None` if the program has no memo analysis, or if its keys cannot be counted.
+fn new_memo<W: SearchContext>(
+    alloc: Global,
+    planned: &W,
+    insns: &[Insn],
+) -> Result<Option<Box<MemoTable>>, AllocError>
+    requires { map spec_insn_of insns.now ≡ (program_of (W.searching planned.now)).insns }
+    ensures { IfOk result (IsMemoRight (λ memo. memo.value) (W.searching planned.now)) }
+{
+    let Some(memo_analysis) = MemoAnalysis::new(alloc, insns, planned.loops() as usize)? else {
+        return Ok(None);
+    };
+    let Some(memo) = MemoTable::new(alloc, memo_analysis, text_end(planned) + 1, false)? else {
+        return Ok(None);
+    };
+    let memo = Box::new(alloc, memo)?;
+    Ok(Some(memo))
+}

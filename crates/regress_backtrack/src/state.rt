@@ -1,0 +1,624 @@
+//! The state of a search: slots, an undo log of the values they had, and the choice points.
+
+ghost use Rattle.std.specs.Prelude.{◌≡◌, ◌≢◌, ◌<◌, ◌≤◌, ◌+◌, ◌-◌, ◌^◌, ◌++◌, ℕ, [], ◌∷◌, length, take, map, slice_get, slice_set, Some, true, false, OnOk, OnErr, IfOk};
+ghost use Rattle.regress_backtrack.specs.State.{StateModel, undone, IsStateInvariant, initial_slot as first_slot_at, seen, seen_change, AreUnsetAndUnlogged, undo_entry_of};
+ghost use Rattle.regress_backtrack.specs.State.{last_mark_log as noted_since, initial_state, machine_state_of, loop_data_in_slot, with_choice_point_list, IsUndone, SetsSlot, ChangesStateUndoably, with_group_open};
+ghost use Rattle.regress_backtrack.specs.State.{without_group_range, with_group_range, with_loop_iteration};
+ghost use Rattle.regress_backtrack.specs.UndoLogAppends.{HasLogRoomOrIsLogged, IsLoggedUnderNumber};
+
+use crate::lookaround_frames::LookaroundFrame;
+use std::alloc::{AllocError, Global};
+use std::marker::Model;
+use std::mem;
+
+/// The state of a group or a loop. For a group: the offset at which it was last opened, and its
+/// range in offsets, if it has one. For a loop: the offset at which the current iteration began,
+/// and in `from` the number of finished iterations.
+#[derive(Clone, Copy)]
+pub struct GroupOrLoopSlot {
+    pub at: usize,
+    pub from: usize,
+    pub to: usize,
+    /// In storage: the number of the slot's last entry in the undo log, counted from 1, or less.
+    pub noted: u32,
+    pub has_range: bool,
+    /// Whether the search has set the slot.
+    pub is_set: bool,
+}
+
+/// An entry of the undo log: what a slot held before a change. The slot's value is moved to the log
+/// as it is if it comes before the slot's number.
+#[derive(Clone, Copy)]
+pub struct UndoEntry {
+    pub old: GroupOrLoopSlot,
+    pub slot: usize,
+}
+
+/// The kind of a choice point: the offsets that it stands for.
+#[derive(Clone, Copy, PartialEq, Eq)]
+pub enum ChoicePointKind {
+    /// The offset `next` alone.
+    One,
+    /// The offset `next` alone, for the alternation arms from number `last` on.
+    Arms,
+    /// The offsets of the characters from `next` to `last`, in this order.
+    Greedy,
+    /// The offset `next` and at most `last` more after it, each one more character of the lazy loop
+    /// before the instruction.
+    Lazy,
+    /// None: a record. The entry for offset `next` and key code `last` has failed once nothing is
+    /// left above the record.
+    Record,
+}
+
+/// A choice point: an instruction and the offsets at which to continue, and the length of the undo
+/// log when it was pushed.
+#[derive(Clone, Copy)]
+pub struct ChoicePoint {
+    pub ip: u32,
+    pub kind: ChoicePointKind,
+    pub next: usize,
+    pub last: usize,
+    pub log: usize,
+}
+
+/// The slots, the undo log and the choice points. Contracts see their lists. The undo log and the
+/// choice points are the first `log_len` and `marked` elements of their vectors, which only grow. A
+/// slot that the search has not set holds its initial value, so that slots need not be written
+/// before each search.
+#[derive(Drop)]
+pub struct BacktrackState {
+    groups: usize,
+    // The offset at which the search began.
+    begun: usize,
+    slots: Vec<GroupOrLoopSlot>,
+    log: Vec<UndoEntry>,
+    log_len: usize,
+    // The number of changes that are logged whatever slots they are of.
+    free: usize,
+    marks: Vec<ChoicePoint>,
+    marked: usize,
+    // The storage for the frames of lookarounds, cached from one attempt to the next.
+    frames: Vec<LookaroundFrame>,
+}
+
+impl Model for BacktrackState {
+    ghost Value = { StateModel };
+
+    ghost view = { λ m. record {
+      groups = m.groups;
+      slots = map (seen m.begun) m.slots.items;
+      log = map (seen_change m.begun) (take m.log_len m.log.items);
+      marks = take m.marked m.marks.items;
+    } };
+
+    ghost invariant = { λ m. IsStateInvariant m.groups m.slots.items m.log_len m.free m.log.items m.marked m.marks.items };
+}
+
+// Fills the elements of a vector that are not used yet. If a vector were extended with the value to
+// be stored, that value would have to be in memory first, whether there is room or not.
+const NO_SLOT: GroupOrLoopSlot = GroupOrLoopSlot {
+    at: 0,
+    from: 0,
+    to: 0,
+    noted: 0,
+    has_range: false,
+    is_set: false,
+};
+
+const ROOM_FOR_CHANGE: UndoEntry = UndoEntry {
+    slot: 0,
+    old: NO_SLOT,
+};
+
+// The number of changes that are logged without a check whether their slots were logged before.
+// Most searches make fewer, and duplicate entries take no more memory than this.
+const ALL_NOTED: usize = 4096;
+
+const ROOM_FOR_MARK: ChoicePoint = ChoicePoint {
+    ip: 0,
+    kind: ChoicePointKind::One,
+    next: 0,
+    last: 0,
+    log: 0,
+};
+
+// The most elements by which a vector becomes longer at a time, approximately. Its allocation
+// doubles all the same, but where a system provides memory by pages, what is not written takes
+// none.
+const MOST_MORE: usize = 4096;
+
+// Makes a vector longer.
+#[cold]
+#[inline(never)]
+fn grow<T: Copy + Drop>(row: &mut Vec<T>, value: T) -> Result<(), AllocError>
+    ensures longer { OnOk result (length row.old.items < length row.new.items) }
+    ensures kept { OnOk result (take (length row.old.items) row.new.items ≡ row.old.items) }
+    ensures refused { OnErr result (row.new.items ≡ row.old.items) }
+{
+    let len = row.len();
+    if len < 0x4000_0000_0000_0000 {
+        row.resize(len + at_most(len, MOST_MORE) + 8, value)
+    } else {
+        row.push(value)?;
+        Ok(())
+    }
+}
+
+// Returns the length of the undo log when the last choice point was pushed, or 0 if there is none.
+#[inline(always)]
+fn last_mark_log(marks: &[ChoicePoint]) -> usize
+    ensures { result ≡ noted_since marks.now }
+{
+    if marks.len() == 0 {
+        0
+    } else {
+        marks[marks.len() - 1].log
+    }
+}
+
+// Makes room for one more entry in a log of which `used` entries are used, and returns whether the
+// change has to be logged. It has not if the slot's last entry, `noted`, was made after the last
+// choice point; but the first `free` changes always are.
+#[inline(always)]
+fn reserve(
+    log: &mut Vec<UndoEntry>,
+    free: &mut usize,
+    used: usize,
+    marks: &[ChoicePoint],
+    noted: u32,
+) -> Result<bool, AllocError>
+    requires used { used ≤ length log.old.items }
+    requires free { free.old ≤ length log.old.items }
+    ensures room { IfOk result (HasLogRoomOrIsLogged used (noted_since marks.now) noted log.new.items) }
+    ensures kept { take used log.new.items ≡ take used log.old.items }
+    ensures used { used ≤ length log.new.items }
+    ensures free { free.new ≤ length log.new.items }
+{
+    if used < *free {
+        return Ok(true);
+    }
+    if last_mark_log(marks) < noted as usize {
+        return Ok(false);
+    }
+    grow_log(log, free, used)?;
+    Ok(true)
+}
+
+// Makes room for one more entry, and updates `free`.
+#[inline(never)]
+fn grow_log(log: &mut Vec<UndoEntry>, free: &mut usize, used: usize) -> Result<(), AllocError>
+    requires used { used ≤ length log.old.items }
+    requires free { free.old ≤ length log.old.items }
+    ensures room { OnOk result (used < length log.new.items) }
+    ensures kept { take used log.new.items ≡ take used log.old.items }
+    ensures used { used ≤ length log.new.items }
+    ensures free { free.new ≤ length log.new.items }
+{
+    lengthen(log, used)?;
+    *free = at_most(log.len(), ALL_NOTED);
+    Ok(())
+}
+
+// Makes a log longer if all of its elements are used.
+#[inline(always)]
+fn lengthen(log: &mut Vec<UndoEntry>, used: usize) -> Result<(), AllocError>
+    requires { used ≤ length log.old.items }
+    ensures room { OnOk result (used < length log.new.items) }
+    ensures kept { OnOk result (take used log.new.items ≡ take used log.old.items) }
+    ensures longer { length log.old.items ≤ length log.new.items }
+    ensures refused { OnErr result (log.new.items ≡ log.old.items) }
+{
+    if used < log.len() {
+        return Ok(());
+    }
+    grow(log, ROOM_FOR_CHANGE)
+}
+
+#[inline(always)]
+fn at_most(number: usize, most: usize) -> usize
+    ensures { result ≤ number }
+{
+    if number < most { number } else { most }
+}
+
+// Returns the number under which a slot is logged that is about to be set. Appends a new entry,
+// unless the slot was logged after the last choice point and no free entry is left.
+#[inline(always)]
+fn log_change(
+    log: &mut Vec<UndoEntry>,
+    log_len: &mut usize,
+    free: &mut usize,
+    marks: &[ChoicePoint],
+    slots: &[GroupOrLoopSlot],
+    slot: usize,
+) -> Result<u32, AllocError>
+    requires log_len { log_len.old ≤ length log.old.items }
+    requires free { free.old ≤ length log.old.items }
+    requires slot { slot < length slots.now }
+    ensures noted { IfOk result (IsLoggedUnderNumber (undo_entry_of slots.now slot) (noted_since marks.now)
+        log_len.old log.old.items log_len.new log.new.items) }
+    ensures refused { OnErr result ((log_len.new ≡ log_len.old)
+        × (take log_len.old log.new.items ≡ take log_len.old log.old.items)) }
+    ensures log_len { log_len.new ≤ length log.new.items }
+    ensures free { free.new ≤ length log.new.items }
+{
+    let used = *log_len;
+    let noted = slots[slot].noted;
+    if !reserve(log, free, used, marks, noted)? {
+        return Ok(noted);
+    }
+    log[used] = UndoEntry {
+        slot,
+        old: slots[slot],
+    };
+    *log_len = used + 1;
+    Ok(((used + 1) % 0x1_0000_0000) as u32)
+}
+
+// Makes the number of slots equal to `count`.
+#[inline(always)]
+fn fit_slots(slots: &mut Vec<GroupOrLoopSlot>, count: usize) -> Result<(), AllocError>
+    ensures made { OnOk result (length slots.new.items ≡ count) }
+    ensures fresh { AreUnsetAndUnlogged slots.old.items → AreUnsetAndUnlogged slots.new.items }
+    ensures refused { OnErr result (length slots.new.items ≢ count) }
+    ensures short { OnErr result (length slots.old.items < count) }
+{
+    if slots.len() == count {
+        return Ok(());
+    }
+    make(slots, count)
+}
+
+// Makes the number of slots equal to `count`, which is less or more than it was.
+#[cold]
+#[inline(never)]
+fn make(slots: &mut Vec<GroupOrLoopSlot>, count: usize) -> Result<(), AllocError>
+    ensures made { OnOk result (length slots.new.items ≡ count) }
+    ensures fresh { AreUnsetAndUnlogged slots.old.items → AreUnsetAndUnlogged slots.new.items }
+    ensures refused { OnErr result (slots.new.items ≡ slots.old.items) }
+    ensures short { OnErr result (length slots.old.items < count) }
+{
+    if slots.len() >= count {
+        slots.truncate(count);
+        return Ok(());
+    }
+    slots.resize(count, NO_SLOT)
+}
+
+// Returns the value of a slot before a search from an offset.
+#[inline(always)]
+fn initial_slot(at: usize) -> GroupOrLoopSlot
+    ensures { result ≡ first_slot_at at }
+{
+    GroupOrLoopSlot { at, ..NO_SLOT }
+}
+
+// Resets all slots, so that none is set.
+#[cold]
+#[inline(never)]
+fn wipe(slots: &mut Vec<GroupOrLoopSlot>)
+    ensures fresh { AreUnsetAndUnlogged slots.new.items }
+    ensures length { length slots.new.items ≡ length slots.old.items }
+{
+    for id in 0..slots.len() {
+        slots[id] = NO_SLOT;
+    }
+}
+
+impl BacktrackState {
+    /// Creates a state without slots and groups.
+    pub fn new(alloc: Global) -> Self
+        ensures { result ≡ record { groups = 0; slots = []; log = []; marks = [] } }
+    {
+        BacktrackState {
+            groups: 0,
+            begun: 0,
+            slots: Vec::new(alloc),
+            log: Vec::new(alloc),
+            log_len: 0,
+            free: 0,
+            marks: Vec::new(alloc),
+            marked: 0,
+            frames: Vec::new(alloc),
+        }
+    }
+
+    /// Begins a search from an offset: the slots of all groups and loops have their initial values,
+    /// the undo log is empty, and there is no choice point. Allocates memory only if there were
+    /// fewer slots before, and returns `Err` if that fails.
+    pub fn begin(&mut self, groups: usize, loops: usize, at: usize) -> Result<(), AllocError>
+        requires { groups + loops < 2 ^ 64 }
+        ensures begun { OnOk result (self.new ≡ initial_state groups loops at) }
+        ensures refused { OnErr result (length self.new.slots ≢ groups + loops) }
+        ensures short { OnErr result (length self.old.slots < groups + loops) }
+    {
+        self.undo_all();
+        self.groups = 0;
+        self.log_len = 0;
+        self.marked = 0;
+        self.begun = at;
+        fit_slots(&mut self.slots, groups + loops)?;
+        self.groups = groups;
+        Ok(())
+    }
+
+    // Undoes all changes: one by one or, if there are more changes than slots, by resetting the
+    // slots.
+    #[inline(always)]
+    fn undo_all(&mut self)
+        ensures groups { self.new.groups ≡ self.old.groups }
+        ensures slots { length self.new.slots ≡ length self.old.slots }
+        ensures log { self.new.log ≡ [] }
+    {
+        if self.log_len > self.slots.len() {
+            self.log_len = 0;
+            wipe(&mut self.slots);
+        } else {
+            self.undo_to(0);
+        }
+    }
+
+    // Sets a slot and logs what it held. After the first `free` changes it is logged only if it was
+    // not logged since the last choice point. On allocation failure nothing is changed.
+    #[inline(always)]
+    fn set(&mut self, slot: usize, value: GroupOrLoopSlot) -> Result<(), AllocError>
+        requires slot { slot < length self.old.slots }
+        requires is_set { value.is_set ≡ true }
+        requires noted { value.noted ≡ 0 }
+        ensures set { OnOk result (SetsSlot slot value self.old self.new) }
+        ensures refused { OnErr result (self.new ≡ self.old) }
+    {
+        let noted = log_change(
+            &mut self.log,
+            &mut self.log_len,
+            &mut self.free,
+            &self.marks[..self.marked],
+            &self.slots,
+            slot,
+        )?;
+        self.slots[slot] = GroupOrLoopSlot { noted, ..value };
+        Ok(())
+    }
+
+    // Returns the value of a slot.
+    #[inline(always)]
+    fn held(&self, slot: usize) -> GroupOrLoopSlot
+        requires { slot < length self.now.slots }
+        ensures slot { slice_get self.now.slots slot ≡ Some result }
+        ensures noted { result.noted ≡ 0 }
+    {
+        let held = self.slots[slot];
+        if held.is_set {
+            GroupOrLoopSlot { noted: 0, ..held }
+        } else {
+            initial_slot(self.begun)
+        }
+    }
+
+    /// Returns the number of changes that are logged.
+    #[inline(always)]
+    pub fn log_len(&self) -> usize
+        ensures { result ≡ length self.now.log }
+    {
+        self.log_len
+    }
+
+    /// Undoes the logged changes from number `len` on.
+    #[inline(always)]
+    pub fn undo_to(&mut self, len: usize)
+        requires { len ≤ length self.old.log }
+        ensures { IsUndone len self.old self.new }
+    {
+        'changes: while self.log_len() > len {
+            self.undo_last();
+        }
+    }
+
+    // Undoes the last change.
+    #[inline(always)]
+    fn undo_last(&mut self)
+        requires { 0 < length self.old.log }
+        ensures { IsUndone (length self.old.log - 1) self.old self.new }
+    {
+        self.log_len -= 1;
+        let change = self.log[self.log_len];
+        self.slots[change.slot] = change.old;
+    }
+
+    // ---- Choice points
+
+    /// Returns the number of choice points.
+    #[inline(always)]
+    pub fn marked(&self) -> usize
+        ensures { result ≡ length self.now.marks }
+    {
+        self.marked
+    }
+
+    /// Pushes a choice point. On allocation failure nothing is changed.
+    #[inline(always)]
+    pub fn mark(&mut self, mark: ChoicePoint) -> Result<(), AllocError>
+        ensures marked { OnOk result (self.new ≡ with_choice_point_list (self.old.marks ++ mark ∷ []) self.old) }
+        ensures refused { OnErr result (self.new ≡ self.old) }
+    {
+        if self.marked >= self.marks.len() {
+            grow(&mut self.marks, ROOM_FOR_MARK)?;
+        }
+        self.marks[self.marked] = mark;
+        self.marked += 1;
+        Ok(())
+    }
+
+    /// Returns the choice point with this index.
+    #[inline(always)]
+    pub fn mark_at_index(&self, index: usize) -> ChoicePoint
+        requires { index < length self.now.marks }
+        ensures { slice_get self.now.marks index ≡ Some result }
+    {
+        self.marks[index]
+    }
+
+    /// Keeps the first `len` choice points and drops the others.
+    #[inline(always)]
+    pub fn truncate_marks(&mut self, len: usize)
+        requires { len ≤ length self.old.marks }
+        ensures { self.new ≡ with_choice_point_list (take len self.old.marks) self.old }
+    {
+        self.marked = len;
+    }
+
+    /// Replaces the choice point with this index.
+    #[inline(always)]
+    pub fn replace_mark(&mut self, index: usize, mark: ChoicePoint)
+        requires { index < length self.old.marks }
+        ensures { self.new ≡ with_choice_point_list (slice_set self.old.marks index mark) self.old }
+    {
+        self.marks[index] = mark;
+    }
+
+    // ---- Frames of lookarounds
+
+    /// Takes out the storage for frames, which is empty then.
+    #[inline(always)]
+    pub(crate) fn take_frame_stack(&mut self) -> Vec<LookaroundFrame>
+        ensures none { result.items ≡ [] }
+        ensures same { self.new ≡ self.old }
+    {
+        let alloc = *self.frames.allocator();
+        let mut frames = mem::replace(&mut self.frames, Vec::new(alloc));
+        frames.truncate(0);
+        frames
+    }
+
+    /// Puts the storage for frames back.
+    #[inline(always)]
+    pub(crate) fn return_frame_stack(&mut self, frames: Vec<LookaroundFrame>)
+        ensures { self.new ≡ self.old }
+    {
+        self.frames = frames;
+    }
+
+    // ---- Groups
+
+    /// Opens a group at an offset and removes its range.
+    #[inline(always)]
+    pub fn open_group(&mut self, id: usize, at: usize) -> Result<(), AllocError>
+        requires { id < self.old.groups }
+        ensures opened { OnOk result (ChangesStateUndoably (with_group_open id at) self.old self.new) }
+        ensures refused { OnErr result (self.new ≡ self.old) }
+    {
+        let opened = GroupOrLoopSlot {
+            at,
+            is_set: true,
+            ..NO_SLOT
+        };
+        let _laid_out = self.groups;
+        self.set(id, opened)
+    }
+
+    /// Removes a group's range.
+    #[inline(always)]
+    pub fn reset_group(&mut self, id: usize) -> Result<(), AllocError>
+        requires { id < self.old.groups }
+        ensures reset { OnOk result (ChangesStateUndoably (without_group_range id) self.old self.new) }
+        ensures refused { OnErr result (self.new ≡ self.old) }
+    {
+        let _laid_out = self.groups;
+        let reset = GroupOrLoopSlot {
+            has_range: false,
+            is_set: true,
+            ..self.held(id)
+        };
+        self.set(id, reset)
+    }
+
+    /// Sets a group's range.
+    #[inline(always)]
+    pub fn close_group(&mut self, id: usize, from: usize, to: usize) -> Result<(), AllocError>
+        requires { id < self.old.groups }
+        ensures closed { OnOk result (ChangesStateUndoably (with_group_range id from to) self.old self.new) }
+        ensures refused { OnErr result (self.new ≡ self.old) }
+    {
+        let _laid_out = self.groups;
+        let closed = GroupOrLoopSlot {
+            from,
+            to,
+            has_range: true,
+            is_set: true,
+            ..self.held(id)
+        };
+        self.set(id, closed)
+    }
+
+    /// Returns the offset at which a group was last opened.
+    #[inline(always)]
+    pub fn group_open_offset(&self, id: usize) -> usize
+        requires { id < self.now.groups }
+        ensures { slice_get (machine_state_of self.now 0 0).starts id ≡ Some result }
+    {
+        let _laid_out = self.groups;
+        self.held(id).at
+    }
+
+    /// Returns the number of groups.
+    #[inline(always)]
+    pub fn group_count(&self) -> usize
+        ensures groups { result ≡ self.now.groups }
+        ensures length { result ≡ length (machine_state_of self.now 0 0).groups }
+    {
+        self.groups
+    }
+
+    /// Returns the number of loops.
+    #[inline(always)]
+    pub fn loop_count(&self) -> usize
+        ensures loops { self.now.groups + result ≡ length self.now.slots }
+        ensures length { result ≡ length (machine_state_of self.now 0 0).loops }
+    {
+        self.slots.len() - self.groups
+    }
+
+    /// Returns a group's range, if it has one.
+    #[inline(always)]
+    pub fn captured_range_of(&self, id: usize) -> Option<(usize, usize)>
+        requires { id < self.now.groups }
+        ensures { slice_get (machine_state_of self.now 0 0).groups id ≡ Some result }
+    {
+        let _laid_out = self.groups;
+        let slot = self.held(id);
+        if slot.has_range {
+            Some((slot.from, slot.to))
+        } else {
+            None
+        }
+    }
+
+    // ---- Loops
+
+    /// Begins iteration `k` of a loop at an offset.
+    #[inline(always)]
+    pub fn begin_loop_iteration(&mut self, id: usize, k: usize, at: usize) -> Result<(), AllocError>
+        requires { self.old.groups + id < length self.old.slots }
+        ensures entered { OnOk result (ChangesStateUndoably (with_loop_iteration id k at) self.old self.new) }
+        ensures refused { OnErr result (self.new ≡ self.old) }
+    {
+        let entered = GroupOrLoopSlot {
+            at,
+            from: k,
+            is_set: true,
+            ..NO_SLOT
+        };
+        self.set(self.groups + id, entered)
+    }
+
+    /// Returns the slot of a loop: its finished iterations, and the offset at which the current one
+    /// began.
+    #[inline(always)]
+    pub fn loop_data(&self, id: usize) -> GroupOrLoopSlot
+        requires { self.now.groups + id < length self.now.slots }
+        ensures { slice_get (machine_state_of self.now 0 0).loops id ≡ Some (loop_data_in_slot result) }
+    {
+        self.held(self.groups + id)
+    }
+}

@@ -1,0 +1,176 @@
+//! Budgets of a search: the number of steps it may take, and the amount of work it may do.
+
+ghost use Rattle.std.specs.Prelude.{◌≡◌, ◌<◌, ◌+◌, ◌⊎◌, ℕ, Bool, true, false, OnOk, OnErr, IsTrue};
+ghost use Rattle.regress_backtrack.specs.StepsTakenFromBudget.{Budget, AreStepsTaken, AreStepsRefused};
+
+use std::alloc::AllocError;
+
+/// A search stopped without a result: allocation failed, or too much work was done; or, where steps
+/// are counted, too few steps were left. The type is empty, so that a result with a position is
+/// returned in registers. The step counter knows the cause.
+#[derive(Clone, Copy)]
+pub struct SearchStopped;
+
+impl From<AllocError> for SearchStopped {
+    #[inline(always)]
+    fn from(_: AllocError) -> SearchStopped {
+        SearchStopped
+    }
+}
+
+/// A step counter, which counts steps or does not.
+pub trait StepCounter: Copy {
+    ghost COUNTS: { Bool };
+
+    /// Whether steps are counted.
+    const COUNTS: bool;
+
+    /// Whether a loop may iterate in bulk over units before which it cannot be exited. It may not
+    /// where each iteration may be recorded in a memo.
+    const AT_ONCE: bool;
+
+    ghost budget: { Self → Budget };
+
+    /// Takes a number of steps if as many are left. If not, returns `Err`, and none are left then.
+    fn take(&mut self, steps: usize) -> Result<(), SearchStopped>
+        ensures taken { OnOk result (AreStepsTaken COUNTS steps (budget self.old) (budget self.new)) }
+        ensures refused { OnErr result (AreStepsRefused COUNTS steps (budget self.old) (budget self.new)) };
+
+    /// Charges one backtrack: takes one step and does some work. Returns `Err` if too much work was
+    /// done or no step was left.
+    fn backtrack(&mut self) -> Result<(), SearchStopped>
+        ensures taken { OnOk result (AreStepsTaken COUNTS 1 (budget self.old) (budget self.new)) }
+        ensures stopped { OnErr result (AreStepsTaken COUNTS 1 (budget self.old) (budget self.new)
+            ⊎ AreStepsRefused COUNTS 1 (budget self.old) (budget self.new)) };
+
+    /// Charges a number of units read by one operation, or of choice points dropped at once. This
+    /// is work if they are many.
+    fn read(&mut self, units: usize)
+        ensures { budget self.new ≡ budget self.old };
+
+    /// Returns whether steps were refused.
+    fn is_out_of_steps(&self) -> bool
+        ensures { result ≡ (budget self.now).out };
+}
+
+// The fewest units that count as work. An operation that reads fewer does little more than one that
+// reads none.
+const LONG: usize = 16;
+
+// From this value on, work is negative.
+const BELOW_ZERO: u64 = 0x8000_0000_0000_0000;
+
+/// A counter for any number of steps, with limited work if `BOUND`.
+#[derive(Clone, Copy)]
+pub struct UnlimitedStepCounter<const BOUND: bool> {
+    // The work that is left. Below 0 it wraps around to 2^64, so that no work is too much to count.
+    work: u64,
+}
+
+/// A counter for any number of steps and limited work.
+pub type WorkBounded = UnlimitedStepCounter<true>;
+
+/// A counter for any number of steps and any work.
+pub type Unlimited = UnlimitedStepCounter<false>;
+
+impl<const BOUND: bool> UnlimitedStepCounter<BOUND> {
+    /// Creates a counter that allows this much work.
+    #[inline(always)]
+    pub fn up_to(work: u64) -> Self {
+        UnlimitedStepCounter { work }
+    }
+
+    /// Creates a counter whose work is already spent.
+    #[inline(always)]
+    pub fn spent() -> Self {
+        UnlimitedStepCounter { work: BELOW_ZERO }
+    }
+
+    /// Returns whether more work was done than was allowed.
+    #[inline(always)]
+    pub fn is_work_spent(&self) -> bool {
+        self.work >= BELOW_ZERO
+    }
+}
+
+impl<const BOUND: bool> StepCounter for UnlimitedStepCounter<BOUND> {
+    ghost COUNTS = { false };
+
+    const COUNTS: bool = false;
+
+    const AT_ONCE: bool = BOUND;
+
+    ghost budget = { λ _. record { left = 0; out = false } };
+
+    #[inline(always)]
+    fn take(&mut self, _steps: usize) -> Result<(), SearchStopped> {
+        Ok(())
+    }
+
+    #[inline(always)]
+    fn backtrack(&mut self) -> Result<(), SearchStopped> {
+        if !BOUND {
+            return Ok(());
+        }
+        self.work = self.work.wrapping_sub(1);
+        if self.is_work_spent() {
+            Err(SearchStopped)
+        } else {
+            Ok(())
+        }
+    }
+
+    #[inline(always)]
+    fn read(&mut self, units: usize) {
+        if BOUND && units >= LONG {
+            self.work = self.work.wrapping_sub(units as u64);
+        }
+    }
+
+    #[inline(always)]
+    fn is_out_of_steps(&self) -> bool {
+        false
+    }
+}
+
+/// A limited number of steps: those that are left, and whether some were refused.
+#[derive(Clone, Copy)]
+pub struct LimitedStepCounter {
+    pub left: u64,
+    pub out: bool,
+}
+
+impl StepCounter for LimitedStepCounter {
+    ghost COUNTS = { true };
+
+    const COUNTS: bool = true;
+
+    const AT_ONCE: bool = false;
+
+    ghost budget = { λ s. record { left = s.left; out = s.out } };
+
+    #[inline(always)]
+    fn take(&mut self, steps: usize) -> Result<(), SearchStopped> {
+        let steps = steps as u64;
+        if self.left < steps {
+            self.left = 0;
+            self.out = true;
+            return Err(SearchStopped);
+        }
+        self.left -= steps;
+        Ok(())
+    }
+
+    #[inline(always)]
+    fn backtrack(&mut self) -> Result<(), SearchStopped> {
+        self.take(1)
+    }
+
+    #[inline(always)]
+    fn read(&mut self, _units: usize) {}
+
+    #[inline(always)]
+    fn is_out_of_steps(&self) -> bool {
+        self.out
+    }
+}

@@ -1,8 +1,0 @@
-use Rattle.std.proofs.Common.{◌≡◌, ◌<◌, ℕ, Some, None, slice_get}
-use Rattle.regress_linear.specs.Behind.{look_at}
-use Rattle.regress_plan.specs.declared.insn.Insn.{Insn}
-use Rattle.regress_program.specs.Insns.{insn_of}
-use Rattle.regress_bounded.proofs.bounds.looks_aside.Given as goal
-
-abbrev pub invariant-loop-insn : goal.invariant-loop-insn
-invariant-loop-insn l = (k : ℕ) → k < l.insn-index → (x : Insn) → slice_get l.insns k ≡ Some x → look_at (Some (insn_of x)) ≡ None

@@ -1,0 +1,10 @@
+-- Spending of the work budget.
+use Rattle.std.specs.Prelude.{◌≡◌, ◌<◌, ℕ, ◌+◌}
+
+-- The work is taken from the budget.
+abbrev pub IsTakenFromBudget : (work old new : ℕ) → Type 0
+IsTakenFromBudget work old new = old ≡ work + new
+
+-- The budget is smaller than the work, and nothing is left.
+abbrev pub IsBudgetExhausted : (work old new : ℕ) → Type 0
+IsBudgetExhausted work old new = (old < work) × (new ≡ 0)

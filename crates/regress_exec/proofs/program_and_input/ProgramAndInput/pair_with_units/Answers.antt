@@ -1,0 +1,13 @@
+use Rattle.std.proofs.Common.{refl, ap, sym, ◌∙◌}
+use Rattle.regex_pattern_front.specs.AstToSpecTree.{tree_of}
+use Rattle.regress_exec.proofs.Searchable.{without-bytes}
+use Rattle.regress_exec.proofs.program_and_input.ProgramAndInput.pair_with_units.Goals as goal
+
+pub invariant_of-result : goal.invariant_of-result
+invariant_of-result g c = record {
+  unicode = c.requires ∙ ap (λ re. (tree_of re).flags.unicode) (sym c.program-program.ensures.tree);
+  well_formed = c.insns-well_formed.ensures.well_formed;
+  bytes = without-bytes (tree_of c.args.re.now) (tree_of c.program-program.result.now) (ap tree_of c.program-program.ensures.tree) c.program-program.ensures.no_bytes;
+  predicted = refl;
+  scalars = λ none. cc;
+}

@@ -1,0 +1,6 @@
+-- Positions as offsets.
+use Rattle.std.specs.Prelude.{ℕ}
+
+-- the pair of offsets of two positions
+abbrev pub offset_range : {P : Type 0} → (offset : P → ℕ) → P × P → ℕ × ℕ
+offset_range offset range = (offset range.0, offset range.1)

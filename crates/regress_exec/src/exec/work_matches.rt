@@ -1,0 +1,112 @@
+//! Finding matches one after another within a limit of work.
+
+ghost use Rattle.std.specs.Prelude.{◌≡◌, ◌<◌, ◌⊎◌, ℕ, true, Option, Some, None, if◌then◌else◌, option_map, nat_le, not};
+ghost use Rattle.std.specs.Iterator.{at_most};
+ghost use Rattle.std.specs.Option.{ForSome};
+ghost use Rattle.regex_meaning.specs.{CodeUnitOffsets.{IsBoundary, units}, StepBudget.{answers_within, finishes_within}};
+ghost use Rattle.regress_exec.specs.{RemainingAnswers.{remaining_answers_from, items_left}, WorkLimits.{WorkView, IsRefusalCause, NextYieldsWithinWork, is_work_enough}};
+
+use super::{Match, MatchProducer, advance_matches};
+use std::marker::Model;
+use thiserror::Error;
+
+/// Why a search with a limit of work failed.
+#[derive(Clone, Copy, Debug, PartialEq, Eq, Error)]
+pub enum WorkError {
+    /// An allocation failed.
+    #[error("out of memory")]
+    Memory,
+    /// The work limit is reached.
+    #[error("the work is used up")]
+    WorkLimit,
+}
+
+/// A producer of matches with a limit of work. Contracts see how much work is left, which never
+/// rises, and whether it is enough for attempts in ascending order of offsets (`left` and `enough`
+/// of `MatchProducer`).
+pub trait BoundedProducer: MatchProducer {
+    /// Returns how much work it may still do.
+    fn work_left(&self) -> u64
+        ensures { result ≡ Self.left self.now };
+
+    /// Checks whether its last attempt needed more work than was left. Then no work is left.
+    fn is_work_exhausted(&self) -> bool
+        ensures limit { result ≡ Self.out_of_work self.now }
+        ensures spent { result ≡ true → Self.left self.now ≡ 0 };
+}
+
+/// An iterator over the matches of a pattern in a text from a start on, within a limit of work.
+/// Contracts see the answers still to come, how much work is left, and whether it is enough for all
+/// of them.
+#[derive(Drop)]
+pub struct WorkMatches<P: BoundedProducer> {
+    mp: P,
+    position: Option<P::Position>,
+}
+
+impl<P: BoundedProducer> Model for WorkMatches<P> {
+    ghost Value = { WorkView };
+
+    ghost view = { λ m. record {
+      come = remaining_answers_from (P.tree m.mp) (P.text m.mp) (P.budget m.mp)
+          (option_map P.Position.offset m.position) (P.out_of_steps m.mp);
+      left = P.left m.mp;
+      enough = is_work_enough (P.enough m.mp) (P.ahead m.mp) (option_map P.Position.offset m.position);
+    } };
+
+    ghost invariant = { λ m. ForSome m.position (λ p. IsBoundary (P.text m.mp) (P.Position.offset p)) };
+}
+
+impl<P: BoundedProducer> WorkMatches<P> {
+    /// Iterates over the matches from an offset in code units on, which is a boundary or past the
+    /// end. Past the end there are none.
+    pub fn new(mp: P, start: usize) -> Self
+        requires { IsBoundary (P.text mp) start ⊎ (units (P.text mp) < start) }
+        ensures answers { result.come.answers ≡ answers_within (P.tree mp) (P.text mp) (P.budget mp) start }
+        ensures limited { result.come.limited ≡ not (finishes_within (P.tree mp) (P.text mp) (P.budget mp) start) }
+        ensures ended { result.come.ended ≡ not (nat_le start (units (P.text mp))) }
+        ensures left { result.left ≡ P.left mp }
+        ensures enough { result.enough ≡ is_work_enough (P.enough mp) (P.ahead mp)
+            (if nat_le start (units (P.text mp)) then Some start else None) }
+        ensures text_end { result.come.text_end ≡ units (P.text mp) }
+    {
+        let position = mp.initial_position(start);
+        WorkMatches { mp, position }
+    }
+
+    /// Returns how much work may still be done.
+    pub fn work_left(&self) -> u64
+        ensures { result ≡ self.now.left }
+    {
+        self.mp.work_left()
+    }
+}
+
+impl<P: BoundedProducer + Drop> Iterator for WorkMatches<P> {
+    type Item = Result<Match, WorkError>;
+
+    ghost next_gives = { NextYieldsWithinWork };
+
+    ghost remaining = { λ s. at_most (items_left s.come) };
+
+    /// Returns the next match. Once there is no other match, or after an error, it always returns
+    /// `None`.
+    fn next(&mut self) -> Option<Result<Match, WorkError>> {
+        match advance_matches(&mut self.mp, &mut self.position)? {
+            Ok(found) => Some(Ok(found)),
+            Err(_) => Some(Err(cause_in(&self.mp))),
+        }
+    }
+}
+
+// Returns why the last search failed: the work limit was reached, or otherwise an allocation
+// failed.
+fn cause_in<P: BoundedProducer>(mp: &P) -> WorkError
+    ensures { IsRefusalCause result (P.out_of_work mp.now) (P.left mp.now) }
+{
+    if mp.is_work_exhausted() {
+        WorkError::WorkLimit
+    } else {
+        WorkError::Memory
+    }
+}

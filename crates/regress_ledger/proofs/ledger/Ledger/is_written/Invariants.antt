@@ -1,9 +1,0 @@
-use Rattle.std.proofs.Common.{◌<◌, ℕ, slice_get}
-use Rattle.regex_meaning.specs.Layout.{Program}
-use Rattle.regress_ledger.specs.Steps.{HasInsns, step_in}
-use Rattle.regress_ledger.specs.Checks.{IsWritten}
-use Rattle.regress_ledger.proofs.ledger.Ledger.is_written.Given as goal
-
-abbrev pub invariant-loop-ip : goal.invariant-loop-ip
-invariant-loop-ip l =
-    (program : Program) → HasInsns program l.insns → (k : ℕ) → k < l.ip → IsWritten l.self program (step_in k (slice_get program.insns k)) k

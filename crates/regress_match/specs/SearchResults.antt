@@ -1,0 +1,50 @@
+-- The main theorem's statement: what a search yields.
+use Rattle.std.specs.Prelude.{◌≡◌, ℕ, List, [], ◌∷◌, false, Option, Some, None, Result, Ok, Err}
+use Rattle.regex_meaning.specs.Tree.{Tree}
+use Rattle.regex_meaning.specs.Text.{Text}
+use Rattle.regex_meaning.specs.CodeUnitOffsets.{units}
+use Rattle.regex_meaning.specs.Captures.{Answer, answers_from}
+use Rattle.regress_exec.specs.MatchAnswers.{answer_of}
+use Rattle.regress_exec.specs.RemainingAnswers.{RemainingView, NextYields}
+use Rattle.regress_exec.specs.declared.exec.Match.{Match}
+use Rattle.regress_exec.specs.declared.exec.SearchError.{SearchError}
+use Rattle.regress_match.specs.CompileErrors.{IsOutOfMemory}
+
+-- The remaining matches of a search from `start` are exactly the tree's list of matches in the
+-- text: the leftmost match, of highest priority, with its end and all groups, and then the matches
+-- after it. No step limit ends the list.
+pub record YieldsMatches (tree : Tree) (text : Text) (start : ℕ) (it : RemainingView) : Type 0 where
+  pub answers : it.answers ≡ answers_from tree.root text start
+  pub unlimited : it.limited ≡ false
+  pub text_end : it.text_end ≡ units text
+
+-- ---- Results of its calls
+
+-- The result of one call of `next`.
+abbrev pub NextResult : Type 0
+NextResult = Option (Result Match SearchError)
+
+-- Successive calls of `next` return these results, and take the iterator from the view `before` to
+-- the view `behind`.
+abbrev pub CallsYield : (before : RemainingView) → List NextResult → (behind : RemainingView) → Type 0
+CallsYield before [] behind = behind ≡ before
+CallsYield before (r ∷ rs) behind = (next : RemainingView) × NextYields before r next × CallsYield next rs behind
+
+-- All results are `None`.
+abbrev pub AllNone : List NextResult → Type 0
+AllNone [] = Unit {0}
+AllNone (r ∷ rs) = (r ≡ None) × AllNone rs
+
+-- The results are the matches of the list one after another. `None` is returned at the end of the
+-- list and nowhere else, and then for good. An error is an allocation failure. The matches before
+-- it are a prefix of the list, and `None` follows it for good.
+abbrev pub AnswerInTurn : List Answer → List NextResult → Type 0
+AnswerInTurn matches [] = Unit {0}
+AnswerInTurn matches (Some (Ok m) ∷ rs) = (rest : List Answer) × (matches ≡ answer_of m ∷ rest) × AnswerInTurn rest rs
+AnswerInTurn matches (None ∷ rs) = (matches ≡ []) × AllNone rs
+AnswerInTurn matches (Some (Err e) ∷ rs) = IsOutOfMemory e × AllNone rs
+
+-- The results of a search, however often it is called.
+abbrev pub SearchesAnswerInTurn : Type 0
+SearchesAnswerInTurn = (tree : Tree) (text : Text) (start : ℕ) (it behind : RemainingView) (rs : List NextResult)
+    → YieldsMatches tree text start it → CallsYield it rs behind → AnswerInTurn (answers_from tree.root text start) rs

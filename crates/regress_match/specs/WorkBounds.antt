@@ -1,0 +1,87 @@
+-- Work bounds of patterns, and what a search within a work budget yields.
+use Rattle.std.specs.Prelude.{◌≡◌, ◌≤◌, ◌<◌, ◌*◌, ◌+◌, ℕ, List, [], ◌∷◌, true, false, Option, Some, None, Result, Ok, Err, if◌then◌else◌, nat_lt}
+use Rattle.regex_meaning.specs.Laws.{Each}
+use Rattle.regex_meaning.specs.Captures.{Answer, answers_from}
+use Rattle.regex_meaning.specs.CodeUnitOffsets.{units}
+use Rattle.regex_meaning.specs.Text.{Text}
+use Rattle.regex_meaning.specs.Tree.{Tree}
+use Rattle.regress_exec.specs.MatchAnswers.{answer_of}
+use Rattle.regress_exec.specs.WorkLimits.{WorkView, NextYieldsWithinWork}
+use Rattle.regress_exec.specs.declared.exec.Match.{Match}
+use Rattle.regress_exec.specs.declared.exec.work_matches.WorkError.{WorkError}
+use Rattle.regress_exec.specs.declared.exec.work_matches.WorkError.TheVariants.{Memory, WorkLimit}
+use Rattle.regress_bounded.specs.ProgramWorkBounds.{IsBoundOf}
+use Rattle.regress_bounded.specs.declared.work_bound.WorkBound.{WorkBound}
+use Rattle.regress_match.specs.declared.api.regex.Regex.{Regex}
+use Rattle.regress_match.specs.RegexPrograms.{byte_tree, unit_tree}
+
+-- ---- Bounds
+
+-- A pattern and its work per unit, in any encoding: on a text of n units, `per_unit` × (n + 1) work
+-- is enough.
+pub record BoundedView : Type 0 where
+  pub re : Regex
+  pub per_unit : ℕ
+
+-- The higher of two numbers.
+abbrev pub higher : ℕ → ℕ → ℕ
+higher a b = if nat_lt a b then b else a
+
+-- The higher of the bounds for texts of bytes and for texts of 16-bit code units.
+abbrev pub higher_of : (bytes units : WorkBound) → ℕ
+higher_of bytes units = higher bytes.per_unit units.per_unit
+
+-- The bounds are those of the pattern's two programs.
+pub record AreBoundsOf (re : Regex) (bytes units : WorkBound) : Type 0 where
+  pub bound_for_bytes : IsBoundOf (byte_tree re) bytes
+  pub bound_for_units : IsBoundOf (unit_tree re) units
+
+-- The number is the higher of the bounds of the pattern's two programs.
+abbrev pub IsWorkBoundOfBothPrograms : Regex → ℕ → Type 0
+IsWorkBoundOfBothPrograms re per_unit = (bytes : WorkBound) × (units : WorkBound) × AreBoundsOf re bytes units × (per_unit ≡ higher_of bytes units)
+
+-- ---- Searches
+
+-- The work that is enough for a text: `per_unit` for each unit of it, and once more.
+abbrev pub total_work : (per_unit : ℕ) → Text → ℕ
+total_work per_unit text = per_unit * (units text + 1)
+
+-- The remaining matches of a search from `start` are the tree's list of matches in the text, and no
+-- step limit ends the list. `work` is left, and it is enough for all of them if it is at least
+-- `total_work`.
+pub record YieldsWithinWork (tree : Tree) (text : Text) (start per_unit work : ℕ) (it : WorkView) : Type 0 where
+  pub answers : it.come.answers ≡ answers_from tree.root text start
+  pub unlimited : it.come.limited ≡ false
+  pub text_end : it.come.text_end ≡ units text
+  pub left : it.left ≡ work
+  pub enough : total_work per_unit text ≤ work → it.enough ≡ true
+
+-- ---- Results of its calls
+
+-- The result of one call of `next`.
+abbrev pub NextResultWithinWork : Type 0
+NextResultWithinWork = Option (Result Match WorkError)
+
+-- Successive calls of `next` return these results, and take the iterator from the view `before` to
+-- the view `behind`.
+abbrev pub CallsYieldWithinWork : (before : WorkView) → List NextResultWithinWork → (behind : WorkView) → Type 0
+CallsYieldWithinWork before [] behind = behind ≡ before
+CallsYieldWithinWork before (r ∷ rs) behind = (next : WorkView) × NextYieldsWithinWork before r next × CallsYieldWithinWork next rs behind
+
+-- The results are the matches of the list one after another. `None` is returned at the end of the
+-- list, or after an error, and nowhere else, and then for good. The error is an allocation failure,
+-- or `WorkLimit` where `too_little` holds.
+abbrev pub AnswerInWork : (too_little : Type 0) → List Answer → List NextResultWithinWork → Type 0
+AnswerInWork too_little matches [] = Unit {0}
+AnswerInWork too_little matches (Some (Ok m) ∷ rs) =
+    (rest : List Answer) × (matches ≡ answer_of m ∷ rest) × AnswerInWork too_little rest rs
+AnswerInWork too_little matches (None ∷ rs) = (matches ≡ []) × Each (λ r. r ≡ None) rs
+AnswerInWork too_little matches (Some (Err Memory) ∷ rs) = Each (λ r. r ≡ None) rs
+AnswerInWork too_little matches (Some (Err WorkLimit) ∷ rs) = too_little × Each (λ r. r ≡ None) rs
+
+-- The results of a search within a work budget, however often it is called. No more work is left
+-- than it had.
+abbrev pub SearchesAnswerInWork : Type 0
+SearchesAnswerInWork = (tree : Tree) (text : Text) (start per_unit work : ℕ) (it behind : WorkView) (rs : List NextResultWithinWork)
+    → YieldsWithinWork tree text start per_unit work it → CallsYieldWithinWork it rs behind
+    → AnswerInWork (work < total_work per_unit text) (answers_from tree.root text start) rs × (behind.left ≤ work)

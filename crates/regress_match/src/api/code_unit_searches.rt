@@ -1,0 +1,54 @@
+//! Searches in texts of 16-bit code units.
+
+ghost use Rattle.std.specs.Prelude.{◌≡◌, ◌<◌, ◌⊎◌, IfErr, IfOk, IsTrue, false, length, nat_le, not};
+ghost use Rattle.regex_meaning.specs.Text.{is_unit_boundary as is_boundary_of};
+ghost use Rattle.regress_match.specs.{RegexPrograms.{as_ucs2, as_utf16, unit_tree}, CompileErrors.{IsOutOfMemory}, SearchResults.{YieldsMatches}};
+
+use crate::api::{Regex, SearchError};
+use crate::executors::{DefaultUcs2Executor, DefaultUtf16Executor};
+use regress_exec::exec::Matches;
+
+impl Regex {
+    /// Returns an iterator over the matches in a UTF-16 text from `start` on, an offset in code
+    /// units that does not split a surrogate pair (`is_unit_boundary`), or is past the end. Past
+    /// the end there are no matches.
+    ///
+    /// A high surrogate followed by a low surrogate is one character. Any other code unit is a
+    /// character by itself. `.` matches both (tested in `regress_checks`).
+    ///
+    /// # Errors
+    ///
+    /// `Memory` if an allocation for the search fails.
+    pub fn find_from_utf16<'r, 't>(
+        &'r self,
+        text: &'t [u16],
+        start: usize,
+    ) -> Result<Matches<DefaultUtf16Executor<'r, 't>>, SearchError>
+        requires { IsTrue (is_boundary_of text.now start) ⊎ (length text.now < start) }
+        ensures answers { IfOk result (YieldsMatches (unit_tree self.now) (as_utf16 self.now text.now) start) }
+        ensures ended { IfOk result (λ it. it.ended ≡ not (nat_le start (length text.now))) }
+        ensures refused { IfErr result IsOutOfMemory }
+    {
+        Ok(Matches::new(self.utf16_search(text)?, start))
+    }
+
+    /// Returns an iterator over the matches in a UCS-2 text from `start` on, an offset in code
+    /// units. Each code unit is a character. Past the end there are no matches.
+    ///
+    /// This is how JavaScript reads a string without the flag `u` (`docs/PROFILE.md`).
+    ///
+    /// # Errors
+    ///
+    /// `Memory` if an allocation for the search fails.
+    pub fn find_from_ucs2<'r, 't>(
+        &'r self,
+        text: &'t [u16],
+        start: usize,
+    ) -> Result<Matches<DefaultUcs2Executor<'r, 't>>, SearchError>
+        ensures answers { IfOk result (YieldsMatches (unit_tree self.now) (as_ucs2 self.now text.now) start) }
+        ensures ended { IfOk result (λ it. it.ended ≡ not (nat_le start (length text.now))) }
+        ensures refused { IfErr result IsOutOfMemory }
+    {
+        Ok(Matches::new(self.ucs2_search(text)?, start))
+    }
+}

@@ -1,0 +1,35 @@
+//! Properties of a pattern that are known before it has matched: its groups and their names.
+
+ghost use Rattle.std.specs.Prelude.{◌≡◌, ◌<◌, ◌^◌, length, map, string_bytes};
+ghost use Rattle.regex_meaning.specs.{Captures.{group_names_by_id}, Tree.{group_ids}};
+ghost use Rattle.regress_match.specs.RegexPrograms.{byte_tree, unit_tree};
+
+use crate::api::Regex;
+
+impl Regex {
+    /// Returns the number of capture groups. It is the length of `captures` in each match in a text
+    /// of bytes.
+    pub fn group_count(&self) -> usize
+        ensures count { result ≡ length (group_ids (byte_tree self.now).root) }
+        ensures few { result < 2 ^ 32 }
+    {
+        self.byte_program().groups() as usize
+    }
+
+    /// Returns the length of `captures` in each match in a text of 16-bit code units. It equals
+    /// `group_count` unless the pattern was made of the programs of two different trees.
+    pub fn unit_group_count(&self) -> usize
+        ensures count { result ≡ length (group_ids (unit_tree self.now).root) }
+        ensures few { result < 2 ^ 32 }
+    {
+        self.unit_program().program().groups() as usize
+    }
+
+    /// Returns the names of the groups in order. A group without a name has the empty string. The
+    /// list is empty if no group has a name.
+    pub fn group_names(&self) -> &[String]
+        ensures { map string_bytes result.now ≡ group_names_by_id (byte_tree self.now).root }
+    {
+        self.byte_program().group_names()
+    }
+}

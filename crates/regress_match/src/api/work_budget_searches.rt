@@ -1,0 +1,212 @@
+//! Searches within a work budget, for patterns with a known work bound.
+
+ghost use Rattle.std.specs.Prelude.{◌≡◌, ◌<◌, ◌⊎◌, IfErr, IfOk, IfSome, IsAscii, IsCharBoundary, IsTrue, length, nat_le, not};
+ghost use Rattle.regex_meaning.specs.Text.{is_unit_boundary as is_boundary_of};
+ghost use Rattle.regress_match.specs.{RegexPrograms.{as_ascii, as_ucs2, as_utf8, as_utf16, byte_tree, unit_tree}, CompileErrors.{IsOutOfMemory}};
+ghost use Rattle.regress_match.specs.{Replacements.{MatchesAreOrderedFrom}, WorkBounds.{IsWorkBoundOfBothPrograms, YieldsWithinWork, higher}};
+
+use crate::api::{Regex, SearchError};
+use regress_bounded::executor::BoundedExecutor;
+use regress_bounded::work_bound::WorkBound;
+use regress_exec::exec::WorkMatches;
+use regress_input::indexing::{AsciiInput, Ucs2Input, Utf8Input, Utf16Input};
+use std::alloc::AllocError;
+use std::marker::Model;
+
+/// An iterator over the matches of a pattern in a text, within a work budget. Contracts see the
+/// remaining answers, how much work is left, and whether that is enough for all of them.
+pub type MatchesInWork<'r, Input> = WorkMatches<BoundedExecutor<'r, Input>>;
+
+/// A pattern with a known work bound: on a text of n units, all matches together take at most
+/// `work_per_unit` × (n + 1) work. A unit of a text is a byte or a 16-bit code unit.
+///
+/// A unit of work is one step of a thread, one backtrack to a pending thread, one character that a
+/// char loop examines, or one record of a failure. Copies of states and the positions that are
+/// passed are not counted. The work therefore bounds the time, up to a factor that depends on the
+/// pattern. On most texts these searches take longer than those of `Regex` (`docs/LINEAR.md`). They
+/// remember failures in one bit for each position, each instruction that records, and each state of
+/// the loops around it.
+///
+/// Contracts see the pattern, and the number that `work_per_unit` returns.
+#[derive(Drop)]
+pub struct BoundedRegex<'r> {
+    re: &'r Regex,
+    bytes: WorkBound,
+    units: WorkBound,
+}
+
+impl<'r> Model for BoundedRegex<'r> {
+    ghost use Rattle.std.specs.Coded.{codes};
+    ghost use Rattle.regex_pattern_front.specs.contracts.ir.Node as node;
+    ghost use Rattle.regress_match.specs.WorkBounds.{AreBoundsOf, BoundedView, higher_of};
+
+    ghost Value = { BoundedView };
+
+    ghost coded = { Prim.hlevel (codes, node.the_row.coded) };
+
+    ghost view = { λ b. record { re = b.re.now; per_unit = higher_of b.bytes b.units } };
+
+    ghost invariant = { λ b. AreBoundsOf b.re.now b.bytes b.units };
+}
+
+impl Regex {
+    /// Returns the pattern with its work bound, for searches within a work budget.
+    ///
+    /// Returns `None` if no bound is known, for example with a lookaround or a backreference, a
+    /// loop over one character with a maximum of 65,536 or more, more than 64 states of the loops
+    /// around one instruction, or loops nested deeper than 64. `docs/LINEAR.md` has the full list.
+    ///
+    /// # Errors
+    ///
+    /// `AllocError` if an allocation for computing the bound fails.
+    pub fn bounded(&self) -> Result<Option<BoundedRegex<'_>>, AllocError>
+        ensures pattern { IfOk result (λ found. IfSome found (λ bounded. bounded.re ≡ self.now)) }
+        ensures enough { IfOk result (λ found. IfSome found (λ bounded. IsWorkBoundOfBothPrograms self.now bounded.per_unit)) }
+    {
+        let Some(bytes) = WorkBound::bound_for_bytes(self.byte_program())? else {
+            return Ok(None);
+        };
+        let Some(units) = WorkBound::bound_for_units(self.unit_program())? else {
+            return Ok(None);
+        };
+        Ok(Some(BoundedRegex {
+            re: self,
+            bytes,
+            units,
+        }))
+    }
+
+    /// Returns the `work_per_unit` of the pattern: on a text of n units, `work_per_unit` × (n + 1)
+    /// work is enough. Returns `None` if no bound is known (see `bounded`).
+    ///
+    /// # Errors
+    ///
+    /// `AllocError` if an allocation for computing the bound fails.
+    pub fn work_per_unit(&self) -> Result<Option<u64>, AllocError>
+        ensures { IfOk result (λ found. IfSome found (IsWorkBoundOfBothPrograms self.now)) }
+    {
+        match self.bounded()? {
+            Some(bounded) => Ok(Some(bounded.work_per_unit())),
+            None => Ok(None),
+        }
+    }
+}
+
+impl<'r> BoundedRegex<'r> {
+    /// Returns the work bound: on a text of n units, `work_per_unit` × (n + 1) work is enough for
+    /// all matches together, in any of the encodings.
+    pub fn work_per_unit(&self) -> u64
+        ensures number { result ≡ self.now.per_unit }
+        ensures enough { IsWorkBoundOfBothPrograms self.now.re result }
+    {
+        higher(self.bytes.per_unit(), self.units.per_unit())
+    }
+
+    /// Returns an iterator over the matches in `text` from byte offset `start` on, like
+    /// `Regex::find_from`, with at most `work` work for all items together.
+    ///
+    /// The items are the list of matches, or a beginning of it followed by an error. After the last
+    /// item, `None` is returned for good. The error is `WorkLimit` if more work were needed; then
+    /// no work is left. It never occurs if `work` is at least `work_per_unit` × (n + 1) for a text
+    /// of n bytes. The error is `Memory` if an allocation fails. `work_left` of the iterator
+    /// returns how much work is left.
+    ///
+    /// A search for all matches of `a` in `ba` takes 3 units of work: with 2, the match is followed
+    /// by a `WorkLimit` (tested in `regress_checks`).
+    ///
+    /// # Errors
+    ///
+    /// `Memory` if an allocation for the search fails, or if the size of its memo table overflows.
+    pub fn find_from<'t>(
+        &self,
+        text: &'t str,
+        start: usize,
+        work: u64,
+    ) -> Result<MatchesInWork<'r, Utf8Input<'t>>, SearchError>
+        requires { IsCharBoundary text.now start ⊎ (length text.now < start) }
+        ensures yields { IfOk result (YieldsWithinWork (byte_tree self.now.re) (as_utf8 self.now.re text.now)
+            start self.now.per_unit work) }
+        ensures stand { IfOk result (λ it. MatchesAreOrderedFrom text.now start it.come.answers) }
+        ensures ended { IfOk result (λ it. it.come.ended ≡ not (nat_le start (length text.now))) }
+        ensures refused { IfErr result IsOutOfMemory }
+    {
+        let program = self.re.byte_program();
+        let executor = BoundedExecutor::<Utf8Input>::new_utf8(program, &self.bytes, text, work)?;
+        Ok(WorkMatches::new(executor, start))
+    }
+
+    /// Like `find_from`, in ASCII text (`is_ascii`).
+    ///
+    /// # Errors
+    ///
+    /// The same as `find_from`.
+    pub fn find_from_ascii<'t>(
+        &self,
+        text: &'t str,
+        start: usize,
+        work: u64,
+    ) -> Result<MatchesInWork<'r, AsciiInput<'t>>, SearchError>
+        requires { IsAscii text.now }
+        ensures yields { IfOk result (YieldsWithinWork (byte_tree self.now.re) (as_ascii self.now.re text.now)
+            start self.now.per_unit work) }
+        ensures stand { IfOk result (λ it. MatchesAreOrderedFrom text.now start it.come.answers) }
+        ensures ended { IfOk result (λ it. it.come.ended ≡ not (nat_le start (length text.now))) }
+        ensures refused { IfErr result IsOutOfMemory }
+    {
+        let program = self.re.byte_program();
+        let executor = BoundedExecutor::<AsciiInput>::new_ascii(program, &self.bytes, text, work)?;
+        Ok(WorkMatches::new(executor, start))
+    }
+
+    /// Like `find_from`, in UTF-16 text. `start` is an offset in code units that does not split a
+    /// surrogate pair (`is_unit_boundary`), or is past the end.
+    ///
+    /// # Errors
+    ///
+    /// The same as `find_from`.
+    pub fn find_from_utf16<'t>(
+        &self,
+        text: &'t [u16],
+        start: usize,
+        work: u64,
+    ) -> Result<MatchesInWork<'r, Utf16Input<'t>>, SearchError>
+        requires { IsTrue (is_boundary_of text.now start) ⊎ (length text.now < start) }
+        ensures yields { IfOk result (YieldsWithinWork (unit_tree self.now.re) (as_utf16 self.now.re text.now)
+            start self.now.per_unit work) }
+        ensures ended { IfOk result (λ it. it.come.ended ≡ not (nat_le start (length text.now))) }
+        ensures refused { IfErr result IsOutOfMemory }
+    {
+        let program = self.re.unit_program();
+        let executor = BoundedExecutor::<Utf16Input>::new_utf16(program, &self.units, text, work)?;
+        Ok(WorkMatches::new(executor, start))
+    }
+
+    /// Like `find_from`, in UCS-2 text, in which each code unit is a character. `start` is in code
+    /// units.
+    ///
+    /// # Errors
+    ///
+    /// The same as `find_from`.
+    pub fn find_from_ucs2<'t>(
+        &self,
+        text: &'t [u16],
+        start: usize,
+        work: u64,
+    ) -> Result<MatchesInWork<'r, Ucs2Input<'t>>, SearchError>
+        ensures yields { IfOk result (YieldsWithinWork (unit_tree self.now.re) (as_ucs2 self.now.re text.now)
+            start self.now.per_unit work) }
+        ensures ended { IfOk result (λ it. it.come.ended ≡ not (nat_le start (length text.now))) }
+        ensures refused { IfErr result IsOutOfMemory }
+    {
+        let program = self.re.unit_program();
+        let executor = BoundedExecutor::<Ucs2Input>::new_ucs2(program, &self.units, text, work)?;
+        Ok(WorkMatches::new(executor, start))
+    }
+}
+
+// Returns the higher of two numbers.
+fn higher(a: u64, b: u64) -> u64
+    ensures { result ≡ higher a b }
+{
+    if a < b { b } else { a }
+}

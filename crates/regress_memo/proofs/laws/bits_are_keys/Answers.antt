@@ -1,0 +1,5 @@
+use Rattle.regress_memo.proofs.LawLemmas.{keys-are-there}
+use Rattle.regress_memo.proofs.laws.bits_are_keys.Goals as goal
+
+pub returns : goal.returns
+returns c = keys-are-there

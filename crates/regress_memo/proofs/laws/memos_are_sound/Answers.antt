@@ -1,0 +1,5 @@
+use Rattle.regress_memo.proofs.LawLemmas.{memos-are-true}
+use Rattle.regress_memo.proofs.laws.memos_are_sound.Goals as goal
+
+pub returns : goal.returns
+returns c = memos-are-true

@@ -1,0 +1,5 @@
+use Rattle.regress_memo.proofs.SearchLemmas.{searches-are-paid}
+use Rattle.regress_memo.proofs.laws.search_costs_are_covered.Goals as goal
+
+pub returns : goal.returns
+returns c = searches-are-paid

@@ -1,0 +1,74 @@
+-- The contents of a memo table: what it knows of keys.
+use Rattle.std.specs.Prelude.{◌≡◌, ℕ, Bool, false, if◌then◌else◌, ◌&&◌, ◌||◌, ◌==◌, List, length, Option, Some, None, nat_lt}
+use Rattle.regress_machine.specs.Machine.{State}
+use Rattle.regress_memo_laws.specs.MemoSearch.{Key}
+use Rattle.regress_memo_laws.specs.LoopDataKeyCodes.{plan_code, key_of}
+use Rattle.regress_memo_analysis.specs.declared.analysis.MemoAnalysis.{MemoAnalysis}
+use Rattle.regress_memo_analysis.specs.AnalysisContents.{insn_analysis_of, key_code_questions_of, bit_of}
+use Rattle.regress_memo.specs.declared.memo.MemoKey.{MemoKey as Stored}
+use Rattle.regress_memo.specs.BitSet.{is_set}
+use Rattle.regress_memo.specs.MemoContractView.{MemoView}
+
+-- ---- Keys
+
+-- A `MemoKey` as a key of `regress_memo_laws`.
+abbrev pub as_key : Stored → Key
+as_key k = record { ip = k.ip; at = k.at; code = k.code }
+
+-- Whether two keys are equal.
+abbrev pub same_key : Key → Key → Bool
+same_key j k = (j.ip == k.ip) && ((j.at == k.at) && (j.code == k.code))
+
+-- The key of a running state, if its instruction records.
+abbrev pub memo_key_at : MemoAnalysis → State → Option Key
+memo_key_at t s = if (insn_analysis_of t s.ip).records then Some (key_of (plan_code (key_code_questions_of t)) s) else None
+
+-- Whether a key has a bit (the test for `HasBit`).
+abbrev pub has_bit : MemoAnalysis → (places : ℕ) → Key → Bool
+has_bit t places k =
+    nat_lt k.ip (length t.lines.items)
+    && ((insn_analysis_of t k.ip).records && (nat_lt k.at places && nat_lt k.code (insn_analysis_of t k.ip).codes))
+
+-- Whether the key has a bit and that bit is set.
+abbrev pub is_noted : MemoAnalysis → (places : ℕ) → (words : List ℕ) → Key → Bool
+is_noted t places words k = has_bit t places k && is_set words (bit_of t places k.ip k.at k.code)
+
+-- ---- Known keys
+
+-- Whether the key is known to fail.
+abbrev pub has_failure : MemoView → Key → Bool
+has_failure m k = is_noted m.memo_analysis m.places m.failures k
+
+-- Whether the key is known to reach an end; never if successes are not recorded.
+abbrev pub has_success : MemoView → Key → Bool
+has_success m k = m.records_successes && is_noted m.memo_analysis m.places m.ends k
+
+-- Whether the key is known to fail or to reach an end.
+abbrev pub knows : MemoView → Key → Bool
+knows m k = has_failure m k || has_success m k
+
+-- Two memo tables have the same keys and the same kinds of records.
+pub record SameKeys (m n : MemoView) : Type 0 where
+  pub memo_analysis : n.memo_analysis ≡ m.memo_analysis
+  pub places : n.places ≡ m.places
+  pub records_successes : n.records_successes ≡ m.records_successes
+
+-- The memo table of this analysis for `count` offsets knows nothing.
+pub record IsEmptyMemo (t : MemoAnalysis) (count : ℕ) (wanted : Bool) (m : MemoView) : Type 0 where
+  pub memo_analysis : m.memo_analysis ≡ t
+  pub places : m.places ≡ count
+  pub records_successes : m.records_successes ≡ wanted
+  pub failures : (k : Key) → has_failure m k ≡ false
+  pub ends : (k : Key) → has_success m k ≡ false
+
+-- The key is now known to fail, and nothing else changed.
+pub record RecordsFailure (k : Key) (m n : MemoView) : Type 0 where
+  pub same : SameKeys m n
+  pub failures : (j : Key) → has_failure n j ≡ (has_failure m j || same_key j k)
+  pub ends : (j : Key) → has_success n j ≡ has_success m j
+
+-- The key is now known to reach an end, and nothing else changed.
+pub record RecordsSuccess (k : Key) (m n : MemoView) : Type 0 where
+  pub same : SameKeys m n
+  pub failures : (j : Key) → has_failure n j ≡ has_failure m j
+  pub ends : (j : Key) → has_success n j ≡ (has_success m j || same_key j k)

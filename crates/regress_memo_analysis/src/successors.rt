@@ -1,0 +1,152 @@
+//! Successors of instructions.
+
+ghost use Rattle.std.specs.Prelude.{◌≡◌, ◌<◌, ◌^◌, ◌+◌, true, None, map, slice_get};
+ghost use Rattle.regress_plan.specs.InsnsAsSpecInsns.{spec_insn_of, literal_bytes_of};
+ghost use Rattle.regress_memo_analysis.specs.Successors.{successors_of, successors_in, is_fall_through_insn, fall_through as next_at};
+
+use regress_plan::insn::{Insn, LoopFields};
+
+/// A single successor; whether the instruction reads a character, and whether it leaves groups
+/// unchanged.
+#[derive(Clone, Copy)]
+pub struct Successor {
+    pub to: usize,
+    pub reads: bool,
+    pub silent: bool,
+}
+
+/// The minimum and the maximum number of characters of a char loop, and whether it is greedy.
+#[derive(Clone, Copy)]
+pub struct CharLoopMinMaxAndGreed {
+    pub least: usize,
+    pub most: usize,
+    pub greedy: bool,
+}
+
+/// A lookaround: its direction, whether it is negative, and the instruction after it.
+#[derive(Clone, Copy)]
+pub struct Look {
+    pub forward: bool,
+    pub negate: bool,
+    pub past: usize,
+}
+
+/// The successors of an instruction.
+#[derive(Clone, Copy)]
+pub enum Successors {
+    /// No successor.
+    Ends,
+    /// One successor.
+    One(Successor),
+    /// The next instruction or this one.
+    Two(usize),
+    /// The instruction after this loop head, or the loop's exit.
+    Enter(LoopFields),
+    /// Those of the loop head at this index.
+    Again(usize),
+    /// The instruction after a char loop.
+    Run(CharLoopMinMaxAndGreed),
+    /// The instruction after a lookaround, whose contents follow directly.
+    Look(Look),
+    /// The instruction after a backreference.
+    Same,
+}
+
+/// Returns the successors of an instruction; an index past the end has none.
+pub(crate) fn successors_at(insns: &[Insn], ip: usize) -> Successors
+    ensures { result ≡ successors_in ip (slice_get (map spec_insn_of insns.now) ip) }
+{
+    match insns.get(ip) {
+        Some(insn) => of_insn(insn, ip),
+        None => Successors::Ends,
+    }
+}
+
+// Returns the successors of an instruction at index `ip`.
+fn of_insn(insn: &Insn, ip: usize) -> Successors
+    requires { ip + 2 < 2 ^ 64 }
+    ensures { result ≡ successors_of ip (spec_insn_of insn.now) }
+{
+    match insn.literal() {
+        Some(bytes) => to_next(ip, !bytes.is_empty(), true),
+        None => other_step(insn, ip),
+    }
+}
+
+// Returns those of an instruction without bytes.
+fn other_step(insn: &Insn, ip: usize) -> Successors
+    requires { ip + 2 < 2 ^ 64 }
+    ensures { literal_bytes_of (spec_insn_of insn.now) ≡ None → result ≡ successors_of ip (spec_insn_of insn.now) }
+{
+    match insn {
+        Insn::Goal | Insn::JustFail => Successors::Ends,
+        Insn::Alt { secondary } => Successors::Two(*secondary as usize),
+        Insn::Jump { target } => Successors::One(Successor {
+            to: *target as usize,
+            reads: false,
+            silent: true,
+        }),
+        Insn::EnterLoop { .. } => Successors::Enter(insn.loop_fields()),
+        Insn::LoopAgain { begin } => Successors::Again(*begin as usize),
+        Insn::Loop1CharBody {
+            min_iters,
+            max_iters,
+            greedy,
+        } => Successors::Run(CharLoopMinMaxAndGreed {
+            least: *min_iters,
+            most: *max_iters,
+            greedy: *greedy,
+        }),
+        other => plain_step(other, ip),
+    }
+}
+
+// Returns those of an instruction that continues at the next one only, of a lookaround or of a
+// backreference.
+fn plain_step(insn: &Insn, ip: usize) -> Successors
+    requires { ip + 2 < 2 ^ 64 }
+    ensures { is_fall_through_insn (spec_insn_of insn.now) ≡ true → result ≡ successors_of ip (spec_insn_of insn.now) }
+{
+    match insn {
+        Insn::StartOfLine { .. }
+        | Insn::EndOfLine { .. }
+        | Insn::WordBoundary { .. }
+        | Insn::WordBoundaryUnicodeICase { .. } => to_next(ip, false, true),
+        Insn::BeginCaptureGroup(_) | Insn::EndCaptureGroup(_) | Insn::ResetCaptureGroup(_) => {
+            to_next(ip, false, false)
+        }
+        Insn::BackRef { .. } => Successors::Same,
+        Insn::Lookahead {
+            negate,
+            continuation,
+            ..
+        } => around(true, *negate, *continuation),
+        Insn::Lookbehind {
+            negate,
+            continuation,
+            ..
+        } => around(false, *negate, *continuation),
+        _ => to_next(ip, true, true),
+    }
+}
+
+fn around(forward: bool, negate: bool, continuation: u32) -> Successors
+    ensures { result ≡ Successors.Look (record { forward = forward; negate = negate; past = continuation }) }
+{
+    Successors::Look(Look {
+        forward,
+        negate,
+        past: continuation as usize,
+    })
+}
+
+fn to_next(ip: usize, reads: bool, silent: bool) -> Successors
+    requires { ip + 2 < 2 ^ 64 }
+    ensures { result ≡ next_at ip reads silent }
+{
+    Successors::One(Successor {
+        to: ip + 1,
+        reads,
+        silent,
+    })
+}

@@ -1,0 +1,120 @@
+//! The maximum work of all searches of a text, per position.
+
+ghost use Rattle.std.specs.Prelude.{◌≡◌, ◌≤◌, ◌<◌, ◌+◌, ◌^◌, ℕ, IfSome, IsSome, true, false, length, map, slice_get};
+ghost use Rattle.regress_plan.specs.InsnsAsSpecInsns.{spec_insn_of};
+ghost use Rattle.regex_meaning.specs.CompilationRelation.{Program};
+ghost use Rattle.regress_memo_analysis.specs.{WorkBound.{insn_key_cost, cost_of_all_keys, work_per_position, IsStepWorkBounded, IsWorkBounded}, AnalysisContents.{insn_analysis_of}};
+ghost use Rattle.regress_memo_analysis.specs.Successors.{HasInsns, successors_in};
+
+use crate::analysis::{InsnAnalysis, MemoAnalysis};
+use crate::successors::{Look, Successors, successors_at};
+use crate::unreached_char_loop_bodies::no_char_loop_body_is_reached;
+use regress_plan::insn::Insn;
+
+impl MemoAnalysis {
+    /// Returns the maximum work per position if failures are remembered from the first attempt on,
+    /// or `None` if no bound is known.
+    pub fn work_per_position(&self, insns: &[Insn]) -> Option<u64>
+        ensures work { IfSome result (λ work. work ≡ work_per_position self.now) }
+        ensures bounded { IsSome result → (program : Program) → HasInsns program insns.now
+            → IsWorkBounded self.now program }
+    {
+        if !self.all_is_paid(insns) {
+            return None;
+        }
+        let prices = self.cost_of_all_keys()?;
+        let ready = u64::from(self.line(0).ready);
+        prices.checked_add(ready)?.checked_mul(3)
+    }
+
+    // Returns the cost of the keys of all recording instructions at one position, or `None` on
+    // overflow.
+    fn cost_of_all_keys(&self) -> Option<u64>
+        ensures { IfSome result (λ price. price ≡ cost_of_all_keys self.now) }
+    {
+        let lines = self.lines.as_slice();
+        let mut all = 0u64;
+        for line in lines {
+            let price = price_of(line)?;
+            all = all.checked_add(price)?;
+        }
+        Some(all)
+    }
+
+    // Checks that all work is covered: no record is discarded when a lookaround's contents match,
+    // no lazy char loop without a maximum is searched to the left, and no thread reaches the body
+    // of a char loop.
+    fn all_is_paid(&self, insns: &[Insn]) -> bool
+        ensures { result ≡ true → (program : Program) → HasInsns program insns.now → IsWorkBounded self.now program }
+    {
+        for ip in 0..insns.len() {
+            if !self.is_paid_at(insns, ip) {
+                return false;
+            }
+        }
+        self.all_are_ready() && no_char_loop_body_is_reached(insns)
+    }
+
+    // Checks that each thread has some potential.
+    fn all_are_ready(&self) -> bool
+        ensures { result ≡ true → (ip : ℕ) → 1 ≤ (insn_analysis_of self.now ip).ready }
+    {
+        let lines = self.lines.as_slice();
+        for line in lines {
+            if line.ready == 0 {
+                return false;
+            }
+        }
+        true
+    }
+
+    // Checks the lookaround or the char loop at one instruction.
+    fn is_paid_at(&self, insns: &[Insn], ip: usize) -> bool
+        requires { ip < length insns.now }
+        ensures { result ≡ true → IsStepWorkBounded self.now (successors_in ip (slice_get (map spec_insn_of insns.now) ip)) ip }
+    {
+        match successors_at(insns, ip) {
+            Successors::Look(look) => self.has_both(ip, look.past)
+                && !self.records_within(look, ip),
+            Successors::Run(bounds) => {
+                bounds.greedy || bounds.most != usize::MAX || self.line(ip).forward
+            }
+            _ => true,
+        }
+    }
+
+    // Checks that the potential left by a lookaround also covers its contents.
+    fn has_both(&self, ip: usize, past: usize) -> bool
+        requires { ip + 1 < 2 ^ 64 }
+        ensures { result ≡ true → (insn_analysis_of self.now (ip + 1)).ready + (insn_analysis_of self.now past).ready
+            ≤ (insn_analysis_of self.now ip).left }
+    {
+        let ready = u64::from(self.line(ip + 1).ready) + u64::from(self.line(past).ready);
+        ready <= u64::from(self.line(ip).left)
+    }
+
+    // Checks whether a lookaround or an instruction of its contents records.
+    fn records_within(&self, look: Look, ip: usize) -> bool
+        ensures { result ≡ false → (inner : ℕ) → ip ≤ inner → inner < look.past
+            → (insn_analysis_of self.now inner).records ≡ false }
+    {
+        for inner in ip..look.past {
+            if self.line(inner).records {
+                return true;
+            }
+        }
+        false
+    }
+}
+
+// Returns the cost of an instruction's keys at one position if it records, otherwise 0. Returns
+// `None` on overflow.
+fn price_of(line: &InsnAnalysis) -> Option<u64>
+    ensures { IfSome result (λ price. price ≡ insn_key_cost line.now) }
+{
+    if line.records {
+        u64::from(line.price).checked_mul(line.codes as u64)
+    } else {
+        Some(0)
+    }
+}

@@ -1,0 +1,115 @@
+//! Char loops: reading one character after another, and the exits at each number of characters
+//! between the bounds.
+
+ghost use Rattle.std.specs.Prelude.{◌≡◌, ◌<◌, ◌^◌, ◌+◌, ℕ, IfOk, OnOk, IsTrue, IsSome, if◌then◌else◌, reverse};
+ghost use Rattle.regex_meaning.specs.CodeUnitOffsets.{IsBoundary};
+ghost use Rattle.regress_program.specs.InsnMeanings.{spec_insn_of};
+ghost use Rattle.regress_machine.specs.InsnEffects.{after_loop_at, IsNotStuck};
+ghost use Rattle.regress_scan.specs.InsnMatchers.{ByteInsnHasByteText, char_test_of};
+ghost use Rattle.regress_pikevm.specs.{InsnEffects.{effect_of_char_loop, ReachesExits, PushesExit}, States.{state_of, next_threads}};
+
+use super::insn_matchers;
+use super::states::{NextStates, State, copy_state};
+use regress_exec::program_and_input::ProgramAndInput;
+use regress_input::cursor::Direction;
+use regress_input::indexing::InputIndexer;
+use regress_input::position::PositionType;
+use regress_program::insn::Insn;
+use std::alloc::AllocError;
+
+/// The least and greatest number of iterations of a char loop, and whether it prefers more of them.
+#[derive(Clone, Copy)]
+pub(crate) struct IterationBounds {
+    pub min_iters: usize,
+    pub max_iters: usize,
+    pub greedy: bool,
+}
+
+/// Executes a char loop, whose body is an instruction that reads one character.
+pub(crate) fn execute_char_loop<Input: InputIndexer, Dir: Direction>(
+    run: IterationBounds,
+    body: Insn,
+    searched: &ProgramAndInput<'_, Input>,
+    dir: Dir,
+    state: State<Input::Position>,
+) -> Result<NextStates<Input::Position>, AllocError>
+    requires can { let s = searched.now in IsNotStuck (effect_of_char_loop Input.Position.offset
+        s.program.now (Input.text s.input) Dir.FORWARD run body state) }
+    requires bytes { ByteInsnHasByteText body (Input.text searched.now.input) Input.Units.ARE_BYTES }
+    requires within { state.ip + 2 < 2 ^ 64 }
+    ensures { let s = searched.now in IfOk result (λ t. next_threads Input.Position.offset t
+        ≡ effect_of_char_loop Input.Position.offset s.program.now (Input.text s.input) Dir.FORWARD run body state) }
+{
+    let (tries, states) = loop_exits(run, body, searched, dir, &state)?;
+    Ok(NextStates::CharLoopExits(tries, preferred_last(run.greedy, states)))
+}
+
+// Orders states for rising numbers of iterations so that the preferred one is last.
+fn preferred_last<P: PositionType>(greedy: bool, mut states: Vec<State<P>>) -> Vec<State<P>>
+    ensures { result.items ≡ (if greedy then states.items else reverse states.items) }
+{
+    if !greedy {
+        states.reverse();
+    }
+    states
+}
+
+// Returns how many characters are tried, and the states at the exits, the one after the most
+// iterations last.
+fn loop_exits<Input: InputIndexer, Dir: Direction>(
+    run: IterationBounds,
+    body: Insn,
+    searched: &ProgramAndInput<'_, Input>,
+    dir: Dir,
+    state: &State<Input::Position>,
+) -> Result<(usize, Vec<State<Input::Position>>), AllocError>
+    requires test { IsSome (char_test_of searched.now.program.now body) }
+    requires boundary { IsBoundary (Input.text searched.now.input)
+        (Input.Position.offset state.now.pos) }
+    requires bytes { ByteInsnHasByteText body (Input.text searched.now.input) Input.Units.ARE_BYTES }
+    requires within { state.now.ip + 2 < 2 ^ 64 }
+    ensures { let s = searched.now in IfOk result (λ r. ReachesExits Input.Position.offset
+        s.program.now (Input.text s.input) Dir.FORWARD run body state.now r.0 r.1.items) }
+{
+    let mut states = Vec::new(*state.groups.allocator());
+    let mut at = state.pos;
+    let mut count = 0;
+    'characters: loop {
+        push_if_wanted(run.min_iters <= count, at, state, &mut states)?;
+        if count == run.max_iters {
+            return Ok((count, states));
+        }
+        if !insn_matchers::accepts_next(searched, body, dir, &mut at) {
+            return Ok((count + 1, states));
+        }
+        count += 1;
+    }
+}
+
+// Pushes one more exit state, if it is wanted.
+fn push_if_wanted<P: PositionType>(
+    wanted: bool,
+    at: P,
+    state: &State<P>,
+    states: &mut Vec<State<P>>,
+) -> Result<(), AllocError>
+    requires { state.now.ip + 2 < 2 ^ 64 }
+    ensures { OnOk result (PushesExit P.offset wanted at state.now states.old.items states.new.items) }
+{
+    if wanted {
+        states.push(exit_state(at, state)?)?;
+    }
+    Ok(())
+}
+
+/// Returns the state after a char loop that exits at a position.
+pub fn exit_state<P: PositionType>(at: P, state: &State<P>) -> Result<State<P>, AllocError>
+    requires { state.now.ip + 2 < 2 ^ 64 }
+    ensures { IfOk result (λ s. state_of P.offset s
+        ≡ after_loop_at (P.offset at) (state_of P.offset state.now)) }
+{
+    let mut next = copy_state(state)?;
+    next.ip += 2;
+    next.pos = at;
+    Ok(next)
+}

@@ -1,0 +1,84 @@
+-- Required prefixes: which units may occur where a match begins, and what is searched for first.
+use Rattle.std.specs.Prelude.{◌≡◌, ◌<◌, ◌≤◌, ℕ, ◌==◌, ◌%◌, Bool, true, false, ◌&&◌, List, Some, bit_and, slice_get, slice_index, ◌+◌, zero, suc}
+use Rattle.std.specs.Prelude.{IfSome}
+use Rattle.std.specs.Int.{bit_at}
+use Rattle.regex_meaning.specs.CodeUnits.{Encoding}
+use Rattle.regex_meaning.specs.CompilationRelation.{Program}
+use Rattle.regress_simulation.specs.RequiredPrefixes.{Allowed, unit_is_allowed, IsPrefix}
+use Rattle.regress_plan.specs.declared.required_prefix.Prefix.{Prefix}
+use Rattle.regress_plan.specs.declared.prefilters.Prefilter.{Prefilter}
+use Rattle.regress_plan.specs.declared.prefilters.Prefilter.TheVariants as filter
+use Rattle.regress_plan.specs.declared.prefilters.UnitBitsProbe.{UnitBitsProbe}
+use Rattle.regress_plan.specs.declared.required_prefix.RequiredUnit.{RequiredUnit}
+use Rattle.regress_plan.specs.declared.required_prefix.Literal.{Literal}
+use Rattle.regress_plan.specs.declared.prefilters.LiteralPrefilter.{LiteralPrefilter}
+use Rattle.regress_plan.specs.TableKeysOfUnits.{key, has_16_bit_units}
+
+-- The units that a prefix allows: bit `ahead` of the mask of their key is clear.
+abbrev pub units_allowed_by_prefix : Prefix → Allowed
+units_allowed_by_prefix prefix ahead k = bit_at (slice_index prefix.masks k) ahead == 0
+
+-- At `ip`, a thread finds nothing unless each of the next `len` units is allowed.
+abbrev pub PrefixAt : (wide : Bool) → Program → (ip len : ℕ) → Allowed → Type 0
+PrefixAt wide program ip len allowed = (e : Encoding) → has_16_bit_units e ≡ wide → IsPrefix e (key wide) program ip len allowed
+
+-- The prefix is a required prefix at `ip`.
+abbrev pub IsRequiredPrefixAt : (wide : Bool) → Program → (ip : ℕ) → Prefix → Type 0
+IsRequiredPrefixAt wide program ip prefix = PrefixAt wide program ip prefix.len (units_allowed_by_prefix prefix)
+
+-- Whether the `len` units of a list from index `at` on are allowed.
+abbrev pub fits : Allowed → (units : List ℕ) → (at len : ℕ) → Bool
+fits allowed units at zero = true
+fits allowed units at (suc len) = fits allowed units at len && unit_is_allowed allowed len (slice_get units (at + len))
+
+-- No unit with a key in `from..end` is allowed `ahead` units after the start.
+abbrev pub ExcludesKeys : Prefix → (from end ahead : ℕ) → Type 0
+ExcludesKeys prefix from end ahead = (k : ℕ) → from ≤ k → k < end → units_allowed_by_prefix prefix ahead k ≡ false
+
+-- This unit is the only one that is allowed at its position.
+pub record IsRequiredUnit (prefix : Prefix) (rare : RequiredUnit) : Type 0 where
+  pub inside : rare.ahead < prefix.len
+  pub stands : units_allowed_by_prefix prefix rare.ahead rare.unit ≡ true
+  pub only : (k : ℕ) → k < 256 → units_allowed_by_prefix prefix rare.ahead k ≡ true → k ≡ rare.unit
+
+-- Each unit of the literal is the only one that is allowed at its position.
+pub record IsRequiredLiteral (prefix : Prefix) (literal : Literal) : Type 0 where
+  pub some : 0 < literal.len
+  pub inside : literal.ahead + literal.len ≤ prefix.len
+  pub alone : (i : ℕ) → i < literal.len → IsRequiredUnit prefix (record { unit = slice_index literal.units i; ahead = literal.ahead + i })
+
+-- Only units below 128 are allowed `ahead` units after the start.
+abbrev pub AllowsOnlyAsciiAt : Prefix → (ahead : ℕ) → Type 0
+AllowsOnlyAsciiAt prefix ahead = (k : ℕ) → k < 256 → units_allowed_by_prefix prefix ahead k ≡ true → k < 128
+
+-- Only units below 128 are allowed first.
+abbrev pub AllowsOnlyAsciiFirst : Prefix → Type 0
+AllowsOnlyAsciiFirst prefix = AllowsOnlyAsciiAt prefix 0
+
+-- ---- What is searched for first
+
+-- Whether a unit has the bits of a probe.
+abbrev pub unit_passes_probe : UnitBitsProbe → (unit : ℕ) → Bool
+unit_passes_probe probe unit = bit_and (unit % 256) probe.mask == probe.bits
+
+-- Only units below 128 that pass the probe are allowed at its position.
+pub record IsUnitBitsProbe (prefix : Prefix) (probe : UnitBitsProbe) : Type 0 where
+  pub inside : probe.ahead < prefix.len
+  pub low : AllowsOnlyAsciiAt prefix probe.ahead
+  pub only : (k : ℕ) → k < 256 → units_allowed_by_prefix prefix probe.ahead k ≡ true → unit_passes_probe probe k ≡ true
+
+-- Each of the probes is right for the prefix.
+abbrev pub AreUnitBitsProbes : Prefix → List UnitBitsProbe → Type 0
+AreUnitBitsProbes prefix probes = (i : ℕ) (probe : UnitBitsProbe) → slice_get probes i ≡ Some probe → IsUnitBitsProbe prefix probe
+
+-- The literal is right for the prefix, and so are the rare unit and the probes, if any.
+pub record IsLiteralPrefilter (prefix : Prefix) (known : LiteralPrefilter) : Type 0 where
+  pub literal : IsRequiredLiteral prefix known.literal
+  pub rare : IfSome known.rare (IsRequiredUnit prefix)
+  pub probes : IfSome known.probes (AreUnitBitsProbes prefix)
+
+-- The prefilter is right for the prefix. Without one, or with a literal, units are bytes.
+abbrev pub IsPrefilter : (wide : Bool) → Prefix → Prefilter → Type 0
+IsPrefilter wide prefix filter.Absent = wide ≡ false
+IsPrefilter wide prefix (filter.ByLiteral known) = (wide ≡ false) × IsLiteralPrefilter prefix known
+IsPrefilter wide prefix (filter.Probes probes) = AreUnitBitsProbes prefix probes

@@ -1,6 +1,0 @@
-use Rattle.std.proofs.Common.{string_bytes}
-use Rattle.regress_program.proofs.FilingLemmas.{same_texts}
-use Rattle.regress_program.proofs.insn.names.copied.Goals as goal
-
-pub returns : goal.returns
-returns c = same_texts string_bytes _ _ c.in_ok-clone.ensures.cases.0

@@ -1,6 +1,0 @@
-use Rattle.std.proofs.Common.{◌∙◌}
-use Rattle.regress_program.proofs.BeginningLemmas.{after-nothing}
-use Rattle.regress_program.proofs.startpredicate.beginnings.begins.Goals as goal
-
-pub returns-clause-beginning : goal.returns-clause-beginning
-returns-clause-beginning c = c.in_ok-add.ensures.shared ∙ after-nothing _

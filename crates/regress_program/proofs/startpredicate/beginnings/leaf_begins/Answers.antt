@@ -1,9 +1,0 @@
-use Rattle.std.proofs.Common.{sym, ap, ◌∙◌}
-use Rattle.regex_pattern_front.specs.TreeOf.{node_of}
-use Rattle.regress_program.specs.Nodes.{is_leaf}
-use Rattle.regress_program.proofs.NodeLemmas.{node_of-Cat, no_leaf}
-use Rattle.regress_program.proofs.startpredicate.beginnings.leaf_begins.Goals as goal
-
-pub unreachable-requires : goal.unreachable-requires
-unreachable-requires c =
-    no_leaf c.in-Cat.field-0.items (sym (ap is_leaf (ap node_of c.in-Cat.is ∙ node_of-Cat c.in-Cat.field-0)) ∙ c.requires)

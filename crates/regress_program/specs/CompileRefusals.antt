@@ -1,0 +1,53 @@
+-- Which trees are not compiled, and why.
+use Rattle.std.specs.Prelude.{◌≡◌, Bool, ◌<◌, ◌≤◌, ◌^◌, false, length, IsTrue}
+use Rattle.regex_meaning.specs.Tree.{Tree, group_ids}
+use Rattle.regex_meaning.specs.WellFormedTrees.{IsWellFormed}
+use Rattle.regex_meaning.specs.CompilationRelation.{reads_bytes}
+use Rattle.regress_program.specs.CodeOfTrees.{node_insn_count, loop_count}
+use Rattle.regress_program.specs.declared.emit.EmitError.{EmitError}
+use Rattle.regress_program.specs.declared.emit.EmitError.TheVariants.{NotWellFormed, BytesInUnits, TooManyGroups, TooManyLoops, TooManyInstructions}
+use Rattle.regress_program.specs.declared.emit.EmitError.TheVariants.{Memory}
+
+-- The tree is well formed, and its program is within the limits.
+pub record FitsLimits (tree : Tree) : Type 0 where
+  pub well_formed : IsWellFormed tree.root
+  pub groups : length (group_ids tree.root) < 2 ^ 16
+  pub loops : loop_count tree.root < 2 ^ 16
+  pub insns : node_insn_count tree.root < 2 ^ 32
+
+-- The tree is well formed and has too many groups.
+pub record HasTooManyGroups (tree : Tree) : Type 0 where
+  pub well_formed : IsWellFormed tree.root
+  pub groups : 2 ^ 16 ≤ length (group_ids tree.root)
+
+-- The tree has too many loops, and is otherwise within the earlier limits.
+pub record HasTooManyLoops (tree : Tree) : Type 0 where
+  pub well_formed : IsWellFormed tree.root
+  pub groups : length (group_ids tree.root) < 2 ^ 16
+  pub loops : 2 ^ 16 ≤ loop_count tree.root
+
+-- The tree has too many instructions, and is otherwise within the earlier limits.
+pub record HasTooManyInstructions (tree : Tree) : Type 0 where
+  pub well_formed : IsWellFormed tree.root
+  pub groups : length (group_ids tree.root) < 2 ^ 16
+  pub loops : loop_count tree.root < 2 ^ 16
+  pub insns : 2 ^ 32 ≤ node_insn_count tree.root
+
+-- the cause of each error, where no earlier cause holds; allocation failure comes last, for a tree
+-- that is compiled; `bytes_in_units` says that a tree for 16-bit code units has a node that reads
+-- bytes
+abbrev pub IsCompileErrorCause : (bytes_in_units : Bool) → EmitError → Tree → Type 0
+IsCompileErrorCause bytes_in_units NotWellFormed tree = ¬ (IsWellFormed tree.root)
+IsCompileErrorCause bytes_in_units BytesInUnits tree = IsWellFormed tree.root × IsTrue bytes_in_units
+IsCompileErrorCause bytes_in_units TooManyGroups tree = (bytes_in_units ≡ false) × HasTooManyGroups tree
+IsCompileErrorCause bytes_in_units TooManyLoops tree = (bytes_in_units ≡ false) × HasTooManyLoops tree
+IsCompileErrorCause bytes_in_units TooManyInstructions tree = (bytes_in_units ≡ false) × HasTooManyInstructions tree
+IsCompileErrorCause bytes_in_units Memory tree = (bytes_in_units ≡ false) × FitsLimits tree
+
+-- the cause of an error of compiling for bytes
+abbrev pub IsByteCompileErrorCause : EmitError → Tree → Type 0
+IsByteCompileErrorCause e tree = IsCompileErrorCause false e tree
+
+-- the cause of an error of compiling for 16-bit code units
+abbrev pub IsUnitCompileErrorCause : EmitError → Tree → Type 0
+IsUnitCompileErrorCause e tree = IsCompileErrorCause (reads_bytes tree.root) e tree

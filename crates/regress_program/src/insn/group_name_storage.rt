@@ -1,0 +1,107 @@
+//! The names of groups.
+
+ghost use Rattle.std.specs.Prelude.{◌≡◌, IfOk, map, string_bytes};
+
+use std::alloc::{AllocError, Global};
+use std::fmt;
+use std::marker::Model;
+use std::sync::Arc;
+
+// A list with one owner, or a shared list.
+#[derive(Drop)]
+enum NameStorage {
+    Own(Vec<String>),
+    Shared(Arc<Vec<String>, Global>),
+}
+
+/// The names of groups by id, with an empty name for a group without one. The list is empty if no
+/// group has a name. A program shares it with its matches. Contracts see the list.
+#[derive(Drop)]
+pub struct GroupNames {
+    held: NameStorage,
+}
+
+impl Model for GroupNames {
+    ghost use Rattle.std.specs.Prelude.{ℕ, List};
+
+    ghost Value = { List (List ℕ) };
+
+    ghost use Rattle.regress_program.specs.StoredNames.{stored_names};
+
+    ghost view = { λ names. stored_names names.held };
+}
+
+impl GroupNames {
+    /// Stores these names in a list of its own, which `clone` copies. It allocates no memory.
+    pub fn owned(names: Vec<String>) -> Self
+        ensures { result ≡ map string_bytes names.items }
+    {
+        GroupNames {
+            held: NameStorage::Own(names),
+        }
+    }
+
+    /// Stores these names in a shared list, which `clone` does not copy.
+    ///
+    /// # Errors
+    ///
+    /// Returns `Err` if the allocation of the shared list fails. An empty list is not allocated.
+    pub fn shared(names: Vec<String>) -> Result<Self, AllocError>
+        ensures { IfOk result (λ shared. shared ≡ map string_bytes names.items) }
+    {
+        if names.is_empty() {
+            return Ok(GroupNames::owned(names));
+        }
+        let alloc = *names.allocator();
+        let names = Arc::new(alloc, names)?;
+        Ok(GroupNames {
+            held: NameStorage::Shared(names),
+        })
+    }
+
+    /// Returns the names.
+    #[inline(always)]
+    pub fn as_slice(&self) -> &[String]
+        ensures { map string_bytes result.now ≡ self.now }
+    {
+        match &self.held {
+            NameStorage::Own(names) => names,
+            NameStorage::Shared(names) => names.as_slice(),
+        }
+    }
+
+    /// Returns the same names. It allocates no memory if the list is shared.
+    ///
+    /// # Errors
+    ///
+    /// Returns `Err` if the allocation for a list of its own fails.
+    #[inline(always)]
+    pub fn clone(&self) -> Result<Self, AllocError>
+        ensures { IfOk result (λ copy. copy ≡ self.now) }
+    {
+        match &self.held {
+            NameStorage::Own(names) => Ok(GroupNames::owned(copy_names(names)?)),
+            NameStorage::Shared(names) => Ok(GroupNames {
+                held: NameStorage::Shared(names.clone()?),
+            }),
+        }
+    }
+}
+
+// Copies the names. The test for an empty list is inlined: each match has a list, and most patterns
+// name no group.
+#[inline(always)]
+fn copy_names(names: &Vec<String>) -> Result<Vec<String>, AllocError>
+    ensures { IfOk result (λ copy. map string_bytes copy.items ≡ map string_bytes names.now.items) }
+{
+    if names.is_empty() {
+        return Ok(Vec::new(*names.allocator()));
+    }
+    Ok(names.clone()?)
+}
+
+impl fmt::Debug for GroupNames {
+    fn fmt<W: fmt::Write>(&self, f: &mut fmt::Formatter<W>) -> fmt::Result {
+        fmt::Debug::fmt(self.as_slice(), f)
+    }
+}

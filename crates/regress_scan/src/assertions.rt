@@ -1,0 +1,43 @@
+//! Assertions at an offset: line boundaries and word boundaries.
+
+ghost use Rattle.std.specs.Prelude.{◌≡◌};
+ghost use Rattle.regex_meaning.specs.{Tree.{start_of_line, end_of_line}, CodeUnitOffsets.{IsBoundary}, Outcomes.{is_at_word_boundary, exclusive_or}};
+ghost use Rattle.regress_input.specs.ReadsFromOffset.{place};
+ghost use Rattle.regress_scan.specs.InsnMatchers.{anchor_matches_at};
+
+use crate::insn_matchers::{at_line_end, at_line_start, at_word_boundary};
+use crate::search_context::position;
+use regress_input::indexing::InputIndexer;
+use regress_plan::ops::WordBoundaryKind;
+
+/// Checks whether a line starts at `at`. Without `multiline`, only the start of the text counts.
+#[inline(always)]
+pub fn is_line_start<Input: InputIndexer>(input: &Input, multiline: bool, at: usize) -> bool
+    requires { IsBoundary (Input.text input.now) at }
+    ensures { result ≡ anchor_matches_at (Input.text input.now) start_of_line multiline at }
+{
+    at_line_start(input, multiline, position(input, at))
+}
+
+/// Checks whether a line ends at `at`. Without `multiline`, only the end of the text counts.
+#[inline(always)]
+pub fn is_line_end<Input: InputIndexer>(input: &Input, multiline: bool, at: usize) -> bool
+    requires { IsBoundary (Input.text input.now) at }
+    ensures { result ≡ anchor_matches_at (Input.text input.now) end_of_line multiline at }
+{
+    at_line_end(input, multiline, position(input, at))
+}
+
+/// Checks whether a word boundary is at `at`, or with `edge.invert`, that none is.
+#[inline(always)]
+pub fn is_word_boundary<Input: InputIndexer>(
+    input: &Input,
+    edge: WordBoundaryKind,
+    at: usize,
+) -> bool
+    requires { IsBoundary (Input.text input.now) at }
+    ensures { let text = Input.text input.now in
+        result ≡ exclusive_or edge.invert (is_at_word_boundary text edge.unicode_icase (place text at)) }
+{
+    at_word_boundary(input, edge.invert, edge.unicode_icase, position(input, at))
+}

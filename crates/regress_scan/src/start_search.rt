@@ -1,0 +1,334 @@
+//! Search for candidate starts: no match begins at any other offset.
+
+ghost use Rattle.std.specs.Prelude.{◌≡◌, ◌<◌, false, IfSome};
+ghost use Rattle.regex_meaning.specs.CodeUnitOffsets.{IsBoundary, units};
+ghost use Rattle.regress_input.specs.ReadsFromOffset.{has_byte_units};
+ghost use Rattle.regress_plan.specs.{LookbehindFilter.{HasOnlyLeadByteKeys}, PrefixesAndPrefilters.{AllowsOnlyAsciiFirst, IsRequiredLiteral, IsRequiredUnit, IsLiteralPrefilter, IsPrefilter}, TableKeysOfUnits.{has_16_bit_units}};
+ghost use Rattle.regress_plan.specs.Plans.{unit_table_of_set_number};
+ghost use Rattle.regress_simulation.specs.FirstSetTables.{FirstSetTable};
+ghost use Rattle.regress_scan.specs.StartSearch.{IsFirstAllowedBoundaryOrEnd, IsFirstBoundaryWhere, IsFirstPrefixMatch, IsFirstCandidate, IsFoundInBytes, AllowsOnlyLeadBytes, SkipsNoBoundary, IsPastFirstAllowedChar, few_units_table, may_start_at};
+
+use crate::bit_probes::{BitProbes, next_by_bit_probes};
+use crate::few_units_finder::FewUnitsFinder;
+use crate::literal_finder::LONG;
+use crate::next_char_and_unit_tables::unit_key_at_offset;
+use crate::prefix_search::{PrefixAndLiteralFinder, PrefixAndRequiredUnit};
+use crate::search_context::{SearchContext, offset_in, position_in, text_end};
+use regress_input::front::ByteSearcher;
+use regress_input::indexing::{CodeUnits, HasUnits, InputIndexer};
+use regress_plan::first_set::FirstSet;
+use regress_plan::lookbehind_filter::LookbehindFilter;
+use regress_plan::plan::CandidateStarts;
+use regress_plan::prefilters::{LiteralPrefilter, Prefilter};
+use regress_plan::required_prefix::{Literal, Prefix, RequiredUnit};
+
+/// A set of code units with which a match may start. Contracts see its table.
+pub(crate) trait StartSet {
+    ghost table: { Self → FirstSetTable };
+
+    /// Checks whether a code unit with this key is in the set.
+    fn has_key(&self, key: usize) -> bool
+        requires { key < 256 }
+        ensures { result ≡ (table self.now).keys key };
+
+    /// Checks whether the end of the text is in the set.
+    fn has_end(&self) -> bool
+        ensures { result ≡ (table self.now).end };
+}
+
+impl StartSet for FirstSet {
+    ghost use Rattle.regress_plan.specs.TableKeysOfUnits.{unit_table_of_set};
+
+    ghost table = { unit_table_of_set };
+
+    #[inline(always)]
+    fn has_key(&self, key: usize) -> bool {
+        self.keys[key]
+    }
+
+    #[inline(always)]
+    fn has_end(&self) -> bool {
+        self.end
+    }
+}
+
+impl StartSet for FewUnitsFinder {
+    ghost use Rattle.regress_scan.specs.StartSearch.{few_units_table};
+
+    ghost table = { λ few. few_units_table few.units few.len };
+
+    #[inline(always)]
+    fn has_key(&self, key: usize) -> bool {
+        self.has(key)
+    }
+
+    #[inline(always)]
+    fn has_end(&self) -> bool {
+        false
+    }
+}
+
+// Returns the offset past a code unit, or past a character if units are not bytes.
+#[inline(always)]
+fn past_unit<W: SearchContext>(planned: &W, at: usize) -> usize
+    requires inside { at < units (W.searching planned.now).text }
+    requires at { let w = W.searching planned.now in
+        has_byte_units w.encoding ≡ false → IsBoundary w.text at }
+    ensures { let w = W.searching planned.now in SkipsNoBoundary w.text (has_byte_units w.encoding) at result }
+{
+    let input = planned.input();
+    if <<W::Input as HasUnits>::Units as CodeUnits>::ARE_BYTES {
+        at + 1
+    } else {
+        offset_in(planned, input.past(position_in(planned, at)))
+    }
+}
+
+// Returns the first offset from `from` on that the set allows.
+#[inline(always)]
+fn first_place<W: SearchContext, Set: StartSet>(
+    planned: &W,
+    set: &Set,
+    from: usize,
+) -> Option<usize>
+    requires at { IsBoundary (W.searching planned.now).text from }
+    requires leads { AllowsOnlyLeadBytes (has_16_bit_units (W.searching planned.now).encoding) (Set.table set.now) }
+    ensures { IsFirstAllowedBoundaryOrEnd (W.searching planned.now) (Set.table set.now) from result }
+{
+    let end = text_end(planned);
+    let mut at = from;
+    'units: while at < end {
+        if set.has_key(unit_key_at_offset(planned, at)) {
+            return Some(at);
+        }
+        at = past_unit(planned, at);
+    }
+    if set.has_end() { Some(at) } else { None }
+}
+
+// Returns the first offset from `from` on that the set with this number allows.
+#[inline(always)]
+fn next_among<W: SearchContext>(planned: &W, number: u32, from: usize) -> Option<usize>
+    requires { IsBoundary (W.searching planned.now).text from }
+    ensures { let w = W.searching planned.now in IsFirstAllowedBoundaryOrEnd w (unit_table_of_set_number w.plan number) from result }
+{
+    planned.plan_fits_program();
+    match planned.set(number) {
+        Some(set) => first_place(planned, set, from),
+        None => Some(from),
+    }
+}
+
+// Returns the first offset from `from` on where the searcher finds something in bytes.
+#[inline(always)]
+fn find<W: SearchContext, Search: ByteSearcher>(
+    planned: &W,
+    search: &Search,
+    from: usize,
+) -> Option<usize>
+    requires { IsBoundary (W.searching planned.now).text from }
+    ensures { IsFoundInBytes (W.searching planned.now) (Search.stands_at search.now) from result }
+{
+    let pos = position_in(planned, from);
+    match planned.input().find_bytes(pos, search) {
+        Some(pos) => Some(offset_in(planned, pos)),
+        None => None,
+    }
+}
+
+/// Returns the first offset from `from` on of one of a few code units.
+#[inline(never)]
+pub(crate) fn next_of_few_units<W: SearchContext>(
+    planned: &W,
+    few: FewUnitsFinder,
+    from: usize,
+) -> Option<usize>
+    requires at { IsBoundary (W.searching planned.now).text from }
+    requires leads { let wide = has_16_bit_units (W.searching planned.now).encoding in
+        AllowsOnlyLeadBytes wide (few_units_table few.units few.len) }
+    ensures { IsFirstAllowedBoundaryOrEnd (W.searching planned.now) (few_units_table few.units few.len) from result }
+{
+    match planned.input().as_bytes() {
+        Some(_) => find(planned, &few, from),
+        None => first_place(planned, &few, from),
+    }
+}
+
+// ---- By a prefix
+
+// Returns the first offset from `from` on where the prefix may occur in bytes, by a rare required
+// unit, or else by the masks of its units.
+#[inline(never)]
+fn next_prefix_match<W: SearchContext>(
+    planned: &W,
+    prefix: &Prefix,
+    rare: Option<RequiredUnit>,
+    from: usize,
+) -> Option<usize>
+    requires at { IsBoundary (W.searching planned.now).text from }
+    requires bytes { has_16_bit_units (W.searching planned.now).encoding ≡ false }
+    requires prefix { (0 < prefix.now.len) × AllowsOnlyAsciiFirst prefix.now }
+    requires rare { IfSome rare (λ r. IsRequiredUnit prefix.now r) }
+    ensures { IsFirstPrefixMatch (W.searching planned.now) prefix.now from result }
+{
+    let fitting = PrefixAndRequiredUnit { prefix, rare };
+    find(planned, &fitting, from)
+}
+
+// Returns that offset by the required literal.
+#[inline(never)]
+fn next_literal<W: SearchContext>(
+    planned: &W,
+    prefix: &Prefix,
+    literal: &Literal,
+    from: usize,
+) -> Option<usize>
+    requires at { IsBoundary (W.searching planned.now).text from }
+    requires bytes { has_16_bit_units (W.searching planned.now).encoding ≡ false }
+    requires prefix { (0 < prefix.now.len) × AllowsOnlyAsciiFirst prefix.now }
+    requires literal { IsRequiredLiteral prefix.now literal.now }
+    ensures { IsFirstPrefixMatch (W.searching planned.now) prefix.now from result }
+{
+    let in_row = PrefixAndLiteralFinder {
+        kept: planned.kept(),
+        prefix,
+        literal,
+    };
+    find(planned, &in_row, from)
+}
+
+// Returns that offset by known units: in a long text by the literal.
+#[inline(always)]
+fn next_known<W: SearchContext>(
+    planned: &W,
+    prefix: &Prefix,
+    known: &LiteralPrefilter,
+    from: usize,
+) -> Option<usize>
+    requires at { IsBoundary (W.searching planned.now).text from }
+    requires bytes { has_16_bit_units (W.searching planned.now).encoding ≡ false }
+    requires some { 0 < prefix.now.len }
+    requires ascii { AllowsOnlyAsciiFirst prefix.now }
+    requires known { IsLiteralPrefilter prefix.now known.now }
+    ensures { IsFirstPrefixMatch (W.searching planned.now) prefix.now from result }
+{
+    if text_end(planned).saturating_sub(from) > LONG {
+        return next_literal(planned, prefix, &known.literal, from);
+    }
+    next_in_short_text(planned, prefix, known, from)
+}
+
+// Returns that offset in a short text: by a rare unit, otherwise by bit probes if there are any.
+#[inline(always)]
+fn next_in_short_text<W: SearchContext>(
+    planned: &W,
+    prefix: &Prefix,
+    known: &LiteralPrefilter,
+    from: usize,
+) -> Option<usize>
+    requires at { IsBoundary (W.searching planned.now).text from }
+    requires bytes { has_16_bit_units (W.searching planned.now).encoding ≡ false }
+    requires some { 0 < prefix.now.len }
+    requires ascii { AllowsOnlyAsciiFirst prefix.now }
+    requires known { IsLiteralPrefilter prefix.now known.now }
+    ensures { IsFirstPrefixMatch (W.searching planned.now) prefix.now from result }
+{
+    if known.rare.is_none() {
+        if let Some(probes) = &known.probes {
+            return next_by_bit_probes(planned, BitProbes { prefix, probes }, from);
+        }
+    }
+    next_prefix_match(planned, prefix, known.rare, from)
+}
+
+// Returns that offset by the prefilter.
+#[inline(always)]
+fn first_filtered<W: SearchContext>(
+    planned: &W,
+    prefix: &Prefix,
+    prefilter: &Prefilter,
+    from: usize,
+) -> Option<usize>
+    requires at { IsBoundary (W.searching planned.now).text from }
+    requires some { 0 < prefix.now.len }
+    requires ascii { AllowsOnlyAsciiFirst prefix.now }
+    requires filter { IsPrefilter (has_16_bit_units (W.searching planned.now).encoding) prefix.now prefilter.now }
+    ensures { IsFirstPrefixMatch (W.searching planned.now) prefix.now from result }
+{
+    match prefilter {
+        Prefilter::Probes(probes) => next_by_bit_probes(
+            planned,
+            BitProbes { prefix, probes },
+            from,
+        ),
+        Prefilter::ByLiteral(known) => next_known(planned, prefix, known, from),
+        Prefilter::Absent => next_prefix_match(planned, prefix, None, from),
+    }
+}
+
+// ---- By the character before
+
+// Returns the offset past the first character from `from` on that begins with one of a few code
+// units.
+#[inline(always)]
+fn next_past<W: SearchContext>(planned: &W, few: FewUnitsFinder, from: usize) -> Option<usize>
+    requires at { IsBoundary (W.searching planned.now).text from }
+    requires leads { let wide = has_16_bit_units (W.searching planned.now).encoding in
+        AllowsOnlyLeadBytes wide (few_units_table few.units few.len) }
+    ensures { IsPastFirstAllowedChar (W.searching planned.now) (few_units_table few.units few.len) from result }
+{
+    let hit = next_of_few_units(planned, few, from)?;
+    Some(offset_in(planned, planned.input().past(position_in(planned, hit))))
+}
+
+// Returns the first offset from `from` on where the character before lets a match begin.
+#[inline(never)]
+fn next_by_lookbehind<W: SearchContext>(
+    planned: &W,
+    before: LookbehindFilter,
+    from: usize,
+) -> Option<usize>
+    requires at { IsBoundary (W.searching planned.now).text from }
+    requires leads { HasOnlyLeadByteKeys (has_16_bit_units (W.searching planned.now).encoding) before }
+    ensures { let w = W.searching planned.now in
+        IsFirstBoundaryWhere w (may_start_at w (CandidateStarts.Behind before)) from result }
+{
+    let LookbehindFilter { keys, len, edge } = before;
+    let few = FewUnitsFinder { units: keys, len };
+    match planned.input().next_left_pos(position_in(planned, from)) {
+        Some(start) => next_past(planned, few, offset_in(planned, start)),
+        None => {
+            if edge {
+                Some(from)
+            } else {
+                next_past(planned, few, from)
+            }
+        }
+    }
+}
+
+// ---- By the plan
+
+/// Returns the first candidate start from `from` on, by the plan.
+#[inline(always)]
+pub fn first_candidate<W: SearchContext>(planned: &W, from: usize) -> Option<usize>
+    requires { IsBoundary (W.searching planned.now).text from }
+    ensures { IsFirstCandidate (W.searching planned.now) from result }
+{
+    planned.plan_fits_program();
+    match planned.start() {
+        CandidateStarts::Anywhere => Some(from),
+        CandidateStarts::InSet { set } => next_among(planned, *set, from),
+        CandidateStarts::FewUnits { units, len } => {
+            let few = FewUnitsFinder {
+                units: *units,
+                len: *len,
+            };
+            next_of_few_units(planned, few, from)
+        }
+        CandidateStarts::Behind(before) => next_by_lookbehind(planned, *before, from),
+        CandidateStarts::Prefix { prefix, prefilter } => first_filtered(
+            planned, prefix, prefilter, from,
+        ),
+    }
+}

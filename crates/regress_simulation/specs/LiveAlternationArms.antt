@@ -1,0 +1,14 @@
+-- The arms of a chain of alternations, without those that find nothing.
+use Rattle.std.specs.Prelude.{◌≡◌, ◌⊎◌, ℕ, zero, suc, ◌+◌, Bool, false, List, [], ◌∷◌, Some, slice_get}
+use Rattle.regex_meaning.specs.CompilationRelation.{Program, Alt}
+
+-- The arm is in front of the others, or is omitted because `may` excludes it.
+abbrev pub IsArmKeptIfLive : (may : ℕ → Bool) → (arm : ℕ) → (others all : List ℕ) → Type 0
+IsArmKeptIfLive may arm others all = (all ≡ arm ∷ others) ⊎ ((all ≡ others) × (may arm ≡ false))
+
+-- The live arms of a chain of `count` alternations, the first of which is at `ip`. The last arm is
+-- what follows the chain.
+abbrev pub AreArms : Program → (may : ℕ → Bool) → (count ip : ℕ) → List ℕ → Type 0
+AreArms program may zero ip arms = IsArmKeptIfLive may ip [] arms
+AreArms program may (suc count) ip arms =
+    (other : ℕ) × (others : List ℕ) × (slice_get program.insns ip ≡ Some (Alt other)) × IsArmKeptIfLive may (ip + 1) others arms × AreArms program may count other others

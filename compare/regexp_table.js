@@ -3,8 +3,9 @@
 //
 // Most lines are a product: each pattern with each set of flags, on each text, where `lastIndex` takes its places in turn.
 // A line calls one object several times, so that a call also begins where the one before left `lastIndex`. Behind these
-// stand lines on what a product has not: templates, limits, sources, flags and names. Where docs/PROFILE.md says that V8 is
-// not the standard, or that a pattern means something else here, there is no line.
+// stand lines on what a product has not: templates, limits, sources, flags, names, indices and numbers that are coerced.
+// Where docs/PROFILE.md says that V8 is not the standard, or that a pattern means something else here, there is no line.
+// The last lines are malformed. JSON.parse judges which strings are; the answers to the others are written by hand.
 const fs = require("fs");
 
 const lines = [];
@@ -27,7 +28,9 @@ const json = (value) => {
   return `{${Object.entries(value).map(([name, of]) => `${quoted(name)}:${json(of)}`).join(",")}}`;
 };
 
-const matched = (m) => m && { index: m.index, match: [...m], groups: m.groups ? { ...m.groups } : null };
+const parts = (m) => ({ match: [...m], groups: m.groups ? { ...m.groups } : null });
+
+const matched = (m) => m && { index: m.index, ...parts(m), ...(m.indices && { indices: parts(m.indices) }) };
 
 // What `replaceWith` puts in place of a match: where it begins, its text and those of its groups.
 const told = (...words) => {
@@ -56,7 +59,7 @@ const isLiteral = (source) => source !== "" && /^(?:[ -.0-Z^-~]|\\[ -~]|\[(?:[ -
 function add(source, flags, lastIndex, ...calls) {
   const pattern = isLiteral(source) && /^[a-z]*$/.test(flags) ? `/${source}/${flags}` : `${quoted(source)} ${quoted(flags)}`;
   const words = calls.map(([method, ...given]) => [method, ...given.map(json)].join(" "));
-  lines.push([pattern, ...(lastIndex ? [`@${lastIndex}`] : []), ...words].join(" "));
+  lines.push([pattern, ...(lastIndex === 0 ? [] : [`@${lastIndex}`]), ...words].join(" "));
   let re;
   try {
     re = new RegExp(source, flags);
@@ -170,6 +173,63 @@ for (const source of ["[\u{1F337}-\u{1F338}]", "\u{1F600}+", "^.$", "[^\u{1F600}
     add(source, flags, 0, ["exec", "\u{1F600}\ude00aa"], ["match", "\u{1F337}\u{1F600}\u{1F600}"]);
   }
 }
+
+// ---- Indices, with each set of the other flags
+
+for (const flags of ALL_FLAGS) {
+  const letters = [...flags];
+  letters.splice(letters.length / 2, 0, "d");
+  add("(?<n>b)?(.)??$", letters.join(""), 2, ["exec", MIXED], ["match", MIXED], ["matchAll", MIXED], ["flags"], ["toString"]);
+}
+for (const [source, flags] of [["(a)|(?<x>b)|(?<y>)", "dg"], ["(\u{1F600})(?=(a))?", "dgu"], ["(.)\\1", "dy"], ["", "d"], ["a", "dd"]]) {
+  add(source, flags, 1, ["exec", "\u{1F600}aab"], ["matchAll", "\u{1F600}aab"], ["replace", "\u{1F600}aab", "[$1]"], ["split", "\u{1F600}aab"]);
+}
+
+// ---- Numbers that are coerced: `lastIndex` where the next call writes it, and limits
+
+const NUMBERS = [
+  -1, -0.5, 0.5, 0.999, 1.5, 2.999, -1e300, 1e300, 1e-300, 2 ** 31, 2 ** 32, -(2 ** 32), 2 ** 32 + 1, -(2 ** 32) + 2, 2 ** 32 + 1.5, 2 ** 33 + 2, 2 ** 53 - 1,
+  2 ** 53, -(2 ** 53) + 3, 2 ** 64, 2 ** 64 + 2 ** 12, (2 ** 52 + 1) * 2 ** 31, -(2 ** 52 + 1) * 2 ** 31, 2 ** 85, 2 ** 127 + 2 ** 75, 2 ** 128, 2 ** 200, NaN, Infinity, -Infinity,
+];
+for (const number of NUMBERS) {
+  for (const flags of ["g", "y"]) add("a", flags, number, ["exec", "aaba"], ["exec", "aaba"]);
+  add("a", "gy", number, ["test", "aaba"], ["match", "aaba"], ["lastIndex"]);
+  add("b", "", 0, ["split", "abababa", number], ["split", "", number]);
+}
+
+// ---- Malformed lines
+
+const answerLine = (line, ...given) => (lines.push(line), answers.push(...given));
+const malformed = (why) => `{"error":"malformed line: ${why}"}`;
+
+const STRINGS = [
+  ["\\u12", "invalid escape in a string"], ["\\u12g4", "invalid escape in a string"], ["\\u", "invalid escape in a string"], ["\\ud83d\\ude0", "invalid escape in a string"],
+  ["\\q", "invalid escape in a string"], ["\\'", "invalid escape in a string"], ["\\x41", "invalid escape in a string"], ["\\U0041", "invalid escape in a string"],
+  ["a\tb", "control character in a string"], ["\u0001", "control character in a string"], ["\\u00e9\\/\\\\\\\"\\b\\f\\n\\r\\t\\uD83D"], ["\u007f\u00e9"],
+];
+for (const [inside, why] of STRINGS) {
+  let text;
+  try {
+    text = JSON.parse(`"${inside}"`);
+  } catch {
+    answerLine(`/./ source split "${inside}" source`, '{"value":".","lastIndex":0}', malformed(why));
+    continue;
+  }
+  answerLine(`/(?:)/ split "${inside}"`, `{"value":${json(text.split(/(?:)/))},"lastIndex":0}`);
+}
+answerLine('/a/ exec "a', malformed("unclosed string"));
+answerLine('/a/ exec', malformed("no string"));
+answerLine('/a/ replace "a" source', malformed("no string"));
+answerLine('"a" exec "a"', malformed("no string"));
+answerLine('/a/ exce "a"', malformed("no such call"));
+answerLine('/a/ "a"', malformed("no such call"));
+answerLine("a", malformed("no pattern"));
+answerLine("/a", malformed("no pattern"));
+answerLine("");
+answerLine(" \t");
+for (const number of ["", "x", "1x", "--1", "1e", "-", "nan", "-inf", "+Infinity", "0x10"]) answerLine(`/a/ @${number} source`, malformed("no number"));
+answerLine('/a/ split "a" -', malformed("no number"));
+answerLine('  /a/ \t @1e0 \t test  "a" lastIndex', '{"value":true,"lastIndex":1}', '{"value":1,"lastIndex":1}');
 
 // ---- What the README shows
 

@@ -1,3 +1,4 @@
+pub mod CoercionLemmas
 pub mod FlagLists
 pub mod PairLemmas
 pub mod TemplateLemmas

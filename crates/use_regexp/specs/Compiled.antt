@@ -1,4 +1,4 @@
--- The pattern that is made of a text and letters of flags.
+-- The pattern that is compiled from a source text and letters of flags.
 use Rattle.std.specs.Prelude.{◌≡◌, ℕ, List, Some}
 use Rattle.regress_match.specs.RegexPrograms.{IsCompiledWith}
 use Rattle.use_regexp.specs.Flags.{flags_of, tree_flags}

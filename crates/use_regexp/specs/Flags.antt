@@ -6,9 +6,10 @@ use Rattle.regex_meaning.specs.Tree as tree
 use Rattle.use_regexp.specs.Letters.{are_flags}
 use Rattle.use_regexp.specs.declared.flags.Flags.{Flags}
 
--- the flags whose letters stand there
+-- the flags with these letters
 abbrev pub flags_in : List ℕ → Flags
 flags_in letters = record {
+  has_indices = contains letters 100;
   global = contains letters 103;
   ignore_case = contains letters 105;
   multiline = contains letters 109;
@@ -17,17 +18,17 @@ flags_in letters = record {
   sticky = contains letters 121;
 }
 
--- the flags of these letters, if they are such
+-- the flags with these letters, if they are letters of flags
 abbrev pub flags_of : List ℕ → Option Flags
 flags_of letters = if are_flags letters then Some (flags_in letters) else None
 
--- the letters of those that are set, in the order of the standard (21.2.5.4)
+-- the letters of the flags that are set, in the order of the standard (22.2.6.4 of the 13th edition)
 abbrev pub letters_of : Flags → List ℕ
 letters_of f =
-    letter_if_flag_set f.global 103 ++ letter_if_flag_set f.ignore_case 105 ++ letter_if_flag_set f.multiline 109
-    ++ letter_if_flag_set f.dot_all 115 ++ letter_if_flag_set f.unicode 117 ++ letter_if_flag_set f.sticky 121
+    letter_if_flag_set f.has_indices 100 ++ letter_if_flag_set f.global 103 ++ letter_if_flag_set f.ignore_case 105
+    ++ letter_if_flag_set f.multiline 109 ++ letter_if_flag_set f.dot_all 115 ++ letter_if_flag_set f.unicode 117 ++ letter_if_flag_set f.sticky 121
 
--- those that the tree of the pattern has
+-- the flags of the tree of the pattern
 abbrev pub tree_flags : Flags → tree.Flags
 tree_flags f = record {
   icase = f.ignore_case;
@@ -38,6 +39,6 @@ tree_flags f = record {
   unicode_sets = false;
 }
 
--- by these a search begins at `lastIndex`, and tells there where it ended
+-- a search begins at `lastIndex` and sets it
 abbrev pub keeps_index : Flags → Bool
 keeps_index f = f.global || f.sticky

@@ -1,3 +1,4 @@
+pub mod Coercions
 pub mod Letters
 pub mod Flags
 pub mod Refusals

@@ -1,4 +1,4 @@
--- The loop that takes all matches (21.2.5.7 and 21.2.5.9).
+-- The loop over all matches (21.2.5.7 and 21.2.5.9).
 use Rattle.std.specs.Prelude.{◌≡◌, ℕ, List, [], ◌∷◌, Option, Some, None, if◌then◌else◌, ◌==◌}
 use Rattle.std.specs.Bool.{MatchBool}
 use Rattle.std.specs.Option.{option_to_list}
@@ -9,24 +9,24 @@ use Rattle.use_regexp.specs.declared.pattern.Pattern.{Pattern}
 use Rattle.use_regexp.specs.declared.regexp.RegExp.{RegExp}
 
 module _ (p : Pattern) (text : List ℕ) where
-  -- from where the loop goes on behind a match: its end, or behind the character there where it is empty
+  -- the index at which the loop continues after a match: its end, or one character further if it is empty
   abbrev pub next_last : Answer → ℕ
   next_last m = if m.range.0 == m.range.1 then advanced p.flags.unicode text m.range.1 else m.range.1
 
-  -- searches one after the other, from an index on, find these, and then nothing
+  -- successive searches from an index on find these matches, and then none
   abbrev pub AreFoundInTurn : (last : ℕ) → List Answer → Type 0
   AreFoundInTurn last [] = found p text last ≡ None
   AreFoundInTurn last (m ∷ ms) = (found p text last ≡ Some m) × AreFoundInTurn (next_last m) ms
 
-  -- with `g` all matches from an index on, and else the one that a search finds
+  -- with `g` all matches from an index on, otherwise the match of a search
   abbrev pub AreTaken : (first last : ℕ) → List Answer → Type 0
   AreTaken first last ms =
       MatchBool p.flags.global (AreFoundInTurn first ms) (ms ≡ option_to_list (found p text last))
 
-  -- `lastIndex` behind them: with `g` the last search has found nothing
+  -- `lastIndex` after them: with `g` the last search has found no match
   abbrev pub last_taken : (last : ℕ) → ℕ
   last_taken last = if p.flags.global then 0 else last_behind p last (found p text last)
 
--- an object whose `lastIndex` is left so
+-- an object with this `lastIndex` afterwards
 abbrev pub LeavesTaken : (before after : RegExp) → (text : List ℕ) → Type 0
 LeavesTaken before after text = after.last_index ≡ last_taken before.pattern text before.last_index

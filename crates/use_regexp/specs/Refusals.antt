@@ -1,4 +1,4 @@
--- What refuses a regular expression.
+-- Why the constructor of a regular expression fails.
 use Rattle.std.specs.Prelude.{◌≡◌, ℕ, List, Some, false}
 use Rattle.regress_match.specs.CompileErrors.{IsPatternRefusedWith}
 use Rattle.regress_match.specs.declared.api.error.Error.{Error}
@@ -10,18 +10,18 @@ use Rattle.use_regexp.specs.declared.flags.Flags as flags
 use Rattle.use_regexp.specs.declared.error.RegExpError.{RegExpError}
 use Rattle.use_regexp.specs.declared.error.RegExpError.TheVariants.{Flags, Pattern, Memory}
 
--- want of memory is one refusal
+-- the error for an error of the engine
 abbrev pub of_pattern : Error → RegExpError
 of_pattern error.Memory = Memory
 of_pattern e = Pattern e
 
--- With the flags of these letters the text is refused, as the engine says.
+-- The engine refuses the source with the flags of these letters.
 pub record IsRefused (source letters : List ℕ) (e : Error) : Type 0 where
   pub flags : flags.Flags
   pub are : flags_of letters ≡ Some flags
   pub refused : IsPatternRefusedWith (tree_flags flags) (characters_of flags.unicode source) e
 
--- what refuses a pattern with these letters of flags
+-- when each error is possible for a source and letters of flags
 abbrev pub CanRefuse : (source letters : List ℕ) → RegExpError → Type 0
 CanRefuse source letters Flags = are_flags letters ≡ false
 CanRefuse source letters (Pattern error.Memory) = ⊥

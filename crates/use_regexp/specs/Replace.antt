@@ -1,4 +1,4 @@
--- Texts with other text in place of matches (21.2.5.9, RegExp.prototype[@@replace]).
+-- Replacement of matches (21.2.5.9, RegExp.prototype[@@replace]).
 use Rattle.std.specs.Prelude.{◌≡◌, ◌≤◌, ℕ, List, [], ◌∷◌, Result, Vec, length, map}
 use Rattle.std.specs.Borrow.{Bor}
 use Rattle.regex_meaning.specs.Captures.{Answer}
@@ -14,40 +14,40 @@ use Rattle.use_regexp.specs.Loops.{AreTaken}
 use Rattle.use_regexp.specs.Template.{substitution}
 use Rattle.use_regexp.specs.declared.pattern.Pattern.{Pattern}
 
--- the range of each stands in the text, and none begins before the offset, or before the end of the one in front of it
+-- each match is a range of the text, and begins after the offset and after the end of the previous match, or there
 abbrev pub StandInUnits : (text : List ℕ) → (from : ℕ) → List Answer → Type 0
 StandInUnits text from [] = from ≤ length text
 StandInUnits text from (m ∷ ms) = (from ≤ m.range.0) × MatchFitsCodeUnits text m × StandInUnits text m.range.1 ms
 
--- these matches, each with what the template says for it
+-- these matches, each with the expansion of the template for it
 abbrev pub substituted : (text template : List ℕ) → List Answer → List (Answer × List ℕ)
 substituted text template ms = map (λ m. (m, substitution text m template)) ms
 
--- the text in which what the template says stands in place of the matches that are taken
+-- the text with the expansions of the template in place of the matches
 abbrev pub IsReplaced : Pattern → (last : ℕ) → (text template made : List ℕ) → Type 0
 IsReplaced p last text template made =
     (ms : List Answer) × AreTaken p text 0 last ms × (made ≡ replaced text 0 (substituted text template ms))
 
--- a closure may be called at each of the matches that are taken
+-- a closure may be called for each of the matches
 abbrev pub CanBeTaken : (takes : Bor Match → Type 0) → Pattern → (text : List ℕ) → (last : ℕ) → Type 0
 CanBeTaken takes p text last = (ms : List Answer) → AreTaken p text 0 last ms → ClosureCanBeCalled takes ms
 
--- the units of what a closure answers
+-- the units of the result of a closure
 abbrev pub units_of : {Z : Type 0} → Vec ℕ Z → List ℕ
 units_of v = v.items
 
--- By `says` a closure may answer this result at this match.
+-- `says`: the closure may return this result for this match.
 module _ {Z E : Type 0} (says : Bor Match → Result (Vec ℕ Z) E → Type 0) where
-  -- the text in which its answers stand in place of these matches
+  -- the text with its results in place of these matches
   abbrev pub IsReplacedBy : (text : List ℕ) → List Answer → (made : List ℕ) → Type 0
   IsReplacedBy text ms made = answered.IsReplacedBy says units_of text ms made
 
-  -- what refuses a text with its answers in place of these matches
+  -- when each error is possible for these matches
   abbrev pub CanRefuseAt : List Answer → ReplaceError E → Type 0
   CanRefuseAt ms e = answered.CanRefuseWith says units_of ms e
 
   module _ (p : Pattern) (text : List ℕ) (last : ℕ) where
-    -- in place of those that are taken
+    -- for the matches that are replaced
     abbrev pub IsReplacedWith : (made : List ℕ) → Type 0
     IsReplacedWith made = (ms : List Answer) × AreTaken p text 0 last ms × IsReplacedBy text ms made
 

@@ -1,4 +1,4 @@
--- Texts that are cut where a pattern matches (21.2.5.12, RegExp.prototype[@@split]).
+-- Splitting of texts at matches (21.2.5.12, RegExp.prototype[@@split]).
 use Rattle.std.specs.Prelude.{◌≡◌, ◌⊎◌, ◌<◌, ◌≤◌, ℕ, ◌+◌, ◌-◌, Bool, false, IsTrue, List, [], ◌∷◌, ◌++◌, length, take, Option, Some, None, is_some}
 use Rattle.std.specs.Prelude.{option_and_then, if◌then◌else◌, nat_lt, ◌==◌}
 use Rattle.std.specs.Bool.{MatchBool}
@@ -15,50 +15,50 @@ use Rattle.use_regexp.specs.declared.pattern.Pattern.{Pattern}
 abbrev pub ends_at : (index : ℕ) → Option Answer → Bool
 ends_at index m = option_map_or (λ (a : Answer). a.range.1 == index) m false
 
--- it begins before the end of the text
+-- the match, if it begins before the end of the text
 abbrev pub before_end : (text : List ℕ) → Option Answer → Option Answer
 before_end text m = option_and_then (λ (a : Answer). if nat_lt a.range.0 (length text) then Some a else None) m
 
 module _ (p : Pattern) (text : List ℕ) where
-  -- with `u` no pair is cut at this index
+  -- with `u` the index is not within a surrogate pair
   abbrev pub CutsNone : (index : ℕ) → Type 0
   CutsNone index = IsTrue p.flags.unicode → is_within_pair text index ≡ false
 
-  -- the first match from an index on, or, where that ends there, the first one from the next index on
+  -- the first match from an index on; if it ends there, the first one from the next index on
   abbrev pub chosen : (from : ℕ) → (first : Option Answer) → Option Answer
   chosen from first = if ends_at from first then first_match p text (advanced p.flags.unicode text from) else first
 
-  -- The next separator where a piece begins. The loop tries each index before the end of the text in turn, and passes over
-  -- a match that ends where the piece begins: so it finds this one.
+  -- The next separator after the start of a piece. The loop of the standard tries one index before the end of the text after
+  -- another, and skips a match that ends at the start of the piece. So it finds this one.
   unfoldable pub separator : (from : ℕ) → Option Answer
   separator from =
       before_end text (chosen from (first_match p text from))
 
-  -- These separators follow one another from the place where a piece begins; then there is none, or as many pieces as are
-  -- wanted: each gives one, and one for each of its groups.
+  -- These are the successive separators after the start of a piece. After them there is none, or there are as many pieces as
+  -- the limit allows: a separator adds one piece, and one for each of its groups.
   abbrev pub AreSeparators : (from wanted : ℕ) → List Answer → Type 0
   AreSeparators from wanted [] = (separator from ≡ None) ⊎ (wanted ≡ 0)
   AreSeparators from wanted (m ∷ ms) =
       (separator from ≡ Some m) × AreSeparators m.range.1 (wanted - (length m.captures + 1)) ms
 
-  -- what stands before each separator, its groups, and the rest of the text
+  -- the piece before each separator, the groups of the separator, and the rest of the text
   abbrev pub pieces : (from : ℕ) → List Answer → Groups
   pieces from [] = Some (from, length text) ∷ []
   pieces from (m ∷ ms) = Some (from, m.range.0) ∷ (m.captures ++ pieces m.range.1 ms)
 
-  -- the pieces of a text that is empty: none where the pattern matches it
+  -- the pieces of an empty text: none if the pattern matches it
   abbrev pub pieces_of_none : Groups
   pieces_of_none = if is_some (match_here p text 0) then [] else Some (0, 0) ∷ []
 
-  -- at most so many pieces of a text that is not empty
+  -- the pieces of a text that is not empty, at most as many as the limit allows
   abbrev pub ArePieces : (limit : ℕ) → Groups → Type 0
   ArePieces limit made = (ms : List Answer) × AreSeparators 0 limit ms × (made ≡ take limit (pieces 0 ms))
 
-  -- at most so many pieces of the text
+  -- the pieces of a text, at most as many as the limit allows
   abbrev pub IsSplit : (limit : ℕ) → Groups → Type 0
   IsSplit limit made = MatchBool (length text == 0) (made ≡ take limit pieces_of_none) (ArePieces limit made)
 
-  -- where a separator stands: within the text, behind the place where the piece begins, and its end cuts no pair
+  -- a separator is a range of the text after the start of the piece, and does not end within a surrogate pair
   pub record IsSeparator (from : ℕ) (m : Answer) : Type 0 where
     pub fits : MatchFitsCodeUnits text m
     pub behind : CutsNone from → from ≤ m.range.0

@@ -1,4 +1,4 @@
--- What a template says for a match (21.1.3.16.1, GetSubstitution).
+-- The expansion of a template for a match (21.1.3.16.1, GetSubstitution).
 use Rattle.std.specs.Prelude.{◌≡◌, ℕ, zero, suc, ◌+◌, ◌-◌, ◌*◌, Bool, not, ◌&&◌, List, [], ◌∷◌, ◌++◌, length, take, drop, position, Option, None}
 use Rattle.std.specs.Prelude.{if◌then◌else◌, nat_le, nat_lt, ◌==◌}
 use Rattle.std.specs.List.{list_all}
@@ -7,7 +7,7 @@ use Rattle.std.specs.Char.{is_ascii_digit}
 use Rattle.regex_meaning.specs.Captures.{Answer, group, named_group, named_groups}
 use Rattle.regex_meaning.specs.Replace.{text_of}
 
--- what the first signs of a template say, and what is left of it
+-- the expansion of the first units of a template, and the rest of it
 pub record Said : Type 0 where
   pub units : List ℕ
   pub rest : List ℕ
@@ -15,18 +15,18 @@ pub record Said : Type 0 where
 abbrev pub say : (units rest : List ℕ) → Said
 say units rest = record { units = units; rest = rest }
 
--- it stands behind what was written before, and this is left
+-- the expansion is appended to the output, and this is the rest
 abbrev pub IsWritten : (before after rest : List ℕ) → Said → Type 0
 IsWritten before after rest s = (after ≡ before ++ s.units) × (rest ≡ s.rest)
 
 abbrev pub is_ascii : ℕ → Bool
 is_ascii c = nat_lt c 128
 
--- the end of a name
+-- the unit that ends a name
 abbrev pub is_greater : ℕ → Bool
 is_greater c = c == 62
 
--- a digit before another one; 0 where there is no other
+-- the number of a digit and the digit after it; 0 if no digit follows
 abbrev pub two_digits : (first : ℕ) → List ℕ → ℕ
 two_digits first [] = 0
 two_digits first (c ∷ cs) = if is_ascii_digit c then first * 10 + (c - 48) else 0
@@ -40,16 +40,16 @@ module _ (m : Answer) where
   abbrev pub has_names : Bool
   has_names = not (length (named_groups m) == 0)
 
-  -- where a name ends that `$<` stands before, where groups have names
+  -- the index at which a name after `$<` ends, if any group has a name
   abbrev pub name_end : List ℕ → Option ℕ
   name_end rest = if has_names then position is_greater rest else None
 
 module _ (text : List ℕ) (m : Answer) where
-  -- the text of the group with a name, which is of ASCII; no text where there is none, or it did not match
+  -- the text of the group with a name, which is ASCII; empty if there is no such group or it did not match
   abbrev pub named_text : (name : List ℕ) → List ℕ
   named_text name = if list_all is_ascii name then text_of text m (named_group m name) else []
 
-  -- behind `$` and a digit: a group of two digits, or else of one, or else `$` itself
+  -- after `$` and a digit: the group with a number of two digits, or of one; otherwise `$` itself
   abbrev pub numbered : (digit : ℕ) → List ℕ → Said
   numbered digit rest =
       let one = digit - 48 in
@@ -58,14 +58,13 @@ module _ (text : List ℕ) (m : Answer) where
       else if is_group m one then say (text_of text m (group m one)) rest
       else say (36 ∷ digit ∷ []) rest
 
-  -- behind `$<`: a name up to `>`, or else `$<` itself
+  -- after `$<`: the group with the name before `>`; otherwise `$<` itself
   abbrev pub named : List ℕ → Said
   named rest =
       option_map_or (λ (end : ℕ). say (named_text (take end rest)) (drop (suc end) rest))
       (name_end m rest) (say (36 ∷ 60 ∷ []) rest)
 
-  -- behind `$`, a sign that says something alone: the match, what stands before it or behind it, or `$` itself; and else
-  -- both signs
+  -- `$` and one unit: the match, the text before or after it, or `$`; otherwise both units
   abbrev pub plain : (sign : ℕ) → List ℕ
   plain sign =
       if sign == 38 then text_of text m (group m 0)
@@ -74,22 +73,22 @@ module _ (text : List ℕ) (m : Answer) where
       else if sign == 36 then 36 ∷ []
       else 36 ∷ sign ∷ []
 
-  -- behind `$`
+  -- after `$`
   abbrev pub behind_dollar : List ℕ → Said
   behind_dollar [] = say (36 ∷ []) []
   behind_dollar (c ∷ rest) =
       if is_ascii_digit c then numbered c rest else if c == 60 then named rest else say (plain c) rest
 
-  -- what its first signs say
+  -- the expansion of the first units
   abbrev pub said : (first : ℕ) → List ℕ → Said
   said c rest = if c == 36 then behind_dollar rest else say (c ∷ []) rest
 
-  -- what it says in at most so many signs
+  -- the expansion of a template with at most this many units
   abbrev pub said_in : (count : ℕ) → List ℕ → List ℕ
   said_in zero template = []
   said_in (suc count) [] = []
   said_in (suc count) (c ∷ rest) = (said c rest).units ++ said_in count (said c rest).rest
 
-  -- what it says: it has no more signs than units
+  -- the expansion of a template
   unfoldable pub substitution : (template : List ℕ) → List ℕ
   substitution template = said_in (length template) template

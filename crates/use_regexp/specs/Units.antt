@@ -1,4 +1,4 @@
--- Texts of 16-bit units, which the flag `u` reads as UTF-16.
+-- Texts of 16-bit code units, which are read as UTF-16 with the flag `u`.
 use Rattle.std.specs.Prelude.{ℕ, zero, suc, ◌+◌, ◌-◌, Bool, ◌&&◌, List, if◌then◌else◌}
 use Rattle.regex_meaning.specs.Laws.{is_within_pair}
 use Rattle.regex_meaning.specs.Text.{utf16_characters}
@@ -8,10 +8,10 @@ module _ (unicode : Bool) where
   abbrev pub characters_of : List ℕ → List ℕ
   characters_of units = if unicode then utf16_characters units else units
 
-  -- Where the character of an index begins: within a pair that is one unit before (21.2.2.2).
+  -- The start of the character at an index: one unit before an index within a surrogate pair (21.2.2.2).
   abbrev pub character_start : List ℕ → (index : ℕ) → ℕ
   character_start text index = if unicode && is_within_pair text index then index - 1 else index
 
-  -- the index behind the character of an index (21.2.5.2.3, AdvanceStringIndex)
+  -- the index after the character at an index (21.2.5.2.3, AdvanceStringIndex)
   abbrev pub advanced : List ℕ → (index : ℕ) → ℕ
   advanced text index = if unicode && is_within_pair text (suc index) then index + 2 else index + 1

@@ -1,4 +1,4 @@
-//! Why there is no regular expression of a pattern and flags.
+//! Errors of the constructor of a regular expression.
 
 ghost use Rattle.std.specs.Prelude.{◌≡◌};
 ghost use Rattle.use_regexp.specs.Refusals.{of_pattern};
@@ -6,16 +6,16 @@ ghost use Rattle.use_regexp.specs.Refusals.{of_pattern};
 use regress_match::Error;
 use std::alloc::AllocError;
 
-/// Why there is no regular expression of a pattern and flags.
+/// Why the constructor of a regular expression fails.
 #[derive(Clone, Copy, Debug, PartialEq, Eq, thiserror::Error)]
 pub enum RegExpError {
-    /// A letter is no flag, or stands twice.
+    /// A letter is not that of a flag, or occurs twice.
     #[error("the flags are refused")]
     Flags,
-    /// The pattern is refused.
+    /// The pattern has a syntax error or exceeds a limit.
     #[error("{0}")]
     Pattern(Error),
-    /// There was no memory.
+    /// An allocation failed.
     #[error("out of memory")]
     Memory,
 }

@@ -7,23 +7,26 @@ ghost use Rattle.use_regexp.specs.Letters.{are_flags as are_flags_of};
 use regress_match::Flags as PatternFlags;
 use std::alloc::{AllocError, Global};
 
-/// The letters of the flags, in the order in which the standard writes them.
-const LETTERS: [u16; 6] = [103, 105, 109, 115, 117, 121];
+/// The letters of the flags, in the order of the standard.
+const LETTERS: [u16; 7] = [100, 103, 105, 109, 115, 117, 121];
 
-/// The flags of a regular expression (21.2.5).
+/// The flags of a regular expression (21.2.5). `d` is a flag of the 13th edition (ES2022).
 #[derive(Clone, Copy, Debug, Default, PartialEq, Eq)]
 pub struct Flags {
-    /// A search goes on where the one before ended, and calls that replace or match take all matches (`g`).
+    /// Results of `exec` have the array `indices` (`d`). It does not change a search, since a [`Match`](crate::Match) always
+    /// has the indices.
+    pub has_indices: bool,
+    /// A search continues at the end of the previous one, and calls that replace or match use all matches (`g`).
     pub global: bool,
-    /// Letters match whatever their case (`i`).
+    /// Letters match in either case (`i`).
     pub ignore_case: bool,
-    /// `^` and `$` hold beside line terminators too (`m`).
+    /// `^` and `$` also match after and before line terminators (`m`).
     pub multiline: bool,
-    /// `.` matches line terminators too (`s`).
+    /// `.` also matches line terminators (`s`).
     pub dot_all: bool,
-    /// Pattern and text are UTF-16 (`u`).
+    /// Pattern and text are read as UTF-16 (`u`).
     pub unicode: bool,
-    /// A match begins at `lastIndex` or nowhere (`y`).
+    /// A match has to begin at `lastIndex` (`y`).
     pub sticky: bool,
 }
 
@@ -31,12 +34,14 @@ impl Flags {
     ghost use Rattle.use_regexp.specs.Flags.{flags_of, keeps_index as keeps, letters_of, tree_flags};
     ghost use Rattle.regress_match.specs.Flags.{flags_of as engine_flags};
 
-    /// The flags of these letters, in any order; none where a letter is no flag, or stands twice (21.2.3.2.2).
+    /// Returns the flags with these letters, in any order, or `None` if a letter is not that of a flag or occurs twice
+    /// (21.2.3.2.2).
     pub fn of_letters(letters: &[u16]) -> Option<Flags>
         ensures { result ≡ flags_of letters.now }
     {
         if are_flags(letters) {
             Some(Flags {
+                has_indices: letters.contains(&100),
                 global: letters.contains(&103),
                 ignore_case: letters.contains(&105),
                 multiline: letters.contains(&109),
@@ -49,15 +54,16 @@ impl Flags {
         }
     }
 
-    /// The letters of those that are set, in the order `g i m s u y` (21.2.5.4).
+    /// Returns the letters of the flags that are set, in the order `dgimsuy` (22.2.6.4 of the 13th edition).
     ///
     /// # Errors
     ///
-    /// Where there is no memory for them.
+    /// `AllocError` if an allocation fails.
     pub fn letters(self, alloc: Global) -> Result<Vec<u16>, AllocError>
         ensures { IfOk result (λ v. v.items ≡ letters_of self) }
     {
         let mut letters = Vec::new(alloc);
+        push_if(&mut letters, self.has_indices, 100)?;
         push_if(&mut letters, self.global, 103)?;
         push_if(&mut letters, self.ignore_case, 105)?;
         push_if(&mut letters, self.multiline, 109)?;
@@ -67,14 +73,14 @@ impl Flags {
         Ok(letters)
     }
 
-    // Whether a search begins at `lastIndex`, and tells there where it ended.
+    // Returns whether a search begins at `lastIndex` and sets it.
     pub(crate) fn keeps_index(self) -> bool
         ensures { result ≡ keeps self }
     {
         self.global || self.sticky
     }
 
-    // What the pattern is compiled with.
+    // Returns the flags with which the pattern is compiled.
     pub(crate) fn for_pattern(self) -> PatternFlags
         ensures { engine_flags result ≡ tree_flags self }
     {
@@ -89,7 +95,7 @@ impl Flags {
     }
 }
 
-// One letter more, if its flag is set.
+// Appends a letter if its flag is set.
 fn push_if(letters: &mut Vec<u16>, set: bool, letter: u16) -> Result<(), AllocError>
     ensures { IfOk result (λ _. letters.new.items ≡ letters.old.items ++ letter_if_flag_set set letter) }
 {
@@ -99,7 +105,7 @@ fn push_if(letters: &mut Vec<u16>, set: bool, letter: u16) -> Result<(), AllocEr
     Ok(())
 }
 
-// Whether each is the letter of a flag, and none stands twice.
+// Returns whether each letter is that of a flag and none occurs twice.
 fn are_flags(letters: &[u16]) -> bool
     ensures { result ≡ are_flags_of letters.now }
 {

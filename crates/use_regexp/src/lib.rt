@@ -1,9 +1,13 @@
 //! The RegExp object of a script interpreter, over texts of 16-bit units: ECMA-262, 9th edition, 21.2.3 to 21.2.6.
 //!
-//! With the flag `u` pattern and text are UTF-16, and without it each unit is a character. Clauses (21.2.5.7) are those of
-//! that edition; where a later one is meant, it is said.
+//! With the flag `u` pattern and text are read as UTF-16; without it each code unit is a character. Clause numbers, such as
+//! 21.2.5.7, are those of the 9th edition unless another one is named.
+//!
+//! The functions take coerced values. A host converts the property `lastIndex` by [`to_length`] and the limit of a split by
+//! [`to_uint32`]. Before that it converts a value that is not a number to one (7.1.3, ToNumber).
 #![tactic(auto)]
 
+mod coercions;
 mod error;
 mod flags;
 mod pattern;
@@ -14,6 +18,7 @@ mod splitting;
 mod template;
 mod units;
 
+pub use crate::coercions::{to_length, to_uint32};
 pub use crate::error::RegExpError;
 pub use crate::flags::Flags;
 pub use crate::regexp::RegExp;

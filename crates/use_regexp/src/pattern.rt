@@ -1,4 +1,4 @@
-//! Patterns with their flags, and single searches.
+//! Compiled patterns with their flags, and searches with them.
 
 ghost use Rattle.std.specs.Prelude.{◌≡◌, ◌++◌, ◌∷◌, ◌≤◌, [], IfErr, IfOk, IfSome, IsTrue, false, if◌then◌else◌, length, map, option_map, slice_get};
 ghost use Rattle.std.specs.Option.{option_to_list};
@@ -13,7 +13,7 @@ use regress_match::exec::{MatchProducer, Matches};
 use regress_match::{Match, Regex, SearchError};
 use std::alloc::{AllocError, Global};
 
-/// A pattern that is compiled, its text and its flags.
+/// A compiled pattern with its source text and its flags.
 #[derive(Drop)]
 pub struct Pattern {
     re: Regex,
@@ -26,13 +26,13 @@ impl Pattern {
     ghost use Rattle.use_regexp.specs.Exec.{StandsFrom, first_match, found, last_behind, match_here, search_index as search_index_of};
     ghost use Rattle.use_regexp.specs.Loops.{AreFoundInTurn, AreTaken, next_last};
 
-    /// The pattern of a text and letters of flags (21.2.3.2.2, RegExpInitialize): the text is read by characters with `u`,
-    /// and else by units.
+    /// Compiles a pattern with the flags of these letters (21.2.3.2.2, RegExpInitialize). With `u` the source is read as
+    /// UTF-16; without it each code unit is a character.
     ///
     /// # Errors
     ///
-    /// `Flags` where a letter is no flag or stands twice, `Pattern` where the text is refused, and `Memory` where there is no
-    /// memory.
+    /// `Flags` if a letter is not that of a flag or occurs twice, `Pattern` if the pattern is refused, and `Memory` if an
+    /// allocation fails.
     pub fn new(alloc: Global, source: &[u16], letters: &[u16]) -> Result<Pattern, RegExpError>
         ensures compiled { IfOk result (IsPatternOf source.now letters.now) }
         ensures refused { IfErr result (CanRefuse source.now letters.now) }
@@ -46,21 +46,21 @@ impl Pattern {
         Ok(Pattern { re, source, flags })
     }
 
-    /// The flags.
+    /// Returns the flags.
     pub fn flags(&self) -> Flags
         ensures { result ≡ self.now.flags }
     {
         self.flags
     }
 
-    /// The text of the pattern, as it was given.
+    /// Returns the source text of the pattern, as it was given.
     pub fn source(&self) -> &[u16]
         ensures { result.now ≡ self.now.source.items }
     {
         &self.source
     }
 
-    // The first match from an index on.
+    // Returns the first match from an index on.
     pub(crate) fn first_match(&self, text: &[u16], at: usize) -> Result<Option<Match>, SearchError>
         ensures found { IfOk result (λ m. option_map answer_of m ≡ first_match self.now text.now at) }
         ensures refused { IfErr result IsOutOfMemory }
@@ -73,7 +73,7 @@ impl Pattern {
         }
     }
 
-    // The match that begins at an index, if one does. No other place is tried.
+    // Returns the match that begins at an index, if there is one. No other index is tried.
     pub(crate) fn match_here(&self, text: &[u16], at: usize) -> Result<Option<Match>, SearchError>
         ensures found { IfOk result (λ m. option_map answer_of m ≡ match_here self.now text.now at) }
         ensures refused { IfErr result IsOutOfMemory }
@@ -86,13 +86,13 @@ impl Pattern {
         }
     }
 
-    /// The match that a search finds with this `lastIndex` (21.2.5.2.2, RegExpBuiltinExec): with `g` or `y` the search begins
-    /// there, and else at the left end; with `y` no other place is tried. An index within a pair stands, with `u`, for that of
-    /// the pair.
+    /// Returns the match of a search with this `lastIndex` (21.2.5.2.2, RegExpBuiltinExec). With `g` or `y` the search begins
+    /// at `lastIndex`, otherwise at 0. With `y` no other index is tried. With `u` an index within a surrogate pair means the
+    /// start of the pair.
     ///
     /// # Errors
     ///
-    /// `Memory` where there is no memory for the search.
+    /// `Memory` if an allocation fails.
     pub fn find(&self, text: &[u16], last_index: usize) -> Result<Option<Match>, SearchError>
         ensures found { IfOk result (λ m. option_map answer_of m ≡ found self.now text.now last_index) }
         ensures stands { IfOk result (λ m. IfSome m (λ f.
@@ -107,7 +107,7 @@ impl Pattern {
         }
     }
 
-    // Where a search begins: at `lastIndex` with `g` or `y`, and else at the left end.
+    // Returns the index at which a search begins: `lastIndex` with `g` or `y`, otherwise 0.
     fn search_index(&self, last_index: usize) -> usize
         ensures { result ≡ search_index_of self.now last_index }
     {
@@ -118,7 +118,8 @@ impl Pattern {
         }
     }
 
-    /// What `lastIndex` is behind a search: with `g` or `y` the end of the match, 0 where there is none, and else as it was.
+    /// Returns `lastIndex` after a search. With `g` or `y` it is the end of the match, or 0 without a match. Otherwise it is
+    /// unchanged.
     pub fn last_behind(&self, last_index: usize, found: Option<&Match>) -> usize
         ensures { result ≡ last_behind self.now last_index (option_map (λ m. answer_of m.now) found.entry) }
     {
@@ -131,7 +132,7 @@ impl Pattern {
         }
     }
 
-    // Where the loop over matches goes on behind one: its end, or behind the character there where it is empty.
+    // Returns the index at which a loop over matches continues after a match: its end, or one character further if it is empty.
     pub(crate) fn next_last(&self, text: &[u16], found: &Match) -> usize
         requires { found.now.range.end ≤ length text.now }
         ensures { result ≡ next_last self.now text.now (answer_of found.now) }
@@ -143,7 +144,7 @@ impl Pattern {
         }
     }
 
-    // All matches, searched one after the other from an index on.
+    // Returns all matches that successive searches find from an index on.
     fn all_from(&self, alloc: Global, text: &[u16], first: usize) -> Result<Vec<Match>, SearchError>
         requires { IsTrue self.now.flags.global }
         ensures taken { IfOk result (λ v. AreFoundInTurn self.now text.now first (map answer_of v.items)) }
@@ -158,11 +159,12 @@ impl Pattern {
         Ok(matches)
     }
 
-    /// With `g` all matches, from an index on; else the one that a search finds with this `lastIndex`, if there is one.
+    /// Returns all matches from the index `first` on with `g`, and otherwise the match of a search with this `lastIndex`, if
+    /// there is one.
     ///
     /// # Errors
     ///
-    /// `Memory` where there is no memory for a search or the list.
+    /// `Memory` if an allocation fails.
     pub fn taken(
         &self,
         alloc: Global,
@@ -181,7 +183,7 @@ impl Pattern {
         Ok(matches)
     }
 
-    /// What `lastIndex` is behind these matches: with `g` 0, since the last search has found nothing.
+    /// Returns `lastIndex` after these matches. With `g` it is 0, since the last search has found no match.
     pub fn last_taken(&self, last_index: usize, matches: &[Match]) -> usize
         ensures { result ≡ (if self.now.flags.global then 0
             else last_behind self.now last_index (slice_get (map answer_of matches.now) 0)) }
@@ -193,7 +195,7 @@ impl Pattern {
     }
 }
 
-// The first of the matches to come, if there is one.
+// Returns the next match, if there is one.
 fn first<P: MatchProducer + Drop>(mut matches: Matches<P>) -> Result<Option<Match>, SearchError>
     ensures first { IfOk result (λ m. option_map answer_of m ≡ slice_get matches.answers 0) }
     ensures refused { matches.limited ≡ false → IfErr result IsOutOfMemory }
@@ -201,7 +203,7 @@ fn first<P: MatchProducer + Drop>(mut matches: Matches<P>) -> Result<Option<Matc
     matches.next().transpose()
 }
 
-// A list of a match, if there is one.
+// Returns a list that contains the match, if there is one.
 fn listed(alloc: Global, found: Option<Match>) -> Result<Vec<Match>, AllocError>
     ensures { IfOk result (λ v. map answer_of v.items ≡ option_to_list (option_map answer_of found)) }
 {
@@ -215,7 +217,7 @@ fn listed(alloc: Global, found: Option<Match>) -> Result<Vec<Match>, AllocError>
     }
 }
 
-// One match more.
+// Appends a match.
 fn push_match(matches: &mut Vec<Match>, found: Match) -> Result<(), AllocError>
     ensures { IfOk result (λ _. matches.new.items ≡ matches.old.items ++ found ∷ []) }
 {

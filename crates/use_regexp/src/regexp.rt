@@ -1,4 +1,4 @@
-//! The object: a pattern, and where its next search begins.
+//! The RegExp object: a compiled pattern, and the index at which its next search begins.
 
 ghost use Rattle.std.specs.Prelude.{◌≡◌, IfErr, IfOk, OnErr, if◌then◌else◌, is_some, map, option_map, slice_get};
 ghost use Rattle.regress_exec.specs.MatchAnswers.{answer_of};
@@ -13,21 +13,27 @@ use crate::source::escaped;
 use regress_match::{Match, SearchError};
 use std::alloc::{AllocError, Global};
 
-/// A regular expression, and where its next search begins.
+/// A regular expression, and the index at which its next search begins.
 #[derive(Drop)]
 pub struct RegExp {
     pub(crate) pattern: Pattern,
-    /// `lastIndex`, in units (21.2.6.1): where the next search begins with `g` or `y`.
+    /// `lastIndex` in code units (21.2.6.1): the index at which the next search begins with `g` or `y`. Any value is allowed; a
+    /// search from past the end of the text finds no match.
+    ///
+    /// The property of a script's object may hold any value, which a call coerces. So before a call a host sets this field to
+    /// the property's number, converted by [`to_length`](crate::to_length). After `exec`, `test`, `match_text`, `replace` and
+    /// `replace_with` it writes the field back to the property if the flags have `g` or `y`; otherwise the property keeps its
+    /// value.
     pub last_index: usize,
 }
 
 impl RegExp {
-    /// The regular expression of a pattern's text and letters of flags, in any order (21.2.3.1). Its `lastIndex` is 0.
+    /// Compiles a pattern with the flags of these letters, in any order (21.2.3.1). `lastIndex` is 0.
     ///
     /// # Errors
     ///
-    /// `Flags` where a letter is no flag or stands twice, `Pattern` where the text is refused, and `Memory` where there is
-    /// no memory.
+    /// `Flags` if a letter is not that of a flag or occurs twice, `Pattern` if the pattern is refused, and `Memory` if an
+    /// allocation fails.
     pub fn new(alloc: Global, source: &[u16], letters: &[u16]) -> Result<RegExp, RegExpError>
         ensures compiled { IfOk result (λ r. IsPatternOf source.now letters.now r.pattern) }
         ensures first { IfOk result (λ r. r.last_index ≡ 0) }
@@ -40,29 +46,29 @@ impl RegExp {
         })
     }
 
-    /// The flags (21.2.5.4 and those of each).
+    /// Returns the flags (21.2.5.4, and the clauses of the single flags).
     pub fn flags(&self) -> Flags
         ensures { result ≡ self.now.pattern.flags }
     {
         self.pattern.flags()
     }
 
-    /// The pattern's text that means the same and can stand between slashes (21.2.5.11).
+    /// Returns the source of the pattern, escaped so that it can stand between slashes (21.2.5.11).
     ///
     /// # Errors
     ///
-    /// Where there is no memory for it.
+    /// `AllocError` if an allocation fails.
     pub fn source(&self, alloc: Global) -> Result<Vec<u16>, AllocError>
         ensures { IfOk result (λ v. v.items ≡ escaped_source self.now.pattern.source.items) }
     {
         escaped(alloc, self.pattern.source())
     }
 
-    /// The whole as it is written: `/source/flags` (21.2.5.15).
+    /// Returns the literal `/source/flags` (21.2.5.15, toString).
     ///
     /// # Errors
     ///
-    /// Where there is no memory for it.
+    /// `AllocError` if an allocation fails.
     pub fn to_text(&self, alloc: Global) -> Result<Vec<u16>, AllocError>
         ensures { IfOk result (λ v. v.items
             ≡ literal_of self.now.pattern.source.items self.now.pattern.flags) }
@@ -75,13 +81,16 @@ impl RegExp {
         Ok(text)
     }
 
-    /// The first match from `lastIndex` on, which with `y` begins there; without `g` and `y` the first one in the text
-    /// (21.2.5.2). Behind it `lastIndex` is, with `g` or `y`, the end of the match, or 0 where there is none. An index within
-    /// a pair stands, with `u`, for that of the pair.
+    /// Returns the first match from `lastIndex` on with `g`, the match that begins at `lastIndex` with `y`, and otherwise the
+    /// first match in the text (21.2.5.2). With `g` or `y` `lastIndex` becomes the end of the match, or 0 without a match. With
+    /// `u` an index within a surrogate pair means the start of the pair.
+    ///
+    /// The array `indices` of a result with the flag `d` (22.2.7.2 of the 13th edition) is [`Match::groups`]: a range is a pair
+    /// of indices, and a group that did not match has none. Its `groups` are [`Match::named_groups`].
     ///
     /// # Errors
     ///
-    /// `Memory` where there is no memory for the search. Then nothing has changed.
+    /// `Memory` if an allocation fails. Then `self` is unchanged.
     pub fn exec(&mut self, text: &[u16]) -> Result<Option<Match>, SearchError>
         ensures found { IfOk result (λ m. option_map answer_of m
             ≡ found self.old.pattern text.now self.old.last_index) }
@@ -97,7 +106,7 @@ impl RegExp {
         Ok(found)
     }
 
-    /// Whether `exec` finds a match; it leaves `lastIndex` as that does (21.2.5.14).
+    /// Returns whether `exec` finds a match, and sets `lastIndex` like `exec` (21.2.5.14).
     ///
     /// # Errors
     ///
@@ -114,12 +123,12 @@ impl RegExp {
         Ok(found.is_some())
     }
 
-    /// Where the first match begins, none where there is none: `exec` with a `lastIndex` of 0, which stays as it was
-    /// (21.2.5.10).
+    /// Returns the start of the match that `exec` finds with a `lastIndex` of 0, or `None` without a match. `lastIndex` is
+    /// unchanged (21.2.5.10).
     ///
     /// # Errors
     ///
-    /// `Memory` where there is no memory for the search.
+    /// `Memory` if an allocation fails.
     pub fn search(&self, text: &[u16]) -> Result<Option<usize>, SearchError>
         ensures found { IfOk result (λ at. at
             ≡ option_map (λ m. m.range.0) (found self.now.pattern text.now 0)) }
@@ -131,12 +140,12 @@ impl RegExp {
         }
     }
 
-    /// With `g` all matches, one after the other from the left end, and else the one of `exec`, if there is one (21.2.5.7,
-    /// `[Symbol.match]`). Behind it `lastIndex` is with `g` 0, and else what `exec` leaves.
+    /// Returns all matches in the text with `g`, and otherwise the match of `exec`, if there is one (21.2.5.7,
+    /// `[Symbol.match]`). `lastIndex` becomes 0 with `g`, and otherwise what `exec` sets it to.
     ///
     /// # Errors
     ///
-    /// `Memory` where there is no memory for a search or the list. Then nothing has changed.
+    /// `Memory` if an allocation fails. Then `self` is unchanged.
     pub fn match_text(&mut self, alloc: Global, text: &[u16]) -> Result<Vec<Match>, SearchError>
         ensures taken { IfOk result (λ v.
             AreTaken self.old.pattern text.now 0 self.old.last_index (map answer_of v.items)) }
@@ -150,7 +159,7 @@ impl RegExp {
         Ok(matches)
     }
 
-    // Leaves `lastIndex` as it is behind these matches.
+    // Sets `lastIndex` to its value after these matches.
     pub(crate) fn pass(&mut self, matches: &[Match])
         ensures last { self.new.last_index ≡ (if self.old.pattern.flags.global then 0
             else last_behind self.old.pattern self.old.last_index (slice_get (map answer_of matches.now) 0)) }
@@ -160,12 +169,12 @@ impl RegExp {
         self.last_index = last_index;
     }
 
-    /// With `g` all matches, one after the other from `lastIndex` on, and else the one of `exec`, if there is one.
-    /// `lastIndex` stays (21.2.5.8 of the 11th edition, `[Symbol.matchAll]`, which the 9th has not).
+    /// Returns all matches from `lastIndex` on with `g`, and otherwise the match of `exec`, if there is one. `lastIndex` is
+    /// unchanged (21.2.5.8 of the 11th edition, `[Symbol.matchAll]`, which the 9th edition does not have).
     ///
     /// # Errors
     ///
-    /// `Memory` where there is no memory for a search or the list.
+    /// `Memory` if an allocation fails.
     pub fn match_all(&self, alloc: Global, text: &[u16]) -> Result<Vec<Match>, SearchError>
         ensures taken { IfOk result (λ v.
             AreTaken self.now.pattern text.now self.now.last_index self.now.last_index (map answer_of v.items)) }

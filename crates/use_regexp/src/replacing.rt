@@ -1,4 +1,4 @@
-//! Texts with other text in place of matches.
+//! Replacement of matches.
 
 ghost use Rattle.std.specs.Prelude.{◌≡◌, ◌++◌, ◌≤◌, IfErr, IfOk, OnErr, drop, length, map, slice_range};
 ghost use Rattle.std.specs.Result.{IsOkAnd};
@@ -14,16 +14,16 @@ use regress_match::{Match, ReplaceError, SearchError};
 use std::alloc::{AllocError, Global};
 
 impl RegExp {
-    /// The text with what a template says in place of the match of `exec`, or with `g` of each match (21.2.5.9,
-    /// `[Symbol.replace]`). Without a match it is the text. Behind it `lastIndex` is as behind `match_text`.
+    /// Returns the text with the expansion of a template in place of each match with `g`, and otherwise of the match of `exec`
+    /// (21.2.5.9, `[Symbol.replace]`). Without a match it is the text itself. `lastIndex` is set like by `match_text`.
     ///
-    /// In a template `$$` stands for `$`, `$&` for the match, `` $` `` for what stands before it and `$'` for what stands
-    /// behind, `$` and one digit or two for a group, if there is one with that number, and `$<name>` for one by name where
-    /// groups have names. Any other `$` is one.
+    /// In a template `$$` stands for `$`, `$&` for the match, `` $` `` for the text before it and `$'` for the text after it.
+    /// `$` with one or two digits stands for a group, if there is one with this number, and `$<name>` for a group by name, if
+    /// any group has a name. Any other `$` stands for itself.
     ///
     /// # Errors
     ///
-    /// `Memory` where there is no memory for a search or the text. Then nothing has changed.
+    /// `Memory` if an allocation fails. Then `self` is unchanged.
     pub fn replace(
         &mut self,
         alloc: Global,
@@ -43,13 +43,13 @@ impl RegExp {
         Ok(made)
     }
 
-    /// The text with what a closure answers in place of the match of `exec`, or with `g` of each match (21.2.5.9). It is called
-    /// at one match after the other, and not again after an error. Behind it `lastIndex` is as behind `match_text`.
+    /// Returns the text with the result of a closure in place of each match with `g`, and otherwise of the match of `exec`
+    /// (21.2.5.9). The closure is called for one match after another, and not again after an error. `lastIndex` is set like by
+    /// `match_text`.
     ///
     /// # Errors
     ///
-    /// `Search` where there is no memory for a search or the text, and `Closure` with the closure's error. Then nothing has
-    /// changed.
+    /// `Search` if an allocation fails, and `Closure` with the error of the closure. Then `self` is unchanged.
     pub fn replace_with<E, F>(
         &mut self,
         alloc: Global,
@@ -74,7 +74,7 @@ impl RegExp {
     }
 }
 
-// Writes what stands before a match, and answers where the text goes on behind it.
+// Appends the text between `from` and a match, and returns the end of the match.
 fn reach(made: &mut Vec<u16>, text: &[u16], from: usize, found: &Match) -> Result<usize, AllocError>
     requires rising { from ≤ found.now.range.start }
     requires fits { MatchFitsCodeUnits text.now (answer_of found.now) }
@@ -86,7 +86,7 @@ fn reach(made: &mut Vec<u16>, text: &[u16], from: usize, found: &Match) -> Resul
     Ok(found.end())
 }
 
-// The text with what the template says in place of each match.
+// Returns the text with the expansion of the template in place of each match.
 fn write_template(
     alloc: Global,
     text: &[u16],
@@ -109,7 +109,7 @@ fn write_template(
     Ok(made)
 }
 
-// Writes what the closure answered at a match.
+// Appends the result of the closure for a match.
 fn write_answer<E>(made: &mut Vec<u16>, answer: Result<Vec<u16>, E>) -> Result<(), ReplaceError<E>>
     ensures made { IfOk result (λ _. IsOkAnd answer (λ piece. made.new.items ≡ made.old.items ++ piece.items)) }
     ensures refused { IfErr result (IsErrorOfClosureResult answer) }
@@ -119,7 +119,7 @@ fn write_answer<E>(made: &mut Vec<u16>, answer: Result<Vec<u16>, E>) -> Result<(
     Ok(())
 }
 
-// The text with what the closure answers in place of each match.
+// Returns the text with the result of the closure in place of each match.
 fn write_answers<E, F>(
     alloc: Global,
     text: &[u16],

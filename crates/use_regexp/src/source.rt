@@ -1,4 +1,4 @@
-//! How a regular expression is written.
+//! The source text of a regular expression.
 
 ghost use Rattle.std.specs.Prelude.{◌≡◌, ◌++◌, ◌∷◌, IfOk, false, if◌then◌else◌, []};
 ghost use Rattle.use_regexp.specs.Source.{behind_backslash, class_behind, escaped_from, escaped_source, is_terminator as is_terminator_of, wants_backslash as wants};
@@ -9,11 +9,11 @@ const BACKSLASH: u16 = 92;
 
 const SLASH: u16 = 47;
 
-/// The pattern's text that means the same and can stand between slashes (21.2.3.2.4, EscapeRegExpPattern).
+/// Returns the source of a pattern, escaped so that it can stand between slashes (21.2.3.2.4, EscapeRegExpPattern).
 ///
 /// # Errors
 ///
-/// Where there is no memory for it.
+/// `AllocError` if an allocation fails.
 pub(crate) fn escaped(alloc: Global, source: &[u16]) -> Result<Vec<u16>, AllocError>
     ensures { IfOk result (λ v. v.items ≡ escaped_source source.now) }
 {
@@ -26,7 +26,7 @@ pub(crate) fn escaped(alloc: Global, source: &[u16]) -> Result<Vec<u16>, AllocEr
     Ok(out)
 }
 
-// Writes the units, with a backslash where one is wanted.
+// Appends the units, with a backslash before each that needs one.
 fn push_escaped(out: &mut Vec<u16>, source: &[u16]) -> Result<(), AllocError>
     ensures { IfOk result (λ _. out.new.items ≡ out.old.items ++ escaped_from false false source.now) }
 {
@@ -45,7 +45,7 @@ fn push_escaped(out: &mut Vec<u16>, source: &[u16]) -> Result<(), AllocError>
     Ok(())
 }
 
-// Writes a unit that no backslash stands before.
+// Appends a unit that does not follow a backslash.
 fn push_plain(out: &mut Vec<u16>, in_class: bool, unit: u16) -> Result<(), AllocError>
     ensures { IfOk result (λ _. out.new.items ≡ out.old.items
         ++ (if wants in_class unit then 92 ∷ behind_backslash unit else unit ∷ [])) }
@@ -57,21 +57,21 @@ fn push_plain(out: &mut Vec<u16>, in_class: bool, unit: u16) -> Result<(), Alloc
     push_behind_backslash(out, unit)
 }
 
-// Whether a unit wants a backslash: a line terminator, or a slash outside of a class.
+// Returns whether a unit needs a backslash: a line terminator, or a slash outside of a class.
 fn wants_backslash(in_class: bool, unit: u16) -> bool
     ensures { result ≡ wants in_class unit }
 {
     is_terminator(unit) || (unit == SLASH && !in_class)
 }
 
-// Whether a unit is a line terminator.
+// Returns whether a unit is a line terminator.
 fn is_terminator(unit: u16) -> bool
     ensures { result ≡ is_terminator_of unit }
 {
     unit == 0x0A || unit == 0x0D || unit == 0x2028 || unit == 0x2029
 }
 
-// Whether a class is open behind a unit that no backslash stands before.
+// Returns whether a class is open after a unit that does not follow a backslash.
 fn is_in_class(in_class: bool, unit: u16) -> bool
     ensures { result ≡ class_behind in_class unit }
 {
@@ -84,7 +84,7 @@ fn is_in_class(in_class: bool, unit: u16) -> bool
     }
 }
 
-// Writes what stands behind a backslash: the name of a line terminator, or the unit.
+// Appends the part of an escape after its backslash: the name of a line terminator, or the unit itself.
 fn push_behind_backslash(out: &mut Vec<u16>, unit: u16) -> Result<(), AllocError>
     ensures { IfOk result (λ _. out.new.items ≡ out.old.items ++ behind_backslash unit) }
 {
@@ -101,7 +101,7 @@ fn push_behind_backslash(out: &mut Vec<u16>, unit: u16) -> Result<(), AllocError
     }
 }
 
-// Writes a text of ASCII.
+// Appends an ASCII text.
 pub(crate) fn push_ascii(out: &mut Vec<u16>, text: &[u8]) -> Result<(), AllocError>
     ensures { IfOk result (λ _. out.new.items ≡ out.old.items ++ text.now) }
 {

@@ -1,4 +1,4 @@
-//! Texts that are cut where a pattern matches.
+//! Splitting of texts at matches.
 
 ghost use Rattle.std.specs.Prelude.{◌≡◌, ◌++◌, ◌∷◌, ◌⊎◌, ◌≤◌, [], IfErr, IfNone, IfOk, IfSome, None, Some, length, map, option_map, take};
 ghost use Rattle.regress_exec.specs.MatchAnswers.{answer_of, range_of};
@@ -12,13 +12,15 @@ use regress_match::{Match, Range, SearchError};
 use std::alloc::{AllocError, Global};
 
 impl RegExp {
-    /// The text in pieces: what stands between the matches, and behind each piece the groups of the match there, none for one
-    /// that did not match; at most so many, where one that is not limited has 2^32 - 1 (21.2.5.12, `[Symbol.split]`). A match
-    /// that is empty cuts only between characters. `lastIndex`, `g` and `y` have no say, and nothing changes.
+    /// Splits the text at the matches, and returns the ranges between them (21.2.5.12, `[Symbol.split]`). The range before a
+    /// match is followed by the ranges of the groups of the match, `None` for a group that did not match. The list has at most
+    /// `limit` items; without a limit `limit` is 2^32 - 1. A host coerces the limit by [`to_uint32`](crate::to_uint32).
+    ///
+    /// An empty match splits only between two characters. `lastIndex`, `g` and `y` have no effect.
     ///
     /// # Errors
     ///
-    /// `Memory` where there is no memory for a search or the list.
+    /// `Memory` if an allocation fails.
     pub fn split(
         &self,
         alloc: Global,
@@ -38,7 +40,7 @@ impl RegExp {
 }
 
 impl Pattern {
-    // The pieces of a text that is empty: none where the pattern matches it.
+    // Returns the pieces of an empty text: none if the pattern matches it.
     fn pieces_of_none(
         &self,
         alloc: Global,
@@ -57,7 +59,7 @@ impl Pattern {
         Ok(pieces)
     }
 
-    // The pieces of a text that is not: none more are searched where there are enough.
+    // Returns the pieces of a text that is not empty. The search ends once there are `limit` pieces.
     fn pieces(
         &self,
         alloc: Global,
@@ -83,7 +85,7 @@ impl Pattern {
         Ok(pieces)
     }
 
-    // The next separator where a piece begins, if there are not enough pieces.
+    // Returns the next separator after the start of a piece, unless there are `limit` pieces already.
     fn wanted_separator(
         &self,
         text: &[u16],
@@ -104,7 +106,8 @@ impl Pattern {
         self.separator(text, from)
     }
 
-    // The next separator where a piece begins: a match that is not empty there, and begins before the end of the text.
+    // Returns the next separator after the start of a piece: a match that does not end there, and begins before the end of
+    // the text.
     fn separator(&self, text: &[u16], from: usize) -> Result<Option<Match>, SearchError>
         requires { from ≤ length text.now }
         ensures found { IfOk result (λ m. option_map answer_of m ≡ separator self.now text.now from) }
@@ -116,7 +119,7 @@ impl Pattern {
         Ok(before_end(text, chosen))
     }
 
-    // The first match where a piece begins; where that is empty, the one from the next index on.
+    // Returns the first match from the start of a piece on; if that is empty there, the first match from the next index on.
     fn passed(
         &self,
         text: &[u16],
@@ -139,7 +142,7 @@ impl Pattern {
     }
 }
 
-// The match, if it begins before the end of the text.
+// Returns the match if it begins before the end of the text.
 fn before_end(text: &[u16], found: Option<Match>) -> Option<Match>
     ensures { option_map answer_of result ≡ before_end_of text.now (option_map answer_of found) }
 {
@@ -149,7 +152,7 @@ fn before_end(text: &[u16], found: Option<Match>) -> Option<Match>
     }
 }
 
-// One piece more.
+// Appends a piece.
 fn push_piece(
     pieces: &mut Vec<Option<Range<usize>>>,
     start: usize,
@@ -161,7 +164,7 @@ fn push_piece(
     Ok(pieces.push(Some(start..end))?)
 }
 
-// A piece up to a match, and the groups of that.
+// Appends the piece before a match, and the groups of the match.
 fn push_pieces(
     pieces: &mut Vec<Option<Range<usize>>>,
     from: usize,
@@ -177,7 +180,7 @@ fn push_pieces(
     Ok(())
 }
 
-// A range is not `Copy`, and its `clone` could fail.
+// Returns a copy of a range. A range is not `Copy`, and its `clone` may fail.
 fn copied(range: &Option<Range<usize>>) -> Option<Range<usize>>
     ensures { result ≡ range.now }
 {

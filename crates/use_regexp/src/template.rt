@@ -1,4 +1,4 @@
-//! What a template says for a match.
+//! Expansion of templates.
 
 ghost use Rattle.std.specs.Prelude.{◌≡◌, ◌++◌, ◌<◌, IfOk, IfSome, IsTrue, None, Some, if◌then◌else◌, length, option_map, position, string_bytes};
 ghost use Rattle.std.specs.Char.{is_ascii_digit};
@@ -18,7 +18,7 @@ const LESS: u16 = 60;
 
 const GREATER: u16 = 62;
 
-// Writes what a template says for a match (21.1.3.16.1, GetSubstitution). Each turn reads a unit at least.
+// Appends the expansion of a template for a match (21.1.3.16.1, GetSubstitution). Each iteration reads at least one unit.
 pub(crate) fn substitute(
     alloc: Global,
     out: &mut Vec<u16>,
@@ -40,7 +40,7 @@ pub(crate) fn substitute(
     Ok(())
 }
 
-// Writes what the first signs say, and answers what is left.
+// Appends the expansion of the first units, and returns the rest.
 fn push_said<'a>(
     alloc: Global,
     out: &mut Vec<u16>,
@@ -60,7 +60,7 @@ fn push_said<'a>(
     Ok(behind)
 }
 
-// Writes what stands behind `$` says.
+// Appends the expansion of `$` and the units after it, and returns the rest.
 fn push_behind_dollar<'a>(
     alloc: Global,
     out: &mut Vec<u16>,
@@ -86,7 +86,7 @@ fn push_behind_dollar<'a>(
     Ok(rest)
 }
 
-// Writes what a sign behind `$` says alone: `$` itself, the match, what stands before it or behind it; and else both signs.
+// Appends the expansion of `$` and one unit: a `$`, the match, or the text before or after it; otherwise both units.
 fn push_plain(out: &mut Vec<u16>, text: &[u16], found: &Match, sign: u16) -> Result<(), AllocError>
     requires { MatchFitsCodeUnits text.now (answer_of found.now) }
     ensures { IfOk result (λ _. out.new.items ≡ out.old.items ++ plain text.now (answer_of found.now) sign) }
@@ -107,14 +107,15 @@ fn push_plain(out: &mut Vec<u16>, text: &[u16], found: &Match, sign: u16) -> Res
     Ok(())
 }
 
-// Whether a unit is a digit.
+// Returns whether a unit is a digit.
 fn is_digit(unit: u16) -> bool
     ensures { result ≡ is_ascii_digit unit }
 {
     matches!(unit, 48..=57)
 }
 
-// Writes the group whose number stands there: of two digits, or else of one; or else `$` and the digit.
+// Appends the text of the group with the number of two digits, or of one digit if there is no such group; otherwise `$` and
+// the digit.
 fn push_numbered<'a>(
     out: &mut Vec<u16>,
     text: &[u16],
@@ -142,14 +143,14 @@ fn push_numbered<'a>(
     Ok(rest)
 }
 
-// Whether the pattern has a group with this number.
+// Returns whether the pattern has a group with this number.
 fn is_group(found: &Match, number: usize) -> bool
     ensures { result ≡ is_group_of (answer_of found.now) number }
 {
     0 < number && number <= found.captures.len()
 }
 
-// The number of a digit and the one behind it; 0 where there is none.
+// Returns the number of a digit and the digit after it, or 0 if no digit follows.
 fn two_digits(first: usize, rest: &[u16]) -> usize
     requires { first < 10 }
     ensures { result ≡ two_digits_of first rest.now }
@@ -160,7 +161,7 @@ fn two_digits(first: usize, rest: &[u16]) -> usize
     }
 }
 
-// Writes the group whose name stands there, up to `>`, where groups have names; or else `$<`.
+// Appends the text of the group with the name before `>`, if any group has a name; otherwise `$<`.
 fn push_named<'a>(
     alloc: Global,
     out: &mut Vec<u16>,
@@ -181,7 +182,7 @@ fn push_named<'a>(
     Ok(&rest[end + 1..])
 }
 
-// Where a name ends, where groups have names.
+// Returns the index at which a name ends, if any group has a name.
 fn name_end(found: &Match, rest: &[u16]) -> Option<usize>
     ensures end { result ≡ name_end_of (answer_of found.now) rest.now }
     ensures inside { IfSome result (λ end. end < length rest.now) }
@@ -192,7 +193,7 @@ fn name_end(found: &Match, rest: &[u16]) -> Option<usize>
     greater_in(rest)
 }
 
-// Where the first `>` stands.
+// Returns the index of the first `>`.
 fn greater_in(rest: &[u16]) -> Option<usize>
     ensures found { result ≡ position is_greater rest.now }
     ensures inside { IfSome result (λ at. at < length rest.now) }
@@ -200,7 +201,7 @@ fn greater_in(rest: &[u16]) -> Option<usize>
     rest.iter().position(|unit| *unit == GREATER)
 }
 
-// Writes the group with a name, if there is one and it matched.
+// Appends the text of the group with a name, if there is one and it matched.
 fn push_name(
     alloc: Global,
     out: &mut Vec<u16>,
@@ -218,7 +219,7 @@ fn push_name(
     }
 }
 
-// The text of these units; none where one is not of ASCII, of which names are.
+// Returns the text of these units, or `None` if one is not ASCII. Names of groups are ASCII.
 fn ascii(alloc: Global, units: &[u16]) -> Result<Option<String>, AllocError>
     ensures { IfOk result (λ s. option_map string_bytes s
         ≡ (if list_all is_ascii units.now then Some units.now else None)) }
@@ -233,7 +234,7 @@ fn ascii(alloc: Global, units: &[u16]) -> Result<Option<String>, AllocError>
     Ok(Some(text))
 }
 
-// Writes what stands in a range, if there is one.
+// Appends the text in a range, if there is one.
 fn push_range(
     out: &mut Vec<u16>,
     text: &[u16],

@@ -1,4 +1,4 @@
-//! Texts of 16-bit units, which the flag `u` reads as UTF-16.
+//! Texts of 16-bit code units, which are read as UTF-16 with the flag `u`.
 
 ghost use Rattle.std.specs.Prelude.{◌≡◌, ◌≤◌, ◌∷◌, IfOk, length};
 ghost use Rattle.regex_meaning.specs.Laws.{is_within_pair as is_pair_at};
@@ -7,21 +7,21 @@ ghost use Rattle.use_regexp.specs.Units.{advanced as advanced_of, character_star
 
 use std::alloc::{AllocError, Global};
 
-// Whether a unit begins a pair.
+// Returns whether a unit is a high surrogate.
 fn is_high(unit: u16) -> bool
     ensures { result ≡ is_high_surrogate unit }
 {
     matches!(unit, 0xD800..=0xDBFF)
 }
 
-// Whether it ends one.
+// Returns whether a unit is a low surrogate.
 fn is_low(unit: u16) -> bool
     ensures { result ≡ is_low_surrogate unit }
 {
     matches!(unit, 0xDC00..=0xDFFF)
 }
 
-// Whether an index cuts a pair.
+// Returns whether an index is within a surrogate pair.
 fn is_within_pair(text: &[u16], index: usize) -> bool
     ensures { result ≡ is_pair_at text.now index }
 {
@@ -34,7 +34,7 @@ fn is_within_pair(text: &[u16], index: usize) -> bool
     is_high(text[index - 1]) && is_low(text[index])
 }
 
-// Where the character of an index begins: with `u`, within a pair, one unit before (21.2.2.2).
+// Returns the start of the character at an index: with `u`, one unit before an index within a surrogate pair (21.2.2.2).
 pub(crate) fn character_start(unicode: bool, text: &[u16], index: usize) -> usize
     ensures { result ≡ start_of unicode text.now index }
 {
@@ -45,7 +45,7 @@ pub(crate) fn character_start(unicode: bool, text: &[u16], index: usize) -> usiz
     }
 }
 
-// The index behind the character of an index (21.2.5.2.3, AdvanceStringIndex).
+// Returns the index after the character at an index (21.2.5.2.3, AdvanceStringIndex).
 pub(crate) fn advanced(unicode: bool, text: &[u16], index: usize) -> usize
     requires { index ≤ length text.now }
     ensures { result ≡ advanced_of unicode text.now index }
@@ -57,7 +57,7 @@ pub(crate) fn advanced(unicode: bool, text: &[u16], index: usize) -> usize
     }
 }
 
-// The first character in UTF-16, and what is left.
+// Returns the first character in UTF-16, and the rest.
 fn first_character(unit: u16, behind: &[u16]) -> (u32, &[u16])
     ensures first { utf16_characters (unit ∷ behind.now) ≡ result.0 ∷ utf16_characters result.1.now }
     ensures shorter { length result.1.now ≤ length behind.now }
@@ -70,14 +70,14 @@ fn first_character(unit: u16, behind: &[u16]) -> (u32, &[u16])
     (u32::from(unit), behind)
 }
 
-// The character of a pair.
+// Returns the character of a surrogate pair.
 fn character_of(high: u16, low: u16) -> u32
     ensures { result ≡ decode_surrogate_pair high low }
 {
     0x1_0000 + (u32::from(high) % 0x400 * 0x400 + u32::from(low) % 0x400)
 }
 
-// The characters in UTF-16.
+// Returns the characters of a UTF-16 text.
 fn decoded(alloc: Global, units: &[u16]) -> Result<Vec<u32>, AllocError>
     ensures { IfOk result (λ v. v.items ≡ utf16_characters units.now) }
 {
@@ -91,14 +91,14 @@ fn decoded(alloc: Global, units: &[u16]) -> Result<Vec<u32>, AllocError>
     Ok(characters)
 }
 
-// Each unit as a character.
+// Returns each unit as a character.
 fn widened(alloc: Global, units: &[u16]) -> Result<Vec<u32>, AllocError>
     ensures { IfOk result (λ v. v.items ≡ units.now) }
 {
     units.iter().map(|unit| u32::from(*unit)).collect(alloc)
 }
 
-// The characters of a pattern: with `u` those in UTF-16, and else its units.
+// Returns the characters of a pattern: with `u` those in UTF-16, otherwise its units.
 pub(crate) fn characters(
     alloc: Global,
     unicode: bool,

@@ -1,59 +1,67 @@
-//! Calls of a line, and their answers.
+//! The calls of a line, and their answers.
 
 use crate::json;
-use crate::script::{Literal, behind_blanks, first, number, pattern, string, units_of, word};
-use anyhow::{Result, bail};
+use crate::script::{
+    Literal, begins_number, behind_blanks, first, is, number, pattern, push, string, units_of, word,
+};
+use crate::stop::{Malformed, Stop};
 use std::alloc::{AllocError, Global};
-use use_regexp::{Match, Range, RegExp, RegExpError, ReplaceError, SearchError};
+use use_regexp::{Match, Range, RegExp, ReplaceError, to_length, to_uint32};
 
-/// The pieces of a text that is split with no limit.
+/// The limit of a split without a limit.
 const NO_LIMIT: u32 = u32::MAX;
 
-/// What a line of the script is answered: a line of JSON for each of its calls.
-pub fn answer(alloc: Global, line: &str) -> Result<String> {
+/// Answers a line of the script: writes a line of JSON for each of its calls. A blank line has no calls.
+///
+/// # Errors
+///
+/// `SyntaxError` if the pattern or its flags are refused. `Malformed` if the line is malformed, after the answers of the calls
+/// before the error. `Memory` if an allocation fails.
+pub fn answer(alloc: Global, out: &mut String, line: &str) -> Result<(), Stop> {
     let units = units_of(alloc, line)?;
-    let mut out = String::new(alloc);
-    let Some((literal, rest)) = pattern(alloc, &units)? else {
-        out.push_str("{\"error\":\"no pattern\"}\n")?;
-        return Ok(out);
-    };
-    let Literal { source, flags } = literal;
-    match RegExp::new(alloc, &source, &flags) {
-        Ok(mut re) => answer_calls(alloc, &mut out, &mut re, rest)?,
-        Err(RegExpError::Memory) => bail!("out of memory"),
-        Err(_) => out.push_str("{\"error\":\"SyntaxError\"}\n")?,
+    let line = behind_blanks(&units);
+    if line.is_empty() {
+        return Ok(());
     }
-    Ok(out)
+    let (literal, rest) = pattern(alloc, line)?;
+    let Literal { source, flags } = literal;
+    let mut re = RegExp::new(alloc, &source, &flags)?;
+    answer_calls(alloc, out, &mut re, rest)
 }
 
-// The index that `@` stands before, or 0, and what is left.
-fn index(line: &[u16]) -> (usize, &[u16]) {
+// Returns `lastIndex`, which is the number after `@`, or 0 without one, and the rest.
+fn index(alloc: Global, line: &[u16]) -> Result<(usize, &[u16]), Stop> {
     match first(line) {
-        Some((64, behind)) => number(behind),
-        _ => (0, line),
+        Some((64, behind)) => {
+            let (given, rest) = number(alloc, behind)?;
+            Ok((to_length(given), rest))
+        }
+        _ => Ok((0, line)),
     }
 }
 
 // Answers the calls that follow the pattern.
-fn answer_calls(alloc: Global, out: &mut String, re: &mut RegExp, line: &[u16]) -> Result<()> {
-    let (last_index, behind) = index(behind_blanks(line));
+fn answer_calls(
+    alloc: Global,
+    out: &mut String,
+    re: &mut RegExp,
+    line: &[u16],
+) -> Result<(), Stop> {
+    let (last_index, behind) = index(alloc, behind_blanks(line))?;
     re.last_index = last_index;
     let mut rest = behind_blanks(behind);
     for _ in 0..line.len() {
         if rest.is_empty() {
             break;
         }
-        let Some((call, behind)) = read_call(alloc, rest)? else {
-            out.push_str("{\"error\":\"no call\"}\n")?;
-            break;
-        };
+        let (call, behind) = read_call(alloc, rest)?;
         answer_call(alloc, out, re, &call)?;
         rest = behind_blanks(behind);
     }
     Ok(())
 }
 
-// What is called.
+// A method.
 #[derive(Clone, Copy, PartialEq, Eq)]
 enum Method {
     Exec,
@@ -70,7 +78,7 @@ enum Method {
     LastIndex,
 }
 
-// A call of a method: the text that it is given, if it takes one, and what `replace` and `split` take besides.
+// A call of a method: its text, which is empty if it takes none, and the other parameters of `replace` and `split`.
 #[derive(Drop)]
 struct Call {
     method: Method,
@@ -79,16 +87,7 @@ struct Call {
     limit: u32,
 }
 
-// Whether a word is this name.
-fn is(word: &[u16], name: &str) -> bool {
-    word.len() == name.len()
-        && word
-            .iter()
-            .zip(name.bytes())
-            .all(|(unit, byte)| *unit == u16::from(byte))
-}
-
-// The methods by their names.
+// The methods and their names.
 const METHODS: [(&str, Method); 12] = [
     ("exec", Method::Exec),
     ("test", Method::Test),
@@ -104,7 +103,7 @@ const METHODS: [(&str, Method); 12] = [
     ("lastIndex", Method::LastIndex),
 ];
 
-// The method of a name.
+// Returns the method with this name.
 fn method_of(name: &[u16]) -> Option<Method> {
     for (text, method) in METHODS {
         if is(name, text) {
@@ -114,7 +113,7 @@ fn method_of(name: &[u16]) -> Option<Method> {
     None
 }
 
-// Whether the method is given a text.
+// Returns whether the method takes a text.
 fn takes_text(method: Method) -> bool {
     !matches!(
         method,
@@ -122,62 +121,45 @@ fn takes_text(method: Method) -> bool {
     )
 }
 
-// A string at the left end where one is wanted, and what is left.
-fn string_if(
-    alloc: Global,
-    is_wanted: bool,
-    line: &[u16],
-) -> Result<Option<(Vec<u16>, &[u16])>, AllocError> {
+// Reads a string if one is wanted, and returns it with the rest.
+fn string_if(alloc: Global, is_wanted: bool, line: &[u16]) -> Result<(Vec<u16>, &[u16]), Stop> {
     if is_wanted {
         string(alloc, behind_blanks(line))
     } else {
-        Ok(Some((Vec::new(alloc), line)))
+        Ok((Vec::new(alloc), line))
     }
 }
 
-// The call at the left end, and what is left; none where no method is called so.
-fn read_call(alloc: Global, line: &[u16]) -> Result<Option<(Call, &[u16])>, AllocError> {
+// Reads a call, and returns it with the rest.
+fn read_call(alloc: Global, line: &[u16]) -> Result<(Call, &[u16]), Stop> {
     let (name, rest) = word(line);
     let Some(method) = method_of(name) else {
-        return Ok(None);
+        return Err(Stop::Malformed(Malformed::NoCall));
     };
-    let Some((text, rest)) = string_if(alloc, takes_text(method), rest)? else {
-        return Ok(None);
-    };
-    let is_replace = method == Method::Replace;
-    let Some((template, rest)) = string_if(alloc, is_replace, rest)? else {
-        return Ok(None);
-    };
-    let (limit, rest) = limit_if(method == Method::Split, rest);
+    let (text, rest) = string_if(alloc, takes_text(method), rest)?;
+    let (template, rest) = string_if(alloc, method == Method::Replace, rest)?;
+    let (limit, rest) = limit_if(alloc, method == Method::Split, rest)?;
     let call = Call {
         method,
         text,
         template,
         limit,
     };
-    Ok(Some((call, rest)))
+    Ok((call, rest))
 }
 
-// The limit of a split, where one is wanted and digits stand there, and what is left.
-fn limit_if(is_wanted: bool, line: &[u16]) -> (u32, &[u16]) {
-    if is_wanted {
-        limit(line)
-    } else {
-        (NO_LIMIT, line)
+// Reads the limit of a split, if one is wanted and a number follows, and returns it with the rest.
+fn limit_if(alloc: Global, is_wanted: bool, line: &[u16]) -> Result<(u32, &[u16]), Stop> {
+    let rest = behind_blanks(line);
+    if !is_wanted || !begins_number(rest) {
+        return Ok((NO_LIMIT, line));
     }
+    let (given, rest) = number(alloc, rest)?;
+    Ok((to_uint32(given), rest))
 }
 
-// The limit of a split, if digits stand there, and what is left.
-fn limit(line: &[u16]) -> (u32, &[u16]) {
-    let (limit, rest) = number(behind_blanks(line));
-    if rest.len() == behind_blanks(line).len() {
-        return (NO_LIMIT, line);
-    }
-    (u32::try_from(limit).unwrap_or(NO_LIMIT), rest)
-}
-
-// Writes what a call answers, and `lastIndex` behind it.
-fn answer_call(alloc: Global, out: &mut String, re: &mut RegExp, call: &Call) -> Result<()> {
+// Writes the result of a call, and `lastIndex` after it.
+fn answer_call(alloc: Global, out: &mut String, re: &mut RegExp, call: &Call) -> Result<(), Stop> {
     out.push_str("{\"value\":")?;
     value(alloc, out, re, call)?;
     let last_index = re.last_index;
@@ -185,15 +167,16 @@ fn answer_call(alloc: Global, out: &mut String, re: &mut RegExp, call: &Call) ->
     Ok(())
 }
 
-// Writes what a call answers.
-fn value(alloc: Global, out: &mut String, re: &mut RegExp, call: &Call) -> Result<()> {
+// Writes the result of a call.
+fn value(alloc: Global, out: &mut String, re: &mut RegExp, call: &Call) -> Result<(), Stop> {
     let text = call.text.as_slice();
+    let indices = re.flags().has_indices;
     match call.method {
-        Method::Exec => found_or_null(out, text, re.exec(text)?)?,
+        Method::Exec => found_or_null(out, indices, text, re.exec(text)?)?,
         Method::Test => json::truth(out, re.test(text)?)?,
         Method::Search => index_or_none(out, re.search(text)?)?,
         Method::Match => matches(alloc, out, re, text)?,
-        Method::MatchAll => every(out, text, &re.match_all(alloc, text)?)?,
+        Method::MatchAll => every(out, indices, text, &re.match_all(alloc, text)?)?,
         Method::Replace => json::string(out, &re.replace(alloc, text, &call.template)?)?,
         Method::ReplaceWith => replace_with(alloc, out, re, text)?,
         Method::Split => pieces(out, text, &re.split(alloc, text, call.limit)?)?,
@@ -206,14 +189,19 @@ fn value(alloc: Global, out: &mut String, re: &mut RegExp, call: &Call) -> Resul
 }
 
 // Writes a match, or `null`.
-fn found_or_null(out: &mut String, text: &[u16], found: Option<Match>) -> Result<(), AllocError> {
+fn found_or_null(
+    out: &mut String,
+    indices: bool,
+    text: &[u16],
+    found: Option<Match>,
+) -> Result<(), AllocError> {
     match found {
-        Some(found) => json::exec(out, text, &found),
+        Some(found) => json::exec(out, indices, text, &found),
         None => out.push_str("null"),
     }
 }
 
-// Writes where a match begins, or -1.
+// Writes the start of a match, or -1.
 fn index_or_none(out: &mut String, at: Option<usize>) -> Result<(), AllocError> {
     match at {
         Some(at) => { write!(out, "{at}") }
@@ -221,19 +209,19 @@ fn index_or_none(out: &mut String, at: Option<usize>) -> Result<(), AllocError> 
     }
 }
 
-// Writes what `match` answers: with `g` the texts of all matches, `null` where there are none, and else what `exec` does.
-fn matches(alloc: Global, out: &mut String, re: &mut RegExp, text: &[u16]) -> Result<()> {
-    let global = re.flags().global;
+// Writes the result of `match`: with `g` the texts of all matches, or `null` if there are none; otherwise the result of `exec`.
+fn matches(alloc: Global, out: &mut String, re: &mut RegExp, text: &[u16]) -> Result<(), Stop> {
+    let flags = re.flags();
     let mut found = re.match_text(alloc, text)?;
-    if global && !found.is_empty() {
+    if flags.global && !found.is_empty() {
         texts(out, text, &found)?;
     } else {
-        found_or_null(out, text, found.pop())?;
+        found_or_null(out, flags.has_indices, text, found.pop())?;
     }
     Ok(())
 }
 
-// Parts an item of a list from the one before it.
+// Writes a comma before an item of a list, unless it is the first.
 fn part(out: &mut String, number: usize) -> Result<(), AllocError> {
     if number != 0 {
         out.push(',')?;
@@ -251,12 +239,12 @@ fn texts(out: &mut String, text: &[u16], found: &[Match]) -> Result<(), AllocErr
     out.push(']')
 }
 
-// Writes each match as `exec` answers it.
-fn every(out: &mut String, text: &[u16], found: &[Match]) -> Result<(), AllocError> {
+// Writes each match like the result of `exec`.
+fn every(out: &mut String, indices: bool, text: &[u16], found: &[Match]) -> Result<(), AllocError> {
     out.push('[')?;
     for (number, found) in found.iter().enumerate() {
         part(out, number)?;
-        json::exec(out, text, found)?;
+        json::exec(out, indices, text, found)?;
     }
     out.push(']')
 }
@@ -276,7 +264,12 @@ fn pieces(
 }
 
 // Writes the text with `<index:match|group..>` in place of matches.
-fn replace_with(alloc: Global, out: &mut String, re: &mut RegExp, text: &[u16]) -> Result<()> {
+fn replace_with(
+    alloc: Global,
+    out: &mut String,
+    re: &mut RegExp,
+    text: &[u16],
+) -> Result<(), Stop> {
     let made = re.replace_with(alloc, text, |found: &Match| told(alloc, text, found));
     match made {
         Ok(made) => Ok(json::string(out, &made)?),
@@ -285,7 +278,7 @@ fn replace_with(alloc: Global, out: &mut String, re: &mut RegExp, text: &[u16]) 
     }
 }
 
-// What `replaceWith` writes in place of a match: `<index:match|group..>`, where `-` is a group that did not match.
+// Returns the replacement of a match for `replaceWith`: `<index:match|group..>`, with `-` for a group that did not match.
 fn told(alloc: Global, text: &[u16], found: &Match) -> Result<Vec<u16>, AllocError> {
     let start = found.start();
     let begun = format!(in alloc; "<{start}")?;
@@ -303,9 +296,4 @@ fn told(alloc: Global, text: &[u16], found: &Match) -> Result<Vec<u16>, AllocErr
     }
     push(&mut told, 62)?;
     Ok(told)
-}
-
-// One unit more.
-fn push(units: &mut Vec<u16>, unit: u16) -> Result<(), AllocError> {
-    Ok(units.push(unit)?)
 }

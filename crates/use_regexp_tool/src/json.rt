@@ -1,4 +1,4 @@
-//! Values of JSON, written to a text.
+//! Writing of JSON values.
 
 use std::alloc::AllocError;
 use use_regexp::{Match, Range};
@@ -7,7 +7,7 @@ const HEX: [char; 16] = [
     '0', '1', '2', '3', '4', '5', '6', '7', '8', '9', 'a', 'b', 'c', 'd', 'e', 'f',
 ];
 
-/// A string of 16-bit units: what is not printed in ASCII is written by its number.
+/// Writes a string of 16-bit units. Units that are not printable ASCII are escaped.
 pub fn string(out: &mut String, units: &[u16]) -> Result<(), AllocError> {
     out.push('"')?;
     for unit in units {
@@ -33,12 +33,12 @@ fn push_escape(out: &mut String, unit: u16) -> Result<(), AllocError> {
     push_digit(out, unit)
 }
 
-// The last digit of a number.
+// Writes the last hexadecimal digit of a number.
 fn push_digit(out: &mut String, number: u16) -> Result<(), AllocError> {
     out.push(HEX[(number % 16) as usize])
 }
 
-/// The text of a range, or `null`.
+/// Writes the text in a range, or `null`.
 pub fn slice(
     out: &mut String,
     text: &[u16],
@@ -50,28 +50,58 @@ pub fn slice(
     }
 }
 
-/// A truth value.
+/// Writes a Boolean value.
 pub fn truth(out: &mut String, value: bool) -> Result<(), AllocError> {
     out.push_str(if value { "true" } else { "false" })
 }
 
-/// A match as `exec` answers it: where it begins, its text and those of its groups, and those by name, if there are names.
-pub fn exec(out: &mut String, text: &[u16], found: &Match) -> Result<(), AllocError> {
+/// Writes the result of `exec`: the start of the match, its text and the texts of its groups, and those of the named groups;
+/// with `indices`, also the same with indices in place of texts.
+pub fn exec(
+    out: &mut String,
+    indices: bool,
+    text: &[u16],
+    found: &Match,
+) -> Result<(), AllocError> {
     let start = found.start();
-    write!(out, "{{\"index\":{start},\"match\":[")?;
+    write!(out, "{{\"index\":{start},")?;
+    parts(out, Some(text), found)?;
+    if indices {
+        out.push_str(",\"indices\":{")?;
+        parts(out, None, found)?;
+        out.push('}')?;
+    }
+    out.push('}')
+}
+
+// Writes the match, its groups and its named groups: their texts, or their indices if `text` is `None`.
+fn parts(out: &mut String, text: Option<&[u16]>, found: &Match) -> Result<(), AllocError> {
+    out.push_str("\"match\":[")?;
     for (number, group) in found.groups().enumerate() {
         if number != 0 {
             out.push(',')?;
         }
-        slice(out, text, &group)?;
+        part(out, text, &group)?;
     }
     out.push_str("],\"groups\":")?;
-    groups(out, text, found)?;
-    out.push('}')
+    groups(out, text, found)
 }
 
-/// The groups by name, or `null` where no group has a name.
-fn groups(out: &mut String, text: &[u16], found: &Match) -> Result<(), AllocError> {
+// Writes the text in a range, or its indices if `text` is `None`.
+fn part(
+    out: &mut String,
+    text: Option<&[u16]>,
+    range: &Option<Range<usize>>,
+) -> Result<(), AllocError> {
+    match (text, range) {
+        (Some(text), _) => slice(out, text, range),
+        (None, Some(range)) => write!(out, "[{},{}]", range.start, range.end),
+        (None, None) => out.push_str("null"),
+    }
+}
+
+// Writes the named groups, or `null` if no group has a name.
+fn groups(out: &mut String, text: Option<&[u16]>, found: &Match) -> Result<(), AllocError> {
     if found.named_groups().len() == 0 {
         return out.push_str("null");
     }
@@ -81,7 +111,7 @@ fn groups(out: &mut String, text: &[u16], found: &Match) -> Result<(), AllocErro
             out.push(',')?;
         }
         write!(out, "\"{name}\":")?;
-        slice(out, text, &group)?;
+        part(out, text, &group)?;
     }
     out.push('}')
 }

@@ -1,19 +1,25 @@
-//! Scripted lines, read from the left. Each function answers what stands at the left end, and what is left behind it.
+//! Parsing of lines. Each function parses the beginning of a line, and returns the result with the rest.
 
 ghost use Rattle.std.specs.Prelude.{◌<◌, ◌≤◌, IfSome, length};
 
+use crate::stop::{Malformed, Stop};
 use std::alloc::{AllocError, Global};
 
-/// The pattern and the flags that a line begins with.
+/// The pattern and the flags at the beginning of a line.
 #[derive(Drop)]
 pub struct Literal {
     pub source: Vec<u16>,
     pub flags: Vec<u16>,
 }
 
-/// The units of a text.
+/// Returns the UTF-16 code units of a text.
 pub fn units_of(alloc: Global, text: &str) -> Result<Vec<u16>, AllocError> {
     text.encode_utf16().collect(alloc)
+}
+
+/// Appends a unit.
+pub fn push(units: &mut Vec<u16>, unit: u16) -> Result<(), AllocError> {
+    Ok(units.push(unit)?)
 }
 
 fn is_blank(unit: u16) -> bool {
@@ -28,7 +34,7 @@ fn is_digit(unit: u16) -> bool {
     matches!(unit, 48..=57)
 }
 
-/// What is left behind blanks.
+/// Returns the rest after blanks.
 pub fn behind_blanks(line: &[u16]) -> &[u16] {
     match line.iter().position(|unit| !is_blank(*unit)) {
         Some(end) => &line[end..],
@@ -36,7 +42,7 @@ pub fn behind_blanks(line: &[u16]) -> &[u16] {
     }
 }
 
-/// A word of letters, which may be none.
+/// Parses a word of letters, which may be empty.
 pub fn word(line: &[u16]) -> (&[u16], &[u16]) {
     match line.iter().position(|unit| !is_letter(*unit)) {
         Some(end) => line.split_at(end),
@@ -44,28 +50,79 @@ pub fn word(line: &[u16]) -> (&[u16], &[u16]) {
     }
 }
 
-/// A number; 0 where there are no digits, and the greatest one for a greater one.
-pub fn number(line: &[u16]) -> (usize, &[u16]) {
-    let (digits, rest) = match line.iter().position(|unit| !is_digit(*unit)) {
+/// Returns the part before the next blank, and the rest.
+fn before_blank(line: &[u16]) -> (&[u16], &[u16]) {
+    match line.iter().position(|unit| is_blank(*unit)) {
         Some(end) => line.split_at(end),
-        None => (line, line),
-    };
-    let mut value = 0usize;
-    for digit in digits {
-        let digit = usize::from(*digit).saturating_sub(48);
-        value = value.saturating_mul(10).saturating_add(digit);
+        None => (line, &[]),
     }
-    (
-        value,
-        if digits.len() == line.len() {
-            &[]
-        } else {
-            rest
-        },
-    )
 }
 
-/// The units in front of a sign, and what is left behind it; none where the sign does not stand there.
+/// Returns whether a word is this name.
+pub fn is(word: &[u16], name: &str) -> bool {
+    word.len() == name.len()
+        && word
+            .iter()
+            .zip(name.bytes())
+            .all(|(unit, byte)| *unit == u16::from(byte))
+}
+
+// The numbers without digits.
+const NAMED: [(&str, f64); 3] = [
+    ("NaN", f64::NAN),
+    ("Infinity", f64::INFINITY),
+    ("-Infinity", f64::NEG_INFINITY),
+];
+
+// Returns the number with this name.
+fn named_number(word: &[u16]) -> Option<f64> {
+    for (name, value) in NAMED {
+        if is(word, name) {
+            return Some(value);
+        }
+    }
+    None
+}
+
+/// Returns whether a line begins like a number.
+pub fn begins_number(line: &[u16]) -> bool {
+    match line.first() {
+        Some(unit) if is_digit(*unit) || *unit == 45 => true,
+        _ => named_number(before_blank(line).0).is_some(),
+    }
+}
+
+// Returns whether a unit may occur in a number with digits.
+fn is_of_number(unit: u16) -> bool {
+    is_digit(unit) || matches!(unit, 43 | 45 | 46 | 69 | 101)
+}
+
+// Returns the text of a number with digits.
+fn digits_of(alloc: Global, word: &[u16]) -> Result<String, Stop> {
+    let mut text = String::new(alloc);
+    for unit in word {
+        match u8::try_from(*unit) {
+            Ok(byte) if is_of_number(*unit) => text.push(char::from(byte))?,
+            _ => return Err(Stop::Malformed(Malformed::NoNumber)),
+        }
+    }
+    Ok(text)
+}
+
+/// Parses a number, up to the next blank: a decimal number, `NaN`, `Infinity` or `-Infinity`.
+pub fn number(alloc: Global, line: &[u16]) -> Result<(f64, &[u16]), Stop> {
+    let (word, rest) = before_blank(line);
+    if let Some(value) = named_number(word) {
+        return Ok((value, rest));
+    }
+    let digits = digits_of(alloc, word)?;
+    match digits.as_str().parse::<f64>() {
+        Ok(value) => Ok((value, rest)),
+        Err(_) => Err(Stop::Malformed(Malformed::NoNumber)),
+    }
+}
+
+/// Returns the units before the unit at index `end`, and those after it; `None` without an index.
 fn until(line: &[u16], end: Option<usize>) -> Option<(&[u16], &[u16])>
     requires { IfSome end (λ at. at < length line.now) }
 {
@@ -75,7 +132,7 @@ fn until(line: &[u16], end: Option<usize>) -> Option<(&[u16], &[u16])>
     }
 }
 
-// Where the slash stands that ends a pattern: outside of classes, with no backslash before it.
+// Returns the index of the slash that ends a pattern: outside of classes, and not after a backslash.
 fn slash_in(line: &[u16]) -> Option<usize>
     ensures { IfSome result (λ at. at < length line.now) }
 {
@@ -94,7 +151,7 @@ fn slash_in(line: &[u16]) -> Option<usize>
     None
 }
 
-// Where the quote stands that ends a string: with no backslash before it.
+// Returns the index of the quote that ends a string: not after a backslash.
 fn quote_in(line: &[u16]) -> Option<usize>
     ensures { IfSome result (λ at. at < length line.now) }
 {
@@ -111,22 +168,19 @@ fn quote_in(line: &[u16]) -> Option<usize>
     None
 }
 
-/// A string of JSON; none where there is none.
-pub fn string<'l>(
-    alloc: Global,
-    line: &'l [u16],
-) -> Result<Option<(Vec<u16>, &'l [u16])>, AllocError> {
+/// Parses a JSON string.
+pub fn string(alloc: Global, line: &[u16]) -> Result<(Vec<u16>, &[u16]), Stop> {
     let Some((34, behind)) = first(line) else {
-        return Ok(None);
+        return Err(Stop::Malformed(Malformed::NoString));
     };
     let Some((inside, rest)) = until(behind, quote_in(behind)) else {
-        return Ok(None);
+        return Err(Stop::Malformed(Malformed::UnclosedString));
     };
     let text = unescaped(alloc, inside)?;
-    Ok(Some((text, rest)))
+    Ok((text, rest))
 }
 
-/// The first unit.
+/// Returns the first unit, and the rest.
 pub fn first(line: &[u16]) -> Option<(u16, &[u16])> {
     match line.split_first() {
         Some((unit, rest)) => Some((*unit, rest)),
@@ -134,95 +188,107 @@ pub fn first(line: &[u16]) -> Option<(u16, &[u16])> {
     }
 }
 
-// How far an escape has been read.
-#[derive(Clone, Copy)]
+// The state of the parser of an escape.
+#[derive(Clone, Copy, PartialEq, Eq)]
 enum Escape {
-    // There is none.
+    // Outside of an escape.
     Outside,
-    // The backslash was read.
+    // After the backslash.
     Begun,
-    // `\u` was read, and so many of its four digits are left, behind those of this value.
+    // After `\u`: how many of its four digits remain after the next one, and the value of those before it.
     Hex(u8, u16),
 }
 
-// What a string of JSON stands for.
-fn unescaped(alloc: Global, inside: &[u16]) -> Result<Vec<u16>, AllocError> {
+// Returns the value of a JSON string, from the part between its quotes.
+fn unescaped(alloc: Global, inside: &[u16]) -> Result<Vec<u16>, Stop> {
     let mut text = Vec::new(alloc);
     let mut escape = Escape::Outside;
     for unit in inside {
-        let (next, told) = step(escape, *unit);
+        let (next, told) = step(escape, *unit)?;
         if let Some(told) = told {
-            text.push(told)?;
+            push(&mut text, told)?;
         }
         escape = next;
+    }
+    if escape != Escape::Outside {
+        return Err(Stop::Malformed(Malformed::InvalidEscape));
     }
     Ok(text)
 }
 
-// What stands behind a unit, and the unit that is read with it, if one is.
-fn step(escape: Escape, unit: u16) -> (Escape, Option<u16>) {
+// Reads a unit, and returns the next state and the unit of the value that it completes, if it does.
+fn step(escape: Escape, unit: u16) -> Result<(Escape, Option<u16>), Malformed> {
     match escape {
-        Escape::Outside if unit == 92 => (Escape::Begun, None),
-        Escape::Outside => (Escape::Outside, Some(unit)),
-        Escape::Begun if unit == 117 => (Escape::Hex(3, 0), None),
-        Escape::Begun => (Escape::Outside, Some(named(unit))),
-        Escape::Hex(left, value) => {
-            let value = value.wrapping_mul(16).wrapping_add(hex_digit(unit));
-            if left == 0 {
-                (Escape::Outside, Some(value))
-            } else {
-                (Escape::Hex(left.saturating_sub(1), value), None)
-            }
-        }
+        Escape::Outside if unit == 92 => Ok((Escape::Begun, None)),
+        Escape::Outside if unit < 32 => Err(Malformed::ControlCharacter),
+        Escape::Outside => Ok((Escape::Outside, Some(unit))),
+        Escape::Begun if unit == 117 => Ok((Escape::Hex(3, 0), None)),
+        Escape::Begun => match named(unit) {
+            Some(told) => Ok((Escape::Outside, Some(told))),
+            None => Err(Malformed::InvalidEscape),
+        },
+        Escape::Hex(left, value) => match hex_digit(unit) {
+            Some(digit) => Ok(behind_digit(left, value.wrapping_mul(16).wrapping_add(digit))),
+            None => Err(Malformed::InvalidEscape),
+        },
     }
 }
 
-// The value of a hexadecimal digit; 0 for another unit.
-fn hex_digit(unit: u16) -> u16 {
+// Returns the same after a digit of `\u`: `left` digits remain, and the digits so far have this value.
+fn behind_digit(left: u8, value: u16) -> (Escape, Option<u16>) {
+    if left == 0 {
+        (Escape::Outside, Some(value))
+    } else {
+        (Escape::Hex(left.saturating_sub(1), value), None)
+    }
+}
+
+// Returns the value of a hexadecimal digit.
+fn hex_digit(unit: u16) -> Option<u16> {
     match unit {
-        48..=57 => unit.saturating_sub(48),
-        65..=70 => unit.saturating_sub(55),
-        97..=102 => unit.saturating_sub(87),
-        _ => 0,
+        48..=57 => Some(unit.saturating_sub(48)),
+        65..=70 => Some(unit.saturating_sub(55)),
+        97..=102 => Some(unit.saturating_sub(87)),
+        _ => None,
     }
 }
 
-// What stands behind a backslash, but for `u`.
-fn named(unit: u16) -> u16 {
+// Returns the unit of an escape with one letter, or `None` if JSON does not have it. `\u` is none of them.
+fn named(unit: u16) -> Option<u16> {
     match unit {
-        98 => 8,
-        102 => 12,
-        110 => 10,
-        114 => 13,
-        116 => 9,
-        other => other,
+        34 | 47 | 92 => Some(unit),
+        98 => Some(8),
+        102 => Some(12),
+        110 => Some(10),
+        114 => Some(13),
+        116 => Some(9),
+        _ => None,
     }
 }
 
-/// The pattern and the flags at the left end: `/pattern/flags`, or two strings of JSON; none where there are none.
-pub fn pattern<'l>(
-    alloc: Global,
-    line: &'l [u16],
-) -> Result<Option<(Literal, &'l [u16])>, AllocError> {
-    let Some((47, behind)) = first(line) else {
-        return quoted(alloc, line);
-    };
-    let Some((source, rest)) = until(behind, slash_in(behind)) else {
-        return Ok(None);
+/// Parses a pattern and its flags: `/pattern/flags`, or two JSON strings.
+pub fn pattern(alloc: Global, line: &[u16]) -> Result<(Literal, &[u16]), Stop> {
+    match first(line) {
+        Some((47, behind)) => between_slashes(alloc, behind),
+        Some((34, _)) => quoted(alloc, line),
+        _ => Err(Stop::Malformed(Malformed::NoPattern)),
+    }
+}
+
+// Parses a pattern and its flags after the first slash.
+fn between_slashes(alloc: Global, line: &[u16]) -> Result<(Literal, &[u16]), Stop> {
+    let Some((source, rest)) = until(line, slash_in(line)) else {
+        return Err(Stop::Malformed(Malformed::NoPattern));
     };
     let (flags, rest) = word(rest);
     let source = source.to_vec(alloc)?;
     let flags = flags.to_vec(alloc)?;
-    Ok(Some((Literal { source, flags }, rest)))
+    Ok((Literal { source, flags }, rest))
 }
 
-// The same as two strings.
-fn quoted<'l>(alloc: Global, line: &'l [u16]) -> Result<Option<(Literal, &'l [u16])>, AllocError> {
-    let Some((source, rest)) = string(alloc, line)? else {
-        return Ok(None);
-    };
-    let Some((flags, rest)) = string(alloc, behind_blanks(rest))? else {
-        return Ok(None);
-    };
-    Ok(Some((Literal { source, flags }, rest)))
+// Parses a pattern and its flags as two strings.
+fn quoted(alloc: Global, line: &[u16]) -> Result<(Literal, &[u16]), Stop> {
+    let (source, rest) = string(alloc, line)?;
+    let (flags, rest) = string(alloc, behind_blanks(rest))?;
+    Ok((Literal { source, flags }, rest))
 }

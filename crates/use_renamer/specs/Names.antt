@@ -1,4 +1,4 @@
--- New names for old ones.
+-- Renamings of files.
 use Rattle.std.specs.Prelude.{◌≡◌, ◌≢◌, ◌⊎◌, ℕ, List, [], ◌∷◌, ◌++◌, Bool, true, not, ◌&&◌, ◌||◌, IsTrue, Option, Some, None, String, All, AllPairs}
 use Rattle.std.specs.Prelude.{Contains, map, flat_map, filter, find, is_none, codes, bytes_eq, length, nat_eq, nat_le, slice_get, slice_range}
 use Rattle.std.specs.Prelude.{string_bytes}
@@ -13,7 +13,7 @@ use Rattle.use_renamer.specs.declared.plan.Refusal.{Refusal}
 use Rattle.use_renamer.specs.declared.plan.Refusal.TheVariants.{Memory}
 use Rattle.use_renamer.specs.declared.plan.Rename.{Rename}
 
--- a name in its folder: of 1 to 255 bytes, neither `.` nor `..`, with neither a slash nor a NUL
+-- a valid file name: of 1 to 255 bytes, neither `.` nor `..`, without a slash and without a NUL
 abbrev pub is_file_name : (name : List ℕ) → Bool
 is_file_name name = not (bytes_eq name []) && not (bytes_eq name (codes ".")) && not (bytes_eq name (codes ".."))
     && nat_le (length name) 255 && not (list_any (λ b. nat_eq b 47 || nat_eq b 0) name)
@@ -22,35 +22,35 @@ is_file_name name = not (bytes_eq name []) && not (bytes_eq name (codes ".")) &&
 abbrev pub new_name : Regex → (template name : List ℕ) → List ℕ
 new_name re template name = replaced name 0 (expansion_of_each_match name template (utf8_answers re name 0))
 
--- of names with new ones those that change
+-- the pairs of names that differ
 abbrev pub changing : List (List ℕ × List ℕ) → List (List ℕ × List ℕ)
 changing moves = filter (λ m. not (bytes_eq m.0 m.1)) moves
 
--- the names that change, each with the new one, in their order
+-- the names that change, each with the new one, in the order of the names
 abbrev pub changes : Regex → (template : List ℕ) → (names : List (List ℕ)) → List (List ℕ × List ℕ)
 changes re template names = changing (map (λ name. (name, new_name re template name)) names)
 
--- no two of these are the same
+-- all of these differ
 abbrev pub AllDiffer : List (List ℕ) → Type 0
 AllDiffer names = AllPairs (λ a b. a ≢ b) names
 
--- one of these has the name
+-- the list contains the name
 abbrev pub is_among : {X : Type 0} → (name_of : X → List ℕ) → (name : List ℕ) → List X → Bool
 is_among name_of name xs = list_any (λ x. bytes_eq name (name_of x)) xs
 
--- the test of whether what has names has different ones
+-- the test whether two items with names have different names
 abbrev pub all_differ : {X : Type 0} → (name_of : X → List ℕ) → List X → Bool
 all_differ name_of [] = true
 all_differ name_of (x ∷ xs) = is_none (find (λ y. bytes_eq (name_of x) (name_of y)) xs) && all_differ name_of xs
 
--- Renamings in a folder that lose no file, in whatever order they are done, also where not all are: each new name is one in the
--- folder, no two are the same, and nothing in the folder has one of them.
+-- Renamings in a folder that lose no file, in any order, and also if only some of them are done: each new name is a valid
+-- file name, all new names differ, and nothing in the folder has one of them.
 pub record AreSafe (folder : List (List ℕ)) (moves : List (List ℕ × List ℕ)) : Type 0 where
   pub stay : All (λ m. IsTrue (is_file_name m.1)) moves
   pub distinct : AllDiffer (map (λ m. m.1) moves)
   pub free : All (λ m. ¬ Contains folder m.1) moves
 
--- why renamings are refused: there was no memory, or they are not safe
+-- why renamings are refused: an allocation failed, or they are not safe
 abbrev pub CanRefuse : (folder : List (List ℕ)) → (moves : List (List ℕ × List ℕ)) → Refusal → Type 0
 CanRefuse folder moves e = (e ≡ Memory) ⊎ ¬ AreSafe folder moves
 
@@ -58,22 +58,22 @@ CanRefuse folder moves e = (e ≡ Memory) ⊎ ¬ AreSafe folder moves
 abbrev pub texts : {A : Type 0} → List (String A) → List (List ℕ)
 texts names = map string_bytes names
 
--- renamings as the old name and the new one
+-- a renaming as the pair of the old and the new name
 abbrev pub move_of : Rename → List ℕ × List ℕ
 move_of r = (string_bytes r.from, string_bytes r.to)
 
 abbrev pub moves_of : List Rename → List (List ℕ × List ℕ)
 moves_of renames = map move_of renames
 
--- a group's name and what it matched; nothing of a group that did not match
+-- a group's name and the text that it matched; empty for a group that did not match
 abbrev pub described : (text : List ℕ) → List ℕ × Option (ℕ × ℕ) → List ℕ
 described text (name, None) = []
 described text (name, Some range) = codes " " ++ (name ++ (codes "=" ++ slice_range text range.0 range.1))
 
--- the groups of a match
+-- the named groups of a match
 abbrev pub groups_shown : (text : List ℕ) → Answer → List ℕ
 groups_shown text m = flat_map (described text) (named_groups m)
 
--- those of the first match, if there is one
+-- the named groups of the first match, if there is one
 abbrev pub parts_of : Regex → (name : List ℕ) → List ℕ
 parts_of re name = option_map_or (groups_shown name) (slice_get (utf8_answers re name 0) 0) []

@@ -4,7 +4,7 @@ use regress_match::Flags;
 use use_support::Form::{Switch, Word, WordOr};
 use use_support::{Argument, CommandLine, Given};
 
-/// What is asked for.
+/// The options of a command line.
 #[derive(Drop)]
 pub struct Options<'a> {
     pub pattern: &'a str,
@@ -16,10 +16,11 @@ pub struct Options<'a> {
     pub rows: bool,
 }
 
-const ABOUT: &str = "Renames the files of a folder by what a pattern matches in their names.
+const ABOUT: &str =
+    "Renames the files of a folder by replacing the matches of a pattern in their names.
 
-Without --apply it only shows the new names. It refuses all of them where two are the same, where one
-is there already, and where one would lead out of the folder.";
+Without --apply it only shows the new names. It renames no file if two new names are the same, if one
+exists already, or if one would lead out of the folder.";
 
 /// The command line.
 pub static LINE: CommandLine = CommandLine {
@@ -35,20 +36,21 @@ pub static LINE: CommandLine = CommandLine {
         Argument(
             "template",
             Word("TEMPLATE"),
-            "What stands in place of each match: text, $1, ${name}, $0, $$",
+            "The replacement of each match: text, $1, ${name}, $0, $$",
         ),
-        Argument("folder", WordOr("FOLDER", "."), "Whose files are renamed"),
+        Argument(
+            "folder",
+            WordOr("FOLDER", "."),
+            "The folder whose files are renamed",
+        ),
         Argument("apply", Switch(None), "Rename the files"),
         Argument(
             "groups",
             Switch(None),
-            "Also show what the groups with names matched first",
+            "Also show the named groups of the first match",
         ),
-        Argument(
-            "rows",
-            Switch(None),
-            "Also show what would become of the names in rows of standard input: PATTERN~TEMPLATE~FILES~OTHERS",
-        ),
+        // The stored run has rows of plans on standard input.
+        Argument("rows", Switch(None), ""),
         Argument(
             "ignore-case",
             Switch(Some('i')),
@@ -58,7 +60,7 @@ pub static LINE: CommandLine = CommandLine {
 };
 
 impl<'a> Options<'a> {
-    /// What the words of a command line ask for.
+    /// Returns the options of a command line.
     pub fn of(given: &Given<'a>) -> Self {
         Options {
             pattern: given.text("pattern"),

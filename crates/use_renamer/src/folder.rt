@@ -5,23 +5,23 @@ use anyhow::{Result, bail};
 use std::fs;
 use std::io::{ErrorKind, IsTerminal};
 
-// From how many files on, and after how many, it is told on a terminal how far the renaming is.
+// The number of files from which on, and after which, the progress is shown on a terminal.
 const MANY: usize = 1000;
 
-/// What stands in a folder: the names of its files, and those of what else is there, both in order.
+/// The contents of a folder: the names of its files, and those of all else in it, both sorted.
 #[derive(Drop)]
 pub struct Folder {
     pub files: Vec<String>,
     pub others: Vec<String>,
-    /// How many names are not UTF-8.
+    /// The number of names that are not UTF-8.
     pub unreadable: usize,
 }
 
-/// What stands in a folder.
+/// Returns the contents of a folder.
 ///
 /// # Errors
 ///
-/// Where the folder cannot be read, or there is no memory for its names.
+/// Any error of reading the folder, and `AllocError` if an allocation fails.
 pub fn list(rt: &HostRuntime, path: &str) -> Result<Folder> {
     let alloc = rt.alloc();
     let mut files = Vec::new(alloc);
@@ -61,8 +61,8 @@ pub fn list(rt: &HostRuntime, path: &str) -> Result<Folder> {
 ///
 /// # Errors
 ///
-/// Where a file cannot be renamed, or something has come under its new name since the folder was read. The files before
-/// it are renamed then, and no other is.
+/// Any error of renaming a file, and an error if its new name exists by now. Then the files before it are renamed, and no
+/// other file is.
 pub fn apply(rt: &HostRuntime, folder: &str, plan: &[Rename]) -> Result<()> {
     let tells = rt.stderr().is_terminal() && plan.len() >= MANY;
     for (done, Rename { from, to }) in plan.iter().enumerate() {

@@ -1,4 +1,4 @@
-//! What the groups with names matched.
+//! The named groups of matches.
 
 ghost use Rattle.std.specs.Prelude.{◌≡◌, ◌++◌, IfErr, IfOk, IfSome, option_map, string_bytes};
 ghost use Rattle.regress_exec.specs.MatchAnswers.{answer_of, range_of};
@@ -8,11 +8,11 @@ ghost use Rattle.use_renamer.specs.Names.{described, groups_shown, parts_of};
 use regress_match::{Match, Range, Regex, SearchError};
 use std::alloc::{AllocError, Global};
 
-/// The groups of the first match that have names: ` year=2018 month=06`.
+/// Returns the named groups of the first match, for example ` year=2018 month=06`.
 ///
 /// # Errors
 ///
-/// `Memory` where there is no memory for the search or the text.
+/// `Memory` if an allocation fails.
 pub fn parts(alloc: Global, re: &Regex, name: &str) -> Result<String, SearchError>
     ensures shown { IfOk result (λ s. string_bytes s ≡ parts_of re.now name.now) }
     ensures refused { IfErr result IsOutOfMemory }
@@ -23,7 +23,7 @@ pub fn parts(alloc: Global, re: &Regex, name: &str) -> Result<String, SearchErro
     }
 }
 
-// The same of a match that stands in the text.
+// Returns the named groups of a match in the text.
 fn show(alloc: Global, text: &str, found: &Match) -> Result<String, AllocError>
     requires { MatchFitsText text.now (answer_of found.now) }
     ensures { IfOk result (λ s. string_bytes s ≡ groups_shown text.now (answer_of found.now)) }
@@ -35,7 +35,7 @@ fn show(alloc: Global, text: &str, found: &Match) -> Result<String, AllocError>
     Ok(line)
 }
 
-// Writes one group, if it matched.
+// Appends a group, if it matched.
 fn push_group(
     line: &mut String,
     text: &str,

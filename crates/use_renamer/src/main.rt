@@ -1,7 +1,7 @@
-//! Renames the files of a folder by what a pattern matches in their names.
+//! Renames the files of a folder by replacing the matches of a pattern in their names.
 //!
-//! It ends with status 0 where all is renamed, or would be, with 1 where the renamings are refused and none is done, and
-//! with 2 where it cannot tell or a file cannot be renamed.
+//! The exit status is 0 if all files are renamed, or would be with `--apply`; 1 if the renamings are refused, and then none is
+//! done; and 2 for an error.
 #![tactic(auto)]
 
 mod command;
@@ -22,7 +22,7 @@ use std::io;
 use std::process::ExitCode;
 use use_support::{CommandLine, Given, Program, run};
 
-// The pattern as a program. What is wrong with one that is none stands in the error, with the place below it.
+// Compiles the pattern. The error for a pattern with a syntax error shows the cause and the position.
 fn compile(rt: &HostRuntime, pattern: &str, flags: Flags) -> Result<Regex> {
     let alloc = rt.alloc();
     let why = match Regex::with_flags(alloc, pattern, flags) {
@@ -37,7 +37,7 @@ fn compile(rt: &HostRuntime, pattern: &str, flags: Flags) -> Result<Regex> {
     bail!("{why}")
 }
 
-// A line for each file: its name, the new one, and the groups with names where they are asked for.
+// Prints a line for each file: its name, the new name, and with `--groups` the named groups.
 fn show(rt: &HostRuntime, options: &Options<'_>, re: &Regex, plan: &[Rename]) -> Result<()> {
     for Rename { from, to } in plan {
         if options.groups {
@@ -50,7 +50,7 @@ fn show(rt: &HostRuntime, options: &Options<'_>, re: &Regex, plan: &[Rename]) ->
     Ok(())
 }
 
-// Whether the files are renamed, or would be.
+// Renames the files, or shows how. Returns whether the renamings are safe.
 fn rename(rt: &HostRuntime, options: &Options<'_>) -> Result<bool> {
     let alloc = rt.alloc();
     let re = compile(rt, options.pattern, options.flags)?;

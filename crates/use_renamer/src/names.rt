@@ -1,13 +1,13 @@
-//! Names of files.
+//! File names.
 
 ghost use Rattle.std.specs.Prelude.{◌≡◌, ◌||◌, bytes_eq, nat_eq, string_bytes};
 ghost use Rattle.std.specs.List.{list_any};
 ghost use Rattle.use_renamer.specs.Names.{is_among, is_file_name};
 
-// How many bytes a name has at most.
+// The maximum length of a name in bytes.
 const LONGEST: usize = 255;
 
-/// Whether a name is one in its folder: it is of 1 to 255 bytes, neither `.` nor `..`, and has neither a slash nor a NUL.
+/// Returns whether a name is a valid file name: of 1 to 255 bytes, neither `.` nor `..`, without a slash and without a NUL.
 pub fn is_file_name(name: &str) -> bool
     ensures { result ≡ is_file_name name.now }
 {
@@ -15,14 +15,14 @@ pub fn is_file_name(name: &str) -> bool
     !is_folder && name.len() <= LONGEST && !leads_on(name)
 }
 
-// Whether a slash or a NUL stands in it.
+// Returns whether a name contains a slash or a NUL.
 fn leads_on(name: &str) -> bool
     ensures { result ≡ list_any (λ b. nat_eq b 47 || nat_eq b 0) name.now }
 {
     name.as_bytes().iter().any(|b| *b == b'/' || *b == 0)
 }
 
-/// Whether a name is one of these.
+/// Returns whether a list contains a name.
 pub fn is_among(name: &str, names: &[String]) -> bool
     ensures { result ≡ is_among string_bytes name.now names.now }
 {

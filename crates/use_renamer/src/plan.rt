@@ -1,4 +1,4 @@
-//! Which file gets which name.
+//! The plan of the renamings.
 
 ghost use Rattle.std.specs.Prelude.{◌≡◌, ◌||◌, ◌++◌, ◌∷◌, [], IfErr, IfOk, OnOk, bytes_eq, find, is_none, not, option_map, string_bytes};
 ghost use Rattle.regress_match.specs.CompileErrors.{IsOutOfMemory};
@@ -9,20 +9,20 @@ use regress_match::{Regex, SearchError};
 use std::alloc::{AllocError, Global};
 use thiserror::Error;
 
-/// A file's name, and the one that it is to have.
+/// A renaming: the old and the new name of a file.
 #[derive(Debug, Drop)]
 pub struct Rename {
     pub from: String,
     pub to: String,
 }
 
-/// Why no file is renamed.
+/// Why the renamings are refused.
 #[derive(Debug, Drop, Error)]
 pub enum Refusal {
-    /// There is no memory.
+    /// An allocation failed.
     #[error("out of memory")]
     Memory,
-    /// The new name is none in this folder.
+    /// The new name is not a valid file name.
     #[error("{from} would become {to:?}, which is no name in this folder")]
     NoName {
         from: String,
@@ -34,7 +34,7 @@ pub enum Refusal {
         from: String,
         to: String,
     },
-    /// Two files would have one name.
+    /// Two files would have the same name.
     #[error("{from} and {other} would both become {to}")]
     Same {
         from: String,
@@ -63,12 +63,12 @@ impl From<AllocError> for Refusal {
     }
 }
 
-/// The files whose names change, each with its new name, in the order of the files: the template's expansion stands in place of
-/// each match. `others` is what else stands in the folder. The renamings are answered exactly where they are safe.
+/// Returns the renamings of the files whose names change, in the order of the files. A new name has the expansion of the
+/// template in place of each match. `others` are the names of all else in the folder.
 ///
 /// # Errors
 ///
-/// `Memory` where there is no memory for a search or a name, and what is wrong where the renamings are not safe.
+/// `Memory` if an allocation fails. The other errors if the renamings are not safe, and only then.
 pub fn plan(
     alloc: Global,
     re: &Regex,
@@ -88,7 +88,7 @@ pub fn plan(
     Ok(renames)
 }
 
-// The files whose names change, whatever these become.
+// Returns the renamings of the files whose names change, safe or not.
 fn changes(
     alloc: Global,
     re: &Regex,
@@ -107,7 +107,7 @@ fn changes(
     Ok(renames)
 }
 
-// One more, if it is a change.
+// Appends a renaming if the names differ.
 fn push_change(renames: &mut Vec<Rename>, name: &String, new: String) -> Result<(), AllocError>
     ensures { IfOk result (λ _. moves_of renames.new.items
         ≡ moves_of renames.old.items ++ changing ((string_bytes name.now, string_bytes new) ∷ [])) }
@@ -119,7 +119,7 @@ fn push_change(renames: &mut Vec<Rename>, name: &String, new: String) -> Result<
     Ok(renames.push(Rename { from, to: new })?)
 }
 
-// Refuses what would lose a file, or lead out of the folder.
+// Returns an error if the renamings would lose a file or lead out of the folder.
 fn check(renames: &[Rename], files: &[String], others: &[String]) -> Result<(), Refusal>
     ensures safe { let folder = texts files.now ++ texts others.now in
         OnOk result (AreSafe folder (moves_of renames.now)) }
@@ -148,7 +148,7 @@ fn check(renames: &[Rename], files: &[String], others: &[String]) -> Result<(), 
     Ok(())
 }
 
-// The first whose new name is none in a folder.
+// Returns the first renaming whose new name is not a valid file name.
 fn first_no_name(renames: &[Rename]) -> Option<&Rename>
     ensures { option_map (λ r. r.now) result
         ≡ find (λ r. not (is_file_name (string_bytes r.to))) renames.now }
@@ -158,7 +158,7 @@ fn first_no_name(renames: &[Rename]) -> Option<&Rename>
         .find(|rename| !is_file_name(rename.to.as_str()))
 }
 
-// The first whose new name something in the folder has.
+// Returns the first renaming whose new name exists in the folder.
 fn first_taken<'a>(renames: &'a [Rename], files: &[String], others: &[String]) -> Option<&'a Rename>
     ensures { option_map (λ r. r.now) result
         ≡ find (λ r. is_among string_bytes (string_bytes r.to) files.now
@@ -169,7 +169,7 @@ fn first_taken<'a>(renames: &'a [Rename], files: &[String], others: &[String]) -
     })
 }
 
-// Two that have the same new name.
+// Returns two renamings with the same new name.
 fn first_pair(renames: &[Rename]) -> Option<(&Rename, &Rename)>
     ensures { is_none result ≡ all_differ (λ r. string_bytes r.to) renames.now }
 {
@@ -183,7 +183,7 @@ fn first_pair(renames: &[Rename]) -> Option<(&Rename, &Rename)>
     None
 }
 
-// The first that becomes this.
+// Returns the first renaming with this new name.
 fn first_to<'a>(name: &str, renames: &'a [Rename]) -> Option<&'a Rename>
     ensures { option_map (λ r. r.now) result
         ≡ find (λ r. bytes_eq name.now (string_bytes r.to)) renames.now }

@@ -1,16 +1,16 @@
-//! Rows of plans, on standard input: what would become of names that stand in no folder.
+//! Plans for folders that rows of standard input describe, for tests.
 
 use crate::plan::{Refusal, Rename, plan};
 use anyhow::{Context, Result};
 use regress_match::Regex;
 use std::alloc::{AllocError, Global};
 
-/// Prints each row of standard input with one more field: the renamings, or why there are none. A row has four fields, with
-/// `~` between them: a pattern, a template, the names of the files, and those of what else stands in the folder.
+/// Prints each row of standard input with one more field: the renamings, or why they are refused. A row has four fields,
+/// separated by `~`: a pattern, a template, the names of the files, and those of all else in the folder.
 ///
 /// # Errors
 ///
-/// Where a row cannot be read or printed, or there is no memory.
+/// Any error of reading or printing a row, and `AllocError` if an allocation fails.
 pub fn answer_rows(rt: &HostRuntime) -> Result<()> {
     for row in rt.stdin().lines(rt.alloc()) {
         let row = row.context("reading standard input")?;

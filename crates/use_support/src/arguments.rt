@@ -13,7 +13,7 @@ pub struct CommandLine {
 }
 
 /// A positional argument or an option: its id, which is also the long name of an option, its form,
-/// and its help text.
+/// and its help text. `--help` leaves out an argument whose help text is empty.
 pub struct Argument(pub &'static str, pub Form, pub &'static str);
 
 /// The form of an argument.
@@ -101,7 +101,7 @@ impl Argument {
                 .num_args(0..)
                 .default_value(default),
         };
-        arg.help(self.2)
+        arg.help(self.2).hide(self.2.is_empty())
     }
 }
 

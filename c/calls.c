@@ -151,6 +151,22 @@ static void names(void)
     regress_c_free(&pattern);
 }
 
+static void numbers(void)
+{
+    regress_c_pattern pattern = compiled("(?<year>\\d+)-(\\d+)-(?<day>\\d+)", "");
+    regress_c_pattern plain = compiled("(a)", "");
+    regress_c_pattern nothing = REGRESS_C_PATTERN_INIT;
+    print_reply("number of year", regress_c_group_number(&pattern, bytes("year"), 4));
+    print_reply("number of day", regress_c_group_number(&pattern, bytes("day"), 3));
+    print_reply("a part of a name", regress_c_group_number(&pattern, bytes("yea"), 3));
+    print_reply("not UTF-8", regress_c_group_number(&pattern, bytes("\xC3"), 1));
+    print_reply("the empty name", regress_c_group_number(&pattern, NULL, 0));
+    print_reply("no names", regress_c_group_number(&plain, bytes("a"), 1));
+    print_reply("by nothing", regress_c_group_number(&nothing, bytes("a"), 1));
+    regress_c_free(&plain);
+    regress_c_free(&pattern);
+}
+
 static void clones(void)
 {
     regress_c_span spans[ROOM];
@@ -185,6 +201,34 @@ static void first_matches(void)
     print_reply("in UCS-2", regress_c_find_ucs2(&pattern, units, 4, 2, spans, ROOM));
     print_spans(spans, 3);
     print_reply("in nothing", regress_c_find_utf8(&pattern, NULL, 0, 0, NULL, 0));
+    regress_c_free(&pattern);
+}
+
+static void matches_at(void)
+{
+    static const uint8_t broken[] = {'2', 0xFF};
+    static const uint16_t units[] = {'a', 0xD83D, 0xDE00, 'b'};
+    regress_c_span spans[ROOM];
+    regress_c_pattern pattern = compiled("(c)?b|ab", "");
+    regress_c_pattern any = compiled(".b", "u");
+    regress_c_pattern nothing = REGRESS_C_PATTERN_INIT;
+    print_reply("at 1", regress_c_match_at_utf8(&pattern, bytes("xab"), 3, 1, spans, ROOM));
+    print_spans(spans, 2);
+    print_reply("at 0", regress_c_match_at_utf8(&pattern, bytes("xab"), 3, 0, spans, ROOM));
+    print_reply("at the end", regress_c_match_at_utf8(&pattern, bytes("xab"), 3, 3, spans, ROOM));
+    print_reply("past the end", regress_c_match_at_utf8(&pattern, bytes("xab"), 3, 4, spans, ROOM));
+    print_reply("no room", regress_c_match_at_utf8(&pattern, bytes("ab"), 2, 0, spans, 1));
+    print_reply("no text", regress_c_match_at_utf8(&pattern, broken, sizeof broken, 0, spans, ROOM));
+    print_reply("within a character", regress_c_match_at_utf8(&pattern, bytes("\xC3\xA9"), 2, 1, spans, ROOM));
+    print_reply("by nothing", regress_c_match_at_utf8(&nothing, bytes("ab"), 2, 0, spans, ROOM));
+    print_reply("in UTF-16", regress_c_match_at_utf16(&any, units, 4, 1, spans, ROOM));
+    print_spans(spans, 1);
+    print_reply("at 0", regress_c_match_at_utf16(&any, units, 4, 0, spans, ROOM));
+    print_reply("between surrogates", regress_c_match_at_utf16(&any, units, 4, 2, spans, ROOM));
+    print_reply("in UCS-2", regress_c_match_at_ucs2(&any, units, 4, 2, spans, ROOM));
+    print_spans(spans, 1);
+    print_reply("at 1", regress_c_match_at_ucs2(&any, units, 4, 1, spans, ROOM));
+    regress_c_free(&any);
     regress_c_free(&pattern);
 }
 
@@ -282,6 +326,69 @@ static void work(void)
     regress_c_free(&heavy);
 }
 
+/* A search for all matches in so much work, with room for so many ranges, and what it leaves. */
+static void print_all_in_work(const char *what, regress_c_pattern *pattern, const char *text, size_t start, uint64_t work,
+                              size_t room)
+{
+    regress_c_span spans[ROOM];
+    size_t ranges = regress_c_range_count(pattern).count;
+    regress_c_reply reply = regress_c_find_all_utf8_in_work(pattern, bytes(text), strlen(text), start, &work, spans, room);
+    print_reply(what, reply);
+    printf(" %" PRIu64 " left\n", work);
+    for (size_t i = 0; reply.code != REGRESS_C_SHORT_BUFFER && i < reply.count; i++) {
+        print_spans(spans + i * ranges, ranges);
+    }
+}
+
+static void all_in_work(void)
+{
+    static const char text[] = "aaaaaaaaaaaaaaaaaaaaaaaaac";
+    regress_c_pattern heavy = compiled("(?:a|a)*b|c", "");
+    regress_c_pattern light = compiled("a(b)?", "");
+    regress_c_pattern empty = compiled("x*", "");
+    regress_c_pattern looking = compiled("(?=a)b", "");
+    regress_c_pattern nothing = REGRESS_C_PATTERN_INIT;
+    uint64_t each = 0;
+    print_code("work for each", regress_c_work_per_unit(&heavy, &each));
+    print_all_in_work("in too little", &heavy, text, 0, 100, ROOM);
+    uint64_t enough = each * (strlen(text) + 1);
+    regress_c_span span;
+    print_reply("in as much", regress_c_find_all_utf8_in_work(&heavy, bytes(text), strlen(text), 0, &enough, &span, 1));
+    print_spans(&span, 1);
+    print_all_in_work("all", &light, "abxab", 0, 1000, ROOM);
+    print_all_in_work("from 1", &light, "abxab", 1, 1000, ROOM);
+    print_all_in_work("room for one", &light, "abxab", 0, 1000, 3);
+    print_all_in_work("no room", &light, "abxab", 0, 1000, 1);
+    print_all_in_work("in 8", &light, "abxab", 0, 8, ROOM);
+    print_all_in_work("in none", &light, "abxab", 0, 0, ROOM);
+    print_all_in_work("empty ones", &empty, "a\xC3\xA9x", 0, 1000, ROOM);
+    print_all_in_work("past the end", &light, "ab", 3, 9, ROOM);
+    print_all_in_work("within a character", &light, "\xC3\xA9", 1, 9, ROOM);
+    print_all_in_work("no text", &light, "\xFF", 0, 9, ROOM);
+    print_all_in_work("a lookaround", &looking, "a", 0, 9, ROOM);
+    print_all_in_work("by nothing", &nothing, "a", 0, 9, ROOM);
+    regress_c_free(&looking);
+    regress_c_free(&empty);
+    regress_c_free(&light);
+    regress_c_free(&heavy);
+}
+
+/* The texts of the codes, which are those of the header. */
+static void messages(void)
+{
+    uint8_t message[64];
+    for (uint32_t code = 0; code <= 22; code++) {
+        const char *other = regress_c_message(code);
+        regress_c_reply reply = regress_c_message_utf8(code, message, sizeof message);
+        int same = reply.count == strlen(other) && memcmp(message, other, reply.count) == 0;
+        printf("%" PRIu32 ": %" PRIu32 ", %.*s%s\n", code, reply.code, (int)reply.count, (const char *)message,
+               same ? "" : ", but another in the header");
+    }
+    print_reply("of any number", regress_c_message_utf8(UINT32_MAX, message, sizeof message));
+    print_reply("no room", regress_c_message_utf8(REGRESS_C_NO_MATCH, message, 7));
+    print_reply("no buffer", regress_c_message_utf8(REGRESS_C_NO_MATCH, NULL, 0));
+}
+
 static void texts(void)
 {
     regress_c_pattern pattern = compiled("(?<d>\\d+)", "");
@@ -304,11 +411,15 @@ int main(void)
     many_groups();
     diagnoses();
     names();
+    numbers();
     clones();
     first_matches();
+    matches_at();
     searches();
     limits();
     work();
+    all_in_work();
     texts();
+    messages();
     return 0;
 }

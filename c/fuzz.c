@@ -226,6 +226,67 @@ static void check_first(regress_c_pattern *pattern, text t, size_t start, matche
     free(spans);
 }
 
+/* The first match, and none at the start if it begins elsewhere, by searches at one offset. */
+static void check_at(regress_c_pattern *pattern, text t, size_t start, matches all, size_t ranges)
+{
+    regress_c_span *spans = malloc(ranges * sizeof *spans);
+    check(spans != NULL, "memory");
+    size_t first = all.count == 0 ? SIZE_MAX : all.spans[0].start;
+    if (first != start) {
+        regress_c_reply reply = regress_c_match_at_utf8(pattern, t.bytes, t.len, start, spans, ranges);
+        check(reply.code == REGRESS_C_NO_MATCH, "no match at the start");
+    }
+    if (first != SIZE_MAX) {
+        regress_c_reply reply = regress_c_match_at_utf8(pattern, t.bytes, t.len, first, spans, ranges);
+        check(reply.code == REGRESS_C_DONE && reply.count == ranges, "a match at its start");
+        check(memcmp(spans, all.spans, ranges * sizeof *spans) == 0, "the first match at its start");
+    }
+    free(spans);
+}
+
+/* All matches in as much work as is enough, and in what that takes; in less, the first of them. */
+static void check_in_work(regress_c_pattern *pattern, text t, size_t start, matches all, size_t ranges)
+{
+    uint64_t each = 0;
+    if (regress_c_work_per_unit(pattern, &each) == REGRESS_C_NO_BOUND) {
+        return;
+    }
+    size_t room = (t.len + 2) * ranges;
+    matches found = {malloc(room * sizeof *found.spans), 0, REGRESS_C_DONE, 0};
+    check(found.spans != NULL, "memory");
+    uint64_t enough = each * (t.len + 1), left = enough;
+    regress_c_reply reply = regress_c_find_all_utf8_in_work(pattern, t.bytes, t.len, start, &left, found.spans, room);
+    check(reply.code == REGRESS_C_NO_MATCH && left <= enough, "enough work");
+    found.count = reply.count;
+    check_same(found, all, ranges, "matches in work");
+    uint64_t taken = enough - left, again = taken;
+    reply = regress_c_find_all_utf8_in_work(pattern, t.bytes, t.len, start, &again, found.spans, room);
+    check(reply.code == REGRESS_C_NO_MATCH && again == 0, "as much work as was taken");
+    if (taken > 0) {
+        uint64_t less = taken - 1;
+        reply = regress_c_find_all_utf8_in_work(pattern, t.bytes, t.len, start, &less, found.spans, room);
+        check(reply.code == REGRESS_C_WORK_LIMIT && less == 0 && reply.count <= all.count, "less work");
+        check(reply.count == 0 || memcmp(found.spans, all.spans, reply.count * ranges * sizeof *all.spans) == 0, "the first ones");
+    }
+    if (all.count > 0) {
+        left = enough;
+        reply = regress_c_find_all_utf8_in_work(pattern, t.bytes, t.len, start, &left, found.spans, ranges * all.count);
+        check(reply.code == REGRESS_C_DONE && reply.count == all.count, "room for all matches alone");
+    }
+    free_matches(found);
+}
+
+/* The names of groups have the numbers of these groups. */
+static void check_numbers(regress_c_pattern *pattern, size_t ranges)
+{
+    uint8_t name[64];
+    for (size_t number = 1; number < ranges; number++) {
+        regress_c_reply named = regress_c_group_name(pattern, number, name, sizeof name);
+        regress_c_reply reply = regress_c_group_number(pattern, name, named.count);
+        check(named.count == 0 ? reply.code == REGRESS_C_NO_GROUP : reply.count == number, "the number of a name");
+    }
+}
+
 /* The same matches in 16-bit units, at the same characters. */
 static void check_wide(regress_c_pattern *pattern, text t, matches all, size_t ranges)
 {
@@ -295,6 +356,9 @@ static int search_by(regress_c_pattern *pattern, text t)
     check_same(by_copy, all, ranges, "matches by a clone");
     regress_c_free(&copy);
     check_first(pattern, t, start, all, ranges);
+    check_at(pattern, t, start, all, ranges);
+    check_in_work(pattern, t, start, all, ranges);
+    check_numbers(pattern, ranges);
     if (start == 0) {
         check_wide(pattern, t, all, ranges);
         check_replaced(pattern, t);

@@ -1,30 +1,42 @@
 /*
  * Regular expressions with the syntax and meaning of ECMAScript 2018, for C and C++.
  *
- * What is said here of what is passed, answered and written is proved of the library (crates/regress_c), unless a line says
- * that it is tested or measured. Which patterns there are, and that the tree of a pattern is the pattern's, is tested
- * (docs/PROFILE.md). What no prover sees is left to the caller, as of any C function:
+ * What this header says of arguments, results and written memory is proved of the library (crates/regress_c), unless a
+ * line says that it is tested or measured. That the library reads each pattern as ECMAScript does is tested, and
+ * docs/PROFILE.md lists the differences. As with any C function, the caller guarantees the rest:
  *
- * - A pointer is not NULL and points to so many values; a text may be read-only. No two parameters of a call overlap, and
- *   nobody changes during a call what is passed. Where the length is 0 the pointer may be anything, also NULL (tested).
- * - A pattern is set to REGRESS_C_PATTERN_INIT and a search to REGRESS_C_SEARCH_INIT, and from then on they are changed by
- *   the calls below alone, but for `next` of a search. They may be moved, but of their copies only one is used.
- * - malloc, realloc and free are of one allocator, and no call is made from a signal handler.
+ * - A pointer is not NULL and points to as many values as its length says; a text may be read-only. No two parameters
+ *   of a call overlap, and nothing that is passed changes during the call. With length 0 a pointer may have any value,
+ *   also NULL (tested).
+ * - A pattern is initialized with REGRESS_C_PATTERN_INIT and a search with REGRESS_C_SEARCH_INIT, and afterwards only
+ *   the functions below change them; the field `next` of a search may be set. They may be moved, but only one copy is
+ *   used.
+ * - malloc, realloc and free belong to one allocator. No function is called from a signal handler.
  *
- * Threads: there is no state but what is passed. A pattern is passed to one call at a time, since a call takes it out of its
- * handle and puts it back; it may be passed on to another thread, and threads that work at a time have a clone each. A clone
- * and what it was made from share the names of groups, which are counted atomically, and nothing else. Searches, texts and
- * buffers are the caller's own.
+ * Threads: the library has no state of its own. One call at a time may use a pattern, since a call takes the pattern
+ * out of its handle and puts it back. A pattern may be passed on to another thread; threads that search at the same
+ * time use one clone each. A clone and its original share only the names of groups, which are counted atomically.
+ * Searches, texts and buffers belong to the caller.
  *
- * Time and stack: searches go back, so some patterns take exponential time, which a limit of steps ends
- * (regress_c_next_within) and a budget of work bounds (regress_c_find_utf8_in_work). Steps bound no single long comparison,
- * and there is neither for the other encodings. To compile and to
- * free takes stack by the depth of the pattern, up to some 400 bytes a level as measured, and so does a search for lookarounds
- * inside one another; regress_c_compile_utf8_within refuses deep patterns. A search takes no stack otherwise. It takes memory
- * by what it may have to go back to: up to some 100 bytes a step, as measured (docs/LIMITS.md).
+ * Time: the searches backtrack, so some patterns take exponential time. regress_c_next_within limits the steps of a
+ * search, and regress_c_find_utf8_in_work and regress_c_find_all_utf8_in_work limit its work. One step may compare a
+ * long group with the text, so a step limit is not a time limit. docs/LIMITS.md and docs/LINEAR.md have the details.
  *
- * To link: -lregress_c -llibc_c, the latter from the kit (pkg-config: regress_c), or the shared library alone. Both need
- * malloc, realloc, free, memcpy, memmove, memset and memcmp of the C library and nothing else.
+ * Stack and memory: the functions that compile take stack in proportion to the depth of the pattern, up to 100 bytes a
+ * level (measured); the functions with `within` in their names refuse deep patterns. A search takes none (measured). It
+ * takes memory for what it may have to go back to, up to 100 bytes a step (measured).
+ *
+ * To link: -lregress_c (pkg-config: regress_c), static or shared. Both need malloc, realloc, free, memcpy, memmove,
+ * memset and memcmp of the C library, and nothing else.
+ *
+ * Not offered:
+ *
+ * - A limit for replacements, and replacements in UTF-16. The engine defines replacements of UTF-8 texts, without a
+ *   limit. Find the matches with a limit (regress_c_next_within, regress_c_find_all_utf8_in_work) or in UTF-16, and
+ *   copy the text between them.
+ * - A limit for a match at one offset, and limits in UTF-16 and UCS-2. Steps and work are counted in UTF-8 only.
+ * - A limit of the memory, other than that of the process. If an allocation fails, MEMORY is returned.
+ * - A pattern that two threads use at the same time. Use a clone for each.
  */
 #ifndef REGRESS_C_H
 #define REGRESS_C_H
@@ -42,27 +54,27 @@ extern "C" {
 /* 10000 times the major, 100 times the minor and the patch, as regress_c_version answers it. */
 #define REGRESS_C_VERSION 200
 
-/* What a call answers. Every other number is free for later versions. */
+/* The codes that functions return. Later versions may add other numbers. */
 enum regress_c_code {
-    /* The call did what it was called for. */
+    /* The call succeeded. */
     REGRESS_C_DONE = 0,
-    /* There is no match, or no further one. */
+    /* There is no match, or no further match. */
     REGRESS_C_NO_MATCH = 1,
-    /* The pattern holds nothing. */
+    /* The handle holds no pattern. */
     REGRESS_C_EMPTY = 2,
-    /* The pattern holds something already: free it first. */
+    /* The handle already holds a pattern: free it first. */
     REGRESS_C_FULL = 3,
     /* A text is not UTF-8. */
     REGRESS_C_NOT_UTF8 = 4,
-    /* The start is within the text and cuts a character. */
+    /* The offset is within the text and splits a character. */
     REGRESS_C_NOT_BOUNDARY = 5,
-    /* The buffer has less room than is needed: `count` says how much. Nothing is written. */
+    /* The buffer is too short, and `count` is the length that is needed. Nothing is written. */
     REGRESS_C_SHORT_BUFFER = 6,
-    /* There was no memory. */
+    /* An allocation failed. */
     REGRESS_C_MEMORY = 7,
-    /* The steps that were allowed are used up. */
+    /* The step limit is reached. */
     REGRESS_C_STEP_LIMIT = 8,
-    /* The text is no pattern. */
+    /* The pattern has a syntax error. */
     REGRESS_C_SYNTAX = 9,
     /* The pattern has more than 65,535 groups, or loops, or more than 2^32 - 1 instructions. */
     REGRESS_C_TOO_MANY_GROUPS = 10,
@@ -70,29 +82,29 @@ enum regress_c_code {
     REGRESS_C_TOO_MANY_INSTRUCTIONS = 12,
     /* A flag is none of i, m, s, u and v. */
     REGRESS_C_UNKNOWN_FLAG = 13,
-    /* The pattern is longer, or nests deeper, than the bounds allow. */
+    /* The pattern is longer, or nested deeper, than the bounds allow. */
     REGRESS_C_TOO_LONG = 14,
     REGRESS_C_TOO_DEEP = 15,
-    /* The pattern has no group of this number. */
+    /* The pattern has no group with this number or name. */
     REGRESS_C_NO_GROUP = 16,
     /* The search is not open. */
     REGRESS_C_NOT_OPEN = 17,
-    /* Steps are counted in UTF-8 alone. */
+    /* Steps are counted in UTF-8 only. */
     REGRESS_C_NOT_COUNTED = 18,
     /* No bound of the work of the pattern's searches is known. */
     REGRESS_C_NO_BOUND = 19,
-    /* The work that was allowed is done. */
+    /* The work limit is reached. */
     REGRESS_C_WORK_LIMIT = 20
 };
 
-/* A pattern that is compiled, or nothing. */
+/* A handle that holds a compiled pattern, or nothing. */
 typedef struct regress_c_pattern {
     void *held;
 } regress_c_pattern;
 
 #define REGRESS_C_PATTERN_INIT { NULL }
 
-/* A range of a text in bytes, or in units of 16 bits, from its start to before its end. */
+/* A range of a text, in bytes or 16-bit code units. `end` is the offset after its last unit. */
 typedef struct regress_c_span {
     size_t start;
     size_t end;
@@ -101,18 +113,18 @@ typedef struct regress_c_span {
 /* Both ends of the range of a group that did not match. */
 #define REGRESS_C_UNMATCHED SIZE_MAX
 
-/* A code, and a count: of what, each call says. It is 0 where nothing is said. */
+/* A code and a count. Each function says what it counts; if it does not, the count is 0. */
 typedef struct regress_c_reply {
     uint32_t code;
     size_t count;
 } regress_c_reply;
 
-/* The library's version, REGRESS_C_VERSION of its header. */
+/* Returns the version of the library, which is REGRESS_C_VERSION of its header. */
 uint32_t regress_c_version(void);
 
 /* ---- Patterns */
 
-/* The most that a pattern may be: its length in code points, and its depth in parentheses that are open at once. */
+/* The maximum length of a pattern in code points, and the maximum number of parentheses that are open at once. */
 typedef struct regress_c_bounds {
     size_t length;
     size_t nesting;
@@ -121,28 +133,31 @@ typedef struct regress_c_bounds {
 /*
  * Compiles `text`, a pattern in UTF-8, with the flags whose letters are `flags`, in any order: i, m, s, u, v.
  *
- * Answers DONE, and the pattern holds what is compiled; or FULL, NOT_UTF8, UNKNOWN_FLAG, MEMORY, SYNTAX or one of the
- * TOO_MANY, and the pattern stays as it was.
+ * Returns DONE if the handle now holds the pattern. Returns FULL, NOT_UTF8, UNKNOWN_FLAG, MEMORY, SYNTAX or one of the
+ * TOO_MANY codes if it is refused, and then the handle is unchanged.
  */
 uint32_t regress_c_compile_utf8(regress_c_pattern *pattern, const uint8_t *text, size_t text_len, const uint8_t *flags,
                                 size_t flags_len);
 
-/* The same within bounds: TOO_LONG or TOO_DEEP is answered where the pattern is beyond one, and then nothing is compiled. */
+/*
+ * Like regress_c_compile_utf8. Returns TOO_LONG or TOO_DEEP if the pattern exceeds a bound, and then compiles nothing.
+ */
 uint32_t regress_c_compile_utf8_within(regress_c_pattern *pattern, const uint8_t *text, size_t text_len,
                                        const uint8_t *flags, size_t flags_len, const regress_c_bounds *bounds);
 
-/* The same of a pattern in UTF-16. A surrogate without its other half is a character; NOT_UTF8 is never answered. */
+/* The same for a pattern in UTF-16. An unpaired surrogate is a character, and NOT_UTF8 is never returned. */
 uint32_t regress_c_compile_utf16(regress_c_pattern *pattern, const uint16_t *text, size_t text_len,
                                  const uint8_t *flags, size_t flags_len);
 uint32_t regress_c_compile_utf16_within(regress_c_pattern *pattern, const uint16_t *text, size_t text_len,
                                         const uint8_t *flags, size_t flags_len, const regress_c_bounds *bounds);
 
 /*
- * What is wrong with a text that is no pattern: SYNTAX is answered, `at` becomes the offset in units of the text at which it
- * begins, and the cause in words, `count` bytes of UTF-8 without a 0 behind them, is written to `cause`. With too little
- * room, SHORT_BUFFER is answered, and `at` is told all the same.
+ * Says what is wrong with a pattern. For a syntax error, returns SYNTAX, sets `at` to the offset in units of the
+ * pattern at which the error begins, and writes the cause in words to `cause`: `count` bytes of UTF-8 without a
+ * terminating 0. If the buffer is too short, returns SHORT_BUFFER and sets `at` all the same.
  *
- * DONE is answered of a pattern (also of one that has too many loops or instructions), or NOT_UTF8, UNKNOWN_FLAG or MEMORY.
+ * Returns DONE if there is no syntax error (also if the pattern has too many loops or instructions), or NOT_UTF8,
+ * UNKNOWN_FLAG or MEMORY.
  */
 regress_c_reply regress_c_diagnose_utf8(const uint8_t *text, size_t text_len, const uint8_t *flags, size_t flags_len,
                                         size_t *at, uint8_t *cause, size_t cause_len);
@@ -150,74 +165,135 @@ regress_c_reply regress_c_diagnose_utf16(const uint16_t *text, size_t text_len, 
                                          size_t *at, uint8_t *cause, size_t cause_len);
 
 /*
- * An equal pattern, which is copied and not compiled anew, in `into`: DONE; or EMPTY, FULL or MEMORY, and `into` stays as it
- * was. `pattern` holds what it held.
+ * Copies the pattern into `into` without compiling it again. Returns DONE, or EMPTY, FULL or MEMORY, and then `into` is
+ * unchanged. `pattern` is unchanged.
  */
 uint32_t regress_c_clone(regress_c_pattern *pattern, regress_c_pattern *into);
 
-/* Frees what the pattern holds, if anything. It holds nothing then, and may be compiled into again. */
+/* Frees the pattern of the handle, if it holds one. The handle is empty afterwards and may be used again. */
 void regress_c_free(regress_c_pattern *pattern);
 
-/* DONE, and how many ranges a match has: one for the whole, and one for each group; or EMPTY. */
+/*
+ * Returns DONE, and in `count` the number of ranges of a match: one for the whole match, and one for each group; or
+ * EMPTY.
+ */
 regress_c_reply regress_c_range_count(regress_c_pattern *pattern);
 
 /*
- * Writes the name of a group, `count` bytes of UTF-8 without a 0 behind them, none where the group has no name: DONE, EMPTY,
- * NO_GROUP or SHORT_BUFFER. Groups have numbers from 1 on, and no two have the same name.
+ * Writes the name of a group, `count` bytes of UTF-8 without a terminating 0. A group without a name has the empty
+ * name. Groups are numbered from 1. Returns DONE, EMPTY, NO_GROUP or SHORT_BUFFER. No two groups of a compiled pattern
+ * have the same name.
  */
 regress_c_reply regress_c_group_name(regress_c_pattern *pattern, size_t number, uint8_t *name, size_t name_len);
+
+/*
+ * Returns DONE, and in `count` the number of the group with this name, in UTF-8; or EMPTY. Returns NO_GROUP if no group
+ * has the name, as for the empty name and for bytes that are not UTF-8.
+ */
+regress_c_reply regress_c_group_number(regress_c_pattern *pattern, const uint8_t *name, size_t name_len);
 
 /* ---- The first match */
 
 /*
- * The first match in `text`, which is UTF-8, from `start` on, an offset in bytes. What stands before the start is part of
- * the text. From past the end there is no match.
+ * Finds the first match in `text`, which is UTF-8, from `start` on, an offset in bytes. What precedes the start is part
+ * of the text. There is no match from past the end.
  *
- * Answers DONE, and the ranges are written over the first `count` of `spans`: the whole match, and each group by number;
- * or NO_MATCH, EMPTY, NOT_UTF8, NOT_BOUNDARY, SHORT_BUFFER or MEMORY, and `spans` stays as it was. The pattern holds what it
- * held. The text is tested as a whole by each call: who wants more than one match opens a search.
+ * Returns DONE, and writes the ranges over the first `count` of `spans`: the whole match, and each group by number.
+ * Returns NO_MATCH, EMPTY, NOT_UTF8, NOT_BOUNDARY, SHORT_BUFFER or MEMORY otherwise, and then `spans` is unchanged. The
+ * pattern is unchanged. Each call validates the whole text: for more than one match, open a search.
  */
 regress_c_reply regress_c_find_utf8(regress_c_pattern *pattern, const uint8_t *text, size_t text_len, size_t start,
                                     regress_c_span *spans, size_t spans_len);
 
 /*
- * The same in UTF-16: offsets and ranges are in units of 16 bits, and NOT_UTF8 is never answered. A surrogate without its
- * other half is a character.
+ * The same in UTF-16. Offsets and ranges are in 16-bit code units. An unpaired surrogate is a character, and NOT_UTF8
+ * is never returned.
  */
 regress_c_reply regress_c_find_utf16(regress_c_pattern *pattern, const uint16_t *text, size_t text_len, size_t start,
                                      regress_c_span *spans, size_t spans_len);
 
-/* The same in UCS-2: each unit is a character, as in JavaScript without the flag u, and NOT_BOUNDARY is never answered. */
+/*
+ * The same in UCS-2, in which each code unit is a character, as in JavaScript without the flag u. NOT_UTF8 and
+ * NOT_BOUNDARY are never returned.
+ */
 regress_c_reply regress_c_find_ucs2(regress_c_pattern *pattern, const uint16_t *text, size_t text_len, size_t start,
                                     regress_c_span *spans, size_t spans_len);
 
-/* ---- In so much work */
+/* ---- The match at one offset */
 
 /*
- * How much work is enough for each byte of a text, and one, by this pattern: DONE, and `per_unit` becomes the number; or EMPTY,
- * MEMORY or NO_BOUND, as for lookarounds and for the text of a group once more, and it stays as it was. A unit of work is a turn of
- * a thread, a way back to one that waits, a character that a run looks at, or a record of what failed.
+ * Finds the match that begins at `at`, as JavaScript does with the flag y: the preferred one of those that begin there.
+ * No other offset is tried. What precedes `at` is part of the text.
+ *
+ * Returns DONE and writes the ranges like regress_c_find_utf8. Returns NO_MATCH if no match begins at `at`, as when it
+ * is past the end; or EMPTY, NOT_UTF8, NOT_BOUNDARY, SHORT_BUFFER or MEMORY, and then `spans` is unchanged.
+ */
+regress_c_reply regress_c_match_at_utf8(regress_c_pattern *pattern, const uint8_t *text, size_t text_len, size_t at,
+                                        regress_c_span *spans, size_t spans_len);
+
+/* The same in UTF-16. NOT_UTF8 is never returned. */
+regress_c_reply regress_c_match_at_utf16(regress_c_pattern *pattern, const uint16_t *text, size_t text_len, size_t at,
+                                         regress_c_span *spans, size_t spans_len);
+
+/* The same in UCS-2. NOT_UTF8 and NOT_BOUNDARY are never returned. */
+regress_c_reply regress_c_match_at_ucs2(regress_c_pattern *pattern, const uint16_t *text, size_t text_len, size_t at,
+                                        regress_c_span *spans, size_t spans_len);
+
+/* ---- Within a work limit */
+
+/*
+ * Sets `per_unit` to the work bound of the pattern, and returns DONE: on a text of n bytes, `per_unit` * (n + 1) work
+ * is enough for all matches together. Returns EMPTY or MEMORY, or NO_BOUND if no bound is known, as with a lookaround
+ * or a backreference (docs/LINEAR.md), and then `per_unit` is unchanged.
+ *
+ * A unit of work is one step of a thread, one way back to a waiting thread, one character that a loop over characters
+ * examines, or one record of a failure.
  */
 uint32_t regress_c_work_per_unit(regress_c_pattern *pattern, uint64_t *per_unit);
 
 /*
- * As regress_c_find_utf8, in at most `*work` work, which becomes how much is left: no pattern and no text makes it do more. What
- * is refused for the handle, the text or the start takes none. WORK_LIMIT is answered where more would have to be done, and none
- * is left then; never where `*work` is at least the number for each byte of the text and one (that both calls reckon one number
- * is tested). NO_BOUND is answered where none is known. The work is for this call: each one reckons the bound anew, and has a
- * memory of its own for what failed, of some bits for each byte.
+ * Finds the first match like regress_c_find_utf8, with a limit of the work. Sets `*work` to the work that is left,
+ * which is never more than before.
+ *
+ * Returns WORK_LIMIT only if `*work` was less than a work bound of the pattern for each byte of the text and one more;
+ * then no work is left. (That this is the bound of regress_c_work_per_unit is tested.) Returns NO_BOUND if no bound is
+ * known. NO_BOUND and refusals of the handle, the text or the start take no work.
+ *
+ * A loop over characters pays for them after it has examined them, so the call that reaches the limit may examine more
+ * characters than it had work for: at most those up to the end of the text. How much work a call did is not proved.
+ *
+ * Each call computes the bound again and takes memory for the failures that it records: some bits for each byte of the
+ * text.
  */
-regress_c_reply regress_c_find_utf8_in_work(regress_c_pattern *pattern, const uint8_t *text, size_t text_len, size_t start,
-                                            uint64_t *work, regress_c_span *spans, size_t spans_len);
+regress_c_reply regress_c_find_utf8_in_work(regress_c_pattern *pattern, const uint8_t *text, size_t text_len,
+                                            size_t start, uint64_t *work, regress_c_span *spans, size_t spans_len);
+
+/*
+ * Finds the matches in `text`, which is UTF-8, from `start` on, with a limit of the work for all of them together.
+ * Writes as many as there is room for, one after another, each with as many ranges as regress_c_range_count says.
+ * `count` is the number of matches that are written. Sets `*work` to the work that is left, as
+ * regress_c_find_utf8_in_work does.
+ *
+ * The code says why no more are written: NO_MATCH, there is no further match; DONE, there is no room for one more;
+ * WORK_LIMIT, as for regress_c_find_utf8_in_work; or MEMORY. The matches that are written are the first ones of the
+ * list in each case. After DONE, the list continues from the end of the last match, or one character after it if that
+ * match is empty; a new call has no record of failures, so it may do the same work again. If there is room for two
+ * matches more than the text has characters, one call never returns DONE.
+ *
+ * If there is no room for one match, returns SHORT_BUFFER, and `count` is the number of ranges of a match. Returns
+ * EMPTY, NOT_UTF8, NOT_BOUNDARY or NO_BOUND if it is refused. Then nothing is written, and no work is done.
+ */
+regress_c_reply regress_c_find_all_utf8_in_work(regress_c_pattern *pattern, const uint8_t *text, size_t text_len,
+                                                size_t start, uint64_t *work, regress_c_span *spans, size_t spans_len);
 
 /* ---- All matches */
 
 /*
- * A search over a text that was tested when it was opened. It owns nothing, and need not be closed; but the text stays where
- * it is, unchanged, until the search is closed, opened anew or no longer used.
+ * A search in a text that was validated when the search was opened. It owns nothing and need not be closed, but the
+ * text must stay in place, unchanged, until the search is closed, opened again or no longer used.
  *
- * `next` is the offset from which the search goes on, past the end where it is over, and may be set to any other. The other
- * fields are the library's.
+ * `next` is the offset from which the search continues. It is past the end once the search is over, and may be set to
+ * any offset. The other fields belong to the library.
  */
 typedef struct regress_c_search {
     const uint8_t *bytes;
@@ -228,52 +304,54 @@ typedef struct regress_c_search {
     size_t encoding;
 } regress_c_search;
 
-/* What a search that is not open points to. */
+/* The texts of a search that is not open. */
 static const uint8_t regress_c_no_bytes = 0;
 static const uint16_t regress_c_no_units = 0;
 
 #define REGRESS_C_SEARCH_INIT { &regress_c_no_bytes, 0, &regress_c_no_units, 0, 0, 0 }
 
 /*
- * Opens a search over a text from `start` on: DONE; or NOT_UTF8, or NOT_BOUNDARY (not in UCS-2), and the search stays as it
- * was.
+ * Opens a search in a text from `start` on. Returns DONE; or NOT_UTF8, or NOT_BOUNDARY (not in UCS-2), and then the
+ * search is unchanged.
  */
 uint32_t regress_c_search_utf8(regress_c_search *search, const uint8_t *text, size_t text_len, size_t start);
 uint32_t regress_c_search_utf16(regress_c_search *search, const uint16_t *text, size_t text_len, size_t start);
 uint32_t regress_c_search_ucs2(regress_c_search *search, const uint16_t *text, size_t text_len, size_t start);
 
 /*
- * Writes the next matches of the search by the pattern, as many as there is room for, one behind the other: each has as many
- * ranges as regress_c_range_count says. `count` says how many matches are written, and `next` of the search becomes where
- * the list of matches goes on behind them. Empty matches are stepped over as the standard does, so calls in a row write each
- * match of the list once, in order; any pattern may be passed to any of these calls.
+ * Writes the next matches of the search by the pattern, as many as there is room for, one after another: each has as
+ * many ranges as regress_c_range_count says. `count` is the number of matches that are written, and `next` of the
+ * search becomes the offset from which the list of matches continues after them. Successive calls write each match of
+ * the list once, in order, and step over empty matches as ECMAScript does. Each call may use another pattern.
  *
- * The code says why there are no more: DONE, the room is full; NO_MATCH, there is no further match, and the search is over;
- * MEMORY, and the next call goes on there. Where the room is too small for one match SHORT_BUFFER is answered, and `count`
- * says how many ranges one has; else EMPTY, NOT_OPEN or NOT_BOUNDARY, and nothing is written.
+ * The code says why no more are written: DONE, there is no room for one more; NO_MATCH, there is no further match, and
+ * the search is over; or MEMORY, and the next call continues there. If there is no room for one match, returns
+ * SHORT_BUFFER, and `count` is the number of ranges of a match. Returns EMPTY, NOT_OPEN or NOT_BOUNDARY if it is
+ * refused, and then nothing is written.
  */
 regress_c_reply regress_c_next(regress_c_pattern *pattern, regress_c_search *search, regress_c_span *spans,
                                size_t spans_len);
 
 /*
- * The same in at most `*steps` steps, which becomes how many are left, so that one number may serve many calls. STEP_LIMIT is
- * answered where more are needed than are left, which is said by the pattern and the text alone, and not by time; none is
- * left then. Steps are counted in UTF-8, and else NOT_COUNTED is answered.
+ * The same with at most `*steps` steps. Sets `*steps` to the steps that are left, so one number may serve many calls.
+ * Returns STEP_LIMIT if more steps are needed than are left, and then none is left. The number of steps depends on the
+ * pattern and the text only. Steps are counted in UTF-8; in another encoding, NOT_COUNTED is returned.
  */
 regress_c_reply regress_c_next_within(regress_c_pattern *pattern, regress_c_search *search, uint64_t *steps,
                                       regress_c_span *spans, size_t spans_len);
 
-/* Closes the search, which then points to no text. */
+/* Closes the search, which then refers to no text. */
 void regress_c_close(regress_c_search *search);
 
-/* ---- Texts that are made */
+/* ---- Produced texts */
 
 /*
- * Writes `text` with `replacement` in place of the first match, or of each, to `made`, without a 0 behind it. In the replacement
- * `$$` is `$`, `$` and digits a group by number, `${name}` one by name, and `$0` the whole match.
+ * Writes `text` with the first match, or each match, replaced by `replacement` to `made`, without a terminating 0. In
+ * the replacement `$$` stands for `$`, `$` with digits for a group by number, `${name}` for a group by name, and `$0`
+ * for the whole match.
  *
- * Answers DONE, or SHORT_BUFFER, and `count` says how many bytes the text has; or EMPTY, NOT_UTF8 or MEMORY. What is made
- * is held in memory once more during the call.
+ * Returns DONE or SHORT_BUFFER, and in `count` the length of the text in bytes; or EMPTY, NOT_UTF8 or MEMORY. The call
+ * holds the produced text in memory once more.
  */
 regress_c_reply regress_c_replace_utf8(regress_c_pattern *pattern, const uint8_t *text, size_t text_len,
                                        const uint8_t *replacement, size_t replacement_len, uint8_t *made,
@@ -282,36 +360,46 @@ regress_c_reply regress_c_replace_all_utf8(regress_c_pattern *pattern, const uin
                                            const uint8_t *replacement, size_t replacement_len, uint8_t *made,
                                            size_t made_len);
 
-/* Writes `text` as it stands in a pattern for itself: DONE or SHORT_BUFFER, NOT_UTF8 or MEMORY. */
+/*
+ * Writes `text` with its syntax characters escaped, so that a pattern matches it literally. Returns DONE or
+ * SHORT_BUFFER, and in `count` the length in bytes; or NOT_UTF8 or MEMORY.
+ */
 regress_c_reply regress_c_escape_utf8(const uint8_t *text, size_t text_len, uint8_t *escaped, size_t escaped_len);
 
 /* ---- Messages */
 
-/* A code in words. */
+/*
+ * Writes the text of a code: `count` bytes of ASCII without a terminating 0. Returns DONE or SHORT_BUFFER. 64 bytes are
+ * enough for each text. A number that is no code has the text "unknown code". The function is for programs that cannot
+ * include this header.
+ */
+regress_c_reply regress_c_message_utf8(uint32_t code, uint8_t *message, size_t message_len);
+
+/* Returns the same text as a string. (That the texts are the same is tested.) */
 static inline const char *regress_c_message(uint32_t code)
 {
     switch (code) {
     case REGRESS_C_DONE: return "done";
     case REGRESS_C_NO_MATCH: return "no match";
-    case REGRESS_C_EMPTY: return "the pattern holds nothing";
-    case REGRESS_C_FULL: return "the pattern holds something already";
-    case REGRESS_C_NOT_UTF8: return "a text is not UTF-8";
-    case REGRESS_C_NOT_BOUNDARY: return "the start cuts a character";
+    case REGRESS_C_EMPTY: return "the handle holds no pattern";
+    case REGRESS_C_FULL: return "the handle already holds a pattern";
+    case REGRESS_C_NOT_UTF8: return "a text is not valid UTF-8";
+    case REGRESS_C_NOT_BOUNDARY: return "the offset splits a character";
     case REGRESS_C_SHORT_BUFFER: return "the buffer is too short";
     case REGRESS_C_MEMORY: return "out of memory";
-    case REGRESS_C_STEP_LIMIT: return "the steps are used up";
-    case REGRESS_C_SYNTAX: return "the text is no pattern";
+    case REGRESS_C_STEP_LIMIT: return "the step limit is reached";
+    case REGRESS_C_SYNTAX: return "the pattern has a syntax error";
     case REGRESS_C_TOO_MANY_GROUPS: return "too many groups";
     case REGRESS_C_TOO_MANY_LOOPS: return "too many loops";
     case REGRESS_C_TOO_MANY_INSTRUCTIONS: return "too many instructions";
     case REGRESS_C_UNKNOWN_FLAG: return "unknown flag";
     case REGRESS_C_TOO_LONG: return "the pattern is too long";
-    case REGRESS_C_TOO_DEEP: return "the pattern nests too deep";
+    case REGRESS_C_TOO_DEEP: return "the pattern is nested too deeply";
     case REGRESS_C_NO_GROUP: return "no such group";
     case REGRESS_C_NOT_OPEN: return "the search is not open";
-    case REGRESS_C_NOT_COUNTED: return "steps are counted in UTF-8 alone";
-    case REGRESS_C_NO_BOUND: return "no bound of the work is known";
-    case REGRESS_C_WORK_LIMIT: return "the work is used up";
+    case REGRESS_C_NOT_COUNTED: return "steps are counted in UTF-8 only";
+    case REGRESS_C_NO_BOUND: return "no work bound is known";
+    case REGRESS_C_WORK_LIMIT: return "the work limit is reached";
     default: return "unknown code";
     }
 }

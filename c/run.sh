@@ -1,6 +1,7 @@
 #!/bin/sh
-# Builds the library for C and the programs of this folder, runs them, and compares what they print with what is stored. It needs
-# `rt`, `make` and `cc`. ARCHIVE=FILE tries another build of the library in place of the proved one.
+# Builds the library for C and the programs of this folder, runs them, and compares what they print with what is stored. Checks
+# also that an installed library is found by pkg-config. It needs `rt`, `make` and `cc`. ARCHIVE=FILE tests another build of the
+# library in place of the proved one.
 set -e
 here=$(cd "$(dirname "$0")" && pwd)
 room=$(mktemp -d)
@@ -11,6 +12,9 @@ if [ -z "$ARCHIVE" ]; then
 fi
 make -s -C "$here" ARCHIVE="$ARCHIVE" OUT="$room/out" "$@" check
 make -s -C "$here" ARCHIVE="$ARCHIVE" OUT="$room/out" DESTDIR="$room/root" PREFIX=/usr install
+grep -qx 'prefix=/usr' "$room/root/usr/lib/pkgconfig/regress_c.pc" # and not the prefix that `make` had
+if make -s -C "$here" ARCHIVE="$room/none.a" OUT="$room/none" 2>"$room/told"; then exit 1; fi
+grep -q 'Run `rt lib`' "$room/told"
 cc=${CC:-cc}
 PKG_CONFIG_PATH=$room/root/usr/lib/pkgconfig
 export PKG_CONFIG_PATH

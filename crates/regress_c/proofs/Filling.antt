@@ -26,6 +26,7 @@ use Rattle.regress_c.specs.Replies.{spans_of, written_over}
 use Rattle.regress_c.specs.declared.going.Filled.{Filled}
 use Rattle.regress_c.specs.declared.going.Stop.TheVariants.{Full, Over, Refused}
 use Rattle.regress_c.specs.declared.reply.Span.{Span}
+use Rattle.regress_c.proofs.Buffers.{at-more, written-more}
 use Rattle.regress_c.proofs.Spans.{spans-count}
 
 no_more-trans : (a b c : Option ℕ) → IsBudgetAtMost a b → IsBudgetAtMost b c → IsBudgetAtMost a c
@@ -89,15 +90,8 @@ module _ {tree : Tree} {text : Text} {steps : Option ℕ} {start : ℕ} {before 
       → Filling tree text steps start before after (matches + 1) step.next (at + ranges) left'
   step_more now after matches next at ranges left left' step f s r w =
       let m = answer_of step.found in
-      let flat = flat_map spans_of f.found in
-      let more : flat_map spans_of (f.found ++ m ∷ []) ≡ flat ++ spans_of m =
-      flat_map-append spans_of f.found (m ∷ []) ∙ ap (λ xs. flat ++ xs) (append-nil (spans_of m)) in
       let long : length (spans_of m) ≡ ranges = let c = spans-count m in let g = s.groups in omega (arith, c, g, r) in
-      let length_is : length (flat ++ spans_of m) ≡ at + ranges = length-append flat (spans_of m) ∙ ap₂ (λ a b. a + b) f.flat long in
-      let front : take at now ≡ flat = ap (take at) f.written ∙ take_at flat (drop (length flat) before) at f.flat in
-      let back : drop (at + ranges) now ≡ drop (length (flat ++ spans_of m)) before =
-      sym (drop-drop ranges at now) ∙ ap (λ xs. drop ranges (drop at xs)) f.written ∙ ap (drop ranges) (drop_at flat (drop (length flat) before) at f.flat)
-      ∙ drop-drop ranges (length flat) before ∙ ap (λ n. drop (n + ranges) before) f.flat ∙ ap (λ n. drop n before) (sym length_is) in
+      let more = written-more f.found m before now after at ranges long f.flat f.written w in
       record {
         found = f.found ++ m ∷ [];
         answers = f.answers ∙ ap (λ xs. f.found ++ xs) s.answers ∙ sym (append_assoc f.found (m ∷ []) (answers_within tree text left' step.next));
@@ -107,12 +101,9 @@ module _ {tree : Tree} {text : Text} {steps : Option ℕ} {start : ℕ} {before 
         ranges = Each-append (λ m. length (spans_of m) ≡ ranges_of tree) f.found (m ∷ []) f.ranges (long ∙ r, tt);
         count = let c = f.count in let l = length-append f.found (m ∷ []) in omega (arith, c, l);
         at_is = let a = f.at_is in let l = length-append f.found (m ∷ []) in at-more (length f.found) (length (f.found ++ m ∷ [])) at ranges (ranges_of tree) a l r;
-        flat = ap length more ∙ length_is;
-        written = w ∙ ap₂ (λ xs ys. xs ++ spans_of m ++ ys) front back ∙ ap (λ xs. written_over xs before) (sym more);
+        flat = more.0;
+        written = more.1;
       }
-    where
-      at-more : (k n at ranges each : ℕ) → at ≡ k * each → n ≡ k + 1 → ranges ≡ each → at + ranges ≡ n * each
-      at-more k n at ranges each a l r = rw (a, r, l) (omega arith)
 
   -- one match more, and then on from there
   pub one_more : (now after : List Span) (matches next at ranges next' : ℕ) (left left' : Option ℕ) (step : Step)

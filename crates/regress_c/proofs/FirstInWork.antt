@@ -63,7 +63,7 @@ module _ (re : Regex) (text : List ℕ) (start per_unit work : ℕ) (it behind :
   no-more : (first : Option (Result Match WorkError)) → NextYieldsWithinWork it first behind → behind.left ≤ work
   no-more first gives = subst (λ l. behind.left ≤ l) yields.left gives.1
 
-  too-little : it.enough ≡ false → work < total_work per_unit (as_utf8 re text)
+  pub too-little : it.enough ≡ false → work < total_work per_unit (as_utf8 re text)
   too-little e = by (leb_tells (total_work per_unit (as_utf8 re text)) work)
     where
       by : ((nat_le (total_work per_unit (as_utf8 re text)) work ≡ true) × (total_work per_unit (as_utf8 re text) ≤ work))

@@ -1,9 +1,12 @@
+mod Buffers
 mod CompilingLemmas
 mod Filling
 mod Finding
 mod FirstInWork
 mod FlagLetters
 mod GoingOn
+mod GroupNames
 mod Held
 mod Spans
 mod Values
+mod WritingInWork

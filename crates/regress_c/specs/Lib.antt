@@ -8,3 +8,7 @@ pub mod Opening
 pub mod Going
 pub mod Texts
 pub mod InWork
+pub mod MatchesAt
+pub mod GroupNumbers
+pub mod AllInWork
+pub mod Messages

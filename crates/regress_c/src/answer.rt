@@ -1,12 +1,14 @@
 //! Calls that write a text into the caller's buffer and return its length.
 
-ghost use Rattle.std.specs.Prelude.{◌≡◌, ◌≤◌, get_or, length, map, string_bytes, take, []};
+ghost use Rattle.std.specs.Prelude.{◌≡◌, ◌<◌, ◌≤◌, IfSome, Some, get_or, length, map, string_bytes, take, []};
 ghost use Rattle.std.specs.List.{sum_by};
 ghost use Rattle.std.specs.Result.{result_map_both};
 ghost use Rattle.regress_c.specs.Compiling.{given};
 ghost use Rattle.regress_c.specs.Texts.{Diagnoses, Escapes, Names, Replaces, ReplacesBy, RepliesText, RepliesTold, count_reply, left_by_made, left_by_text, made_reply, text_reply};
+ghost use Rattle.regress_c.specs.{Codes.{done}, GroupNumbers.{first_id_named, number_reply}, Messages.{message_of as message_text}};
 
 use crate::flags::flags_from;
+use crate::message::message_of;
 use crate::pattern::Pattern;
 use crate::refusal::{DONE, Refusal};
 use crate::reply::Reply;
@@ -118,6 +120,43 @@ pub(crate) fn named(re: &Regex, number: usize, buffer: &mut [u8]) -> Reply
     }
     let name = name_at(re.group_names(), number - 1);
     copied(name.as_bytes(), buffer, DONE)
+}
+
+/// Replies with the number of the group with this name, in UTF-8.
+pub(crate) fn numbered(re: &Regex, name: &[u8]) -> Reply
+    ensures { result ≡ number_reply (Some re.now) name.now }
+{
+    if name.is_empty() {
+        return Refusal::NoGroup.reply();
+    }
+    match index_of(re.group_names(), name) {
+        Some(index) => Reply {
+            code: DONE,
+            count: index + 1,
+        },
+        None => Refusal::NoGroup.reply(),
+    }
+}
+
+// Returns the index of the first of these names that is equal to `name`.
+fn index_of(names: &[String], name: &[u8]) -> Option<usize>
+    ensures index { result ≡ first_id_named name.now (map string_bytes names.now) }
+    ensures inside { IfSome result (λ index. index < length names.now) }
+{
+    for (index, other) in names.iter().enumerate() {
+        if name == other.as_bytes() {
+            return Some(index);
+        }
+    }
+    None
+}
+
+/// Writes the text of a code.
+pub(crate) fn message(code: u32, buffer: &mut [u8]) -> Reply
+    ensures reply { result ≡ text_reply done (message_text code) (length buffer.old) }
+    ensures written { buffer.new ≡ left_by_text (message_text code) buffer.old }
+{
+    copied(message_of(code).as_bytes(), buffer, DONE)
 }
 
 // Returns the name at this index, or the empty name if the list is shorter.

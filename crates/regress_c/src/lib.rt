@@ -6,21 +6,26 @@
 //! followed by a length.
 #![tactic(auto)]
 
-ghost use Rattle.std.specs.Prelude.{◌≡◌, IsUtf8, None, Some, chars};
+ghost use Rattle.std.specs.Prelude.{◌≡◌, IsUtf8, None, Some, chars, length};
 ghost use Rattle.std.specs.Char.{len_utf8};
 ghost use Rattle.regex_meaning.specs.Text.{utf16_characters, utf16_width};
 ghost use Rattle.regress_c.specs.{Compiling.{RepliesCloned, RepliesMade, given, unbounded}, Going.{RepliesNext}};
 ghost use Rattle.regress_c.specs.{InWork.{RepliesInWork, RepliesReckoned}, Opening.{OpensUcs2, OpensUtf8, OpensUtf16, RepliesOpened}};
 ghost use Rattle.regress_c.specs.Searching.{Replies, can_start_utf8, can_start_utf16, ucs2_coming, utf8_coming, utf16_coming};
-ghost use Rattle.regress_c.specs.Texts.{Escapes, NamesBy, ReplacesBy, RepliesText, RepliesTold, count_reply};
+ghost use Rattle.regress_c.specs.{AllInWork.{RepliesAllInWork}, Codes.{done}, GroupNumbers.{number_reply}};
+ghost use Rattle.regress_c.specs.{MatchesAt.{ucs2_coming_at, utf16_coming_at, utf8_coming_at}, Messages.{message_of}};
+ghost use Rattle.regress_c.specs.Texts.{Escapes, NamesBy, ReplacesBy, RepliesText, RepliesTold, count_reply, left_by_text, text_reply};
 ghost use Rattle.regress_c.specs.declared.answer.Which.TheVariants.{First, All};
 
+mod all_in_work;
+mod anchored;
 mod answer;
 mod cloning;
 mod compiling;
 mod flags;
 mod going;
 mod loose;
+mod message;
 mod opening;
 mod pattern;
 mod refusal;
@@ -31,7 +36,9 @@ mod source;
 mod subject;
 mod worked;
 
-use crate::answer::{Which, named};
+use crate::all_in_work::find_all;
+use crate::anchored::{AnchoredUcs2, AnchoredUtf8, AnchoredUtf16};
+use crate::answer::{Which, named, numbered};
 use crate::compiling::{Bounds, compile};
 use crate::going::go_on;
 use crate::opening::open;
@@ -206,6 +213,20 @@ pub extern "C" fn regress_c_group_name(
     reply
 }
 
+/// Replies with the number of the group with this name, in UTF-8.
+#[unsafe(no_mangle)]
+pub extern "C" fn regress_c_group_number(alloc: Global, pattern: &mut Pattern, name: &[u8]) -> Reply
+    ensures reply { result ≡ number_reply pattern.old.held name.now }
+    ensures kept { pattern.new.held ≡ pattern.old.held }
+{
+    let Some(re) = pattern.take(alloc) else {
+        return Refusal::Empty.reply();
+    };
+    let reply = numbered(&re, name);
+    pattern.put(re);
+    reply
+}
+
 // ---- The first match
 
 /// Finds the first match in a UTF-8 text from `start` on, an offset in bytes.
@@ -256,6 +277,56 @@ pub extern "C" fn regress_c_find_ucs2(
     search(alloc, pattern, &Ucs2 { units: text }, start, spans)
 }
 
+// ---- The match at one offset
+
+/// Finds the match that begins at `at` in a UTF-8 text, an offset in bytes.
+#[unsafe(no_mangle)]
+pub extern "C" fn regress_c_match_at_utf8(
+    alloc: Global,
+    pattern: &mut Pattern,
+    text: &[u8],
+    at: usize,
+    spans: &mut [Span],
+) -> Reply
+    ensures replies { Replies pattern.old.held (IsUtf8 text.now) (can_start_utf8 text.now at)
+        (λ re. utf8_coming_at text.now re at) spans.old spans.new result }
+    ensures kept { pattern.new.held ≡ pattern.old.held }
+{
+    search(alloc, pattern, &AnchoredUtf8 { bytes: text }, at, spans)
+}
+
+/// Finds the match that begins at `at` in a UTF-16 text, an offset in code units.
+#[unsafe(no_mangle)]
+pub extern "C" fn regress_c_match_at_utf16(
+    alloc: Global,
+    pattern: &mut Pattern,
+    text: &[u16],
+    at: usize,
+    spans: &mut [Span],
+) -> Reply
+    ensures replies { Replies pattern.old.held (Unit {0}) (can_start_utf16 text.now at)
+        (λ re. utf16_coming_at text.now re at) spans.old spans.new result }
+    ensures kept { pattern.new.held ≡ pattern.old.held }
+{
+    search(alloc, pattern, &AnchoredUtf16 { units: text }, at, spans)
+}
+
+/// Finds the match that begins at `at` in a UCS-2 text, an offset in code units.
+#[unsafe(no_mangle)]
+pub extern "C" fn regress_c_match_at_ucs2(
+    alloc: Global,
+    pattern: &mut Pattern,
+    text: &[u16],
+    at: usize,
+    spans: &mut [Span],
+) -> Reply
+    ensures replies { Replies pattern.old.held (Unit {0}) (Unit {0})
+        (λ re. ucs2_coming_at text.now re at) spans.old spans.new result }
+    ensures kept { pattern.new.held ≡ pattern.old.held }
+{
+    search(alloc, pattern, &AnchoredUcs2 { units: text }, at, spans)
+}
+
 // ---- Within a work budget
 
 /// Sets `per_unit` to the work bound of the pattern: on a text of n bytes, `per_unit` × (n + 1)
@@ -287,6 +358,24 @@ pub extern "C" fn regress_c_find_utf8_in_work(
     ensures kept { pattern.new.held ≡ pattern.old.held }
 {
     reply_with(find(alloc, pattern, text, start, work), spans)
+}
+
+/// Writes the matches in a UTF-8 text from `start` on, an offset in bytes, as many as there is room
+/// for, with at most `work` work for all of them. Sets `work` to the work that is left.
+#[unsafe(no_mangle)]
+pub extern "C" fn regress_c_find_all_utf8_in_work(
+    alloc: Global,
+    pattern: &mut Pattern,
+    text: &[u8],
+    start: usize,
+    work: &mut u64,
+    spans: &mut [Span],
+) -> Reply
+    ensures replies { RepliesAllInWork pattern.old.held text.now start work.old work.new spans.old
+        spans.new result }
+    ensures kept { pattern.new.held ≡ pattern.old.held }
+{
+    find_all(alloc, pattern, text, start, work, spans)
 }
 
 // ---- All matches
@@ -410,4 +499,15 @@ pub extern "C" fn regress_c_escape_utf8(alloc: Global, text: &[u8], escaped: &mu
     ensures { RepliesText (Escapes text.now) escaped.old escaped.new result }
 {
     answer::escaped(alloc, text, escaped)
+}
+
+// ---- Messages
+
+/// Writes the text of a code, in ASCII. A number that is no code has a text too.
+#[unsafe(no_mangle)]
+pub extern "C" fn regress_c_message_utf8(code: u32, message: &mut [u8]) -> Reply
+    ensures reply { result ≡ text_reply done (message_of code) (length message.old) }
+    ensures written { message.new ≡ left_by_text (message_of code) message.old }
+{
+    answer::message(code, message)
 }

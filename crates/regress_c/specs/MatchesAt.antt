@@ -1,0 +1,23 @@
+-- The match at one offset, in each encoding of the text.
+use Rattle.std.specs.Prelude.{ℕ, List, [], ◌∷◌, Option, Some, None, false}
+use Rattle.regex_meaning.specs.Captures.{Answer}
+use Rattle.regress_match.specs.RegexPrograms.{ucs2_answer_at, utf16_answer_at, utf8_answer_at}
+use Rattle.regress_match.specs.declared.api.regex.Regex.{Regex}
+use Rattle.regress_c.specs.Searching.{Coming}
+
+-- The list of this match, if there is one.
+abbrev pub at_most_one : Option Answer → List Answer
+at_most_one None = []
+at_most_one (Some m) = m ∷ []
+
+-- The match that begins at `at` in a UTF-8 text.
+abbrev pub utf8_coming_at : (text : List ℕ) → Regex → (at : ℕ) → Coming
+utf8_coming_at text re at = record { answers = at_most_one (utf8_answer_at re text at); limited = false }
+
+-- The match that begins at `at` in a UTF-16 text.
+abbrev pub utf16_coming_at : (text : List ℕ) → Regex → (at : ℕ) → Coming
+utf16_coming_at text re at = record { answers = at_most_one (utf16_answer_at re text at); limited = false }
+
+-- The match that begins at `at` in a UCS-2 text.
+abbrev pub ucs2_coming_at : (text : List ℕ) → Regex → (at : ℕ) → Coming
+ucs2_coming_at text re at = record { answers = at_most_one (ucs2_answer_at re text at); limited = false }

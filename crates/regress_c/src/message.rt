@@ -1,0 +1,34 @@
+//! The texts of the codes.
+
+ghost use Rattle.std.specs.Prelude.{◌≡◌};
+ghost use Rattle.regress_c.specs.Messages.{message_of};
+
+/// Returns the text of a code, in ASCII.
+pub(crate) fn message_of(code: u32) -> &'static str
+    ensures { result.now ≡ message_of code }
+{
+    match code {
+        0 => "done",
+        1 => "no match",
+        2 => "the handle holds no pattern",
+        3 => "the handle already holds a pattern",
+        4 => "a text is not valid UTF-8",
+        5 => "the offset splits a character",
+        6 => "the buffer is too short",
+        7 => "out of memory",
+        8 => "the step limit is reached",
+        9 => "the pattern has a syntax error",
+        10 => "too many groups",
+        11 => "too many loops",
+        12 => "too many instructions",
+        13 => "unknown flag",
+        14 => "the pattern is too long",
+        15 => "the pattern is nested too deeply",
+        16 => "no such group",
+        17 => "the search is not open",
+        18 => "steps are counted in UTF-8 only",
+        19 => "no work bound is known",
+        20 => "the work limit is reached",
+        _ => "unknown code",
+    }
+}

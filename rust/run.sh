@@ -1,6 +1,6 @@
 #!/bin/sh
-# Builds the library for C, and runs the tests of the crate over it, which also run the cases that V8 judged. It needs `rt`, `make`,
-# `cc` and `cargo`. ARCHIVE=FILE tries another build of the library in place of the proved one.
+# Builds the library for C and runs the tests of the crate: each function, the cases with the results of V8, and a program that uses
+# the name `regress`. It needs `rt`, `make`, `cc` and `cargo`. ARCHIVE=FILE tests another build of the library.
 set -e
 here=$(cd "$(dirname "$0")" && pwd)
 room=$(mktemp -d)
@@ -12,5 +12,12 @@ fi
 make -s -C "$here/../c" ARCHIVE="$ARCHIVE" OUT="$room/c" "$room/c/libregress_c.a"
 export CARGO_TARGET_DIR="${CARGO_TARGET_DIR:-$room/target}" REGRESS_C_LIB="$room/c"
 cargo test --quiet --offline --manifest-path "$here/Cargo.toml"
+cargo test --quiet --offline --manifest-path "$here/as_regress/Cargo.toml"
 cargo build --quiet --offline --release --manifest-path "$here/Cargo.toml"
+# Without the library, the build has to stop with a line that says what to do.
+if REGRESS_C_LIB=$room cargo build --quiet --offline --manifest-path "$here/Cargo.toml" 2>"$room/refused"; then
+    echo "the crate was built without the library"
+    exit 1
+fi
+grep -q 'run `make -C c`.*set REGRESS_C_LIB' "$room/refused" || { cat "$room/refused"; exit 1; }
 echo "Rust: as expected"

@@ -1,83 +1,138 @@
-//! Why a pattern is refused, and why a search is.
+//! Errors of patterns and of searches.
 
 use std::error;
 use std::fmt;
 
-/// Why a pattern is refused.
+/// The kind of an error in a pattern.
 #[derive(Clone, Copy, Debug, PartialEq, Eq, Hash)]
 #[non_exhaustive]
 pub enum Cause {
-    /// The text is no pattern.
+    /// The pattern has a syntax error.
     Syntax,
-    /// It has more than 65,535 groups.
+    /// The pattern has more than 65,535 groups.
     TooManyGroups,
-    /// It has more than 65,535 loops.
+    /// The pattern has more than 65,535 loops.
     TooManyLoops,
-    /// It has more than 2^32 - 1 instructions.
+    /// The program of the pattern has more than 2^32 - 1 instructions.
     TooManyInstructions,
-    /// It is longer than was allowed.
+    /// The pattern is longer than the bounds allow.
     TooLong,
-    /// It nests deeper than was allowed.
+    /// The pattern is nested deeper than the bounds allow.
     TooDeep,
-    /// There was no memory.
+    /// An allocation failed.
     Memory,
 }
 
-/// A pattern is refused.
+/// An error in a pattern. It displays as `unclosed group at 3`.
 #[derive(Clone, Debug, PartialEq, Eq)]
 pub struct Error {
-    /// What is wrong, in words.
+    /// The text that is displayed: the reason, and the position if there is one.
     pub text: String,
     cause: Cause,
-    position: Option<usize>,
+    reason: String,
+    place: Option<Place>,
+}
+
+/// The place at which an error begins in a pattern.
+#[derive(Clone, Copy, Debug, PartialEq, Eq)]
+pub(crate) struct Place {
+    /// The offset, in bytes or in code points, as the pattern was given.
+    pub position: usize,
+    /// The number of characters before it.
+    pub characters: usize,
 }
 
 impl Error {
-    pub(crate) fn new(cause: Cause, text: String, position: Option<usize>) -> Error {
+    pub(crate) fn new(cause: Cause, reason: String, place: Option<Place>) -> Error {
         Error {
-            text,
+            text: match place {
+                Some(place) => format!("{reason} at {}", place.position),
+                None => reason.clone(),
+            },
             cause,
-            position,
+            reason,
+            place,
         }
     }
 
-    /// Why it is refused.
+    /// Returns the kind of the error.
     pub fn cause(&self) -> Cause {
         self.cause
     }
 
-    /// Where it begins in the pattern, in its units (bytes, or units of 16 bits), if it begins somewhere.
+    /// Returns the reason without the position, for example `unclosed group`.
+    pub fn reason(&self) -> &str {
+        &self.reason
+    }
+
+    /// Returns the offset in the pattern at which the error begins: in bytes, or in code points for `Regex::from_unicode`. Returns
+    /// `None` for errors of the whole pattern, for example `TooManyGroups`.
     pub fn position(&self) -> Option<usize> {
-        self.position
+        self.place.map(|place| place.position)
+    }
+
+    /// Returns a message of two lines for a terminal: the line of the pattern that contains the error, and a line with `^` below the
+    /// error and the reason. `pattern` is the pattern that was refused. Each character takes one column, and control characters are
+    /// shown as blanks. Returns only the reason if the error has no position.
+    ///
+    /// ```
+    /// let pattern = r"a(\d+";
+    /// let error = regress_match::Regex::new(pattern).unwrap_err();
+    /// assert_eq!(error.below(pattern), "a(\\d+\n ^ unclosed group");
+    /// ```
+    pub fn below(&self, pattern: &str) -> String {
+        let Some(place) = self.place else {
+            return self.reason.clone();
+        };
+        let at = match pattern.char_indices().nth(place.characters) {
+            Some((at, _)) => at,
+            None => pattern.len(),
+        };
+        let start = pattern[..at].rfind('\n').map_or(0, |newline| newline + 1);
+        let end = pattern[at..]
+            .find('\n')
+            .map_or(pattern.len(), |newline| at + newline);
+        let line: String = pattern[start..end].chars().map(visible).collect();
+        let column = pattern[start..at].chars().count();
+        format!("{line}\n{:column$}^ {}", "", self.reason)
+    }
+}
+
+// A control character would not take exactly one column.
+fn visible(c: char) -> char {
+    if c.is_control() {
+        ' '
+    } else {
+        c
     }
 }
 
 impl fmt::Display for Error {
     fn fmt(&self, f: &mut fmt::Formatter<'_>) -> fmt::Result {
-        match self.position {
-            Some(position) => write!(f, "{} at {position}", self.text),
-            None => f.write_str(&self.text),
-        }
+        f.write_str(&self.text)
     }
 }
 
 impl error::Error for Error {}
 
-/// A search is refused.
+/// An error of a search.
 #[derive(Clone, Copy, Debug, PartialEq, Eq, Hash)]
 #[non_exhaustive]
 pub enum SearchError {
-    /// There was no memory.
+    /// An allocation failed.
     Memory,
-    /// The steps that were allowed are used up.
+    /// The step limit is reached.
     StepLimit,
+    /// The work limit is reached.
+    WorkLimit,
 }
 
 impl fmt::Display for SearchError {
     fn fmt(&self, f: &mut fmt::Formatter<'_>) -> fmt::Result {
         f.write_str(match self {
             SearchError::Memory => "out of memory",
-            SearchError::StepLimit => "the steps are used up",
+            SearchError::StepLimit => "the step limit is reached",
+            SearchError::WorkLimit => "the work limit is reached",
         })
     }
 }

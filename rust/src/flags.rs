@@ -1,26 +1,26 @@
-//! Flags.
+//! The flags of a pattern.
 
 use std::fmt;
 
-/// How a pattern is read and matched.
+/// Flags that say how a pattern is read and matched.
 #[derive(Clone, Copy, Debug, Default, PartialEq, Eq, Hash)]
 pub struct Flags {
-    /// Letters of ASCII match whatever their case (`i`).
+    /// ASCII letters match regardless of case (`i`).
     pub icase: bool,
-    /// `^` and `$` hold beside line terminators too (`m`).
+    /// `^` and `$` also match at line terminators (`m`).
     pub multiline: bool,
-    /// `.` matches line terminators too (`s`).
+    /// `.` also matches line terminators (`s`).
     pub dot_all: bool,
-    /// Here for the crate `regress`, where it leaves the optimizer out; it changes nothing.
+    /// Has no effect. The crate `regress` compiles without its optimizer if it is set.
     pub no_opt: bool,
-    /// Patterns are read by code points (`u`).
+    /// The pattern is read as a sequence of code points, by the stricter grammar (`u`).
     pub unicode: bool,
-    /// Classes with set operations, or with classes inside, are refused (`v`).
+    /// Set operations and nested classes, which `v` adds to classes, are refused (`v`).
     pub unicode_sets: bool,
 }
 
 impl Flags {
-    /// The flags whose letters, of `m`, `i`, `s`, `u` and `v`, are among these code points; others are ignored.
+    /// Sets the flags whose letters (`i`, `m`, `s`, `u`, `v`) are among these code points, and ignores all others.
     pub fn new<T: Iterator<Item = u32>>(letters: T) -> Flags {
         let mut flags = Flags::default();
         for letter in letters {

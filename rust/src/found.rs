@@ -1,44 +1,45 @@
 //! Matches, and their groups.
 
 use std::fmt;
+use std::iter::FusedIterator;
 use std::ops::Range;
 use std::sync::Arc;
 
-/// The names of groups by number from 1 on, empty where a group has none.
+/// The names of the groups from number 1 on. The name of an unnamed group is empty.
 pub(crate) type Names = Arc<[Box<str>]>;
 
-/// A match: a range of the text in units, and those of its groups.
+/// A match: the range of the whole match, and the ranges of its groups, in units of the text.
 #[derive(Clone)]
 pub struct Match {
-    /// The whole match.
+    /// The range of the whole match.
     pub range: Range<usize>,
-    /// The ranges of the groups, `None` where a group did not match.
+    /// The range of each group, from number 1 on. It is `None` for a group that did not match.
     pub captures: Vec<Option<Range<usize>>>,
     pub(crate) names: Names,
 }
 
 impl Match {
-    /// The whole match.
+    /// Returns the range of the whole match.
     pub fn range(&self) -> Range<usize> {
         self.range.clone()
     }
 
-    /// Where it begins.
+    /// Returns the offset at which the match begins.
     pub fn start(&self) -> usize {
         self.range.start
     }
 
-    /// Where it ends.
+    /// Returns the offset at which the match ends.
     pub fn end(&self) -> usize {
         self.range.end
     }
 
-    /// The text of the match, in the text that was searched.
+    /// Returns the text of the match. `text` is the text that was searched.
     pub fn as_str<'t>(&self, text: &'t str) -> &'t str {
         &text[self.range()]
     }
 
-    /// A group by number: 0 is the whole match.
+    /// Returns the range of a group by its number; 0 is the whole match. Returns `None` if the group did not match or does not exist.
     pub fn group(&self, number: usize) -> Option<Range<usize>> {
         match number.checked_sub(1) {
             None => Some(self.range()),
@@ -46,7 +47,7 @@ impl Match {
         }
     }
 
-    /// A group by name; none where it did not match, or no group has the name.
+    /// Returns the range of a group by its name. Returns `None` if the group did not match or does not exist.
     pub fn named_group(&self, name: &str) -> Option<Range<usize>> {
         if name.is_empty() {
             return None;
@@ -55,7 +56,7 @@ impl Match {
         self.captures.get(id).cloned().flatten()
     }
 
-    /// The whole match, and then each group by number.
+    /// Returns an iterator over the ranges of the whole match and of each group, in order of their numbers.
     pub fn groups(&self) -> Groups<'_> {
         Groups {
             found: self,
@@ -63,7 +64,7 @@ impl Match {
         }
     }
 
-    /// Each group that has a name, with the name, by number.
+    /// Returns an iterator over the names and ranges of the named groups, in order of their numbers.
     pub fn named_groups(&self) -> NamedGroups<'_> {
         NamedGroups { found: self, id: 0 }
     }
@@ -86,7 +87,7 @@ impl fmt::Debug for Match {
     }
 }
 
-/// The whole match, and then each group by number.
+/// An iterator over the ranges of the whole match and of each group.
 #[derive(Clone, Debug)]
 pub struct Groups<'m> {
     found: &'m Match,
@@ -113,7 +114,9 @@ impl Iterator for Groups<'_> {
 
 impl ExactSizeIterator for Groups<'_> {}
 
-/// Each group that has a name, with the name.
+impl FusedIterator for Groups<'_> {}
+
+/// An iterator over the names and ranges of the named groups.
 #[derive(Clone, Debug)]
 pub struct NamedGroups<'m> {
     found: &'m Match,
@@ -133,4 +136,14 @@ impl<'m> Iterator for NamedGroups<'m> {
         }
         None
     }
+
+    fn size_hint(&self) -> (usize, Option<usize>) {
+        let names = self.found.names.iter().skip(self.id);
+        let left = names.filter(|name| !name.is_empty()).count();
+        (left, Some(left))
+    }
 }
+
+impl ExactSizeIterator for NamedGroups<'_> {}
+
+impl FusedIterator for NamedGroups<'_> {}

@@ -12,9 +12,10 @@
 //! assert_eq!(re.find_iter(text).count(), 2);
 //! ```
 //!
-//! What is proved is the C library below (`crates/regress_c`), and not this crate, which is plain Rust over it.
+//! The C library that it calls (`crates/regress_c`) is proved. This crate is plain Rust over that library and is not proved.
 #![deny(missing_docs, unsafe_op_in_unsafe_fn)]
 
+mod bounded;
 mod error;
 mod flags;
 mod found;
@@ -23,16 +24,17 @@ mod raw;
 mod regex;
 mod search;
 
+pub use crate::bounded::{BoundedRegex, MatchesInWork};
 pub use crate::error::{Cause, Error, SearchError};
 pub use crate::flags::Flags;
 pub use crate::found::{Groups, Match, NamedGroups};
 pub use crate::regex::{escape, Bounds, Regex};
-pub use crate::search::{Matches, TryMatches};
+pub use crate::search::{AsciiMatches, Matches, TryMatches};
 
-/// A range of a text in units.
+/// A range of a text, in units of its encoding.
 pub type Range = std::ops::Range<usize>;
 
-/// The version of the C library below: of `1.2.3` 10203.
+/// Returns the version of the C library, as a number: 10203 for `1.2.3`.
 pub fn library_version() -> u32 {
     raw::version()
 }

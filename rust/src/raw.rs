@@ -1,15 +1,16 @@
-//! The calls of the C library as they are. `unsafe` stands here alone.
+//! The functions of the C library. All `unsafe` code of the crate is here.
 //!
-//! What the header asks of a caller is met by types: slices are not null, a `&mut` is borrowed by nobody else, a handle is
-//! made empty, is not copied, and is freed once, and a search holds the borrow of its text.
+//! Types meet the conditions of the header: slices are not null, a `&mut` has no other borrow, a handle is created empty, is not
+//! copied, and is freed once, and a search holds the borrow of its text.
 
 use std::marker::PhantomData;
 use std::ptr;
 
-/// What a call answers (`c/regress_c.h`).
+/// The codes that functions return (`c/regress_c.h`).
 pub mod code {
     pub const DONE: u32 = 0;
     pub const NO_MATCH: u32 = 1;
+    pub const NOT_BOUNDARY: u32 = 5;
     pub const SHORT_BUFFER: u32 = 6;
     pub const MEMORY: u32 = 7;
     pub const STEP_LIMIT: u32 = 8;
@@ -19,12 +20,14 @@ pub mod code {
     pub const TOO_MANY_INSTRUCTIONS: u32 = 12;
     pub const TOO_LONG: u32 = 14;
     pub const TOO_DEEP: u32 = 15;
+    pub const NO_BOUND: u32 = 19;
+    pub const WORK_LIMIT: u32 = 20;
 }
 
-/// The number of a range's ends where a group did not match.
+/// Both ends of the range of a group that did not match.
 pub const UNMATCHED: usize = usize::MAX;
 
-/// A range of the text in units.
+/// A range of the text, in units of its encoding.
 #[repr(C)]
 #[derive(Clone, Copy, Debug, Default)]
 pub struct Span {
@@ -32,7 +35,7 @@ pub struct Span {
     pub end: usize,
 }
 
-/// A code, and a count.
+/// A code and a count.
 #[repr(C)]
 #[derive(Clone, Copy, Debug)]
 pub struct Reply {
@@ -40,7 +43,7 @@ pub struct Reply {
     pub count: usize,
 }
 
-/// The most that a pattern may be.
+/// The maximum size of a pattern.
 #[repr(C)]
 #[derive(Clone, Copy, Debug)]
 pub struct RawBounds {
@@ -139,6 +142,40 @@ extern "C" {
         spans: *mut Span,
         spans_len: usize,
     ) -> Reply;
+    fn regress_c_match_at_utf8(
+        pattern: *mut RawPattern,
+        text: *const u8,
+        text_len: usize,
+        at: usize,
+        spans: *mut Span,
+        spans_len: usize,
+    ) -> Reply;
+    fn regress_c_match_at_utf16(
+        pattern: *mut RawPattern,
+        text: *const u16,
+        text_len: usize,
+        at: usize,
+        spans: *mut Span,
+        spans_len: usize,
+    ) -> Reply;
+    fn regress_c_match_at_ucs2(
+        pattern: *mut RawPattern,
+        text: *const u16,
+        text_len: usize,
+        at: usize,
+        spans: *mut Span,
+        spans_len: usize,
+    ) -> Reply;
+    fn regress_c_work_per_unit(pattern: *mut RawPattern, per_unit: *mut u64) -> u32;
+    fn regress_c_find_all_utf8_in_work(
+        pattern: *mut RawPattern,
+        text: *const u8,
+        text_len: usize,
+        start: usize,
+        work: *mut u64,
+        spans: *mut Span,
+        spans_len: usize,
+    ) -> Reply;
     fn regress_c_replace_utf8(
         pattern: *mut RawPattern,
         text: *const u8,
@@ -165,23 +202,31 @@ extern "C" {
     ) -> Reply;
 }
 
-/// The version of the library: of `1.2.3` 10203.
+/// Returns the version of the library.
 pub fn version() -> u32 {
-    // It takes nothing and reads nothing.
+    // SAFETY: it has no conditions.
     unsafe { regress_c_version() }
 }
 
-/// A pattern that is compiled. It is freed when it is dropped.
+/// A text to search.
+#[derive(Clone, Copy)]
+pub enum Text<'t> {
+    Utf8(&'t str),
+    Utf16(&'t [u16]),
+    Ucs2(&'t [u16]),
+}
+
+/// A compiled pattern, which is freed when it is dropped.
 pub struct Handle {
     raw: RawPattern,
 }
 
-// The header: a pattern may be passed on to another thread. What it shares with clones is counted atomically.
+// SAFETY: by the header, a pattern may be passed on to another thread.
 unsafe impl Send for Handle {}
 
 impl Drop for Handle {
     fn drop(&mut self) {
-        // The handle is the library's own, and nobody uses it any more.
+        // SAFETY: the handle is exclusive, and is not used afterwards.
         unsafe { regress_c_free(&mut self.raw) }
     }
 }
@@ -197,7 +242,7 @@ impl Handle {
 
     pub fn from_utf8(text: &str, flags: &str, bounds: RawBounds) -> Result<Handle, u32> {
         let mut handle = Handle::empty();
-        // An empty handle, and slices that are only read.
+        // SAFETY: the handle is empty and exclusive, and the slices are valid.
         let code = unsafe {
             regress_c_compile_utf8_within(
                 &mut handle.raw,
@@ -213,7 +258,7 @@ impl Handle {
 
     pub fn from_utf16(text: &[u16], flags: &str, bounds: RawBounds) -> Result<Handle, u32> {
         let mut handle = Handle::empty();
-        // The same.
+        // SAFETY: the handle is empty and exclusive, and the slices are valid.
         let code = unsafe {
             regress_c_compile_utf16_within(
                 &mut handle.raw,
@@ -227,34 +272,77 @@ impl Handle {
         done(code, handle)
     }
 
-    /// An equal pattern.
+    /// Copies the pattern.
     pub fn again(&mut self) -> Result<Handle, u32> {
         let mut handle = Handle::empty();
-        // Two handles, one of them empty, of which nobody else uses one.
+        // SAFETY: both handles are exclusive, and one is empty.
         let code = unsafe { regress_c_clone(&mut self.raw, &mut handle.raw) };
         done(code, handle)
     }
 
-    /// How many ranges a match has.
+    /// Returns the number of ranges of a match.
     pub fn range_count(&mut self) -> usize {
-        // A handle that nobody else uses.
+        // SAFETY: the handle is exclusive.
         unsafe { regress_c_range_count(&mut self.raw) }.count
     }
 
     /// Writes the name of a group.
     pub fn group_name(&mut self, number: usize, name: &mut [u8]) -> Reply {
-        // The same, and a slice that is written to its end at most.
+        // SAFETY: the handle and `name` are exclusive, and the slice is valid.
         unsafe { regress_c_group_name(&mut self.raw, number, name.as_mut_ptr(), name.len()) }
     }
 
-    /// Writes a text in which matches are replaced.
+    /// Writes the match that begins at an offset.
+    pub fn match_at(&mut self, text: Text<'_>, at: usize, spans: &mut [Span]) -> Reply {
+        let (raw, room, len) = (&mut self.raw, spans.as_mut_ptr(), spans.len());
+        // SAFETY: the handle and `spans` are exclusive, and the slices are valid.
+        unsafe {
+            match text {
+                Text::Utf8(t) => regress_c_match_at_utf8(raw, t.as_ptr(), t.len(), at, room, len),
+                Text::Utf16(t) => regress_c_match_at_utf16(raw, t.as_ptr(), t.len(), at, room, len),
+                Text::Ucs2(t) => regress_c_match_at_ucs2(raw, t.as_ptr(), t.len(), at, room, len),
+            }
+        }
+    }
+
+    /// Returns the work bound, or the code `NO_BOUND`.
+    pub fn work_per_unit(&mut self) -> Result<u64, u32> {
+        let mut per_unit = 0;
+        // SAFETY: the handle and the number are exclusive.
+        let code = unsafe { regress_c_work_per_unit(&mut self.raw, &mut per_unit) };
+        done(code, per_unit)
+    }
+
+    /// Writes all matches, with a work limit, which becomes the work that is left.
+    pub fn find_all_in_work(
+        &mut self,
+        text: &str,
+        start: usize,
+        work: &mut u64,
+        spans: &mut [Span],
+    ) -> Reply {
+        // SAFETY: the handle, `work` and `spans` are exclusive, and the slices are valid.
+        unsafe {
+            regress_c_find_all_utf8_in_work(
+                &mut self.raw,
+                text.as_ptr(),
+                text.len(),
+                start,
+                work,
+                spans.as_mut_ptr(),
+                spans.len(),
+            )
+        }
+    }
+
+    /// Writes the text with its first match, or all matches, replaced.
     pub fn replace(&mut self, text: &str, replacement: &str, all: bool, made: &mut [u8]) -> Reply {
         let call = if all {
             regress_c_replace_all_utf8
         } else {
             regress_c_replace_utf8
         };
-        // The same, and slices that are only read.
+        // SAFETY: the handle and `made` are exclusive, and the slices are valid.
         unsafe {
             call(
                 &mut self.raw,
@@ -276,9 +364,9 @@ fn done<T>(code: u32, value: T) -> Result<T, u32> {
     }
 }
 
-/// What is wrong with a pattern in UTF-8.
+/// Writes what is wrong with a pattern in UTF-8.
 pub fn diagnose_utf8(text: &str, flags: &str, at: &mut usize, cause: &mut [u8]) -> Reply {
-    // Slices that are only read, and a slice that is written to its end at most.
+    // SAFETY: `at` and `cause` are exclusive, and the slices are valid.
     unsafe {
         regress_c_diagnose_utf8(
             text.as_ptr(),
@@ -292,9 +380,9 @@ pub fn diagnose_utf8(text: &str, flags: &str, at: &mut usize, cause: &mut [u8]) 
     }
 }
 
-/// What is wrong with a pattern in UTF-16.
+/// Writes what is wrong with a pattern in UTF-16.
 pub fn diagnose_utf16(text: &[u16], flags: &str, at: &mut usize, cause: &mut [u8]) -> Reply {
-    // The same.
+    // SAFETY: `at` and `cause` are exclusive, and the slices are valid.
     unsafe {
         regress_c_diagnose_utf16(
             text.as_ptr(),
@@ -308,9 +396,9 @@ pub fn diagnose_utf16(text: &[u16], flags: &str, at: &mut usize, cause: &mut [u8
     }
 }
 
-/// Writes a text as it stands in a pattern for itself.
+/// Writes a pattern that matches exactly the text.
 pub fn escape(text: &str, escaped: &mut [u8]) -> Reply {
-    // The same.
+    // SAFETY: `escaped` is exclusive, and the slices are valid.
     unsafe {
         regress_c_escape_utf8(
             text.as_ptr(),
@@ -327,7 +415,7 @@ pub struct Search<'t> {
     text: PhantomData<&'t [u16]>,
 }
 
-// It is numbers and pointers to a text that is only read.
+// SAFETY: it consists of numbers and of pointers to a text that is only read.
 unsafe impl Send for Search<'_> {}
 unsafe impl Sync for Search<'_> {}
 
@@ -346,34 +434,22 @@ impl<'t> Search<'t> {
         }
     }
 
-    /// Over a text in UTF-8, from an offset on that cuts no character.
-    pub fn in_utf8(text: &'t str, start: usize) -> Result<Search<'t>, u32> {
+    /// Opens a search from an offset on. The code is `NOT_BOUNDARY` if the offset splits a character.
+    pub fn open(text: Text<'t>, start: usize) -> Result<Search<'t>, u32> {
         let mut search = Search::closed();
-        // A closed search, and a text that stays as long as `'t`.
-        let code =
-            unsafe { regress_c_search_utf8(&mut search.raw, text.as_ptr(), text.len(), start) };
+        let raw = &mut search.raw;
+        // SAFETY: the search is exclusive, and the text stays valid for `'t`.
+        let code = unsafe {
+            match text {
+                Text::Utf8(t) => regress_c_search_utf8(raw, t.as_ptr(), t.len(), start),
+                Text::Utf16(t) => regress_c_search_utf16(raw, t.as_ptr(), t.len(), start),
+                Text::Ucs2(t) => regress_c_search_ucs2(raw, t.as_ptr(), t.len(), start),
+            }
+        };
         done(code, search)
     }
 
-    /// Over a text in UTF-16, from an offset on that cuts no pair of surrogates.
-    pub fn in_utf16(text: &'t [u16], start: usize) -> Result<Search<'t>, u32> {
-        let mut search = Search::closed();
-        // The same.
-        let code =
-            unsafe { regress_c_search_utf16(&mut search.raw, text.as_ptr(), text.len(), start) };
-        done(code, search)
-    }
-
-    /// Over a text in UCS-2, from an offset on.
-    pub fn in_ucs2(text: &'t [u16], start: usize) -> Result<Search<'t>, u32> {
-        let mut search = Search::closed();
-        // The same.
-        let code =
-            unsafe { regress_c_search_ucs2(&mut search.raw, text.as_ptr(), text.len(), start) };
-        done(code, search)
-    }
-
-    /// Writes the next matches, in at most so many steps, if there is a limit.
+    /// Writes the next matches, with a step limit if `steps` is given, which becomes the number of steps that are left.
     pub fn next(
         &mut self,
         pattern: &mut Handle,
@@ -381,7 +457,7 @@ impl<'t> Search<'t> {
         spans: &mut [Span],
     ) -> Reply {
         let (room, len) = (spans.as_mut_ptr(), spans.len());
-        // A handle and a search that nobody else uses, over a text that is there, and a slice that is written to its end at most.
+        // SAFETY: the handle, the search, `steps` and `spans` are exclusive, and the text of the search is still valid.
         unsafe {
             match steps {
                 Some(steps) => {

@@ -1,25 +1,27 @@
-//! Patterns that are compiled.
+//! Compiled patterns.
 
-use crate::error::{Cause, Error};
+use crate::bounded::BoundedRegex;
+use crate::error::{Cause, Error, Place, SearchError};
 use crate::flags::Flags;
 use crate::found::{Match, Names};
-use crate::raw::{self, code, Handle, RawBounds, Reply};
-use crate::search::{out_of_memory, start_cuts, Matches, TryMatches};
+use crate::raw::{self, code, Handle, RawBounds, Reply, Span, Text};
+use crate::search::{match_of, out_of_memory, splits_character};
+use crate::search::{AsciiMatches, Matches, TryMatches};
 use std::fmt;
 use std::str::FromStr;
 use std::sync::{Arc, Mutex, MutexGuard, PoisonError, TryLockError};
 
-/// The most that a pattern may be.
+/// The maximum size of a pattern.
 #[derive(Clone, Copy, Debug, PartialEq, Eq)]
 pub struct Bounds {
-    /// Its length in code points.
+    /// The maximum length in code points.
     pub length: usize,
-    /// Its depth in parentheses that are open at once, outside of classes.
+    /// The maximum number of parentheses that are open at once, outside of classes.
     pub nesting: usize,
 }
 
 impl Bounds {
-    /// Any pattern.
+    /// No bounds.
     pub const NONE: Bounds = Bounds {
         length: usize::MAX,
         nesting: usize::MAX,
@@ -33,19 +35,19 @@ impl Bounds {
     }
 }
 
-// A call has a pattern to itself. The first one serves where one thread searches at a time, and clones of it, which are kept,
-// where more do.
+// Only one call at a time may use a handle. One thread at a time uses `first`; threads that search at the same time use clones
+// of it, which are kept.
 struct Handles {
     first: Mutex<Handle>,
     more: Mutex<Vec<Handle>>,
 }
 
-// No code that could panic runs while a lock is held, so none is poisoned by what stands there.
+// No code that could panic runs while a lock is held, so a poisoned lock still guards a valid value.
 fn locked<T>(lock: &Mutex<T>) -> MutexGuard<'_, T> {
     lock.lock().unwrap_or_else(PoisonError::into_inner)
 }
 
-/// A pattern that is compiled. A clone is the same pattern once more, and takes no memory.
+/// A compiled pattern. A clone shares the compiled pattern with its original.
 #[derive(Clone)]
 pub struct Regex {
     handles: Arc<Handles>,
@@ -56,16 +58,17 @@ pub struct Regex {
 }
 
 impl Regex {
-    /// Compiles a pattern.
+    /// Compiles a pattern without flags.
     ///
     /// # Errors
     ///
-    /// Where the text is no pattern, or is one that is too large.
+    /// `Syntax` if the pattern has a syntax error, `TooManyGroups`, `TooManyLoops` or `TooManyInstructions` if it is too large, and
+    /// `Memory` if an allocation fails.
     pub fn new(pattern: &str) -> Result<Regex, Error> {
         Regex::with_flags(pattern, Flags::default())
     }
 
-    /// Compiles a pattern with these flags.
+    /// Compiles a pattern with flags, for example `"im"`.
     ///
     /// # Errors
     ///
@@ -74,11 +77,12 @@ impl Regex {
         Regex::with_bounds(pattern, flags, Bounds::NONE)
     }
 
-    /// Compiles a pattern that is within bounds, so that no deep one takes more stack than there is.
+    /// Compiles a pattern if it is within bounds. Compiling takes stack in proportion to the nesting, so patterns of users should have
+    /// bounds.
     ///
     /// # Errors
     ///
-    /// Those of `new`, `TooLong` and `TooDeep`.
+    /// Those of `new`, and `TooLong` or `TooDeep` if the pattern exceeds a bound.
     pub fn with_bounds<F: Into<Flags>>(
         pattern: &str,
         flags: F,
@@ -88,13 +92,21 @@ impl Regex {
         let letters = flags.to_string();
         match Handle::from_utf8(pattern, &letters, bounds.raw()) {
             Ok(handle) => Ok(Regex::of(handle, Arc::from(pattern), flags)),
-            Err(code) => Err(refusal(code, |at, cause| {
-                raw::diagnose_utf8(pattern, &letters, at, cause)
-            })),
+            Err(code) => Err(refusal(
+                code,
+                |at, cause| raw::diagnose_utf8(pattern, &letters, at, cause),
+                |at| Place {
+                    position: at,
+                    characters: pattern
+                        .char_indices()
+                        .take_while(|(start, _)| *start < at)
+                        .count(),
+                },
+            )),
         }
     }
 
-    /// Compiles a pattern that is given by its code points, of which a high surrogate before a low one is one character with it.
+    /// Compiles a pattern that is given by its code points. A high surrogate followed by a low surrogate is one character.
     ///
     /// # Errors
     ///
@@ -106,15 +118,17 @@ impl Regex {
     {
         let flags = flags.into();
         let letters = flags.to_string();
-        let units = units_of(pattern)?;
+        let (units, lengths) = units_of(pattern)?;
         match Handle::from_utf16(&units, &letters, Bounds::NONE.raw()) {
             Ok(handle) => {
                 let text = String::from_utf16_lossy(&units);
                 Ok(Regex::of(handle, Arc::from(text.as_str()), flags))
             }
-            Err(code) => Err(refusal(code, |at, cause| {
-                raw::diagnose_utf16(&units, &letters, at, cause)
-            })),
+            Err(code) => Err(refusal(
+                code,
+                |at, cause| raw::diagnose_utf16(&units, &letters, at, cause),
+                |at| place_in_units(&units, &lengths, at),
+            )),
         }
     }
 
@@ -135,7 +149,7 @@ impl Regex {
         }
     }
 
-    /// What `call` answers of a handle that nobody else uses.
+    /// Calls `call` with a handle that no other call uses.
     pub(crate) fn with<T>(&self, call: impl FnOnce(&mut Handle) -> T) -> T {
         match self.handles.first.try_lock() {
             Ok(mut handle) => return call(&mut handle),
@@ -155,7 +169,7 @@ impl Regex {
         answer
     }
 
-    /// How many ranges a match has: one for the whole, and one for each group.
+    /// Returns the number of ranges of a match: one for the whole match, and one for each group.
     pub(crate) fn ranges(&self) -> usize {
         self.ranges
     }
@@ -164,136 +178,242 @@ impl Regex {
         &self.names
     }
 
-    /// How many groups it has.
+    /// Returns the number of groups, without the whole match.
     pub fn group_count(&self) -> usize {
         self.ranges - 1
     }
 
-    /// The names of its groups, by number from 1 on; none where a group has none.
+    /// Returns an iterator over the names of the groups, from number 1 on. An unnamed group yields `None`.
     pub fn group_names(&self) -> impl ExactSizeIterator<Item = Option<&str>> {
         self.names
             .iter()
             .map(|name| Some(&**name).filter(|name| !name.is_empty()))
     }
 
-    /// The first match in `text`.
+    /// Returns the first match in `text`.
     ///
     /// # Panics
     ///
-    /// Where there is no memory, as other code that allocates; so do all searches but those that begin with `try_`.
+    /// If an allocation fails, as in all searches except those whose names begin with `try_`.
     pub fn find(&self, text: &str) -> Option<Match> {
         self.find_iter(text).next()
     }
 
-    /// The matches in `text`.
+    /// Returns an iterator over the matches in `text`.
     pub fn find_iter<'r, 't>(&'r self, text: &'t str) -> Matches<'r, 't> {
         self.find_from(text, 0)
     }
 
-    /// The matches in `text` from an offset in bytes on. What stands before it is part of the text. From past the end there are
-    /// none.
+    /// Returns an iterator over the matches in `text` from byte offset `start` on. Lookbehinds and `\b` see the text before the start.
+    /// There are no matches if the start is past the end.
     ///
     /// # Panics
     ///
-    /// Where the start is within the text and cuts a character.
+    /// If the start is within the text and splits a character.
     pub fn find_from<'r, 't>(&'r self, text: &'t str, start: usize) -> Matches<'r, 't> {
         Matches::of(self.try_find_from(text, start))
     }
 
-    /// The first match in a text of ASCII: what `find` answers.
+    /// Returns the first match in an ASCII text, like `find`.
     pub fn find_ascii(&self, text: &str) -> Option<Match> {
         self.find(text)
     }
 
-    /// The matches in a text of ASCII: those of `find_iter`.
-    pub fn find_iter_ascii<'r, 't>(&'r self, text: &'t str) -> Matches<'r, 't> {
+    /// Returns an iterator over the matches in an ASCII text, like `find_iter`.
+    pub fn find_iter_ascii<'r, 't>(&'r self, text: &'t str) -> AsciiMatches<'r, 't> {
         self.find_iter(text)
     }
 
-    /// The matches in a text of ASCII from an offset on: those of `find_from`.
-    pub fn find_from_ascii<'r, 't>(&'r self, text: &'t str, start: usize) -> Matches<'r, 't> {
+    /// Returns an iterator over the matches in an ASCII text from an offset on, like `find_from`.
+    pub fn find_from_ascii<'r, 't>(&'r self, text: &'t str, start: usize) -> AsciiMatches<'r, 't> {
         self.find_from(text, start)
     }
 
-    /// The matches in a text in UTF-16 from an offset in units on. A surrogate without its other half is a character.
+    /// Returns an iterator over the matches in a UTF-16 text from an offset in code units on. An unpaired surrogate is a character.
     ///
     /// # Panics
     ///
-    /// Where the start is within the text and cuts a pair of surrogates.
+    /// If the start is within the text and splits a pair of surrogates.
     pub fn find_from_utf16<'r, 't>(&'r self, text: &'t [u16], start: usize) -> Matches<'r, 't> {
         Matches::of(self.try_find_from_utf16(text, start))
     }
 
-    /// The matches in a text in UCS-2 from an offset in units on: each unit is a character.
+    /// Returns an iterator over the matches in a UCS-2 text from an offset in code units on. Each code unit is a character.
     pub fn find_from_ucs2<'r, 't>(&'r self, text: &'t [u16], start: usize) -> Matches<'r, 't> {
         Matches::of(self.try_find_from_ucs2(text, start))
     }
 
-    /// What `find_from` yields, where want of memory is an item, behind which none follows.
+    /// Like `find_from`, but yields an error as the last item if an allocation fails.
     ///
     /// # Panics
     ///
-    /// Where the start cuts a character.
+    /// If the start splits a character.
     pub fn try_find_from<'r, 't>(&'r self, text: &'t str, start: usize) -> TryMatches<'r, 't> {
-        match raw::Search::in_utf8(text, start) {
-            Ok(search) => TryMatches::new(self, search, None),
-            Err(_) => start_cuts(start),
-        }
+        TryMatches::new(self, Text::Utf8(text), start, None)
     }
 
-    /// The same in at most so many steps for all of it together; where they are used up, an item says so and none follows. How
-    /// many a match needs is said by the pattern and the text, and not by time.
+    /// Like `try_find_from`, with at most `steps` steps for all items together. If more steps are needed, the last item is `StepLimit`.
+    /// The number of steps depends on the pattern and the text only, not on time.
     ///
     /// # Panics
     ///
-    /// Where the start cuts a character.
+    /// If the start splits a character.
     pub fn find_from_limited<'r, 't>(
         &'r self,
         text: &'t str,
         start: usize,
         steps: u64,
     ) -> TryMatches<'r, 't> {
-        match raw::Search::in_utf8(text, start) {
-            Ok(search) => TryMatches::new(self, search, Some(steps)),
-            Err(_) => start_cuts(start),
-        }
+        TryMatches::new(self, Text::Utf8(text), start, Some(steps))
     }
 
-    /// What `find_from_utf16` yields, where want of memory is an item.
+    /// Like `find_from_utf16`, but yields an error as the last item if an allocation fails.
     ///
     /// # Panics
     ///
-    /// Where the start cuts a pair of surrogates.
+    /// If the start splits a pair of surrogates.
     pub fn try_find_from_utf16<'r, 't>(
         &'r self,
         text: &'t [u16],
         start: usize,
     ) -> TryMatches<'r, 't> {
-        match raw::Search::in_utf16(text, start) {
-            Ok(search) => TryMatches::new(self, search, None),
-            Err(_) => start_cuts(start),
-        }
+        TryMatches::new(self, Text::Utf16(text), start, None)
     }
 
-    /// What `find_from_ucs2` yields, where want of memory is an item.
+    /// Like `find_from_ucs2`, but yields an error as the last item if an allocation fails.
     pub fn try_find_from_ucs2<'r, 't>(
         &'r self,
         text: &'t [u16],
         start: usize,
     ) -> TryMatches<'r, 't> {
-        match raw::Search::in_ucs2(text, start) {
-            Ok(search) => TryMatches::new(self, search, None),
-            Err(_) => start_cuts(start),
+        TryMatches::new(self, Text::Ucs2(text), start, None)
+    }
+
+    /// Returns the match that begins at byte offset `at`, as JavaScript does with the flag `y`. No other place is searched.
+    ///
+    /// Returns `None` if no match begins there, or if `at` is past the end. Lookbehinds and `\b` see the text before `at`.
+    ///
+    /// ```
+    /// let re = regress_match::Regex::new(r"\d+").unwrap();
+    /// assert_eq!(re.match_at("a12", 1).unwrap().range(), 1..3);
+    /// assert!(re.match_at("a12", 0).is_none());
+    /// ```
+    ///
+    /// # Panics
+    ///
+    /// If the offset is within the text and splits a character; and if an allocation fails.
+    pub fn match_at(&self, text: &str, at: usize) -> Option<Match> {
+        self.try_match_at(text, at)
+            .unwrap_or_else(|_| out_of_memory())
+    }
+
+    /// Like `match_at`, in an ASCII text.
+    pub fn match_at_ascii(&self, text: &str, at: usize) -> Option<Match> {
+        self.match_at(text, at)
+    }
+
+    /// Like `match_at`, in a UTF-16 text, at an offset in code units.
+    ///
+    /// # Panics
+    ///
+    /// If the offset is within the text and splits a pair of surrogates; and if an allocation fails.
+    pub fn match_at_utf16(&self, text: &[u16], at: usize) -> Option<Match> {
+        self.try_match_at_utf16(text, at)
+            .unwrap_or_else(|_| out_of_memory())
+    }
+
+    /// Like `match_at`, in a UCS-2 text, in which each code unit is a character.
+    ///
+    /// # Panics
+    ///
+    /// If an allocation fails.
+    pub fn match_at_ucs2(&self, text: &[u16], at: usize) -> Option<Match> {
+        self.try_match_at_ucs2(text, at)
+            .unwrap_or_else(|_| out_of_memory())
+    }
+
+    /// Like `match_at`, but returns an error if an allocation fails.
+    ///
+    /// # Errors
+    ///
+    /// `Memory` if an allocation fails.
+    ///
+    /// # Panics
+    ///
+    /// If the offset is within the text and splits a character.
+    pub fn try_match_at(&self, text: &str, at: usize) -> Result<Option<Match>, SearchError> {
+        self.matched_at(Text::Utf8(text), at)
+    }
+
+    /// Like `match_at_utf16`, but returns an error if an allocation fails.
+    ///
+    /// # Errors
+    ///
+    /// `Memory` if an allocation fails.
+    ///
+    /// # Panics
+    ///
+    /// If the offset is within the text and splits a pair of surrogates.
+    pub fn try_match_at_utf16(
+        &self,
+        text: &[u16],
+        at: usize,
+    ) -> Result<Option<Match>, SearchError> {
+        self.matched_at(Text::Utf16(text), at)
+    }
+
+    /// Like `match_at_ucs2`, but returns an error if an allocation fails.
+    ///
+    /// # Errors
+    ///
+    /// `Memory` if an allocation fails.
+    pub fn try_match_at_ucs2(&self, text: &[u16], at: usize) -> Result<Option<Match>, SearchError> {
+        self.matched_at(Text::Ucs2(text), at)
+    }
+
+    fn matched_at(&self, text: Text<'_>, at: usize) -> Result<Option<Match>, SearchError> {
+        let mut spans = vec![Span::default(); self.ranges];
+        let reply = self.with(|handle| handle.match_at(text, at, &mut spans));
+        match reply.code {
+            code::DONE => Ok(Some(match_of(self, &spans))),
+            code::NO_MATCH => Ok(None),
+            code::NOT_BOUNDARY => splits_character(at),
+            _ => Err(SearchError::Memory),
         }
     }
 
-    /// The text with the replacement in place of the first match. In it `$$` is `$`, `$` and digits a group by number, `${name}`
-    /// one by name, and `$0` the whole match.
+    /// Returns the pattern with its work bound, for searches with a work limit.
+    ///
+    /// Returns `None` if no bound is known, for example with a lookaround, a backreference or a large count (`docs/LINEAR.md`).
+    ///
+    /// # Panics
+    ///
+    /// If an allocation fails.
+    pub fn bounded(&self) -> Option<BoundedRegex<'_>> {
+        match self.with(Handle::work_per_unit) {
+            Ok(per_unit) => Some(BoundedRegex::new(self, per_unit)),
+            Err(code::NO_BOUND) => None,
+            Err(_) => out_of_memory(),
+        }
+    }
+
+    /// Returns the work bound: in a text of n bytes, `work_per_unit` × (n + 1) work is enough for all matches. Returns `None` if no
+    /// bound is known.
+    ///
+    /// # Panics
+    ///
+    /// If an allocation fails.
+    pub fn work_per_unit(&self) -> Option<u64> {
+        self.bounded().map(|bounded| bounded.work_per_unit())
+    }
+
+    /// Replaces the first match in `text`. In the replacement, `$1` stands for a group by number, `${name}` for a group by name, `$0`
+    /// for the whole match, and `$$` for `$`.
     pub fn replace(&self, text: &str, replacement: &str) -> String {
         self.replaced(text, replacement, false)
     }
 
-    /// The text with the replacement in place of each match.
+    /// Replaces all matches in `text`. The replacement is as in `replace`.
     pub fn replace_all(&self, text: &str, replacement: &str) -> String {
         self.replaced(text, replacement, true)
     }
@@ -304,8 +424,8 @@ impl Regex {
         })
     }
 
-    /// The text with what the closure answers in place of the first match.
-    pub fn replace_with<F: Fn(&Match) -> String>(&self, text: &str, replacement: F) -> String {
+    /// Replaces the first match in `text` with the text that the closure returns.
+    pub fn replace_with<F: FnOnce(&Match) -> String>(&self, text: &str, replacement: F) -> String {
         let mut made = String::with_capacity(text.len());
         let mut from = 0;
         if let Some(found) = self.find(text) {
@@ -317,8 +437,12 @@ impl Regex {
         made
     }
 
-    /// The text with what the closure answers in place of each match.
-    pub fn replace_all_with<F: Fn(&Match) -> String>(&self, text: &str, replacement: F) -> String {
+    /// Replaces each match in `text` with the text that the closure returns.
+    pub fn replace_all_with<F: FnMut(&Match) -> String>(
+        &self,
+        text: &str,
+        mut replacement: F,
+    ) -> String {
         let mut made = String::with_capacity(text.len());
         let mut from = 0;
         for found in self.find_iter(text) {
@@ -331,12 +455,12 @@ impl Regex {
     }
 }
 
-/// The text with a backslash before each of its syntax characters, so that it can stand in a pattern for itself.
+/// Returns a pattern that matches exactly `text`: each syntax character gets a backslash.
 pub fn escape(text: &str) -> String {
     written(2 * text.len(), |escaped| raw::escape(text, escaped))
 }
 
-// The text that a call writes, where there may be room for so many bytes at first.
+// Returns the text that a call writes. The first call has room for `room` bytes.
 fn written(room: usize, mut write: impl FnMut(&mut [u8]) -> Reply) -> String {
     let mut text = vec![0; room];
     let mut reply = write(&mut text);
@@ -355,45 +479,67 @@ fn name_of(handle: &mut Handle, number: usize) -> Box<str> {
     written(32, |name| handle.group_name(number, name)).into_boxed_str()
 }
 
-// The units of these code points.
-fn units_of(pattern: impl Iterator<Item = u32>) -> Result<Vec<u16>, Error> {
-    let mut units = Vec::new();
+// Returns the 16-bit code units of these code points, and the number of code units of each.
+fn units_of(pattern: impl Iterator<Item = u32>) -> Result<(Vec<u16>, Vec<usize>), Error> {
+    let (mut units, mut lengths) = (Vec::new(), Vec::new());
     for c in pattern {
+        let before = units.len();
         match (u16::try_from(c), char::from_u32(c)) {
             (Ok(unit), _) => units.push(unit),
             (Err(_), Some(c)) => units.extend_from_slice(c.encode_utf16(&mut [0; 2])),
             (Err(_), None) => {
-                let text = "no code point is so great".to_string();
-                return Err(Error::new(Cause::Syntax, text, Some(units.len())));
+                let reason = "no code point is so great".to_string();
+                let place = place_in_units(&units, &lengths, before);
+                return Err(Error::new(Cause::Syntax, reason, Some(place)));
             }
         }
+        lengths.push(units.len() - before);
     }
-    Ok(units)
+    Ok((units, lengths))
 }
 
-// Why a pattern is refused, as the code and a diagnosis say.
-fn refusal(code: u32, diagnose: impl FnOnce(&mut usize, &mut [u8]) -> Reply) -> Error {
-    let (cause, text) = match code {
-        code::SYNTAX => return syntax(diagnose),
+// Returns the place of an offset in code units, for a pattern that was given by its code points.
+fn place_in_units(units: &[u16], lengths: &[usize], at: usize) -> Place {
+    let ends = lengths.iter().scan(0, |end, length| {
+        *end += length;
+        Some(*end)
+    });
+    Place {
+        position: ends.take_while(|end| *end <= at).count(),
+        characters: char::decode_utf16(units[..at].iter().copied()).count(),
+    }
+}
+
+// Returns the error of a code. A syntax error takes the reason and the offset of the diagnosis, and `place` makes a place of it.
+fn refusal(
+    code: u32,
+    diagnose: impl FnOnce(&mut usize, &mut [u8]) -> Reply,
+    place: impl FnOnce(usize) -> Place,
+) -> Error {
+    let (cause, reason) = match code {
+        code::SYNTAX => return syntax(diagnose, place),
         code::TOO_MANY_GROUPS => (Cause::TooManyGroups, "too many groups"),
         code::TOO_MANY_LOOPS => (Cause::TooManyLoops, "too many loops"),
         code::TOO_MANY_INSTRUCTIONS => (Cause::TooManyInstructions, "too many instructions"),
         code::TOO_LONG => (Cause::TooLong, "the pattern is too long"),
-        code::TOO_DEEP => (Cause::TooDeep, "the pattern nests too deep"),
+        code::TOO_DEEP => (Cause::TooDeep, "the pattern is nested too deeply"),
         _ => (Cause::Memory, "out of memory"),
     };
-    Error::new(cause, text.to_string(), None)
+    Error::new(cause, reason.to_string(), None)
 }
 
-fn syntax(diagnose: impl FnOnce(&mut usize, &mut [u8]) -> Reply) -> Error {
+fn syntax(
+    diagnose: impl FnOnce(&mut usize, &mut [u8]) -> Reply,
+    place: impl FnOnce(usize) -> Place,
+) -> Error {
     let mut words = [0; 128];
     let mut at = 0;
     let reply = diagnose(&mut at, &mut words);
     if reply.code == code::SYNTAX {
-        let text = String::from_utf8_lossy(&words[..reply.count]).into_owned();
-        Error::new(Cause::Syntax, text, Some(at))
+        let reason = String::from_utf8_lossy(&words[..reply.count]).into_owned();
+        Error::new(Cause::Syntax, reason, Some(place(at)))
     } else {
-        Error::new(Cause::Syntax, "the text is no pattern".to_string(), None)
+        Error::new(Cause::Syntax, "the pattern has a syntax error".to_string(), None)
     }
 }
 

@@ -1,31 +1,38 @@
-//! Searches: matches one after another.
+//! Iterators over the matches in a text.
 
 use crate::error::SearchError;
 use crate::found::Match;
-use crate::raw::{code, Search, Span, UNMATCHED};
+use crate::raw::{code, Search, Span, Text, UNMATCHED};
 use crate::regex::Regex;
+use std::fmt;
 use std::iter::FusedIterator;
 use std::ops::Range;
 
-// The most matches that one call of the library is asked for.
+// The maximum number of matches that one call of the library is asked for.
 const MOST_AT_ONCE: usize = 32;
 
-/// The matches in a text, or why there are no more.
+/// An iterator over the matches in a text. If the search fails, the error is its last item.
 pub struct TryMatches<'r, 't> {
     re: &'r Regex,
     search: Search<'t>,
     steps: Option<u64>,
-    // the ranges of matches that were found, of which so many were yielded
+    // the ranges of the matches that the last call found, and how many of these were yielded
     spans: Vec<Span>,
     found: usize,
     yielded: usize,
-    // how many are asked for next: few at first, since who wants one match wants no more
+    // how many matches the next call asks for: one at first, since a caller of `find` needs no more
     at_once: usize,
     code: u32,
 }
 
 impl<'r, 't> TryMatches<'r, 't> {
-    pub(crate) fn new(re: &'r Regex, search: Search<'t>, steps: Option<u64>) -> Self {
+    /// # Panics
+    ///
+    /// If the start splits a character.
+    pub(crate) fn new(re: &'r Regex, text: Text<'t>, start: usize, steps: Option<u64>) -> Self {
+        let Ok(search) = Search::open(text, start) else {
+            splits_character(start);
+        };
         TryMatches {
             re,
             search,
@@ -38,8 +45,10 @@ impl<'r, 't> TryMatches<'r, 't> {
         }
     }
 
-    /// How many steps are left, where they are limited, behind the matches that were looked for so far: a few more may have been
-    /// looked for than were yielded.
+    /// Returns how many steps are left, or `None` if they are not limited.
+    ///
+    /// With a limit, each call of `next` searches for one match and no further. The number is therefore the limit minus the steps of
+    /// the items that were yielded. After a `StepLimit` it is 0.
     pub fn steps_left(&self) -> Option<u64> {
         self.steps
     }
@@ -52,25 +61,30 @@ impl<'r, 't> TryMatches<'r, 't> {
         self.code = reply.code;
         self.found = reply.count;
         self.yielded = 0;
-        // A limit is told as soon as it is met, and not behind matches that nobody asked for.
+        // With a limit, one match is searched for at a time, so that no step is spent on matches that nobody asked for.
         if self.steps.is_none() {
             self.at_once = MOST_AT_ONCE.min(2 * self.at_once);
         }
     }
+}
 
-    fn match_at(&self, index: usize) -> Match {
-        let ranges = self.re.ranges();
-        let spans = &self.spans[index * ranges..(index + 1) * ranges];
-        Match {
-            range: spans[0].start..spans[0].end,
-            captures: spans[1..].iter().map(range_of).collect(),
-            names: self.re.names().clone(),
-        }
+/// Returns the match with these ranges: that of the whole match, and that of each group.
+pub(crate) fn match_of(re: &Regex, spans: &[Span]) -> Match {
+    Match {
+        range: spans[0].start..spans[0].end,
+        captures: spans[1..].iter().map(range_of).collect(),
+        names: re.names().clone(),
     }
 }
 
 fn range_of(span: &Span) -> Option<Range<usize>> {
     (span.start != UNMATCHED).then_some(span.start..span.end)
+}
+
+/// Returns the match with this index among several, whose ranges follow one another in `spans`.
+pub(crate) fn match_at_index(re: &Regex, spans: &[Span], index: usize) -> Match {
+    let ranges = re.ranges();
+    match_of(re, &spans[index * ranges..(index + 1) * ranges])
 }
 
 impl Iterator for TryMatches<'_, '_> {
@@ -82,7 +96,8 @@ impl Iterator for TryMatches<'_, '_> {
         }
         if self.yielded < self.found {
             self.yielded += 1;
-            return Some(Ok(self.match_at(self.yielded - 1)));
+            let found = match_at_index(self.re, &self.spans, self.yielded - 1);
+            return Some(Ok(found));
         }
         let told = match self.code {
             code::MEMORY => Some(Err(SearchError::Memory)),
@@ -96,10 +111,23 @@ impl Iterator for TryMatches<'_, '_> {
 
 impl FusedIterator for TryMatches<'_, '_> {}
 
-/// The matches in a text.
+impl fmt::Debug for TryMatches<'_, '_> {
+    fn fmt(&self, f: &mut fmt::Formatter<'_>) -> fmt::Result {
+        f.debug_struct("TryMatches")
+            .field("re", self.re)
+            .field("steps_left", &self.steps)
+            .finish_non_exhaustive()
+    }
+}
+
+/// An iterator over the matches in a text.
+#[derive(Debug)]
 pub struct Matches<'r, 't> {
     matches: TryMatches<'r, 't>,
 }
+
+/// An iterator over the matches in an ASCII text.
+pub type AsciiMatches<'r, 't> = Matches<'r, 't>;
 
 impl<'r, 't> Matches<'r, 't> {
     pub(crate) fn of(matches: TryMatches<'r, 't>) -> Self {
@@ -126,6 +154,6 @@ pub(crate) fn out_of_memory() -> ! {
 }
 
 #[cold]
-pub(crate) fn start_cuts(start: usize) -> ! {
-    panic!("regress_match: the start {start} cuts a character");
+pub(crate) fn splits_character(start: usize) -> ! {
+    panic!("regress_match: the offset {start} splits a character");
 }

@@ -1,7 +1,12 @@
 //! Each call once, and what it does where a program may go wrong.
 
-use regress_match::{escape, Bounds, Cause, Error, Flags, Match, Regex, SearchError};
+use regress_match::{
+    escape, library_version, AsciiMatches, Bounds, Cause, Error, Flags, Match, Matches, Regex,
+    SearchError,
+};
 use std::error;
+use std::fmt::Debug;
+use std::iter::FusedIterator;
 use std::thread;
 
 fn ranges(found: impl Iterator<Item = Match>) -> Vec<std::ops::Range<usize>> {
@@ -76,6 +81,121 @@ fn groups_have_numbers_and_names() {
 }
 
 #[test]
+fn iterators_say_how_many_are_left() {
+    fn exact_and_fused(items: &(impl ExactSizeIterator + FusedIterator)) -> usize {
+        items.len()
+    }
+    let re = Regex::new("(?<a>a)(b)(?<c>c)?(?<d>d)").unwrap();
+    let m = re.find("abd").unwrap();
+    let mut named = m.named_groups();
+    let mut groups = m.groups();
+    for left in (0..=3).rev() {
+        assert_eq!(exact_and_fused(&named), left);
+        assert_eq!(named.next().is_some(), left > 0);
+    }
+    for left in (0..=5).rev() {
+        assert_eq!(exact_and_fused(&groups), left);
+        assert_eq!(groups.next().is_some(), left > 0);
+    }
+    assert!(named.next().is_none() && groups.next().is_none());
+    assert_eq!((exact_and_fused(&named), exact_and_fused(&groups)), (0, 0));
+    let unnamed = Regex::new("(a)").unwrap();
+    assert_eq!(unnamed.find("a").unwrap().named_groups().len(), 0);
+}
+
+#[test]
+fn searches_are_debug_and_fused() {
+    fn shown(search: impl Debug + FusedIterator) -> String {
+        format!("{search:?}")
+    }
+    let re = Regex::new("a").unwrap();
+    let matches: Matches = re.find_iter("a");
+    let ascii: AsciiMatches = re.find_iter_ascii("a");
+    assert!(shown(matches).contains("Regex(/a/)"));
+    assert!(shown(ascii).contains("Regex(/a/)"));
+    assert!(shown(re.find_from_limited("a", 0, 7)).contains("Some(7)"));
+    assert!(shown(re.bounded().unwrap().find_from("", 0, 9)).contains("work_left"));
+}
+
+#[test]
+fn a_match_begins_at_one_place_alone() {
+    let re = Regex::new("a|ab(c)?").unwrap();
+    let range = |m: Option<Match>| m.map(|m| m.range());
+    assert_eq!(range(re.match_at("xab", 1)), Some(1..2));
+    assert_eq!(range(re.match_at("xab", 0)), None);
+    assert_eq!(range(re.match_at("xab", 3)), None);
+    assert_eq!(range(re.match_at("xab", 4)), None);
+    assert_eq!(range(re.match_at_ascii("xab", 1)), Some(1..2));
+    let behind = Regex::new("(?<=é)(?<b>b)|$").unwrap();
+    assert_eq!(
+        behind.match_at("éb", 2).unwrap().named_group("b"),
+        Some(2..3)
+    );
+    assert_eq!(range(behind.match_at("éb", 3)), Some(3..3));
+    let any = Regex::with_flags(".", "s").unwrap();
+    assert_eq!(range(any.match_at_utf16(&utf16("a😀"), 1)), Some(1..3));
+    assert_eq!(range(any.match_at_ucs2(&utf16("a😀"), 1)), Some(1..2));
+    assert_eq!(range(any.match_at_ucs2(&utf16("a😀"), 2)), Some(2..3));
+    assert_eq!(any.try_match_at("", 0), Ok(None));
+    assert_eq!(any.try_match_at_utf16(&[], 0), Ok(None));
+    assert_eq!(any.try_match_at_ucs2(&[], 0), Ok(None));
+    assert!(std::panic::catch_unwind(|| any.match_at("é", 1)).is_err());
+    assert!(std::panic::catch_unwind(|| any.try_match_at("é", 1)).is_err());
+    assert!(std::panic::catch_unwind(|| any.match_at_utf16(&utf16("😀"), 1)).is_err());
+}
+
+#[test]
+fn work_is_bounded() {
+    let re = Regex::new("(a)|b").unwrap();
+    let bounded = re.bounded().unwrap();
+    assert_eq!(re.work_per_unit(), Some(bounded.work_per_unit()));
+    for count in [0, 1, 31, 32, 33, 256, 1000] {
+        let text = "ab".repeat(count);
+        let enough = bounded.work_per_unit() * (text.len() as u64 + 1);
+        let mut within = bounded.find_from(&text, 0, enough);
+        assert!(
+            within.by_ref().map(Result::unwrap).eq(re.find_iter(&text)),
+            "{count}"
+        );
+        assert!(within.next().is_none());
+        let taken = enough - within.work_left();
+        assert_eq!(bounded.find_iter(&text).count(), 2 * count);
+        let exact = bounded.find_from(&text, 0, taken);
+        assert_eq!(
+            (exact.work_left(), exact.filter(Result::is_ok).count()),
+            (0, 2 * count)
+        );
+        if let Some(short) = taken.checked_sub(1) {
+            let mut short = bounded.find_from(&text, 0, short);
+            assert_eq!(short.work_left(), 0);
+            assert_eq!(
+                short.by_ref().find(Result::is_err),
+                Some(Err(SearchError::WorkLimit))
+            );
+            assert!(short.next().is_none());
+        }
+    }
+    let explodes = Regex::new("(?:a|a)*b").unwrap();
+    assert!(explodes
+        .bounded()
+        .unwrap()
+        .find_iter(&"a".repeat(3000))
+        .next()
+        .is_none());
+    assert_eq!(bounded.find_from("éa", 2, u64::MAX).count(), 1);
+    assert_eq!(bounded.find_from("a", 2, u64::MAX).count(), 0);
+    assert!(std::panic::catch_unwind(|| bounded.find_from("é", 1, 9)).is_err());
+    for unbounded in ["(?=a)b", r"(a)\1"] {
+        let re = Regex::new(unbounded).unwrap();
+        assert!(
+            re.bounded().is_none() && re.work_per_unit().is_none(),
+            "{unbounded}"
+        );
+    }
+    assert_eq!(SearchError::WorkLimit.to_string(), "the work limit is reached");
+}
+
+#[test]
 fn encodings_have_their_units() {
     let re = Regex::with_flags(".", "s").unwrap();
     let text = utf16("a😀b");
@@ -111,29 +231,45 @@ fn patterns_are_code_points_too() {
     );
     let error =
         Regex::from_unicode([0x1F600, u32::from('*'), u32::from('+')].into_iter(), "").unwrap_err();
-    assert_eq!(
-        (error.position(), error.text.as_str()),
-        (Some(3), "nothing to repeat")
-    );
+    assert_eq!(error.to_string(), "nothing to repeat at 2");
+    assert_eq!(error.below("😀*+"), "😀*+\n  ^ nothing to repeat");
+    let halves = [0xD83D, 0xDE00, 0x29];
+    let error = Regex::from_unicode(halves.into_iter(), "u").unwrap_err();
+    assert_eq!(error.to_string(), "unopened group at 2");
+    assert_eq!(error.below("😀)"), "😀)\n ^ unopened group");
 }
 
 #[test]
 fn errors_say_where() {
     let error = Regex::new("é(a").unwrap_err();
     assert_eq!(error.to_string(), "unclosed group at 2");
+    assert_eq!(
+        (error.text.as_str(), error.reason()),
+        ("unclosed group at 2", "unclosed group")
+    );
     assert_eq!((error.cause(), error.position()), (Cause::Syntax, Some(2)));
+    assert_eq!(error.below("é(a"), "é(a\n ^ unclosed group");
+    let lines = "a\tb\nc\t(d\ne";
+    assert_eq!(
+        Regex::new(lines).unwrap_err().below(lines),
+        "c (d\n  ^ unclosed group"
+    );
     let boxed: Box<dyn error::Error + Send + Sync> = Box::new(error);
     assert!(boxed.source().is_none());
     let parsed: Result<Regex, Error> = "a)".parse();
-    assert_eq!(parsed.unwrap_err().text, "unopened group");
+    assert_eq!(parsed.unwrap_err().text, "unopened group at 1");
     let groups = Regex::new(&"()".repeat(65_536)).unwrap_err();
     assert_eq!(
         (groups.cause(), groups.to_string().as_str()),
         (Cause::TooManyGroups, "too many groups")
     );
+    assert_eq!(
+        (groups.position(), groups.below("()").as_str()),
+        (None, "too many groups")
+    );
     let loops = Regex::new(&"(?:a)*".repeat(65_537)).unwrap_err();
     assert_eq!(loops.cause(), Cause::TooManyLoops);
-    assert_eq!(SearchError::StepLimit.to_string(), "the steps are used up");
+    assert_eq!(SearchError::StepLimit.to_string(), "the step limit is reached");
 }
 
 #[test]
@@ -195,6 +331,14 @@ fn steps_are_limited() {
         Some(Err(SearchError::StepLimit))
     );
     assert_eq!(light.try_find_from("aabbc", 0).steps_left(), None);
+    // The steps of two matches do not depend on the number of matches after them.
+    let left_after_two = |text: &str| {
+        let mut within = light.find_from_limited(text, 0, 1000);
+        assert!(within.by_ref().take(2).all(|item| item.is_ok()));
+        within.steps_left()
+    };
+    assert_eq!(left_after_two("aabbcaabbc"), Some(990));
+    assert_eq!(left_after_two(&"aabbc".repeat(50)), Some(990));
 }
 
 #[test]
@@ -211,6 +355,14 @@ fn texts_are_replaced() {
     let double = |m: &Match| (2 * m.as_str(text).parse::<u32>().unwrap()).to_string();
     assert_eq!(re.replace_with(text, double), "Price: 246, 7");
     assert_eq!(re.replace_all_with(text, double), "Price: 246, 14");
+    let owned = String::from("x");
+    assert_eq!(re.replace_with("1 2", |_| owned), "x 2");
+    let mut count = 0;
+    let numbered = |_: &Match| {
+        count += 1;
+        count.to_string()
+    };
+    assert_eq!(re.replace_all_with("9 9 9", numbered), "1 2 3");
     assert_eq!(escape("a.b*c[é]"), r"a\.b\*c\[é\]");
     assert_eq!(escape(""), "");
 }
@@ -259,8 +411,5 @@ fn the_library_has_the_version_of_the_crate() {
         "MINOR" => env!("CARGO_PKG_VERSION_MINOR").parse().unwrap(),
         _ => env!("CARGO_PKG_VERSION_PATCH").parse().unwrap(),
     });
-    assert_eq!(
-        regress_match::library_version(),
-        10_000 * major + 100 * minor + patch
-    );
+    assert_eq!(library_version(), 10_000 * major + 100 * minor + patch);
 }
